@@ -1,0 +1,7 @@
+pub mod Characters
+pub mod Rows
+pub mod Scan
+pub mod Lexeme
+pub mod Tokens
+pub mod Reads
+pub mod Laws

@@ -1,0 +1,53 @@
+//! The classes of characters.
+
+ghost use Rattle.std.specs.Prelude.{◌≡◌, chars};
+ghost use Rattle.rustc_lexer.specs.Characters.{is_whitespace, is_horizontal_whitespace, is_id_start, is_id_continue, is_ident};
+
+/// Whether a character is white space between tokens: U+0009 to U+000D, space, U+0085, U+200E, U+200F, U+2028, U+2029.
+#[tactic(auto, unfolding(crate::specs::Characters::is_whitespace))]
+pub fn is_whitespace(c: char) -> bool
+    ensures { result ≡ is_whitespace c }
+{
+    ('\t' <= c && c <= '\r')
+        || c == ' '
+        || c == '\u{85}'
+        || c == '\u{200E}'
+        || c == '\u{200F}'
+        || c == '\u{2028}'
+        || c == '\u{2029}'
+}
+
+/// Whether a character is a tab or a space.
+#[tactic(auto, unfolding(crate::specs::Characters::is_horizontal_whitespace))]
+pub fn is_horizontal_whitespace(c: char) -> bool
+    ensures { result ≡ is_horizontal_whitespace c }
+{
+    c == '\t' || c == ' '
+}
+
+/// Whether an identifier may begin with a character: `_`, or XID_Start.
+#[tactic(auto, unfolding(crate::specs::Characters::is_id_start))]
+pub fn is_id_start(c: char) -> bool
+    ensures { result ≡ is_id_start c }
+{
+    c == '_' || unicode_ident::is_xid_start(c)
+}
+
+/// Whether a character may follow in an identifier: XID_Continue.
+#[tactic(auto, unfolding(crate::specs::Characters::is_id_continue))]
+pub fn is_id_continue(c: char) -> bool
+    ensures { result ≡ is_id_continue c }
+{
+    unicode_ident::is_xid_continue(c)
+}
+
+/// Whether a text is an identifier: not empty, begun by what may begin one, and gone on with by what may follow in one.
+pub fn is_ident(text: &str) -> bool
+    ensures { result ≡ is_ident (chars text.now) }
+{
+    let mut characters = text.chars();
+    match characters.next() {
+        Some(first) => is_id_start(first) && characters.as_str().chars().all(is_id_continue),
+        None => false,
+    }
+}

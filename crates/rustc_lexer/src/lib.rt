@@ -1,0 +1,8 @@
+//! Lexemes of Rust source text: cuts a text into tokens, each a kind and a length, with no text left over.
+#![tactic(auto)]
+
+mod classes;
+mod token;
+
+pub use classes::{is_horizontal_whitespace, is_id_continue, is_id_start, is_ident, is_whitespace};
+pub use token::{Base, DocStyle, LiteralKind, Token, TokenKind};
