@@ -1,0 +1,49 @@
+//! Why a green value could not be made.
+use std::alloc::{AllocError, AllocFailed};
+use std::error::Error;
+use std::fmt;
+
+/// A refusal of this crate. What was refused changed nothing.
+#[derive(Clone, Copy, Debug, PartialEq, Eq)]
+pub enum GreenError {
+    /// A length in bytes or a count of children is past `u32`, or a node's number past `u64`.
+    TooLong = 1,
+    /// A call that does not fit the nodes that are open.
+    Unbalanced = 2,
+    /// Memory was refused.
+    NoMemory = 3,
+}
+
+impl fmt::Display for GreenError {
+    fn fmt<W: fmt::Write>(&self, f: &mut fmt::Formatter<W>) -> fmt::Result {
+        match self {
+            GreenError::TooLong => write!(f, "too long"),
+            GreenError::Unbalanced => write!(f, "unbalanced"),
+            GreenError::NoMemory => write!(f, "out of memory"),
+        }
+    }
+}
+
+impl Error for GreenError {}
+
+impl From<AllocError> for GreenError {
+    ghost use Rattle.rowan_green.specs.declared.error.GreenError.TheVariants.{NoMemory};
+    ghost use Rattle.std.specs.Prelude.{◌≡◌};
+
+    ghost from_gives = { λ _ e. e ≡ NoMemory };
+
+    fn from(_e: AllocError) -> GreenError {
+        GreenError::NoMemory
+    }
+}
+
+impl<T: Drop> From<AllocFailed<T>> for GreenError {
+    ghost use Rattle.rowan_green.specs.declared.error.GreenError.TheVariants.{NoMemory};
+    ghost use Rattle.std.specs.Prelude.{◌≡◌};
+
+    ghost from_gives = { λ _ e. e ≡ NoMemory };
+
+    fn from(_e: AllocFailed<T>) -> GreenError {
+        GreenError::NoMemory
+    }
+}

@@ -1,0 +1,5 @@
+//! Kinds of nodes and tokens.
+
+/// The kind of a node or a token: a number that the language above gives a meaning.
+#[derive(Clone, Copy, Debug, PartialEq, Eq, PartialOrd, Ord, Hash)]
+pub struct SyntaxKind(pub u16);

@@ -1,0 +1,56 @@
+//! A node or a token.
+ghost use Rattle.std.specs.Prelude.{◌≡◌};
+ghost use Rattle.std.specs.Option.{option_copied};
+ghost use Rattle.rowan_green.specs.Either.{node_part, token_part};
+
+#[derive(Clone, Copy, PartialEq, Eq, Hash, Debug, Drop)]
+pub enum NodeOrToken<N, T> {
+    Node(N),
+    Token(T),
+}
+
+impl<N, T> NodeOrToken<N, T> {
+    /// The node, if it is one.
+    pub fn into_node(self) -> Option<N>
+    where
+        T: Drop,
+        ensures { result ≡ node_part self }
+    {
+        match self {
+            NodeOrToken::Node(node) => Some(node),
+            NodeOrToken::Token(_) => None,
+        }
+    }
+
+    /// The token, if it is one.
+    pub fn into_token(self) -> Option<T>
+    where
+        N: Drop,
+        ensures { result ≡ token_part self }
+    {
+        match self {
+            NodeOrToken::Node(_) => None,
+            NodeOrToken::Token(token) => Some(token),
+        }
+    }
+
+    /// A reference to the node, if it is one.
+    pub fn as_node(&self) -> Option<&N>
+        ensures { option_copied result ≡ node_part self.now }
+    {
+        match self {
+            NodeOrToken::Node(node) => Some(node),
+            NodeOrToken::Token(_) => None,
+        }
+    }
+
+    /// A reference to the token, if it is one.
+    pub fn as_token(&self) -> Option<&T>
+        ensures { option_copied result ≡ token_part self.now }
+    {
+        match self {
+            NodeOrToken::Node(_) => None,
+            NodeOrToken::Token(token) => Some(token),
+        }
+    }
+}
