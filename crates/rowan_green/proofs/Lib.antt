@@ -1,3 +1,5 @@
 pub mod Lengths
 pub mod Counts
 pub mod Refusals
+pub mod OpenNodeLemmas
+pub mod Found

@@ -4,3 +4,6 @@ pub mod Forest
 pub mod Same
 pub mod Term
 pub mod Refusal
+pub mod Word
+pub mod Building
+pub mod OpenNodes

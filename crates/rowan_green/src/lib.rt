@@ -5,9 +5,12 @@
 //! and a list of terms. Who shares which value, and which cache made it, is never seen.
 #![tactic(auto)]
 
+pub mod builder;
 pub mod element;
 pub mod error;
+mod fingerprint;
 pub mod node;
+pub mod node_cache;
 pub mod node_children;
 pub mod syntax_kind;
 pub mod text_range;
@@ -15,9 +18,11 @@ pub mod text_size;
 pub mod token;
 pub mod utility_types;
 
+pub use builder::{Checkpoint, GreenNodeBuilder, Unfinished};
 pub use element::GreenElement;
 pub use error::GreenError;
 pub use node::GreenNode;
+pub use node_cache::NodeCache;
 pub use node_children::Children;
 pub use syntax_kind::SyntaxKind;
 pub use text_range::TextRange;

@@ -8,6 +8,7 @@ ghost use Rattle.rowan_green.specs.Refusal.{RefusesUnless};
 
 use crate::element::GreenElement;
 use crate::error::GreenError;
+use crate::fingerprint;
 use crate::node_children::Children;
 use crate::syntax_kind::SyntaxKind;
 use crate::text_size::TextSize;
@@ -22,7 +23,9 @@ use std::rc::Rc;
 #[derive(Drop)]
 struct NodeData {
     kind: u16,
+    small_size: Option<u8>,
     text_len: u32,
+    fingerprint: u64,
     children: Vec<GreenElement>,
 }
 
@@ -99,7 +102,9 @@ impl GreenNode {
         };
         let data = NodeData {
             kind: kind.0,
+            small_size: fingerprint::small_size(&children),
             text_len,
+            fingerprint: fingerprint::of_node(kind.0, &children),
             children,
         };
         match Rc::new(alloc, data) {
@@ -122,6 +127,15 @@ impl GreenNode {
         ensures { result.0 ≡ length (tree_text self.now) }
     {
         TextSize(self.shared.text_len)
+    }
+
+    /// How many elements lie below the node, where that is small.
+    pub(crate) fn small_size(&self) -> Option<u8> {
+        self.shared.small_size
+    }
+
+    pub(crate) fn fingerprint(&self) -> u64 {
+        self.shared.fingerprint
     }
 }
 

@@ -4,6 +4,7 @@ ghost use Rattle.rowan_green.specs.Term.{FitsToken};
 ghost use Rattle.rowan_green.specs.Refusal.{RefusesUnless};
 
 use crate::error::GreenError;
+use crate::fingerprint;
 use crate::syntax_kind::SyntaxKind;
 use crate::text_size::TextSize;
 use std::alloc::{AllocError, Global};
@@ -14,6 +15,7 @@ use std::rc::Rc;
 #[derive(Drop)]
 struct TokenData {
     kind: u16,
+    fingerprint: u64,
     text: String,
 }
 
@@ -43,8 +45,12 @@ impl GreenToken {
         if text.len() > u32::MAX as usize {
             return Err(GreenError::TooLong);
         }
-        let text = String::from_str(alloc, text)?;
-        let shared = Rc::new(alloc, TokenData { kind: kind.0, text })?;
+        let data = TokenData {
+            kind: kind.0,
+            fingerprint: fingerprint::of_token(kind.0, text),
+            text: String::from_str(alloc, text)?,
+        };
+        let shared = Rc::new(alloc, data)?;
         Ok(GreenToken { shared })
     }
 
@@ -64,6 +70,10 @@ impl GreenToken {
         ensures { result.0 ≡ length self.now.text }
     {
         TextSize(self.shared.text.len() as u32)
+    }
+
+    pub(crate) fn fingerprint(&self) -> u64 {
+        self.shared.fingerprint
     }
 }
 
