@@ -1,2 +1,4 @@
+pub mod Edition
+pub mod Keywords
 pub mod Kind
 pub mod Kinds

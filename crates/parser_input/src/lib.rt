@@ -1,4 +1,6 @@
-//! What the parser reads: editions, the kinds of tokens and nodes, and the leaves of a text.
+//! What the parser reads: editions, the kinds of tokens and nodes, and the words of the language.
 #![tactic(auto)]
 
+pub mod edition;
+mod kind_table;
 pub mod syntax_kind;

@@ -1,10 +1,23 @@
 //! The kinds of tokens and nodes.
 
-ghost use Rattle.std.specs.Prelude.{◌≡◌};
-ghost use Rattle.parser_input.specs.Kind.{raw_of};
+ghost use Rattle.std.specs.Prelude.{◌≡◌, ◌≢◌, ◌<◌, ◌↔◌, IsSome, IfSome, IfNone};
+ghost use Rattle.parser_input.specs.Keywords.{is_keyword, is_any_identifier};
+ghost use Rattle.parser_input.specs.Kind.{
+  is_delimiter,
+  is_l_delimiter,
+  is_r_delimiter,
+  is_trivia,
+  kind_count,
+  name_of,
+  raw_of,
+};
+ghost use Rattle.parser_input.specs.declared.syntax_kind.SyntaxKind.{SyntaxKind};
 
-/// The kind of a token or of a node of the syntax tree. Its raw number is its position here, so a later kind is only
-/// ever appended.
+use crate::edition::Edition;
+use crate::kind_table::{KINDS, NAMES};
+
+/// The kind of a token or of a node of the syntax tree. Its raw number is its position here, so a
+/// later kind is only ever appended.
 #[allow(non_camel_case_types)]
 #[derive(Clone, Copy, PartialEq, Eq, PartialOrd, Ord, Hash, Debug)]
 pub enum SyntaxKind {
@@ -279,11 +292,91 @@ pub enum SyntaxKind {
     MATCH_GUARD,
 }
 
+const FIRST_KEYWORD: u16 = SyntaxKind::AS_KW as u16;
+
+/// Contextual keywords stand directly behind the keywords.
+const LAST_KEYWORD: u16 = SyntaxKind::UNION_KW as u16;
+
 impl SyntaxKind {
+    /// The kind with this raw number, if there is one.
+    pub fn from_raw(raw: u16) -> Option<SyntaxKind>
+        ensures known { IsSome result ↔ (raw < kind_count) }
+        ensures number { IfSome result (λ kind. raw_of kind ≡ raw) }
+        ensures inverse { (kind : SyntaxKind) → raw_of kind ≡ raw → result ≡ Some kind }
+    {
+        KINDS.get(raw as usize).copied()
+    }
+
     /// The raw number of this kind: its position in the enum.
     pub fn to_raw(self) -> u16
-        ensures { result ≡ raw_of self }
+        ensures number { result ≡ raw_of self }
+        ensures known { result < kind_count }
     {
         self as u16
+    }
+
+    /// The name of this kind, as `STRUCT_KW`.
+    pub fn name(self) -> &'static str
+        ensures { result.now ≡ name_of self }
+    {
+        NAMES[self.to_raw() as usize]
+    }
+
+    /// Whether this is a kind that the parser never sees: white space or a comment.
+    pub fn is_trivia(self) -> bool
+        ensures { result ≡ is_trivia (raw_of self) }
+    {
+        matches!(self, SyntaxKind::WHITESPACE | SyntaxKind::COMMENT)
+    }
+
+    /// Whether this is an opening bracket: a parenthesis, a brace or a square bracket.
+    pub fn is_l_delimiter(self) -> bool
+        ensures { result ≡ is_l_delimiter (raw_of self) }
+    {
+        matches!(
+            self,
+            SyntaxKind::L_PAREN | SyntaxKind::L_CURLY | SyntaxKind::L_BRACK
+        )
+    }
+
+    /// Whether this is a closing bracket: a parenthesis, a brace or a square bracket.
+    pub fn is_r_delimiter(self) -> bool
+        ensures { result ≡ is_r_delimiter (raw_of self) }
+    {
+        matches!(
+            self,
+            SyntaxKind::R_PAREN | SyntaxKind::R_CURLY | SyntaxKind::R_BRACK
+        )
+    }
+
+    /// Whether this is an opening or a closing bracket.
+    pub fn is_delimiter(self) -> bool
+        ensures { result ≡ is_delimiter (raw_of self) }
+    {
+        self.is_l_delimiter() || self.is_r_delimiter()
+    }
+
+    /// Whether this is the kind of a keyword or a contextual keyword of the edition.
+    pub fn is_keyword(self, edition: Edition) -> bool
+        ensures { result ≡ is_keyword edition (raw_of self) }
+    {
+        match self {
+            SyntaxKind::ASYNC_KW | SyntaxKind::AWAIT_KW | SyntaxKind::TRY_KW => {
+                edition.is_from(Edition::Edition2018)
+            }
+            SyntaxKind::GEN_KW => edition.is_from(Edition::Edition2024),
+            _ => {
+                let raw = self.to_raw();
+                FIRST_KEYWORD <= raw && raw <= LAST_KEYWORD
+            }
+        }
+    }
+
+    /// Whether this is `IDENT` or the kind of a keyword or a contextual keyword of the latest
+    /// edition.
+    pub fn is_any_identifier(self) -> bool
+        ensures { result ≡ is_any_identifier (raw_of self) }
+    {
+        self == SyntaxKind::IDENT || self.is_keyword(Edition::Edition2024)
     }
 }

@@ -1,0 +1,2 @@
+pub mod KeywordKinds
+pub mod KindTable
