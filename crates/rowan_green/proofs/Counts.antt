@@ -1,5 +1,5 @@
 -- Lemmas on the counts of elements, and on lists of different lengths.
-use Rattle.std.proofs.Common.{◌≡◌, ◌≢◌, ℕ, zero, suc, ◌≤◌, ◌<◌, false, ◌&&◌, List, [], ◌∷◌, length, refl, arith, ap, sym, get_or}
+use Rattle.std.proofs.Common.{◌≡◌, ◌≢◌, ℕ, zero, suc, ◌≤◌, ◌<◌, false, ◌&&◌, List, [], ◌∷◌, length, refl, arith, ap, sym, ◌∙◌, get_or}
 use Rattle.std.proofs.lemmas.Bool.{and_right}
 use Rattle.rowan_green.specs.Forest.{Tree, tree_count, forest_count, same_forest}
 use Rattle.rowan_green.specs.Term.{Term, forest_of, forest_of-terms, term_count, children_of}
@@ -27,3 +27,11 @@ count_at (Token l ∷ es) (suc i) d h = omega (arith, count_at es i d (omega ari
 -- no term of a list has more elements than the list
 pub count_is : (es : List Term) (i : ℕ) (d : Term) → i < length es → d ≡ get_or es i d → term_count d ≤ forest_count (forest_of es)
 count_is es i d h e = rw (ap term_count e) (count_at es i d h)
+
+-- a child node has fewer elements than its parent
+pub child_falls : (t u : Tree) (es : List Term) (i : ℕ) (d : Term) → es ≡ children_of t → i < length es → d ≡ get_or es i d → d ≡ Node u → tree_count u < tree_count t
+child_falls t u es i d e h g n =
+    let k = count_is es i d h g in
+    let a : forest_count (forest_of es) ≡ forest_count t.forest = ap (λ xs. forest_count (forest_of xs)) e ∙ ap forest_count (forest_of-terms t.forest) in
+    let b : term_count d ≡ tree_count u = ap term_count n in
+    omega (arith, k, a, b)

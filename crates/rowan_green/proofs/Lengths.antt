@@ -1,8 +1,9 @@
 -- Lemmas on the lengths of terms.
 use Rattle.std.proofs.Common.{◌≡◌, ℕ, ◌+◌, ◌≤◌, ◌<◌, List, [], ◌∷◌, length, refl, arith, length-append, ap, ◌∙◌, sym, zero, suc, add-one, append-nil, take, drop, ◌++◌, ◌^◌, length-take, length-drop, get_or, sum_by, take_all}
+use Rattle.std.proofs.lemmas.List.{take_more}
 use Rattle.std.proofs.lemmas.List.Sums.{sum_by-cons, sum_by_more_le}
-use Rattle.rowan_green.specs.Forest.{tree_text}
-use Rattle.rowan_green.specs.Term.{Term, term_len, texts_of, spliced, FitsNode}
+use Rattle.rowan_green.specs.Forest.{Tree, forest_text, tree_text}
+use Rattle.rowan_green.specs.Term.{Term, term_len, text_of, texts_of, texts_of-append, children_of, forest_of-terms, spliced, FitsNode}
 use Rattle.rowan_green.specs.declared.utility_types.NodeOrToken.TheVariants.{Node, Token}
 
 -- the length of the joined texts is the sum of the lengths
@@ -42,5 +43,18 @@ text_without es i = rw (append-nil, add-one) (text_behind es i)
 -- and a node that may have all may have the rest
 pub fits_without : (es : List Term) (i : ℕ) → i < length es → FitsNode es → FitsNode (spliced es i (i + 1) [])
 fits_without es i h f = record { count = omega (arith, f.count, length-append (take i es ++ []) (drop (i + 1) es), length-append (take i es) [], length-take i es, length-drop (i + 1) es); text = omega (arith, f.text, text_without es i) }
+
+texts_of-one : (d : Term) → texts_of (d ∷ []) ≡ text_of d
+texts_of-one (Node t) = append-nil (tree_text t)
+texts_of-one (Token l) = append-nil l.text
+
+-- the text of one more term
+pub texts_more : (es : List Term) (i : ℕ) (d : Term) → i < length es → d ≡ get_or es i d → texts_of (take (i + 1) es) ≡ texts_of (take i es) ++ text_of d
+texts_more es i d h e =
+    ap texts_of (take_more es i d h ∙ ap (λ x. take i es ++ x ∷ []) (sym e)) ∙ texts_of-append (take i es) (d ∷ []) ∙ ap (λ s. texts_of (take i es) ++ s) (texts_of-one d)
+
+-- the text of all children
+pub texts_all : (t : Tree) (es : List Term) (i : ℕ) → es ≡ children_of t → length es ≤ i → texts_of (take i es) ≡ tree_text t
+texts_all t es i e h = ap texts_of (take_all i es h ∙ e) ∙ ap forest_text (forest_of-terms t.forest)
 
 pub ruleset lengths = (length-texts_of, prefix_fits)

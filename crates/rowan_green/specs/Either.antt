@@ -12,3 +12,8 @@ node_part (Token t) = None
 abbrev pub token_part : {N T : Type 0} → NodeOrToken N T → Option T
 token_part (Node n) = None
 token_part (Token t) = Some t
+
+-- one function of the node, another of the token
+abbrev pub either : {N T R : Type 0} → (N → R) → (T → R) → NodeOrToken N T → R
+either f g (Node n) = f n
+either f g (Token t) = g t

@@ -97,3 +97,9 @@ words-append (Node t ∷ xs) ys =
     ap (λ w. opens t.kind ∷ (word t.forest ++ closes ∷ w)) (words-append xs ys)
     ∙ ap (λ w. opens t.kind ∷ w) (sym (append_assoc (word t.forest) (closes ∷ words xs) (words ys)))
 words-append (Token l ∷ xs) ys = ap (λ w. token l ∷ w) (words-append xs ys)
+
+-- a word is that of one list of terms alone
+pub words-injective : (es xs : List Term) → words es ≡ words xs → es ≡ xs
+words-injective es xs e =
+    ap innermost
+    (sym (read_from-words (outside []) es ∙ with_terms-outside [] es) ∙ ap read e ∙ (read_from-words (outside []) xs ∙ with_terms-outside [] xs))

@@ -14,6 +14,7 @@ use crate::node_cache::NodeCache;
 use crate::syntax_kind::SyntaxKind;
 use crate::utility_types::NodeOrToken;
 use std::alloc::Global;
+use std::fmt;
 use std::marker::Model;
 
 /// The builder's own cache, or one that is lent to it.
@@ -85,9 +86,26 @@ pub struct Checkpoint {
 }
 
 /// A refused `finish`: the builder is as it was.
+#[derive(Drop)]
 pub struct Unfinished<'c> {
     pub error: GreenError,
     pub builder: GreenNodeBuilder<'c>,
+}
+
+impl fmt::Debug for Unfinished<'_> {
+    fn fmt<W: fmt::Write>(&self, f: &mut fmt::Formatter<W>) -> fmt::Result {
+        self.error.fmt(f)
+    }
+}
+
+impl<'c> From<Unfinished<'c>> for GreenError {
+    ghost use Rattle.std.specs.Prelude.{◌≡◌};
+
+    ghost from_gives = { λ unfinished e. e ≡ unfinished.error };
+
+    fn from(unfinished: Unfinished<'c>) -> GreenError {
+        unfinished.error
+    }
 }
 
 impl<'c> GreenNodeBuilder<'c> {

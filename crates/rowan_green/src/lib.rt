@@ -6,6 +6,7 @@
 #![tactic(auto)]
 
 pub mod builder;
+mod display;
 pub mod element;
 pub mod error;
 mod fingerprint;
