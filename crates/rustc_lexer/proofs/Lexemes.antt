@@ -2,7 +2,7 @@
 use Rattle.std.proofs.Common.{◌≡◌, ℕ, suc, zero, ◌+◌, ◌≤◌, Bool, true, false, not, ◌&&◌, ◌||◌, ◌==◌, leb, List, take, arith, if◌then◌else◌, Option, Some, None}
 use Rattle.rustc_lexer.specs.Characters.{line_feed, double_quote, hash, tick, star, dot, slash, backslash, underscore, is_whitespace, is_digit, is_hex_digit, is_id_start, is_id_continue, size}
 use Rattle.rustc_lexer.specs.Scan.{Taken, Scan, give, skip, peek, look, ◌▸◌, spelled, begin, run, name, block, quoted, raw, ticked}
-use Rattle.rustc_lexer.specs.Lexeme.{Case, Blank, ToLineEnd, ToPartner, RawName, RawText, Quoted, Ticked, Name, Number, Tick, Guard, Single, case_of, doc_style, line_comment, block_comment, Body, body, suffix, literal, string, character, raw_kind, raw_string, digit_or_underscore, has_digit, digits, exponent, dotted_kind, plain_kind, fraction, base_of, digits_of, based, number, identifier, raw_identifier, is_raw, named, lifetime, sign, lexeme_in, lexeme}
+use Rattle.rustc_lexer.specs.Lexeme.{Case, Blank, ToLineEnd, ToPartner, RawName, RawText, Quoted, Ticked, Name, Number, Tick, Guard, Single, case_of, doc_style, line_comment, block_comment, body, suffix, literal, string, character_end, character, raw_end, raw_string, digit_or_underscore, has_digit, digits, exponent, dotted_kind, plain_kind, fraction, base_of, digits_of, based, number, identifier, raw_identifier, is_raw, named, lifetime, sign, lexeme_in, lexeme}
 use Rattle.rustc_lexer.proofs.Takes.{Takes, takes-skip, takes-first, takes-look, takes-spelled}
 use Rattle.rustc_lexer.proofs.Local.{Local, local-give, local-skip, local-look, local-next, local-spelled, local-if, local-begin}
 use Rattle.rustc_lexer.proofs.Leaves.{local-run, local-name, local-near, near-quoted, near-block, near-raw, local-ticked}
@@ -12,6 +12,7 @@ use Rattle.rustc_lexer.specs.declared.token.Base.{Base}
 use Rattle.rustc_lexer.specs.declared.token.Base.TheVariants.{Binary, Octal, Decimal, Hexadecimal}
 use Rattle.rustc_lexer.specs.declared.token.LiteralKind.{LiteralKind}
 use Rattle.rustc_lexer.specs.declared.token.LiteralKind.TheVariants.{Int, Float, Char, Byte, Str, ByteStr, CStr, RawStr, RawByteStr, RawCStr}
+use Rattle.rustc_lexer.specs.declared.literals.Body.{Body}
 use Rattle.rustc_lexer.specs.declared.token.TokenKind.{TokenKind}
 use Rattle.rustc_lexer.specs.declared.token.TokenKind.TheVariants.{LineComment, BlockComment, Whitespace, Ident, RawIdent, UnknownPrefix, UnknownPrefixLifetime, RawLifetime, GuardedStrPrefix, Literal, Lifetime, Semi, Comma, Dot, OpenParen, CloseParen, OpenBrace, CloseBrace, OpenBracket, CloseBracket, At, Pound, Tilde, Question, Colon, Dollar, Eq, Bang, Lt, Gt, Minus, And, Or, Plus, Star, Slash, Caret, Percent, Unknown, Eof}
 
@@ -39,25 +40,26 @@ local-string : (more : ℕ) (kind : Bool → LiteralKind) → Local (string more
 unfolding string
 local-string more kind = local-next _ _ (local-skip (suc more)) (λ _. local-next _ _ local-quoted (λ closed. local-give _))
 
+local-character_end : Local character_end
+unfolding character_end
+local-character_end =
+    local-next _ _ (local-look _) (λ single. local-if single _ _ (local-next _ _ (local-skip 2) (λ _. local-give _)) (local-ticked false))
+
 local-character : (more : ℕ) (kind : Bool → LiteralKind) → Local (character more kind)
 unfolding character
 local-character more kind =
-    local-next _ _ (local-skip (suc more)) (λ _. local-next _ _ (local-look _) (λ single.
-    local-if single _ _
-    (local-next _ _ (local-skip 2) (λ _. local-give _))
-    (local-next _ _ (local-ticked false) (λ closed. local-give _))))
+    local-next _ _ (local-skip (suc more)) (λ _. local-next _ _ local-character_end (λ closed. local-give _))
 
-local-raw_kind : (kind : Option ℕ → LiteralKind) (n : ℕ) (b : Bool) → Local (raw_kind kind n b)
-unfolding raw_kind
-local-raw_kind kind n b = local-if (b && leb n 255) _ _ (local-give _) (local-give _)
+local-raw_end : Local raw_end
+unfolding raw_end
+local-raw_end =
+    local-next _ _ (local-run _) (λ hashes. local-next _ _ (local-look _) (λ quote. local-next _ _ (local-skip 1) (λ _.
+    local-if quote _ _ (local-next _ _ (local-near _ (near-raw hashes)) (λ closed. local-give _)) (local-give _))))
 
 local-raw_string : (more : ℕ) (kind : Option ℕ → LiteralKind) → Local (raw_string more kind)
 unfolding raw_string
 local-raw_string more kind =
-    local-next _ _ (local-skip (suc more)) (λ _. local-next _ _ (local-run _) (λ hashes. local-next _ _ (local-look _) (λ quote.
-    local-if quote _ _
-    (local-next _ _ (local-skip 1) (λ _. local-next _ _ (local-near _ (near-raw hashes)) (λ closed. local-raw_kind kind hashes closed)))
-    (local-next _ _ (local-skip 1) (λ _. local-give _)))))
+    local-next _ _ (local-skip (suc more)) (λ _. local-next _ _ local-raw_end (λ hashes. local-give _))
 
 local-digits : (p : ℕ → Bool) → Local (digits p)
 unfolding digits

@@ -4,3 +4,16 @@ pub mod Takes
 pub mod Local
 pub mod Leaves
 pub mod Lexemes
+pub mod Fits
+pub mod LexemesFit
+pub mod Cutting
+pub mod Runs
+pub mod Sizes
+pub mod Wide
+pub mod Seams
+pub mod Alike
+pub mod QuotedSteps
+pub mod BlockSteps
+pub mod RawSteps
+pub mod TickSteps
+pub mod Reading

@@ -1,7 +1,7 @@
 -- One step of each recursive scan: what it reads of the next character.
 use Rattle.std.proofs.Common.{◌≡◌, ℕ, suc, zero, ◌+◌, ◌<◌, ◌≤◌, Bool, true, false, not, ◌&&◌, ◌||◌, ◌==◌, List, [], ◌∷◌, ◌⊎◌, inl, inr, refl, ap, arith}
 use Rattle.rustc_lexer.specs.Characters.{is_id_start, is_id_continue, double_quote, backslash, tick, slash, line_feed}
-use Rattle.rustc_lexer.specs.Scan.{peek, run_len, name_len, past, closing, unclosed, mark, Mark, Opens, Closes, Neither, block, quoted, hashes_follow, raw, ticked}
+use Rattle.rustc_lexer.specs.Scan.{peek, run_len, name_len, past, closing, unclosed, mark, Mark, Opens, Closes, Neither, block, quoted, hashes_follow, raw, stops_character, ticked}
 
 -- a run
 pub run-true : (p : ℕ → Bool) (x : ℕ) (xs : List ℕ) → p x ≡ true → run_len p (x ∷ xs) ≡ suc (run_len p xs)
@@ -75,7 +75,7 @@ raw-false n c cs h = rw (h, raw)
 
 -- a character
 abbrev pub stops : ℕ → List ℕ → Bool
-stops c cs = (c == slash) || ((c == line_feed) && not (peek 0 cs == tick))
+stops c cs = stops_character c (peek 0 cs)
 
 pub ticked-closes : (c : ℕ) (cs : List ℕ) → (c == tick) ≡ true → ticked false (c ∷ cs) ≡ closing 1
 unfolding ticked

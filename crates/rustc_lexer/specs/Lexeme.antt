@@ -1,5 +1,5 @@
 -- The lexical grammar: what a text's first lexeme is. The first case that fits decides.
-use Rattle.std.specs.Prelude.{ℕ, suc, zero, ◌+◌, Bool, true, false, not, ◌&&◌, ◌||◌, ◌==◌, leb, List, [], ◌∷◌, length, take, drop, if◌then◌else◌, Option, Some, None}
+use Rattle.std.specs.Prelude.{ℕ, suc, zero, ◌+◌, Bool, true, false, not, ◌&&◌, ◌||◌, ◌==◌, leb, List, [], ◌∷◌, length, take, drop, if◌then◌else◌, Option, Some, None, is_some}
 use Rattle.rustc_lexer.specs.Characters.{line_feed, exclamation, double_quote, hash, tick, star, dot, slash, backslash, underscore, letter_b, letter_c, letter_o, letter_r, letter_x, is_whitespace, is_digit, is_hex_digit, is_id_start, is_id_continue, size}
 use Rattle.rustc_lexer.specs.Rows.{Row, row, first_fit}
 use Rattle.rustc_lexer.specs.Scan.{Taken, Scan, give, skip, peek, look, ◌▸◌, spelled, begin, run, name, block, quoted, raw, ticked}
@@ -9,6 +9,7 @@ use Rattle.rustc_lexer.specs.declared.token.Base.{Base}
 use Rattle.rustc_lexer.specs.declared.token.Base.TheVariants.{Binary, Octal, Decimal, Hexadecimal}
 use Rattle.rustc_lexer.specs.declared.token.LiteralKind.{LiteralKind}
 use Rattle.rustc_lexer.specs.declared.token.LiteralKind.TheVariants.{Int, Float, Char, Byte, Str, ByteStr, CStr, RawStr, RawByteStr, RawCStr}
+use Rattle.rustc_lexer.specs.declared.literals.Body.{Body}
 use Rattle.rustc_lexer.specs.declared.token.TokenKind.{TokenKind}
 use Rattle.rustc_lexer.specs.declared.token.TokenKind.TheVariants.{LineComment, BlockComment, Whitespace, Ident, RawIdent, UnknownPrefix, UnknownPrefixLifetime, RawLifetime, GuardedStrPrefix, Literal, Lifetime, Semi, Comma, Dot, OpenParen, CloseParen, OpenBrace, CloseBrace, OpenBracket, CloseBracket, At, Pound, Tilde, Question, Colon, Dollar, Eq, Bang, Lt, Gt, Minus, And, Or, Plus, Star, Slash, Caret, Percent, Unknown, Eof}
 
@@ -78,11 +79,7 @@ block_comment = spelled (skip 2 ▸ λ _. block 0) ▸ λ s. give (BlockComment 
 
 -- Literals.
 
--- a literal's kind, and whether a suffix may follow
-pub record Body : Type 0 where
-  pub kind : LiteralKind
-  pub ends : Bool
-
+-- a literal's kind and whether a suffix may follow
 abbrev pub body : LiteralKind → Bool → Scan Body
 body kind ends = give (record { kind = kind; ends = ends })
 
@@ -102,25 +99,28 @@ string more kind = skip (suc more) ▸ λ _. quoted false ▸ λ closed. body (k
 abbrev pub is_single : ℕ → ℕ → Bool
 is_single a b = b == tick && not (a == backslash)
 
--- a character or byte behind its prefix: closed by its second character, or as its characters tell
+-- what stands behind the first `'` of a character: closed by its second character, or as its characters tell
+unfoldable pub character_end : Scan Bool
+character_end = look is_single ▸ λ single. if single then (skip 2 ▸ λ _. give true) else ticked false
+
+-- a character or byte behind its prefix
 unfoldable pub character : ℕ → (Bool → LiteralKind) → Scan Body
-character more kind =
-    skip (suc more) ▸ λ _. look is_single ▸ λ single.
-    if single
-    then (skip 2 ▸ λ _. body (kind true) true)
-    else (ticked false ▸ λ closed. body (kind closed) closed)
+character more kind = skip (suc more) ▸ λ _. character_end ▸ λ closed. body (kind closed) closed
 
--- a raw string's kind has the number of its hashes where it is closed and they are at most 255
-unfoldable pub raw_kind : (Option ℕ → LiteralKind) → ℕ → Bool → Scan Body
-raw_kind kind hashes closed = if closed && leb hashes 255 then body (kind (Some hashes)) true else body (kind None) false
+-- the number of hashes, where a raw string is closed and they are at most 255
+unfoldable pub counted : ℕ → Bool → Option ℕ
+counted hashes closed = if closed && leb hashes 255 then Some hashes else None
 
--- a raw string behind its prefix: hashes, a quote, and on to the quote with as many hashes; without a quote one character more
+-- what stands behind the `r` of a raw string: hashes, a quote, and on to the quote with as many hashes; without a quote
+-- one character more
+unfoldable pub raw_end : Scan (Option ℕ)
+raw_end =
+    run (λ c. c == hash) ▸ λ hashes. look (λ a b. a == double_quote) ▸ λ quote. skip 1 ▸ λ _.
+    if quote then (raw hashes ▸ λ closed. give (counted hashes closed)) else give None
+
+-- a raw string behind its prefix
 unfoldable pub raw_string : ℕ → (Option ℕ → LiteralKind) → Scan Body
-raw_string more kind =
-    skip (suc more) ▸ λ _. run (λ c. c == hash) ▸ λ hashes. look (λ a b. a == double_quote) ▸ λ quote.
-    if quote
-    then (skip 1 ▸ λ _. raw hashes ▸ λ closed. raw_kind kind hashes closed)
-    else (skip 1 ▸ λ _. body (kind None) false)
+raw_string more kind = skip (suc more) ▸ λ _. raw_end ▸ λ hashes. body (kind hashes) (is_some hashes)
 
 -- Numbers.
 

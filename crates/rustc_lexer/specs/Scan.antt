@@ -78,8 +78,14 @@ pub data Mark : Type 0 where
   Closes : Mark
   Neither : Mark
 
+abbrev pub opens_comment : ℕ → ℕ → Bool
+opens_comment a b = a == slash && b == star
+
+abbrev pub closes_comment : ℕ → ℕ → Bool
+closes_comment a b = a == star && b == slash
+
 unfoldable pub mark : ℕ → ℕ → Mark
-mark a b = if a == slash && b == star then Opens else if a == star && b == slash then Closes else Neither
+mark a b = if opens_comment a b then Opens else if closes_comment a b then Closes else Neither
 
 -- the rest of a block comment inside which `depth` comments are open
 unfoldable pub block : ℕ → Scan Bool
@@ -117,15 +123,18 @@ raw hashes (c ∷ cs) =
       | false ↦ past (raw hashes cs)
     ]
 
--- the rest of a character: up to and with a `'`, or up to before a `/`, a line feed that no `'` follows, or the end;
--- `escaped` says that a `\` takes the next one
+-- a character ends before a `/`, or before a line feed that no `'` follows
+abbrev pub stops_character : ℕ → ℕ → Bool
+stops_character a b = (a == slash) || (a == line_feed && not (b == tick))
+
+-- the rest of a character: up to and with a `'`, or up to before where a character stops, or the end; `escaped` says that a `\` takes the next one
 unfoldable pub ticked : Bool → Scan Bool
 ticked escaped [] = unclosed 0
 ticked true (c ∷ cs) = past (ticked false cs)
 ticked false (c ∷ cs) =
     elim (c == tick) [
       | true ↦ closing 1
-      | false ↦ elim ((c == slash) || (c == line_feed && not (peek 0 cs == tick))) [
+      | false ↦ elim (stops_character c (peek 0 cs)) [
         | true ↦ unclosed 0
         | false ↦ past (ticked (c == backslash) cs)
       ]

@@ -1,8 +1,13 @@
 //! Lexemes of Rust source text: cuts a text into tokens, each a kind and a length, with no text left over.
 #![tactic(auto)]
 
+mod bytes;
 mod classes;
+mod comments;
+mod cursor;
+mod literals;
 mod token;
 
 pub use classes::{is_horizontal_whitespace, is_id_continue, is_id_start, is_ident, is_whitespace};
+pub use cursor::Cursor;
 pub use token::{Base, DocStyle, LiteralKind, Token, TokenKind};

@@ -1,0 +1,13 @@
+use Rattle.std.proofs.Common.{◌≡◌, ◌&&◌, ◌==◌, ltb, true, false, sym, get_or, arith}
+use Rattle.rustc_lexer.specs.Characters.{is_id_continue}
+use Rattle.rustc_lexer.proofs.Runs.{run_found, run_all}
+use Rattle.rustc_lexer.proofs.bytes.continue_len.Goals as goal
+
+pub returns-then-not-is_ascii_continue : goal.returns-then-not-is_ascii_continue
+returns-then-not-is_ascii_continue c =
+    let b = get_or c.args.bytes.now c.loop-i.i 0 in
+    let stop : (ltb b 128 && is_id_continue b) ≡ false = cc in
+    sym (run_found (λ b. ltb b 128 && is_id_continue b) c.args.bytes.now c.loop-i.i (omega arith) c.loop-i.invariant stop)
+
+pub returns : goal.returns
+returns c = sym (run_all (λ b. ltb b 128 && is_id_continue b) c.args.bytes.now (λ k l. c.loop-i.invariant k (omega arith)))

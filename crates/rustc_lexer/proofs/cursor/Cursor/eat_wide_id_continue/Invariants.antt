@@ -1,0 +1,10 @@
+use Rattle.std.proofs.Common.{◌≡◌, ℕ, drop, length}
+use Rattle.rustc_lexer.specs.Characters.{is_id_continue}
+use Rattle.rustc_lexer.specs.Scan.{run_len}
+use Rattle.rustc_lexer.proofs.cursor.Cursor.eat_wide_id_continue.Given as goal
+
+abbrev pub invariant-run : goal.invariant-run
+invariant-run l = drop (run_len is_id_continue l.self) l.self ≡ drop (run_len is_id_continue l.initial.self) l.initial.self
+
+abbrev pub decreases-run : goal.decreases-run
+decreases-run l = length l.self

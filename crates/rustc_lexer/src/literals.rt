@@ -1,0 +1,137 @@
+//! Literals in quotes: strings, raw strings, characters and bytes.
+
+ghost use Rattle.std.specs.Prelude.{◌≡◌, ◌≤◌, ◌-◌, false, drop};
+ghost use Rattle.rustc_lexer.specs.Characters.{size};
+ghost use Rattle.rustc_lexer.specs.Scan.{quoted, hashes_follow, raw, stops_character, ticked};
+ghost use Rattle.rustc_lexer.specs.Lexeme.{is_single, suffix, character_end, counted, raw_end};
+ghost use Rattle.rustc_lexer.specs.Reads.{Reads};
+
+use crate::cursor::Cursor;
+use crate::token::{LiteralKind, TokenKind};
+
+/// A literal without its suffix: its kind, and whether a suffix may follow.
+#[derive(Clone, Copy)]
+pub(crate) struct Body {
+    pub kind: LiteralKind,
+    pub ends: bool,
+}
+
+fn is_single(a: char, b: char) -> bool
+    ensures { result ≡ is_single a b }
+{
+    b == '\'' && a != '\\'
+}
+
+fn stops_character(a: char, b: char) -> bool
+    ensures { result ≡ stops_character a b }
+{
+    a == '/' || (a == '\n' && b != '\'')
+}
+
+// The number of hashes that a raw string's kind has.
+#[tactic(auto, unfolding(crate::specs::Lexeme::counted))]
+fn counted(hashes: usize, closed: bool) -> Option<u8>
+    ensures { result ≡ counted hashes closed }
+{
+    if closed && hashes <= 255 {
+        Some(hashes as u8)
+    } else {
+        None
+    }
+}
+
+impl<'a> Cursor<'a> {
+    /// Ends a literal that began where `start` bytes were left: takes its suffix, if one may follow.
+    pub(crate) fn end_literal(&mut self, start: usize, body: Body) -> TokenKind
+        requires { size self.old ≤ start }
+        ensures kind { result ≡ TokenKind.Literal body.kind (start - size self.old) }
+        ensures rest { self.new ≡ drop (suffix body.ends self.old).taken self.old }
+    {
+        let suffix_start = start - self.remaining();
+        if body.ends {
+            self.eat_name();
+        }
+        TokenKind::Literal {
+            kind: body.kind,
+            suffix_start,
+        }
+    }
+
+    /// The rest of a string behind its first quote; whether it is closed.
+    pub(crate) fn eat_quoted(&mut self) -> bool
+        ensures { Reads (quoted false) self.old result self.new }
+    {
+        'quoted: while !self.is_empty() {
+            self.eat_plain();
+            if self.first() == '"' {
+                self.bump();
+                return true;
+            }
+            self.bump();
+            self.bump();
+        }
+        false
+    }
+
+    /// The rest of a character or byte behind its first `'`; whether it is closed.
+    pub(crate) fn eat_character(&mut self) -> bool
+        ensures { Reads character_end self.old result self.new }
+    {
+        if is_single(self.first(), self.second()) {
+            self.bump();
+            self.bump();
+            return true;
+        }
+        self.eat_ticked()
+    }
+
+    // The same, where the second character does not close it.
+    fn eat_ticked(&mut self) -> bool
+        ensures { Reads (ticked false) self.old result self.new }
+    {
+        'ticked: while !self.is_empty() {
+            let next = self.first();
+            if next == '\'' {
+                self.bump();
+                return true;
+            }
+            if stops_character(next, self.second()) {
+                return false;
+            }
+            self.bump();
+            if next == '\\' {
+                self.bump();
+            }
+        }
+        false
+    }
+
+    /// The rest of a raw string behind its `r`; the number of its hashes, if it is closed and they are at most 255.
+    pub(crate) fn eat_raw_string(&mut self) -> Option<u8>
+        ensures { Reads raw_end self.old result self.new }
+    {
+        let hashes = self.eat_hashes();
+        let quote = self.first() == '"';
+        self.bump();
+        if !quote {
+            return None;
+        }
+        let closed = self.eat_raw(hashes);
+        counted(hashes, closed)
+    }
+
+    // The rest of a raw string behind its first quote; whether it is closed.
+    fn eat_raw(&mut self, hashes: usize) -> bool
+        ensures { Reads (raw hashes) self.old result self.new }
+    {
+        'raw: while !self.is_empty() {
+            self.eat_unquoted();
+            let quote = self.first() == '"';
+            self.bump();
+            if quote && self.eat_closing_hashes(hashes) {
+                return true;
+            }
+        }
+        false
+    }
+}
