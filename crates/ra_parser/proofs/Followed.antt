@@ -1,0 +1,18 @@
+use Rattle.std.proofs.Common.{◌≡◌, ℕ, zero, suc, ◌<◌, ◌≤◌, Bool, true, false, List, [], ◌∷◌, length, nat_lt, nat_le, ◌&&◌, refl, ap, sym, ◌∙◌, subst, arith, ◌⊎◌, inl, inr, Option, Some, None, drop}
+use Rattle.std.proofs.lemmas.Bool.{lt-ltb, le-ltb, le-leb, cases_Bool}
+use Rattle.parser_events.specs.Forest as forest
+use Rattle.parser_events.specs.Forest.{Forest, ◌then◌, Message}
+use Rattle.parser_input.specs.Input.{Token}
+use Rattle.ra_parser.specs.Rule.{Production, Rule, Look, Nothing, One, Then, Or, Opt, Star, Node, Wrap, Want, Say, When, Unless, Call, Continue, Mode, begins, Spelling}
+use Rattle.ra_parser.specs.Meaning.{Reading, Calls, Table, read, look_of, follow, meaning, calls, sees, fresh, behind, node, wrapped, say, leaf}
+
+-- a call is followed where tokens were taken, or where the rank is lower
+
+pub call_followed : (g : Table) (x y : Production) (n : ℕ) (c : Bool) (s : Reading) →
+    (length s.rest < n) ⊎ ((length s.rest ≤ n) × (g.rank y < g.rank x)) → calls g x n y c s ≡ meaning g y c s
+unfolding calls follow
+call_followed g x y n c s (inl p) = rw (lt-ltb _ _ p) refl
+call_followed g x y n c s (inr p) = elim (cases_Bool (nat_lt (length s.rest) n)) [
+  | inl t ↦ rw t refl
+  | inr t ↦ rw (t, le-leb _ _ p.0, lt-ltb _ _ p.1) refl
+]

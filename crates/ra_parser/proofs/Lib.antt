@@ -1,0 +1,5 @@
+pub mod Unfolds
+pub mod Followed
+pub mod Plain
+pub mod Table
+pub mod Items

@@ -1,0 +1,38 @@
+-- The grammar, as far as the kinds `struct`, identifier and `;` reach. Productions and alternatives join as the kinds do.
+use Rattle.std.specs.Prelude.{ℕ, Bool, true, false}
+use Rattle.parser_input.specs.Kinds.{SOURCE_FILE, STRUCT, NAME, NAME_REF, PATH, PATH_SEGMENT, ERROR}
+use Rattle.parser_events.specs.Forest.{ExpectedItem}
+use Rattle.ra_parser.specs.Rule.{Rule, Nothing, Skip, Say, Unless, Production, source_file, item, body, name, name_ref, path}
+use Rattle.ra_parser.specs.Notation.{◌/◌, ◌▸◌, ◌*, ◌⟨◌⟩, ◌<⟨◌⟩, ◌!, more, at_end}
+use Rattle.ra_parser.specs.Words.{'struct', 'ident', 'semi', Item, Body, Name, Ref, Path}
+use Rattle.ra_parser.specs.Meaning.{Table}
+
+-- The table. A word that begins no item is read as a path, and stands in an error with the message behind it.
+unfoldable pub rule : Production → Rule
+rule source_file = SOURCE_FILE ⟨ (Unless at_end Item) * ⟩
+rule item = more Body
+rule body =
+    STRUCT <⟨ 'struct' ▸ Name ! ▸ 'semi' ! ⟩
+    / Path ▸ ERROR <⟨ Say ExpectedItem ⟩
+    / Skip ExpectedItem
+rule name = NAME ⟨ 'ident' ⟩
+rule name_ref = NAME_REF ⟨ 'ident' ⟩
+rule path = PATH ⟨ PATH_SEGMENT ⟨ Ref ! ⟩ ⟩
+
+-- A production calls, before it takes a token, only those of lower rank.
+unfoldable pub rank : Production → ℕ
+rank source_file = 4
+rank item = 3
+rank body = 2
+rank path = 1
+rank name = 0
+rank name_ref = 0
+
+-- the productions that surely take a token where one is left
+unfoldable pub claim : Production → Bool
+claim name = true
+claim name_ref = true
+claim _ = false
+
+unfoldable pub grammar : Table
+grammar = record { rule = rule; rank = rank; ranks = 5 }

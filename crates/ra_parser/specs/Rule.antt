@@ -1,0 +1,134 @@
+-- The rules that a grammar is written in.
+use Rattle.std.specs.Prelude.{ℕ, ◌+◌, Bool, true, false, List, [], ◌∷◌, length, if◌then◌else◌}
+use Rattle.parser_events.specs.Forest.{Message}
+
+-- the productions
+pub data Production : Type 0 where
+  source_file : Production
+  item : Production
+  body : Production
+  name : Production
+  name_ref : Production
+  path : Production
+
+-- What a choice asks of the place: the n-th token ahead is of a kind, of a contextual kind, touches the next; a token is
+-- left; condition mode is on; the present production has given something.
+pub data Look : Type 0 where
+  Always : Look
+  Never : Look
+  Kind : (n kind : ℕ) → Look
+  Contextual : (n kind : ℕ) → Look
+  Joint : (n : ℕ) → Look
+  Left : Look
+  InCondition : Look
+  Given : Look
+  Both : Look → Look → Look
+  Either : Look → Look → Look
+  Not : Look → Look
+
+-- A spelling: the kind of its leaf, and the kinds of its input tokens, all but the last joint.
+pub record Spelling : Type 0 where
+  pub kind : ℕ
+  pub parts : List ℕ
+
+-- The nine forms are: one leaf (One, Any); a sequence (Nothing, Then, Near, which asks the looks of both parts); a choice by
+-- looks (Or, When, Unless); an option; a repetition; a node; a wrap around all that the present production gave so far;
+-- an expected part (Want: it, or a message); an error (Say: a message; Skip: a message about the next token, which is
+-- taken; Split: a float behind a dot). Call begins a production anew, Continue goes on in the present one, Mode reads a
+-- rule in condition mode or out of it.
+pub data Rule : Type 0 where
+  Nothing : Rule
+  One : Spelling → Rule
+  Any : Rule
+  Then : Rule → Rule → Rule
+  Near : Rule → Rule → Rule
+  Or : Rule → Rule → Rule
+  When : Look → Rule → Rule
+  Unless : Look → Rule → Rule
+  Opt : Rule → Rule
+  Star : Rule → Rule
+  Node : (kind : ℕ) → Rule → Rule
+  Wrap : (kind : ℕ) → Rule → Rule
+  Want : Rule → (message : Message) → Rule
+  Say : (message : Message) → Rule
+  Skip : (message : Message) → Rule
+  Split : Rule
+  Call : Production → Rule
+  Continue : Production → Rule
+  Mode : (condition : Bool) → Rule → Rule
+
+-- the spelling from the n-th token on
+unfoldable pub there_at : ℕ → List ℕ → Look
+there_at n [] = Always
+there_at n (k ∷ []) = Kind n k
+there_at n (k ∷ l ∷ ks) = Both (Kind n k) (Both (Joint n) (there_at (n + 1) (l ∷ ks)))
+
+-- a look, m tokens further ahead
+unfoldable pub shift : ℕ → Look → Look
+shift m Always = Always
+shift m Never = Never
+shift m (Kind n k) = Kind (n + m) k
+shift m (Contextual n k) = Contextual (n + m) k
+shift m (Joint n) = Joint (n + m)
+shift m Left = Left
+shift m InCondition = InCondition
+shift m Given = Given
+shift m (Both a b) = Both (shift m a) (shift m b)
+shift m (Either a b) = Either (shift m a) (shift m b)
+shift m (Not a) = Not (shift m a)
+
+-- a look where the mode is set
+unfoldable pub in_mode : Bool → Look → Look
+in_mode c InCondition = if c then Always else Never
+in_mode c (Both a b) = Both (in_mode c a) (in_mode c b)
+in_mode c (Either a b) = Either (in_mode c a) (in_mode c b)
+in_mode c (Not a) = Not (in_mode c a)
+in_mode c l = l
+
+-- a rule that may give nothing where its looks fail: a sequence looks past it
+unfoldable pub passes : Rule → Bool
+passes (Opt a) = true
+passes (Star a) = true
+passes (Mode c a) = passes a
+passes r = false
+
+-- a rule that asks nothing and takes nothing
+unfoldable pub is_silent : Rule → Bool
+is_silent Nothing = true
+is_silent (Say m) = true
+is_silent r = false
+
+-- how many tokens the leaf that a rule begins with stands over
+unfoldable pub width : Rule → ℕ
+width (One x) = length x.parts
+width (When l a) = width a
+width (Node k a) = width a
+width (Or a b) = width a
+width r = 1
+
+-- Where a rule begins, given where the productions begin. A part that is wanted begins where the part itself does.
+unfoldable pub begins : (Production → Look) → Rule → Look
+begins f Nothing = Always
+begins f (One x) = there_at 0 x.parts
+begins f Any = Left
+begins f (Then a b) =
+    let first = begins f a in
+    let second = begins f b in
+    let both = Either first second in
+    let sure = if passes a then both else first in
+    if is_silent a then second else sure
+begins f (Near a b) = Both (begins f a) (shift (width a) (begins f b))
+begins f (Or a b) = Either (begins f a) (begins f b)
+begins f (When l a) = l
+begins f (Unless l a) = Both (Not l) (begins f a)
+begins f (Opt a) = begins f a
+begins f (Star a) = begins f a
+begins f (Node kind a) = begins f a
+begins f (Wrap kind a) = begins f a
+begins f (Want a m) = begins f a
+begins f (Say m) = Always
+begins f (Skip m) = Left
+begins f Split = Left
+begins f (Call x) = f x
+begins f (Continue x) = f x
+begins f (Mode c a) = in_mode c (begins f a)

@@ -1,0 +1,8 @@
+//! Laws of the definitions. Each is the contract of a function that makes no call.
+
+ghost use Rattle.ra_parser.specs.Laws.{ProductionsMeanTheirRules};
+
+/// A production gives what its rule gives, where each production that the rule calls gives what it means.
+pub fn productions_mean_their_rules()
+    ensures { ProductionsMeanTheirRules }
+{}

@@ -1,0 +1,4 @@
+//! Trees with numbers, and the elements in them.
+#![tactic(auto)]
+
+mod stub;

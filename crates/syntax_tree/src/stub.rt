@@ -1,0 +1,2 @@
+//! Holds the place.
+pub fn stub() {}
