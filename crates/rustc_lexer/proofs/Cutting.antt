@@ -6,7 +6,7 @@ use Rattle.rustc_lexer.specs.Lexeme.{lexeme}
 use Rattle.rustc_lexer.specs.Tokens.{Lexeme, first_lexeme, cut, tokens, joined}
 use Rattle.rustc_lexer.specs.declared.token.TokenKind.{TokenKind}
 use Rattle.rustc_lexer.proofs.Agree.{fewer, behind}
-use Rattle.rustc_lexer.proofs.Lexemes.{lexeme-local, lexeme-takes}
+use Rattle.rustc_lexer.proofs.LexemesLocal.{lexeme-local, lexeme-takes}
 use Rattle.rustc_lexer.proofs.LexemesFit.{lexeme-fits}
 
 -- the characters that belong to the lexeme before are passed over

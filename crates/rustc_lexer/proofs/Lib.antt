@@ -3,7 +3,7 @@ pub mod Steps
 pub mod Takes
 pub mod Local
 pub mod Leaves
-pub mod Lexemes
+pub mod LexemesLocal
 pub mod Fits
 pub mod LexemesFit
 pub mod Cutting
@@ -17,3 +17,4 @@ pub mod BlockSteps
 pub mod RawSteps
 pub mod TickSteps
 pub mod Reading
+pub mod Cases

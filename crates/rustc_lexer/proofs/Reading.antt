@@ -4,13 +4,13 @@ use Rattle.std.proofs.lemmas.List.{drop-drop}
 use Rattle.rustc_lexer.specs.Scan.{Taken, Scan, give, skip, peek, look, ◌▸◌, spelled, begin, run_len, run, name_len, name}
 use Rattle.rustc_lexer.specs.Reads.{Reads}
 use Rattle.rustc_lexer.specs.Characters.{is_hex_digit, size}
-use Rattle.rustc_lexer.specs.Lexeme.{digits, has_digit, body, suffix, literal}
+use Rattle.rustc_lexer.specs.Lexeme.{digits, has_digit, body, suffix, literal, Case, case_of, lexeme_in, lexeme}
 use Rattle.rustc_lexer.specs.declared.literals.Body.{Body}
 use Rattle.rustc_lexer.specs.declared.token.TokenKind.{TokenKind}
 use Rattle.rustc_lexer.specs.declared.token.TokenKind.TheVariants.{Literal}
 use Rattle.rustc_lexer.proofs.Steps.{run-true}
 use Rattle.rustc_lexer.proofs.Runs.{run_none}
-use Rattle.rustc_lexer.proofs.Sizes.{size-parts}
+use Rattle.rustc_lexer.proofs.Sizes.{size-parts, size-drop}
 
 pub reads-give : {A : Type 0} {a b : A} {old : List ℕ} → a ≡ b → Reads (give a) old b old
 unfolding give
@@ -116,3 +116,29 @@ reads-literal {f} {old} {mid} {new} {b} {kind} start p whole is rest =
     let bytes : size (take n old) ≡ start - size mid = omega arith in
     let K : ℕ → TokenKind = λ m. Literal b.kind m in
     reads-next _ (reads-spelled p) (reads-next _ (record { value_is = refl; rest_is = rest }) (reads-give (ap K bytes ∙ sym is)))
+
+-- what a scan took, in bytes
+pub reads-size : {A : Type 0} {f : Scan A} {old new : List ℕ} {a : A} → Reads f old a new → size (take (f old).taken old) ≡ size old - size new
+reads-size {A} {f} {old} {new} p =
+    let n = (f old).taken in
+    let parts : size (take n old) + size new ≡ size old = ap (λ z. size (take n old) + size z) p.rest_is ∙ size-parts n old in
+    omega arith
+
+pub reads-shorter : {A : Type 0} {f : Scan A} {old new : List ℕ} {a : A} → Reads f old a new → size new ≤ size old
+reads-shorter {A} {f} {old} p = rw p.rest_is (size-drop (f old).taken old)
+
+-- a scan by a value that is known otherwise
+pub reads-along : {A B : Type 0} (g : A → Scan B) {x y : A} {old new : List ℕ} {b : B} → x ≡ y → Reads (g y) old b new → Reads (g x) old b new
+reads-along {A} {B} g {x} {y} {old} {new} {b} e p = let P : A → Type 0 = λ c. Reads (g c) old b new in subst P (sym e) p
+
+pub one-shorter : (xs : List ℕ) {ys : List ℕ} → ys ≡ drop 1 xs → size ys ≤ size xs
+one-shorter xs e = rw e (size-drop 1 xs)
+
+-- the lexeme of the case that a text is
+pub reads-lexeme : {old new : List ℕ} {k : Case} {v : TokenKind} → case_of (peek 0 old) (peek 1 old) (peek 2 old) ≡ k → Reads (lexeme_in k) old v new → Reads lexeme old v new
+unfolding lexeme
+reads-lexeme e p = reads-begin case_of lexeme_in e p
+
+-- where the first character is known
+pub reads-first : (a : ℕ) {old new : List ℕ} {k : Case} {v : TokenKind} → peek 0 old ≡ a → case_of a (peek 1 old) (peek 2 old) ≡ k → Reads (lexeme_in k) old v new → Reads lexeme old v new
+reads-first a {old} first e p = reads-lexeme (ap (λ z. case_of z (peek 1 old) (peek 2 old)) first ∙ e) p

@@ -3,7 +3,8 @@ use Rattle.std.proofs.Common.{◌≡◌, ℕ, ◌<◌, ◌≤◌, Bool, true, fa
 use Rattle.std.proofs.lemmas.Bool.{ne_eqb}
 use Rattle.std.proofs.lemmas.Bool.Decides.{nat_tests}
 use Rattle.unicode_ident.proofs.IdentLemmas.{is_xid_continue-ascii, is_xid_start-ascii}
-use Rattle.rustc_lexer.specs.Characters.{line_feed, double_quote, backslash, slash, star, hash, is_whitespace, is_id_start, is_id_continue}
+use Rattle.rustc_lexer.specs.Characters.{line_feed, double_quote, backslash, slash, star, hash, is_digit, is_hex_digit, is_whitespace, is_id_start, is_id_continue}
+use Rattle.rustc_lexer.specs.Lexeme.{digit_or_underscore, hex_or_underscore}
 
 pub wide_not : (c b : ℕ) → c < 128 → 128 ≤ b → not (b == c) ≡ true
 wide_not c b h w = grind (arith, nat_tests)
@@ -31,3 +32,11 @@ continue_zero = is_xid_continue-ascii 0 (lit< tt)
 pub start_zero : is_id_start 0 ≡ false
 unfolding is_id_start
 start_zero = is_xid_start-ascii 0 (lit< tt)
+
+pub decimal_zero : digit_or_underscore 0 ≡ false
+unfolding digit_or_underscore is_digit
+decimal_zero = refl
+
+pub hex_zero : hex_or_underscore 0 ≡ false
+unfolding hex_or_underscore is_hex_digit is_digit
+hex_zero = refl

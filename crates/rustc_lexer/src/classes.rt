@@ -1,7 +1,7 @@
 //! The classes of characters.
 
 ghost use Rattle.std.specs.Prelude.{◌≡◌, chars};
-ghost use Rattle.rustc_lexer.specs.Characters.{is_whitespace, is_horizontal_whitespace, is_id_start, is_id_continue, is_ident};
+ghost use Rattle.rustc_lexer.specs.Characters.{is_whitespace, is_horizontal_whitespace, is_digit, is_id_start, is_id_continue, is_ident};
 
 /// Whether a character is white space between tokens: U+0009 to U+000D, space, U+0085, U+200E, U+200F, U+2028, U+2029.
 #[tactic(auto, unfolding(crate::specs::Characters::is_whitespace))]
@@ -23,6 +23,14 @@ pub fn is_horizontal_whitespace(c: char) -> bool
     ensures { result ≡ is_horizontal_whitespace c }
 {
     c == '\t' || c == ' '
+}
+
+/// Whether a character is a decimal digit.
+#[tactic(auto, unfolding(crate::specs::Characters::is_digit))]
+pub(crate) fn is_digit(c: char) -> bool
+    ensures { result ≡ is_digit c }
+{
+    '0' <= c && c <= '9'
 }
 
 /// Whether an identifier may begin with a character: `_`, or XID_Start.

@@ -5,7 +5,10 @@ mod bytes;
 mod classes;
 mod comments;
 mod cursor;
+mod lexemes;
 mod literals;
+mod names;
+mod numbers;
 mod token;
 
 pub use classes::{is_horizontal_whitespace, is_id_continue, is_id_start, is_ident, is_whitespace};

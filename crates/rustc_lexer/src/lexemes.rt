@@ -1,0 +1,347 @@
+//! What a text begins with: the first case that fits decides.
+
+ghost use Rattle.std.specs.Prelude.{◌≡◌, ◌==◌, ◌||◌, ◌&&◌, not};
+ghost use Rattle.rustc_lexer.specs.Characters.{double_quote, hash, letter_b, letter_c, letter_r, slash, tick, is_digit, is_id_start};
+ghost use Rattle.rustc_lexer.specs.Scan.{peek};
+ghost use Rattle.rustc_lexer.specs.Lexeme.{Blank, Single, opens_raw, sign, literal, string, character, raw_string, number, lexeme_in, lexeme};
+ghost use Rattle.rustc_lexer.specs.Reads.{Reads};
+
+use crate::classes::{is_digit, is_id_start, is_whitespace};
+use crate::cursor::Cursor;
+use crate::literals::Body;
+use crate::token::{LiteralKind, TokenKind};
+
+fn opens_raw(c: char) -> bool
+    ensures { result ≡ opens_raw c }
+{
+    c == '#' || c == '"'
+}
+
+// Whether an `r` before these characters begins a raw identifier.
+fn begins_raw_name(b: char, c: char) -> bool
+    ensures { result ≡ (b == hash && is_id_start c) }
+{
+    b == '#' && is_id_start(c)
+}
+
+// Whether a `b` or `c` before these characters begins a raw string.
+fn begins_raw_string(b: char, c: char) -> bool
+    ensures { result ≡ (b == letter_r && opens_raw c) }
+{
+    b == 'r' && opens_raw(c)
+}
+
+// Whether a `'` before these characters may begin a lifetime.
+fn begins_lifetime(b: char, c: char) -> bool
+    ensures { result ≡ (not (c == tick) && (is_id_start b || is_digit b)) }
+{
+    c != '\'' && (is_id_start(b) || is_digit(b))
+}
+
+// The kind of a character that stands for itself.
+#[tactic(auto, unfolding(crate::specs::Lexeme::sign, crate::specs::Rows::first_fit))]
+fn sign(c: char) -> TokenKind
+    ensures { result ≡ sign c }
+{
+    match c {
+        ';' => TokenKind::Semi,
+        ',' => TokenKind::Comma,
+        '.' => TokenKind::Dot,
+        '(' => TokenKind::OpenParen,
+        ')' => TokenKind::CloseParen,
+        '{' => TokenKind::OpenBrace,
+        '}' => TokenKind::CloseBrace,
+        '[' => TokenKind::OpenBracket,
+        ']' => TokenKind::CloseBracket,
+        '@' => TokenKind::At,
+        '#' => TokenKind::Pound,
+        '~' => TokenKind::Tilde,
+        '?' => TokenKind::Question,
+        ':' => TokenKind::Colon,
+        '$' => TokenKind::Dollar,
+        '=' => TokenKind::Eq,
+        '!' => TokenKind::Bang,
+        '<' => TokenKind::Lt,
+        '>' => TokenKind::Gt,
+        '-' => TokenKind::Minus,
+        '&' => TokenKind::And,
+        '|' => TokenKind::Or,
+        '+' => TokenKind::Plus,
+        '*' => TokenKind::Star,
+        '/' => TokenKind::Slash,
+        '^' => TokenKind::Caret,
+        '%' => TokenKind::Percent,
+        _ => TokenKind::Unknown,
+    }
+}
+
+impl<'a> Cursor<'a> {
+    /// The token that is next; past the end an unknown one of length 0.
+    pub(crate) fn lexeme(&mut self) -> TokenKind
+        ensures { Reads lexeme self.old result self.new }
+    {
+        let first = self.first();
+        if is_whitespace(first) {
+            return self.whitespace();
+        }
+        if first == '/' {
+            return self.slash();
+        }
+        if first == 'r' {
+            return self.letter_r();
+        }
+        if first == 'b' {
+            return self.letter_b();
+        }
+        if first == 'c' {
+            return self.letter_c();
+        }
+        if is_id_start(first) {
+            return self.identifier();
+        }
+        if is_digit(first) {
+            return self.number_literal();
+        }
+        if first == '\'' {
+            return self.tick();
+        }
+        if first == '"' {
+            return self.str_literal();
+        }
+        if first == '#' {
+            return self.hash();
+        }
+        self.single()
+    }
+
+    // White space.
+    fn whitespace(&mut self) -> TokenKind
+        ensures { Reads (lexeme_in Blank) self.old result self.new }
+    {
+        self.bump();
+        self.eat_whitespace();
+        TokenKind::Whitespace
+    }
+
+    // One character.
+    fn single(&mut self) -> TokenKind
+        ensures { Reads (lexeme_in Single) self.old result self.new }
+    {
+        let kind = sign(self.first());
+        self.bump();
+        kind
+    }
+
+    // What begins with `/`.
+    fn slash(&mut self) -> TokenKind
+        requires { peek 0 self.old ≡ slash }
+        ensures { Reads lexeme self.old result self.new }
+    {
+        let second = self.second();
+        if second == '/' {
+            return self.line_comment();
+        }
+        if second == '*' {
+            return self.block_comment();
+        }
+        self.single()
+    }
+
+    // What begins with `r`.
+    fn letter_r(&mut self) -> TokenKind
+        requires { peek 0 self.old ≡ letter_r }
+        ensures { Reads lexeme self.old result self.new }
+    {
+        let (second, third) = (self.second(), self.third());
+        if begins_raw_name(second, third) {
+            return self.raw_identifier();
+        }
+        if opens_raw(second) {
+            return self.raw_str_literal();
+        }
+        self.identifier()
+    }
+
+    // What begins with `b`.
+    fn letter_b(&mut self) -> TokenKind
+        requires { peek 0 self.old ≡ letter_b }
+        ensures { Reads lexeme self.old result self.new }
+    {
+        let (second, third) = (self.second(), self.third());
+        if begins_raw_string(second, third) {
+            return self.raw_byte_str_literal();
+        }
+        if second == '\'' {
+            return self.byte_literal();
+        }
+        if second == '"' {
+            return self.byte_str_literal();
+        }
+        self.identifier()
+    }
+
+    // What begins with `c`.
+    fn letter_c(&mut self) -> TokenKind
+        requires { peek 0 self.old ≡ letter_c }
+        ensures { Reads lexeme self.old result self.new }
+    {
+        let (second, third) = (self.second(), self.third());
+        if begins_raw_string(second, third) {
+            return self.raw_c_str_literal();
+        }
+        if second == '"' {
+            return self.c_str_literal();
+        }
+        self.identifier()
+    }
+
+    // What begins with `'`: a lifetime may stand where the third character is no `'`.
+    fn tick(&mut self) -> TokenKind
+        requires { peek 0 self.old ≡ tick }
+        ensures { Reads lexeme self.old result self.new }
+    {
+        if begins_lifetime(self.second(), self.third()) {
+            return self.lifetime();
+        }
+        self.char_literal()
+    }
+
+    // What begins with `#`.
+    fn hash(&mut self) -> TokenKind
+        requires { peek 0 self.old ≡ hash }
+        ensures { Reads lexeme self.old result self.new }
+    {
+        if opens_raw(self.second()) {
+            self.bump();
+            self.bump();
+            return TokenKind::GuardedStrPrefix;
+        }
+        self.single()
+    }
+
+    // A number with its suffix.
+    fn number_literal(&mut self) -> TokenKind
+        ensures { Reads (literal number) self.old result self.new }
+    {
+        let start = self.remaining();
+        let body = self.number();
+        self.end_literal(start, body)
+    }
+
+    // `"text"`
+    fn str_literal(&mut self) -> TokenKind
+        ensures { Reads (literal (string 0 (λ t. LiteralKind.Str t))) self.old result self.new }
+    {
+        let start = self.remaining();
+        self.bump();
+        let terminated = self.eat_quoted();
+        let body = Body {
+            kind: LiteralKind::Str { terminated },
+            ends: terminated,
+        };
+        self.end_literal(start, body)
+    }
+
+    // `b"text"`
+    fn byte_str_literal(&mut self) -> TokenKind
+        ensures { Reads (literal (string 1 (λ t. LiteralKind.ByteStr t))) self.old result self.new }
+    {
+        let start = self.remaining();
+        self.bump();
+        self.bump();
+        let terminated = self.eat_quoted();
+        let body = Body {
+            kind: LiteralKind::ByteStr { terminated },
+            ends: terminated,
+        };
+        self.end_literal(start, body)
+    }
+
+    // `c"text"`
+    fn c_str_literal(&mut self) -> TokenKind
+        ensures { Reads (literal (string 1 (λ t. LiteralKind.CStr t))) self.old result self.new }
+    {
+        let start = self.remaining();
+        self.bump();
+        self.bump();
+        let terminated = self.eat_quoted();
+        let body = Body {
+            kind: LiteralKind::CStr { terminated },
+            ends: terminated,
+        };
+        self.end_literal(start, body)
+    }
+
+    // `'a'`
+    fn char_literal(&mut self) -> TokenKind
+        ensures { Reads (literal (character 0 (λ t. LiteralKind.Char t))) self.old result self.new }
+    {
+        let start = self.remaining();
+        self.bump();
+        let terminated = self.eat_character();
+        let body = Body {
+            kind: LiteralKind::Char { terminated },
+            ends: terminated,
+        };
+        self.end_literal(start, body)
+    }
+
+    // `b'a'`
+    fn byte_literal(&mut self) -> TokenKind
+        ensures { Reads (literal (character 1 (λ t. LiteralKind.Byte t))) self.old result self.new }
+    {
+        let start = self.remaining();
+        self.bump();
+        self.bump();
+        let terminated = self.eat_character();
+        let body = Body {
+            kind: LiteralKind::Byte { terminated },
+            ends: terminated,
+        };
+        self.end_literal(start, body)
+    }
+
+    // `r"text"`
+    fn raw_str_literal(&mut self) -> TokenKind
+        ensures { Reads (literal (raw_string 0 (λ n. LiteralKind.RawStr n))) self.old result self.new }
+    {
+        let start = self.remaining();
+        self.bump();
+        let n_hashes = self.eat_raw_string();
+        let body = Body {
+            kind: LiteralKind::RawStr { n_hashes },
+            ends: n_hashes.is_some(),
+        };
+        self.end_literal(start, body)
+    }
+
+    // `br"text"`
+    fn raw_byte_str_literal(&mut self) -> TokenKind
+        ensures { Reads (literal (raw_string 1 (λ n. LiteralKind.RawByteStr n))) self.old result self.new }
+    {
+        let start = self.remaining();
+        self.bump();
+        self.bump();
+        let n_hashes = self.eat_raw_string();
+        let body = Body {
+            kind: LiteralKind::RawByteStr { n_hashes },
+            ends: n_hashes.is_some(),
+        };
+        self.end_literal(start, body)
+    }
+
+    // `cr"text"`
+    fn raw_c_str_literal(&mut self) -> TokenKind
+        ensures { Reads (literal (raw_string 1 (λ n. LiteralKind.RawCStr n))) self.old result self.new }
+    {
+        let start = self.remaining();
+        self.bump();
+        self.bump();
+        let n_hashes = self.eat_raw_string();
+        let body = Body {
+            kind: LiteralKind::RawCStr { n_hashes },
+            ends: n_hashes.is_some(),
+        };
+        self.end_literal(start, body)
+    }
+}
