@@ -1,10 +1,11 @@
 -- Cutting a text into lexemes.
-use Rattle.std.proofs.Common.{◌≡◌, ℕ, suc, zero, pred, ◌+◌, ◌-◌, ◌<◌, ◌≤◌, List, [], ◌∷◌, ◌++◌, length, take, drop, refl, sym, ◌∙◌, ap, subst, arith, length-drop}
+use Rattle.std.proofs.Common.{◌≡◌, ℕ, suc, zero, pred, ◌+◌, ◌-◌, ◌<◌, ◌≤◌, List, [], ◌∷◌, ◌++◌, length, take, drop, map, refl, sym, ◌∙◌, ap, subst, arith, length-drop}
 use Rattle.std.proofs.lemmas.List.{take-append-drop, length-take-le}
 use Rattle.rustc_lexer.specs.Scan.{Taken, Scan}
 use Rattle.rustc_lexer.specs.Lexeme.{lexeme}
-use Rattle.rustc_lexer.specs.Tokens.{Lexeme, first_lexeme, cut, tokens, joined}
+use Rattle.rustc_lexer.specs.Tokens.{Lexeme, first_lexeme, cut, tokens, joined, next_lexeme, token, token_list}
 use Rattle.rustc_lexer.specs.declared.token.TokenKind.{TokenKind}
+use Rattle.rustc_lexer.specs.declared.token.TokenKind.TheVariants.{Eof}
 use Rattle.rustc_lexer.proofs.Agree.{fewer, behind}
 use Rattle.rustc_lexer.proofs.LexemesLocal.{lexeme-local, lexeme-takes}
 use Rattle.rustc_lexer.proofs.LexemesFit.{lexeme-fits}
@@ -50,3 +51,29 @@ joined-bound (suc k) (x ∷ xs) h =
 -- the lexemes' characters, joined, are the text
 pub tokens-joined : (xs : List ℕ) → joined (tokens xs) ≡ xs
 tokens-joined xs = joined-bound (length xs) xs (omega arith)
+
+-- the next lexeme where text is left
+pub next-some : (xs : List ℕ) → 1 ≤ length xs → next_lexeme xs ≡ first_lexeme xs
+unfolding next_lexeme
+next-some [] h = absurd (omega arith)
+next-some (x ∷ xs) h = refl
+
+pub next-none : (xs : List ℕ) → xs ≡ [] → next_lexeme xs ≡ record { kind = Eof; text = [] }
+unfolding next_lexeme
+next-none [] h = refl
+next-none (x ∷ xs) h = cc
+
+-- what a list of tokens begins with and goes on with
+pub list-cons : (xs : List ℕ) → 1 ≤ length xs → token_list xs ≡ token (next_lexeme xs) ∷ token_list (drop (length (next_lexeme xs).text) xs)
+unfolding token_list
+list-cons [] h = absurd (omega arith)
+list-cons (x ∷ xs) h =
+    let first = next-some (x ∷ xs) h in
+    let len : length (next_lexeme (x ∷ xs)).text ≡ (lexeme (x ∷ xs)).taken = ap (λ l. length l.text) first ∙ first-length (x ∷ xs) in
+    ap (λ l. map token l) (tokens-cons x xs) ∙ ap (λ l. token l ∷ map token (tokens (drop (lexeme (x ∷ xs)).taken (x ∷ xs)))) (sym first)
+    ∙ ap (λ n. token (next_lexeme (x ∷ xs)) ∷ map token (tokens (drop n (x ∷ xs)))) (sym len)
+
+pub list-nil : (xs : List ℕ) → xs ≡ [] → token_list xs ≡ []
+unfolding token_list tokens cut
+list-nil [] h = refl
+list-nil (x ∷ xs) h = cc

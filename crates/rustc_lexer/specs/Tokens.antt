@@ -4,6 +4,7 @@ use Rattle.rustc_lexer.specs.Characters.{size}
 use Rattle.rustc_lexer.specs.Scan.{Taken}
 use Rattle.rustc_lexer.specs.Lexeme.{lexeme}
 use Rattle.rustc_lexer.specs.declared.token.TokenKind.{TokenKind}
+use Rattle.rustc_lexer.specs.declared.token.TokenKind.TheVariants.{Eof}
 use Rattle.rustc_lexer.specs.declared.token.Token.{Token}
 
 -- a kind and the characters that are of it
@@ -25,6 +26,11 @@ cut (suc held) (c ∷ cs) = cut held cs
 unfoldable pub tokens : List ℕ → List Lexeme
 tokens text = cut 0 text
 
+-- the next lexeme: the first one, or at the end one of kind `Eof` without characters
+unfoldable pub next_lexeme : List ℕ → Lexeme
+next_lexeme [] = record { kind = Eof; text = [] }
+next_lexeme (c ∷ cs) = first_lexeme (c ∷ cs)
+
 -- the characters of lexemes, joined
 abbrev pub joined : List Lexeme → List ℕ
 joined [] = []
@@ -33,3 +39,7 @@ joined (l ∷ ls) = l.text ++ joined ls
 -- a lexeme as code has it: its length counts bytes
 abbrev pub token : Lexeme → Token
 token l = record { kind = l.kind; len = size l.text }
+
+-- the tokens of a text as code has them
+unfoldable pub token_list : List ℕ → List Token
+token_list text = map token (tokens text)

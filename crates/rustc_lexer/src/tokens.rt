@@ -1,0 +1,71 @@
+//! The tokens of a text, one after another.
+
+ghost use Rattle.std.specs.Prelude.{◌≡◌, chars, drop, length};
+ghost use Rattle.std.specs.Iterator.{YieldsFirst, item_count};
+ghost use Rattle.rustc_lexer.specs.Tokens.{next_lexeme, token, token_list};
+
+use crate::cursor::Cursor;
+use crate::token::{Token, TokenKind};
+use std::marker::Model;
+
+impl<'a> Cursor<'a> {
+    /// Takes the token that is next, and passes over its characters. At the end it is of kind `Eof` and length 0.
+    pub fn advance_token(&mut self) -> Token
+        ensures is_next { result ≡ token (next_lexeme self.old) }
+        ensures rest { self.new ≡ drop (length (next_lexeme self.old).text) self.old }
+    {
+        let start = self.remaining();
+        if self.is_empty() {
+            return Token {
+                kind: TokenKind::Eof,
+                len: 0,
+            };
+        }
+        let kind = self.lexeme();
+        Token {
+            kind,
+            len: start - self.remaining(),
+        }
+    }
+}
+
+/// The tokens of a text, from front to end, by [`tokenize`]. Contracts see it as the list of those that are left.
+#[derive(Drop)]
+pub struct Tokens<'a> {
+    cursor: Cursor<'a>,
+}
+
+impl<'a> Model for Tokens<'a> {
+    ghost use Rattle.std.specs.Prelude.{List};
+    ghost use Rattle.rustc_lexer.specs.declared.token.Token.{Token};
+
+    ghost Value = { List Token };
+
+    ghost use Rattle.rustc_lexer.specs.Tokens.{token_list};
+
+    ghost view = { λ t. token_list t.cursor };
+}
+
+/// Cuts a text into tokens: they follow one another from front to end, with nothing between, and their lengths sum to the text's.
+pub fn tokenize(text: &str) -> Tokens<'_>
+    ensures { result ≡ token_list (chars text.now) }
+{
+    Tokens {
+        cursor: Cursor::new(text),
+    }
+}
+
+impl<'a> Iterator for Tokens<'a> {
+    type Item = Token;
+
+    ghost next_gives = { YieldsFirst (λ t. t) };
+
+    ghost remaining = { item_count (λ t. t) };
+
+    fn next(&mut self) -> Option<Token> {
+        if self.cursor.is_empty() {
+            return None;
+        }
+        Some(self.cursor.advance_token())
+    }
+}
