@@ -5,6 +5,8 @@ use Rattle.std.proofs.lemmas.Option.{slice_get_past, slice_get-get_or}
 use Rattle.std.specs.Option.{option_copied}
 use Rattle.std.specs.Slice.{IsItemAt}
 use Rattle.std.proofs.Math.ListN.{get_or}
+use Rattle.std.specs.List.{find}
+use Rattle.std.specs.Str.{bytes_eq}
 use denote.Enum.Declared.{tag_of}
 use Rattle.parser_input.specs.contracts.syntax_kind.SyntaxKind.{the_type}
 use Rattle.parser_input.specs.declared.syntax_kind.SyntaxKind.{SyntaxKind}
@@ -26,6 +28,11 @@ tag_of-below _ = lit< tt
 pub get_or-names : (kind : SyntaxKind) (d : List ℕ) → get_or (map name_of KINDS) (raw_of kind) d ≡ name_of kind
 get_or-names TOMBSTONE d = refl
 get_or-names _ d = refl
+
+-- each kind is the first of its name
+pub find-kinds : (kind : SyntaxKind) → find (λ other. bytes_eq (name_of other) (name_of kind)) KINDS ≡ Some kind
+find-kinds TOMBSTONE = refl
+find-kinds _ = refl
 
 -- what a look-up by index lends, copied
 pub copied_item : {X : Type 0} (xs : List X) (i : ℕ) (r : Option (Bor X)) → IsItemAt xs i r → option_copied r ≡ slice_get xs i

@@ -1,2 +1,4 @@
 pub mod KeywordKinds
 pub mod KindTable
+pub mod WordKinds
+pub mod WordPlaces

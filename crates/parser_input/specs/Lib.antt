@@ -4,3 +4,4 @@ pub mod Kind
 pub mod Kinds
 pub mod Leaf
 pub mod Input
+pub mod WordTable

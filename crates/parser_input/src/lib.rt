@@ -2,5 +2,9 @@
 #![tactic(auto)]
 
 pub mod edition;
+pub mod keywords;
 mod kind_table;
 pub mod syntax_kind;
+#[cfg(test)]
+mod tests;
+mod word_table;

@@ -1,6 +1,7 @@
 //! The kinds of tokens and nodes.
 
-ghost use Rattle.std.specs.Prelude.{◌≡◌, ◌≢◌, ◌<◌, ◌↔◌, IsSome, IfSome, IfNone};
+ghost use Rattle.std.specs.Prelude.{◌≡◌, ◌<◌, ◌↔◌, IsSome, IfSome, find};
+ghost use Rattle.std.specs.Str.{bytes_eq};
 ghost use Rattle.parser_input.specs.Keywords.{is_keyword, is_any_identifier};
 ghost use Rattle.parser_input.specs.Kind.{
   is_delimiter,
@@ -322,6 +323,14 @@ impl SyntaxKind {
         NAMES[self.to_raw() as usize]
     }
 
+    /// The kind with this name, if there is one.
+    pub fn from_name(name: &str) -> Option<SyntaxKind>
+        ensures named { IfSome result (λ kind. name_of kind ≡ name.now) }
+        ensures inverse { (kind : SyntaxKind) → name_of kind ≡ name.now → result ≡ Some kind }
+    {
+        kind_named(&KINDS, name)
+    }
+
     /// Whether this is a kind that the parser never sees: white space or a comment.
     pub fn is_trivia(self) -> bool
         ensures { result ≡ is_trivia (raw_of self) }
@@ -379,4 +388,12 @@ impl SyntaxKind {
     {
         self == SyntaxKind::IDENT || self.is_keyword(Edition::Edition2024)
     }
+}
+
+/// The first of these kinds that has this name.
+fn kind_named(kinds: &[SyntaxKind], name: &str) -> Option<SyntaxKind>
+    ensures first { result ≡ find (λ kind. bytes_eq (name_of kind) name.now) kinds.now }
+    ensures named { IfSome result (λ kind. name_of kind ≡ name.now) }
+{
+    kinds.iter().copied().find(|kind| kind.name() == name)
 }

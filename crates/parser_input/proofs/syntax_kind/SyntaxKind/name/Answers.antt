@@ -1,6 +1,6 @@
 use Rattle.std.proofs.Common.{◌≡◌, map, [], Bor, List, ℕ}
 use Rattle.std.proofs.Math.ListN.{get_or, get_or-map}
-use Rattle.parser_input.specs.Kind.{name_of}
+use Rattle.parser_input.specs.Kind.{raw_of, name_of}
 use Rattle.parser_input.specs.declared.kind_table.TheConstants.{KINDS}
 use Rattle.parser_input.proofs.KindTable.{get_or-names}
 use Rattle.parser_input.proofs.syntax_kind.SyntaxKind.name.Goals as goal

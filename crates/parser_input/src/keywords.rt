@@ -1,0 +1,78 @@
+//! The kinds of words: keywords and contextual keywords, by their texts.
+
+ghost use Rattle.std.specs.Option.{option_copied, option_map};
+ghost use Rattle.std.specs.Prelude.{◌≡◌, IfSome, IsTrue, slice_get, slice_index};
+ghost use Rattle.parser_input.specs.Keywords.{
+  contextual_kind,
+  is_keyword,
+  is_reached,
+  keyword_kind,
+  word_of,
+  words,
+};
+ghost use Rattle.parser_input.specs.Kind.{raw_of};
+ghost use Rattle.parser_input.specs.WordTable.{row_of};
+
+use crate::edition::Edition;
+use crate::syntax_kind::SyntaxKind;
+use crate::word_table::{PLACES, WORDS, Word};
+
+impl Word {
+    fn is_keyword_in(&self, edition: Edition) -> bool
+        ensures { result ≡ is_reached self.now.since edition }
+    {
+        match self.since {
+            Some(first) => edition.is_from(first),
+            None => false,
+        }
+    }
+}
+
+/// The kind of a text as a keyword of the edition, if it is one.
+pub fn keyword(edition: Edition, text: &str) -> Option<SyntaxKind>
+    ensures kind { option_map raw_of result ≡ keyword_kind edition text.now }
+    ensures keyword { IfSome result (λ kind. IsTrue (is_keyword edition (raw_of kind))) }
+{
+    let word = word_spelled(text)?;
+    if word.is_keyword_in(edition) {
+        Some(word.kind)
+    } else {
+        None
+    }
+}
+
+/// The kind of a text as a contextual keyword of the edition, if it is one.
+pub fn contextual_keyword(edition: Edition, text: &str) -> Option<SyntaxKind>
+    ensures kind { option_map raw_of result ≡ contextual_kind edition text.now }
+    ensures keyword { IfSome result (λ kind. IsTrue (is_keyword edition (raw_of kind))) }
+{
+    let word = word_spelled(text)?;
+    if word.is_contextual && !word.is_keyword_in(edition) {
+        Some(word.kind)
+    } else {
+        None
+    }
+}
+
+/// The word that is spelled so: the only one that its first, middle and last byte allow.
+fn word_spelled(text: &str) -> Option<&'static Word>
+    ensures { option_map row_of (option_copied result) ≡ word_of text.now }
+{
+    let bytes = text.as_bytes();
+    if bytes.is_empty() {
+        return None;
+    }
+    let first = bytes[0] as usize;
+    let middle = bytes[bytes.len() / 2] as usize;
+    let last = bytes[bytes.len() - 1] as usize;
+    let slot = (first + 19 * middle + 25 * last) % 256;
+    let word = word_in(slot as u8);
+    if word.text == text { Some(word) } else { None }
+}
+
+/// The only word whose text can have this slot.
+fn word_in(slot: u8) -> &'static Word
+    ensures { slice_get words (slice_index PLACES slot) ≡ Some (row_of result.now) }
+{
+    &WORDS[PLACES[slot as usize] as usize]
+}
