@@ -1,6 +1,10 @@
 -- Cutting a text into lexemes.
-use Rattle.std.proofs.Common.{◌≡◌, ℕ, suc, zero, pred, ◌+◌, ◌-◌, ◌<◌, ◌≤◌, List, [], ◌∷◌, ◌++◌, length, take, drop, map, refl, sym, ◌∙◌, ap, subst, arith, length-drop}
-use Rattle.std.proofs.lemmas.List.{take-append-drop, length-take-le}
+use Rattle.std.proofs.Common.{◌≡◌, ℕ, suc, zero, pred, ◌+◌, ◌-◌, ◌<◌, ◌≤◌, List, [], ◌∷◌, ◌++◌, length, take, drop, map, length-append, refl, sym, ◌∙◌, ap, subst, arith, length-drop}
+use Rattle.std.proofs.lemmas.List.{take-append-drop, length-take-le, drop-drop}
+use Rattle.std.specs.List.{All, sum_by}
+use Rattle.std.proofs.lemmas.List.Elements.{All-cons, All-map}
+use Rattle.std.proofs.lemmas.List.Sums.{sum_by-cons}
+use Rattle.rustc_lexer.specs.Characters.{size}
 use Rattle.rustc_lexer.specs.Scan.{Taken, Scan}
 use Rattle.rustc_lexer.specs.Lexeme.{lexeme}
 use Rattle.rustc_lexer.specs.Tokens.{Lexeme, first_lexeme, cut, tokens, joined, next_lexeme, token, token_list}
@@ -8,6 +12,7 @@ use Rattle.rustc_lexer.specs.declared.token.TokenKind.{TokenKind}
 use Rattle.rustc_lexer.specs.declared.token.TokenKind.TheVariants.{Eof}
 use Rattle.rustc_lexer.proofs.Agree.{fewer, behind}
 use Rattle.rustc_lexer.proofs.LexemesLocal.{lexeme-local, lexeme-takes}
+use Rattle.rustc_lexer.proofs.Sizes.{size-append, length-size}
 use Rattle.rustc_lexer.proofs.LexemesFit.{lexeme-fits}
 
 -- the characters that belong to the lexeme before are passed over
@@ -77,3 +82,84 @@ pub list-nil : (xs : List ℕ) → xs ≡ [] → token_list xs ≡ []
 unfolding token_list tokens cut
 list-nil [] h = refl
 list-nil (x ∷ xs) h = cc
+
+-- what holds of the first lexeme of each text holds of all
+each-bound : (P : Lexeme → Type 0) → ((x : ℕ) (xs : List ℕ) → P (first_lexeme (x ∷ xs))) → (k : ℕ) (xs : List ℕ) → length xs ≤ k → All P (tokens xs)
+unfolding tokens cut
+each-bound P each k [] h = λ i d l. absurd (omega arith)
+each-bound P each zero (x ∷ xs) h = absurd (omega arith)
+each-bound P each (suc k) (x ∷ xs) h =
+    let n = (lexeme (x ∷ xs)).taken in
+    let rest = shorter n x xs (lexeme-takes.at (x ∷ xs) (omega arith)) in
+    let both : All P (first_lexeme (x ∷ xs) ∷ tokens (drop n (x ∷ xs))) =
+    All-cons P (first_lexeme (x ∷ xs)) (tokens (drop n (x ∷ xs))) (each x xs) (each-bound P each k (drop n (x ∷ xs)) (omega arith)) in
+    subst (λ l. All P l) (sym (tokens-cons x xs)) both
+
+pub each-token : (P : Lexeme → Type 0) → ((x : ℕ) (xs : List ℕ) → P (first_lexeme (x ∷ xs))) → (xs : List ℕ) → All P (tokens xs)
+each-token P each xs = each-bound P each (length xs) xs (omega arith)
+
+pub each-takes : (xs : List ℕ) → All (λ l. 1 ≤ length l.text) (tokens xs)
+each-takes xs =
+    each-token (λ l. 1 ≤ length l.text) (λ y ys. let one = lexeme-takes.at (y ∷ ys) (omega arith) in omega (arith, first-length (y ∷ ys))) xs
+
+pub each-length : (xs : List ℕ) → All (λ t. 1 ≤ t.len) (token_list xs)
+unfolding token_list
+each-length xs =
+    All-map (λ t. 1 ≤ t.len) token (tokens xs)
+    (each-token (λ l. 1 ≤ size l.text) (λ y ys. let one = lexeme-takes.at (y ∷ ys) (omega arith) in omega (arith, first-length (y ∷ ys), length-size (first_lexeme (y ∷ ys)).text)) xs)
+
+sum-sizes : (ls : List Lexeme) → sum_by (λ t. t.len) (map token ls) ≡ size (joined ls)
+unfolding size
+sum-sizes [] = refl
+sum-sizes (l ∷ ls) =
+    sum_by-cons (λ t. t.len) (token l) (map token ls) ∙ ap (λ n. size l.text + n) (sum-sizes ls) ∙ sym (size-append l.text (joined ls))
+
+pub lengths-sum : (xs : List ℕ) → sum_by (λ t. t.len) (token_list xs) ≡ size xs
+unfolding token_list
+lengths-sum xs = sum-sizes (tokens xs) ∙ ap size (tokens-joined xs)
+
+-- the tokens behind the first k, from where these end
+pub tokens-behind : (k : ℕ) (xs : List ℕ) → tokens (drop (length (joined (take k (tokens xs)))) xs) ≡ drop k (tokens xs)
+unfolding tokens cut
+tokens-behind zero xs = refl
+tokens-behind (suc k) [] = refl
+tokens-behind (suc k) (x ∷ xs) =
+    let X = x ∷ xs in
+    let n = (lexeme X).taken in
+    let rest = tokens (drop n X) in
+    let all = tokens-cons x xs in
+    let sum : length (joined (take (suc k) (tokens X))) ≡ n + length (joined (take k rest)) =
+    ap (λ l. length (joined (take (suc k) l))) all ∙ length-append (first_lexeme X).text (joined (take k rest)) ∙ ap (λ m. m + length (joined (take k rest))) (first-length X) in
+    ap (λ m. tokens (drop m X)) sum ∙ ap tokens (sym (drop-drop (length (joined (take k rest))) n X)) ∙ tokens-behind k (drop n X) ∙ sym (ap (λ l. drop (suc k) l) all)
+
+first-same : (n : ℕ) (xs ys : List ℕ) → take n xs ≡ take n ys → lexeme ys ≡ lexeme xs → (lexeme xs).taken ≡ n → first_lexeme xs ≡ first_lexeme ys
+unfolding first_lexeme
+first-same n xs ys e same is =
+    let K : List ℕ → Lexeme = λ t. record { kind = (lexeme xs).value; text = t } in
+    let H : Taken TokenKind → Lexeme = λ l. record { kind = l.value; text = take l.taken ys } in
+    ap K (ap (λ j. take j xs) is ∙ e ∙ ap (λ j. take j ys) (sym is)) ∙ ap H (sym same)
+
+-- texts that agree on their first m characters have the same lexemes as far as these end two characters before
+pub front-kept : (k m : ℕ) (xs ys : List ℕ) → take m xs ≡ take m ys → length (joined (take k (tokens xs))) + 2 ≤ m → take k (tokens xs) ≡ take k (tokens ys)
+unfolding tokens cut
+front-kept zero m xs ys e h = refl
+front-kept (suc k) zero xs ys e h = absurd (omega arith)
+front-kept (suc k) (suc m) [] [] e h = refl
+front-kept (suc k) (suc m) [] (y ∷ ys) e h = cc
+front-kept (suc k) (suc m) (x ∷ xs) [] e h = cc
+front-kept (suc k) (suc m) (x ∷ xs) (y ∷ ys) e h =
+    let X = x ∷ xs in
+    let Y = y ∷ ys in
+    let a = tokens-cons x xs in
+    let b = tokens-cons y ys in
+    let n = (lexeme X).taken in
+    let rest = tokens (drop n X) in
+    let sum : length (joined (take (suc k) (tokens X))) ≡ n + length (joined (take k rest)) =
+    ap (λ l. length (joined (take (suc k) l))) a ∙ length-append (first_lexeme X).text (joined (take k rest)) ∙ ap (λ j. j + length (joined (take k rest))) (first-length X) in
+    let same : lexeme Y ≡ lexeme X = lexeme-local.at X Y (fewer (suc (suc n)) (suc m) X Y (omega arith) e) in
+    let parts : suc m ≡ n + (suc m - n) = omega arith in
+    let behind_it = behind n (suc m - n) X Y (subst (λ j. take j X ≡ take j Y) parts e) in
+    let ih = front-kept k (suc m - n) (drop n X) (drop n Y) behind_it (omega arith) in
+    let first : first_lexeme X ≡ first_lexeme Y = first-same n X Y (fewer n (suc m) X Y (omega arith) e) same refl in
+    ap (λ t. take (suc k) t) a ∙ ap (λ t. first_lexeme X ∷ t) ih ∙ ap (λ l. l ∷ take k (tokens (drop n Y))) first
+    ∙ ap (λ l. first_lexeme Y ∷ take k (tokens (drop l.taken Y))) (sym same) ∙ sym (ap (λ t. take (suc k) t) b)

@@ -18,3 +18,4 @@ pub mod RawSteps
 pub mod TickSteps
 pub mod Reading
 pub mod Cases
+pub mod Identifiers

@@ -1,8 +1,46 @@
--- What holds of every text.
-use Rattle.std.specs.Prelude.{◌≡◌, ℕ, ◌+◌, ◌≤◌, List, [], ◌∷◌, take, drop}
+-- What holds of the lexemes of every text.
+use Rattle.std.specs.Prelude.{◌≡◌, ℕ, ◌+◌, ◌≤◌, true, List, [], ◌∷◌, length, take, drop}
+use Rattle.std.specs.List.{All, sum_by}
+use Rattle.rustc_lexer.specs.Characters.{is_ident, size}
 use Rattle.rustc_lexer.specs.Lexeme.{lexeme}
+use Rattle.rustc_lexer.specs.Tokens.{Lexeme, first_lexeme, tokens, joined, token_list}
+use Rattle.rustc_lexer.specs.declared.token.TokenKind.TheVariants.{Ident}
 
 -- a lexeme depends on its own characters and on two behind it; where fewer follow, on that too
 abbrev pub LexemeIsLocal : Type 0
 LexemeIsLocal =
     (text other : List ℕ) → take ((lexeme text).taken + 2) text ≡ take ((lexeme text).taken + 2) other → lexeme other ≡ lexeme text
+
+-- texts that agree on their first m characters have the same first lexemes, as far as these end two characters before
+abbrev pub FrontIsKept : Type 0
+FrontIsKept =
+    (k m : ℕ) (text other : List ℕ) → take m text ≡ take m other → length (joined (take k (tokens text))) + 2 ≤ m → take k (tokens text) ≡ take k (tokens other)
+
+-- a text's lexemes are its first one and those of what is left behind it
+abbrev pub TokensGoOn : Type 0
+TokensGoOn =
+    (c : ℕ) (cs : List ℕ) → tokens (c ∷ cs) ≡ first_lexeme (c ∷ cs) ∷ tokens (drop (length (first_lexeme (c ∷ cs)).text) (c ∷ cs))
+
+-- from the end of any lexeme on stand those behind it
+abbrev pub BoundariesCut : Type 0
+BoundariesCut = (k : ℕ) (text : List ℕ) → tokens (drop (length (joined (take k (tokens text)))) text) ≡ drop k (tokens text)
+
+-- the lexemes' characters, joined, are the text
+abbrev pub TokensJoin : Type 0
+TokensJoin = (text : List ℕ) → joined (tokens text) ≡ text
+
+-- each lexeme has a character
+abbrev pub EachTakesOne : Type 0
+EachTakesOne = (text : List ℕ) → All (λ l. 1 ≤ length l.text) (tokens text)
+
+-- each token has a byte
+abbrev pub EachHasLength : Type 0
+EachHasLength = (text : List ℕ) → All (λ t. 1 ≤ t.len) (token_list text)
+
+-- the lengths of the tokens sum to the bytes of the text
+abbrev pub LengthsSum : Type 0
+LengthsSum = (text : List ℕ) → sum_by (λ t. t.len) (token_list text) ≡ size text
+
+-- the characters of an identifier are one
+abbrev pub IdentsAreIdents : Type 0
+IdentsAreIdents = (text : List ℕ) → All (λ l. l.kind ≡ Ident → is_ident l.text ≡ true) (tokens text)

@@ -5,6 +5,7 @@ mod bytes;
 mod classes;
 mod comments;
 mod cursor;
+pub mod laws;
 mod lexemes;
 mod literals;
 mod names;
