@@ -19,3 +19,4 @@ pub mod TickSteps
 pub mod Reading
 pub mod Cases
 pub mod Identifiers
+pub mod Lines

@@ -50,8 +50,15 @@ impl<'a> Model for Tokens<'a> {
 pub fn tokenize(text: &str) -> Tokens<'_>
     ensures { result ≡ token_list (chars text.now) }
 {
-    Tokens {
-        cursor: Cursor::new(text),
+    Tokens::from_cursor(Cursor::new(text))
+}
+
+impl<'a> Tokens<'a> {
+    /// The tokens from a place on.
+    pub(crate) fn from_cursor(cursor: Cursor<'a>) -> Tokens<'a>
+        ensures { result ≡ token_list cursor.entry }
+    {
+        Tokens { cursor }
     }
 }
 

@@ -1,0 +1,85 @@
+//! The line at the front of a text that names its interpreter.
+
+ghost use Rattle.std.specs.Prelude.{◌≡◌, ◌==◌, ◌&&◌, chars, drop};
+ghost use Rattle.rustc_lexer.specs.Characters.{hash, exclamation};
+ghost use Rattle.rustc_lexer.specs.Shebang.{is_passed_over, is_open_bracket, opens_attribute, ends_line, line_len, shebang};
+
+use crate::cursor::Cursor;
+use crate::token::TokenKind;
+use crate::tokens::Tokens;
+
+/// The bytes of the shebang at the front of a text, up to before the end of its line. A text that begins with `#!` has one,
+/// unless its next token, white space and comments that document nothing aside, is `[`: then it is an attribute.
+pub fn strip_shebang(text: &str) -> Option<usize>
+    ensures { result ≡ shebang (chars text.now) }
+{
+    let mut line = Cursor::new(text);
+    if !opens_shebang(line.first(), line.second()) {
+        return None;
+    }
+    if opens_attribute(Tokens::from_cursor(line.behind().behind())) {
+        return None;
+    }
+    let start = line.remaining();
+    line.eat_first_line();
+    Some(start - line.remaining())
+}
+
+fn opens_shebang(a: char, b: char) -> bool
+    ensures { result ≡ (a == hash && b == exclamation) }
+{
+    a == '#' && b == '!'
+}
+
+fn ends_line(a: char, b: char) -> bool
+    ensures { result ≡ ends_line a b }
+{
+    a == '\n' || (a == '\r' && b == '\n')
+}
+
+// White space, and a comment that documents nothing.
+fn is_passed_over(kind: TokenKind) -> bool
+    ensures { result ≡ is_passed_over kind }
+{
+    match kind {
+        TokenKind::Whitespace => true,
+        TokenKind::LineComment { doc_style } => doc_style.is_none(),
+        TokenKind::BlockComment { doc_style, .. } => doc_style.is_none(),
+        _ => false,
+    }
+}
+
+fn is_open_bracket(kind: TokenKind) -> bool
+    ensures { result ≡ is_open_bracket kind }
+{
+    match kind {
+        TokenKind::OpenBracket => true,
+        _ => false,
+    }
+}
+
+// Whether the first token that is not passed over is `[`.
+fn opens_attribute(mut tokens: Tokens) -> bool
+    ensures { result ≡ opens_attribute tokens.entry }
+{
+    'tokens: while let Some(token) = tokens.next() {
+        if !is_passed_over(token.kind) {
+            return is_open_bracket(token.kind);
+        }
+    }
+    false
+}
+
+impl<'a> Cursor<'a> {
+    // On to the end of the first line.
+    fn eat_first_line(&mut self)
+        ensures { self.new ≡ drop (line_len self.old) self.old }
+    {
+        'line: while !self.is_empty() {
+            if ends_line(self.first(), self.second()) {
+                return;
+            }
+            self.bump();
+        }
+    }
+}
