@@ -11,6 +11,8 @@ mod literals;
 mod names;
 mod numbers;
 mod shebang;
+#[cfg(test)]
+mod tests;
 mod token;
 mod tokens;
 
