@@ -113,22 +113,22 @@ impl<'c> GreenNodeBuilder<'c> {
     pub fn new(alloc: Global) -> GreenNodeBuilder<'c>
         ensures { result ≡ nothing_built }
     {
-        GreenNodeBuilder {
-            alloc,
-            cache: Cache::Own(NodeCache::new(alloc)),
-            open_nodes: Vec::new(alloc),
-            done: Vec::new(alloc),
-            started: 0,
-        }
+        GreenNodeBuilder::over(alloc, Cache::Own(NodeCache::new(alloc)))
     }
 
     /// A builder that shares what `cache` has, and leaves there what later builders may share.
     pub fn with_cache(alloc: Global, cache: &'c mut NodeCache) -> GreenNodeBuilder<'c>
         ensures { result ≡ nothing_built }
     {
+        GreenNodeBuilder::over(alloc, Cache::Lent(cache))
+    }
+
+    fn over(alloc: Global, cache: Cache<'c>) -> GreenNodeBuilder<'c>
+        ensures { result ≡ nothing_built }
+    {
         GreenNodeBuilder {
             alloc,
-            cache: Cache::Lent(cache),
+            cache,
             open_nodes: Vec::new(alloc),
             done: Vec::new(alloc),
             started: 0,

@@ -48,7 +48,7 @@ impl<'a> Iterator for Children<'a> {
     }
 
     fn size_hint(&self) -> (usize, Option<usize>) {
-        let len = self.rest.len();
+        let len = self.len();
         (len, Some(len))
     }
 }

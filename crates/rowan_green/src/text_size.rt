@@ -19,7 +19,7 @@ impl From<u32> for TextSize {
     ghost from_gives = { λ bytes size. size.0 ≡ bytes };
 
     fn from(bytes: u32) -> TextSize {
-        TextSize(bytes)
+        TextSize::new(bytes)
     }
 }
 
@@ -39,6 +39,6 @@ impl From<TextSize> for usize {
     ghost from_gives = { λ size bytes. bytes ≡ size.0 };
 
     fn from(size: TextSize) -> usize {
-        size.0 as usize
+        u32::from(size) as usize
     }
 }

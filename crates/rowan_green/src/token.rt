@@ -97,8 +97,7 @@ impl PartialEq for GreenToken {
     ghost laws = { partial_equiv_from_equiv same_leaf-equiv };
 
     fn eq(&self, other: &GreenToken) -> bool {
-        self.shared.kind == other.shared.kind
-            && self.shared.text.as_str() == other.shared.text.as_str()
+        self.shared.kind == other.shared.kind && self.text() == other.text()
     }
 }
 
@@ -121,6 +120,6 @@ impl Hash for GreenToken {
 
     fn hash<H: Hasher>(&self, state: &mut H) {
         self.shared.kind.hash(state);
-        self.shared.text.as_str().hash(state);
+        self.text().hash(state);
     }
 }

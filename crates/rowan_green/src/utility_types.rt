@@ -39,8 +39,8 @@ impl<N, T> NodeOrToken<N, T> {
         ensures { option_copied result ≡ node_part self.now }
     {
         match self {
-            NodeOrToken::Node(node) => Some(node),
-            NodeOrToken::Token(_) => None,
+            Self::Node(node) => Some(node),
+            Self::Token(_) => None,
         }
     }
 
@@ -49,8 +49,8 @@ impl<N, T> NodeOrToken<N, T> {
         ensures { option_copied result ≡ token_part self.now }
     {
         match self {
-            NodeOrToken::Node(_) => None,
-            NodeOrToken::Token(token) => Some(token),
+            Self::Node(_) => None,
+            Self::Token(token) => Some(token),
         }
     }
 }
