@@ -4,7 +4,7 @@ use Rattle.std.proofs.lemmas.Bool.Decides.{nat_tests}
 use Rattle.parser_input.specs.declared.edition.Edition.{Edition}
 use Rattle.parser_input.specs.declared.edition.Edition.TheVariants.{Edition2015, Edition2018, Edition2024}
 use Rattle.parser_input.specs.declared.syntax_kind.SyntaxKind.{SyntaxKind}
-use Rattle.parser_input.specs.declared.syntax_kind.SyntaxKind.TheVariants.{TOMBSTONE, ASYNC_KW, AWAIT_KW, TRY_KW, GEN_KW}
+use Rattle.parser_input.specs.declared.syntax_kind.SyntaxKind.TheVariants.{ASYNC_KW, AWAIT_KW, TRY_KW, GEN_KW}
 use Rattle.parser_input.specs.Edition.{is_from}
 use Rattle.parser_input.specs.Kind.{raw_of}
 use Rattle.parser_input.specs.Keywords.{is_keyword, words}

@@ -9,19 +9,20 @@ use Rattle.std.proofs.lemmas.Slice.Eq.{bytes_eq-Decides}
 use Rattle.parser_input.specs.Keywords.{Word, words, word_of}
 use Rattle.parser_input.specs.declared.word_table.TheConstants.{PLACES}
 
-abbrev pub slot_of : List ℕ → ℕ
+unfoldable pub slot_of : List ℕ → ℕ
 slot_of text = (get_or text 0 0 + 19 * get_or text (length text / 2) 0 + 25 * get_or text (length text - 1) 0) % 256
 
-abbrev pub place_of : List ℕ → ℕ
+-- the place that the code looks at for a text
+unfoldable pub place_of : List ℕ → ℕ
 place_of text = get_or PLACES (slot_of text) 0
 
 -- the word at a text's place
-abbrev pub word_at : Word → List ℕ → Word
+word_at : Word → List ℕ → Word
 word_at default text = get_or words (place_of text) default
 
 -- each word is the one at the place of its own text
 placed : (default : Word) → map (λ word. word_at default word.text) words ≡ words
-unfolding words
+unfolding words word_at place_of slot_of
 placed default = refl
 
 length-words : length words ≡ 58
@@ -40,6 +41,10 @@ below n (x ∷ xs) (suc i) d h e = below n xs i d h (both _ _ e).1
 
 pub place-below : (slot : ℕ) → get_or PLACES slot 0 < 58
 place-below slot = below 58 PLACES slot 0 (lit< tt) refl
+
+place_of-below : (text : List ℕ) → place_of text < length words
+unfolding place_of
+place_of-below text = rw length-words (place-below (slot_of text))
 
 -- what `find` can have come to, where f leaves each element as it is
 abbrev Found : (Word → Word) → (Word → Bool) → Option Word → Type 0
@@ -68,10 +73,8 @@ unfolding word_of
 found_word default text = found (λ word. word_at default word.text) (λ word. bytes_eq word.text text) words (placed default)
 
 passed_over : (default : Word) (text : List ℕ) → word_of text ≡ None → bytes_eq (word_at default text).text text ≡ false
-unfolding word_of
-passed_over default text e =
-    let inside : place_of text < length words = rw length-words (place-below (slot_of text)) in
-    fails (λ word. bytes_eq word.text text) words (place_of text) default inside e
+unfolding word_of word_at
+passed_over default text e = fails (λ word. bytes_eq word.text text) words (place_of text) default (place_of-below text) e
 
 is_at : (default : Word) (text : List ℕ) (word : Word) → bytes_eq word.text text ≡ true → word_at default word.text ≡ word → word_at default text ≡ word
 is_at default text word same at = ap (word_at default) (sym ((bytes_eq-Decides word.text text).0 same)) ∙ at
@@ -92,12 +95,14 @@ unlisted default text h = from_found (found_word default text)
 
 -- a text that is spelled as the word at its place is that word
 pub word_of-listed : (text : List ℕ) (word : Word) → slice_get words (place_of text) ≡ Some word → word.text ≡ text → Some word ≡ word_of text
+unfolding word_at
 word_of-listed text word at same =
     let e : word_at word text ≡ word = get_or_from_slice_get words (place_of text) word word at in
     ap Some (sym e) ∙ listed word text (ap (λ (word : Word). word.text) e ∙ same)
 
 -- a text that is spelled otherwise is no word
 pub word_of-unlisted : (text : List ℕ) (word : Word) → slice_get words (place_of text) ≡ Some word → (word.text ≡ text → ⊥) → None ≡ word_of text
+unfolding word_at
 word_of-unlisted text word at other =
     let e : word_at word text ≡ word = get_or_from_slice_get words (place_of text) word word at in
     unlisted word text (λ same. other (ap (λ (word : Word). word.text) (sym e) ∙ same))

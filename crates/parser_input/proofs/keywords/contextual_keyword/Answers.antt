@@ -1,4 +1,4 @@
-use Rattle.std.proofs.Common.{◌≡◌, ◌∙◌, sym, refl, arith}
+use Rattle.std.proofs.Common.{◌∙◌, sym, refl}
 use Rattle.parser_input.specs.WordTable.{row_of}
 use Rattle.parser_input.proofs.WordKinds.{is_keyword-word, word_of-spelled}
 use Rattle.parser_input.proofs.keywords.contextual_keyword.Goals as goal

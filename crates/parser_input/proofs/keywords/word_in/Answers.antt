@@ -1,5 +1,4 @@
-use Rattle.std.proofs.Common.{◌≡◌, ◌<◌, ℕ, List}
-use Rattle.std.proofs.Math.ListN.{get_or, get_or-map}
+use Rattle.std.proofs.Math.ListN.{get_or-map}
 use Rattle.parser_input.specs.Keywords.{words}
 use Rattle.parser_input.specs.WordTable.{row_of}
 use Rattle.parser_input.proofs.WordPlaces.{place-below, slice_get-words}

@@ -1,4 +1,4 @@
-use Rattle.std.proofs.Common.{◌≡◌, ◌∙◌, sym}
+use Rattle.std.proofs.Common.{◌∙◌, sym}
 use Rattle.parser_input.proofs.KeywordKinds.{in_range-from, in_range-below, is_keyword-2018, is_keyword-2024, is_keyword-other}
 use Rattle.parser_input.proofs.syntax_kind.SyntaxKind.is_keyword.Goals as goal
 
