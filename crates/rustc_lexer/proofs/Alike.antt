@@ -1,12 +1,8 @@
 -- Two places at which scans end alike: with the same value, and at the same text.
-use Rattle.std.proofs.Common.{◌≡◌, ℕ, suc, zero, ◌+◌, ◌-◌, ◌<◌, ◌≤◌, ◌↔◌, Bool, true, false, not, ◌&&◌, ◌||◌, ◌==◌, IsTrue, List, [], ◌∷◌, length, take, drop, get_or, refl, sym, ◌∙◌, ap, subst, arith, inl, inr, ◌⊎◌, length-drop, eqb-true, eq-eqb}
+use Rattle.std.proofs.Common.{◌≡◌, ℕ, ◌<◌, ◌≤◌, ◌↔◌, Bool, true, false, IsTrue, List, [], ◌∷◌, length, drop, refl, sym, ◌∙◌, ap, subst, arith, length-drop}
 use Rattle.std.proofs.lemmas.List.{drop-drop}
-use Rattle.std.proofs.lemmas.Bool.Decides.{nat_tests}
-use Rattle.rustc_lexer.specs.Characters.{line_feed, double_quote, backslash, tick, star, slash, hash}
-use Rattle.rustc_lexer.specs.Scan.{Taken, Scan, peek, run_len, past, closing, unclosed, mark, Mark, Opens, Closes, Neither, opens_comment, closes_comment, block, quoted, hashes_follow, raw, stops_character, ticked}
+use Rattle.rustc_lexer.specs.Scan.{Scan, past}
 use Rattle.rustc_lexer.specs.Reads.{Reads}
-use Rattle.rustc_lexer.proofs.Agree.{bool_cases}
-use Rattle.rustc_lexer.proofs.Steps.{run-true, run-false, quoted-true, quoted-false, block-opens, block-ends, block-closes, block-neither, raw-true, raw-false, ticked-closes, ticked-stops, ticked-goes}
 
 pub record Alike {A : Type 0} (f : Scan A) (xs : List ℕ) (g : Scan A) (ys : List ℕ) : Type 0 where
   pub value_same : (f xs).value ≡ (g ys).value

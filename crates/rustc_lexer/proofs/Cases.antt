@@ -1,9 +1,10 @@
 -- Which case a text is, from tests of its characters.
-use Rattle.std.proofs.Common.{◌≡◌, ℕ, suc, zero, ◌<◌, ◌≤◌, Bool, true, false, not, ◌&&◌, ◌||◌, ◌==◌, leb, List, [], ◌∷◌, drop, refl, sym, ◌∙◌, ap, arith, lit<, Option, Some, None}
+use Rattle.std.proofs.Common.{◌≡◌, ℕ, suc, zero, Bool, true, false, not, ◌&&◌, ◌||◌, ◌==◌, List, [], ◌∷◌, drop, refl, ◌∙◌, ap, lit<}
 use Rattle.unicode_ident.proofs.IdentLemmas.{is_xid_start-ascii}
 use Rattle.rustc_lexer.specs.Characters.{double_quote, hash, tick, star, slash, letter_b, letter_c, letter_r, is_whitespace, is_digit, is_id_start}
 use Rattle.rustc_lexer.specs.Rows.{Row, row, first_fit}
-use Rattle.rustc_lexer.specs.Lexeme.{Case, Blank, ToLineEnd, ToPartner, RawName, RawText, Quoted, Ticked, Name, Number, Tick, Guard, Single, opens_raw, cases, case_of}
+use Rattle.rustc_lexer.specs.Lexeme.{Blank, ToLineEnd, ToPartner, RawName, RawText, Quoted, Ticked, Name, Number, Tick, Guard, Single, opens_raw, cases, case_of}
+use Rattle.rustc_lexer.proofs.Plain.{Plain}
 use Rattle.rustc_lexer.specs.declared.token.LiteralKind.TheVariants.{Char, Byte, Str, ByteStr, CStr, RawStr, RawByteStr, RawCStr}
 
 pub first-true : {A : Type 0} {t : Bool} {x : A} (rs : List (Row A)) (d : A) → t ≡ true → first_fit (row t x ∷ rs) d ≡ x
@@ -40,15 +41,15 @@ first-past (suc n) (r ∷ rs) d h =
     first-false r.answer rs d (fail-first r.test (fail n rs) h) ∙ first-past n rs d (fail-rest r.test (fail n rs) h)
 
 -- identifiers' first characters among the letters and signs that cases name
-r_starts : is_id_start letter_r ≡ true
+pub r_starts : is_id_start letter_r ≡ true
 unfolding is_id_start
 r_starts = is_xid_start-ascii letter_r (lit< tt)
 
-b_starts : is_id_start letter_b ≡ true
+pub b_starts : is_id_start letter_b ≡ true
 unfolding is_id_start
 b_starts = is_xid_start-ascii letter_b (lit< tt)
 
-c_starts : is_id_start letter_c ≡ true
+pub c_starts : is_id_start letter_c ≡ true
 unfolding is_id_start
 c_starts = is_xid_start-ascii letter_c (lit< tt)
 
@@ -163,14 +164,6 @@ pub hash-case : (b c : ℕ) → (b == hash || b == double_quote) ≡ false → c
 unfolding case_of is_whitespace is_digit
 hash-case b c h =
     first-past 10 (cases hash b c) Single refl ∙ first-false _ _ _ hash_starts_none ∙ first-past 4 (drop 11 (cases hash b c)) Single refl ∙ first-false _ _ _ h ∙ first-none Single
-
--- a character that no prefix begins with
-pub record Plain (a : ℕ) : Type 0 where
-  pub white : is_whitespace a ≡ false
-  pub slashes : (a == slash) ≡ false
-  pub r : (a == letter_r) ≡ false
-  pub b : (a == letter_b) ≡ false
-  pub c : (a == letter_c) ≡ false
 
 and_none : {t : Bool} (u : Bool) → t ≡ false → (t && u) ≡ false
 and_none u h = ap (λ z. z && u) h

@@ -1,11 +1,11 @@
 -- Cutting a text into lexemes.
-use Rattle.std.proofs.Common.{◌≡◌, ℕ, suc, zero, pred, ◌+◌, ◌-◌, ◌<◌, ◌≤◌, List, [], ◌∷◌, ◌++◌, length, take, drop, map, length-append, refl, sym, ◌∙◌, ap, subst, arith, length-drop}
+use Rattle.std.proofs.Common.{◌≡◌, ℕ, suc, zero, pred, ◌+◌, ◌-◌, ◌≤◌, List, [], ◌∷◌, ◌++◌, length, take, drop, map, length-append, refl, sym, ◌∙◌, ap, subst, arith, length-drop}
 use Rattle.std.proofs.lemmas.List.{take-append-drop, length-take-le, drop-drop}
 use Rattle.std.specs.List.{All, sum_by}
 use Rattle.std.proofs.lemmas.List.Elements.{All-cons, All-map}
 use Rattle.std.proofs.lemmas.List.Sums.{sum_by-cons}
 use Rattle.rustc_lexer.specs.Characters.{size}
-use Rattle.rustc_lexer.specs.Scan.{Taken, Scan}
+use Rattle.rustc_lexer.specs.Scan.{Taken}
 use Rattle.rustc_lexer.specs.Lexeme.{lexeme}
 use Rattle.rustc_lexer.specs.Tokens.{Lexeme, first_lexeme, cut, tokens, joined, next_lexeme, token, token_list}
 use Rattle.rustc_lexer.specs.declared.token.TokenKind.{TokenKind}

@@ -1,7 +1,7 @@
 -- A scan takes no more than there is.
-use Rattle.std.proofs.Common.{◌≡◌, ℕ, suc, zero, ◌+◌, ◌≤◌, Bool, true, false, not, ◌&&◌, ◌||◌, ◌==◌, List, [], ◌∷◌, length, take, drop, ap, arith, ◌⊎◌, inl, inr, if◌then◌else◌, length-drop}
+use Rattle.std.proofs.Common.{◌≡◌, ℕ, suc, zero, ◌≤◌, Bool, true, false, not, ◌&&◌, ◌==◌, List, [], ◌∷◌, length, take, drop, ap, arith, inl, inr, if◌then◌else◌, length-drop}
 use Rattle.rustc_lexer.specs.Characters.{is_id_start, is_id_continue, double_quote, backslash, tick, hash}
-use Rattle.rustc_lexer.specs.Scan.{Taken, Scan, give, skip, peek, look, ◌▸◌, spelled, begin, run_len, run, name_len, name, mark, block, quoted, hashes_follow, raw, ticked}
+use Rattle.rustc_lexer.specs.Scan.{Scan, give, skip, peek, look, ◌▸◌, spelled, begin, run_len, run, name_len, name, mark, block, quoted, hashes_follow, raw, ticked}
 use Rattle.rustc_lexer.proofs.Agree.{bool_cases}
 use Rattle.rustc_lexer.proofs.Steps.{run-true, run-false, name-true, name-false, quoted-true, quoted-false, mark_cases, block-opens, block-ends, block-closes, block-neither, raw-true, raw-false, stops, ticked-closes, ticked-stops, ticked-goes}
 

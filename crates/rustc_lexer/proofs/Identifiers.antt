@@ -1,14 +1,14 @@
 -- The text of a lexeme of kind `Ident` is an identifier.
-use Rattle.std.proofs.Common.{◌≡◌, ℕ, suc, zero, ◌+◌, ◌≤◌, Bool, true, false, not, ◌&&◌, ◌||◌, ◌==◌, List, [], ◌∷◌, length, take, drop, refl, sym, ◌∙◌, ap, arith, inl, inr, ◌⊎◌, if◌then◌else◌}
+use Rattle.std.proofs.Common.{◌≡◌, ℕ, suc, Bool, true, false, not, ◌&&◌, ◌||◌, ◌==◌, List, [], ◌∷◌, length, take, drop, refl, sym, ◌∙◌, ap, arith, inl, inr, ◌⊎◌, if◌then◌else◌}
 use Rattle.std.specs.List.{list_all}
 use Rattle.rustc_lexer.specs.Characters.{hash, tick, is_digit, is_id_start, is_id_continue, is_ident}
 use Rattle.rustc_lexer.specs.Rows.{Row, first_fit}
-use Rattle.rustc_lexer.specs.Scan.{Taken, Scan, give, skip, peek, look, ◌▸◌, spelled, begin, run, run_len, name}
-use Rattle.rustc_lexer.specs.Lexeme.{Case, Blank, ToLineEnd, ToPartner, RawName, RawText, Quoted, Ticked, Name, Number, Tick, Guard, Single, cases, case_of, line_comment, block_comment, literal, identifier, raw_identifier, opens_literal, is_raw, named, lifetime, signs, sign, lexeme_in, lexeme}
-use Rattle.rustc_lexer.specs.Tokens.{Lexeme, first_lexeme}
+use Rattle.rustc_lexer.specs.Scan.{Scan, give, skip, peek, look, ◌▸◌, spelled, begin, run, run_len, name}
+use Rattle.rustc_lexer.specs.Lexeme.{Case, Blank, ToLineEnd, ToPartner, RawName, RawText, Quoted, Ticked, Name, Number, Tick, Guard, Single, cases, case_of, line_comment, block_comment, literal, identifier, raw_identifier, is_raw, named, lifetime, signs, sign, lexeme_in, lexeme}
+use Rattle.rustc_lexer.specs.Tokens.{first_lexeme}
 use Rattle.rustc_lexer.specs.declared.token.LiteralKind.TheVariants.{Char}
 use Rattle.rustc_lexer.specs.declared.token.TokenKind.{TokenKind}
-use Rattle.rustc_lexer.specs.declared.token.TokenKind.TheVariants.{Ident, UnknownPrefix, UnknownPrefixLifetime, Lifetime, Literal, Unknown}
+use Rattle.rustc_lexer.specs.declared.token.TokenKind.TheVariants.{Ident, UnknownPrefixLifetime, Lifetime, Literal, Unknown}
 use Rattle.rustc_lexer.proofs.Agree.{bool_cases}
 use Rattle.rustc_lexer.proofs.Steps.{run-true, run-false}
 

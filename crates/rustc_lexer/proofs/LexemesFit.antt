@@ -1,17 +1,12 @@
 -- Each lexeme takes no more than there is.
-use Rattle.std.proofs.Common.{◌≡◌, ℕ, suc, zero, ◌+◌, ◌≤◌, Bool, true, false, not, ◌&&◌, ◌||◌, ◌==◌, leb, List, take, arith, if◌then◌else◌, Option, Some, None}
-use Rattle.rustc_lexer.specs.Characters.{line_feed, double_quote, hash, tick, star, dot, slash, backslash, underscore, is_whitespace, is_digit, is_hex_digit, is_id_start, is_id_continue, size}
-use Rattle.rustc_lexer.specs.Scan.{Taken, Scan, give, skip, peek, look, ◌▸◌, spelled, begin, run, name, block, quoted, raw, ticked}
-use Rattle.rustc_lexer.specs.Lexeme.{Case, Blank, ToLineEnd, ToPartner, RawName, RawText, Quoted, Ticked, Name, Number, Tick, Guard, Single, case_of, doc_style, line_comment, block_comment, body, suffix, literal, string, character_end, character, raw_end, raw_string, digit_or_underscore, has_digit, digits, exponent, dotted_kind, plain_kind, fraction, base_of, digits_of, based, number, identifier, raw_identifier, is_raw, named, lifetime, sign, lexeme_in, lexeme}
-use Rattle.rustc_lexer.specs.declared.token.DocStyle.{DocStyle}
-use Rattle.rustc_lexer.specs.declared.token.DocStyle.TheVariants.{Outer, Inner}
+use Rattle.std.proofs.Common.{ℕ, suc, Bool, true, false, ◌==◌, Option, Some, None}
+use Rattle.rustc_lexer.specs.Characters.{tick}
+use Rattle.rustc_lexer.specs.Scan.{Scan}
+use Rattle.rustc_lexer.specs.Lexeme.{Case, Blank, ToLineEnd, ToPartner, RawName, RawText, Quoted, Ticked, Name, Number, Tick, Guard, Single, case_of, line_comment, block_comment, suffix, literal, string, character_end, character, raw_end, raw_string, digits, exponent, fraction, based, number, identifier, raw_identifier, is_raw, named, lifetime, lexeme_in, lexeme}
 use Rattle.rustc_lexer.specs.declared.token.Base.{Base}
-use Rattle.rustc_lexer.specs.declared.token.Base.TheVariants.{Binary, Octal, Decimal, Hexadecimal}
+use Rattle.rustc_lexer.specs.declared.token.Base.TheVariants.{Decimal}
 use Rattle.rustc_lexer.specs.declared.token.LiteralKind.{LiteralKind}
-use Rattle.rustc_lexer.specs.declared.token.LiteralKind.TheVariants.{Int, Float, Char, Byte, Str, ByteStr, CStr, RawStr, RawByteStr, RawCStr}
 use Rattle.rustc_lexer.specs.declared.literals.Body.{Body}
-use Rattle.rustc_lexer.specs.declared.token.TokenKind.{TokenKind}
-use Rattle.rustc_lexer.specs.declared.token.TokenKind.TheVariants.{LineComment, BlockComment, Whitespace, Ident, RawIdent, UnknownPrefix, UnknownPrefixLifetime, RawLifetime, GuardedStrPrefix, Literal, Lifetime, Semi, Comma, Dot, OpenParen, CloseParen, OpenBrace, CloseBrace, OpenBracket, CloseBracket, At, Pound, Tilde, Question, Colon, Dollar, Eq, Bang, Lt, Gt, Minus, And, Or, Plus, Star, Slash, Caret, Percent, Unknown, Eof}
 use Rattle.rustc_lexer.proofs.Fits.{Fits, fits-give, fits-skip, fits-look, fits-next, fits-spelled, fits-if, fits-begin, fits-run, fits-name, fits-quoted, fits-block, fits-raw, fits-ticked}
 
 fits-line_comment : Fits line_comment

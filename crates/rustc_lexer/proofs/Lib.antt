@@ -17,6 +17,7 @@ pub mod BlockSteps
 pub mod RawSteps
 pub mod TickSteps
 pub mod Reading
+pub mod Plain
 pub mod Cases
 pub mod Identifiers
 pub mod Lines

@@ -1,14 +1,13 @@
 -- Raw strings: what the loop over them does, step by step.
-use Rattle.std.proofs.Common.{◌≡◌, ℕ, suc, zero, ◌+◌, ◌-◌, ◌<◌, ◌≤◌, ◌↔◌, Bool, true, false, not, ◌&&◌, ◌||◌, ◌==◌, IsTrue, List, [], ◌∷◌, length, take, drop, get_or, refl, sym, ◌∙◌, ap, subst, arith, inl, inr, ◌⊎◌, length-drop, eqb-true, eq-eqb}
-use Rattle.std.proofs.lemmas.List.{drop-drop}
+use Rattle.std.proofs.Common.{◌≡◌, ℕ, Bool, true, false, not, ◌&&◌, ◌==◌, List, [], ◌∷◌, drop, get_or, refl, sym, ◌∙◌, ap, arith, inl, inr}
 use Rattle.std.proofs.lemmas.Bool.Decides.{nat_tests}
-use Rattle.rustc_lexer.specs.Characters.{line_feed, double_quote, backslash, tick, star, slash, hash}
-use Rattle.rustc_lexer.specs.Scan.{Taken, Scan, peek, run_len, past, closing, unclosed, mark, Mark, Opens, Closes, Neither, opens_comment, closes_comment, block, quoted, hashes_follow, raw, stops_character, ticked}
+use Rattle.rustc_lexer.specs.Characters.{double_quote}
+use Rattle.rustc_lexer.specs.Scan.{run_len, past, hashes_follow, raw}
 use Rattle.rustc_lexer.specs.Reads.{Reads}
 use Rattle.rustc_lexer.proofs.Agree.{bool_cases}
-use Rattle.rustc_lexer.proofs.Steps.{run-true, run-false, quoted-true, quoted-false, block-opens, block-ends, block-closes, block-neither, raw-true, raw-false, ticked-closes, ticked-stops, ticked-goes}
+use Rattle.rustc_lexer.proofs.Steps.{run-true, run-false, raw-true, raw-false}
 use Rattle.rustc_lexer.proofs.Runs.{run_end}
-use Rattle.rustc_lexer.proofs.Alike.{Alike, alike-refl, alike-trans, alike-at, reads-alike, one_on, two_on}
+use Rattle.rustc_lexer.proofs.Alike.{Alike, alike-refl, alike-trans, alike-at, one_on}
 
 and_false : (b : Bool) → (b && false) ≡ false
 and_false true = refl

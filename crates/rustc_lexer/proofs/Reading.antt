@@ -1,10 +1,10 @@
 -- How calls that read as scans do follow one another.
-use Rattle.std.proofs.Common.{◌≡◌, ℕ, suc, zero, ◌+◌, ◌-◌, ◌<◌, ◌≤◌, Bool, true, false, List, [], ◌∷◌, length, take, drop, get_or, refl, sym, ◌∙◌, ap, arith, subst, min, cond, ◌||◌, if◌then◌else◌}
+use Rattle.std.proofs.Common.{◌≡◌, ℕ, suc, zero, ◌+◌, ◌-◌, ◌≤◌, Bool, true, false, List, [], ◌∷◌, length, take, drop, get_or, refl, sym, ◌∙◌, ap, arith, subst, ◌||◌, if◌then◌else◌}
 use Rattle.std.proofs.lemmas.List.{drop-drop}
-use Rattle.rustc_lexer.specs.Scan.{Taken, Scan, give, skip, peek, look, ◌▸◌, spelled, begin, run_len, run, name_len, name}
+use Rattle.rustc_lexer.specs.Scan.{Scan, give, skip, peek, look, ◌▸◌, spelled, begin, run_len, run, name_len, name}
 use Rattle.rustc_lexer.specs.Reads.{Reads}
 use Rattle.rustc_lexer.specs.Characters.{is_hex_digit, size}
-use Rattle.rustc_lexer.specs.Lexeme.{digits, has_digit, body, suffix, literal, Case, case_of, lexeme_in, lexeme}
+use Rattle.rustc_lexer.specs.Lexeme.{digits, has_digit, suffix, literal, Case, case_of, lexeme_in, lexeme}
 use Rattle.rustc_lexer.specs.declared.literals.Body.{Body}
 use Rattle.rustc_lexer.specs.declared.token.TokenKind.{TokenKind}
 use Rattle.rustc_lexer.specs.declared.token.TokenKind.TheVariants.{Literal}

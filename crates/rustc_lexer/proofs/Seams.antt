@@ -1,5 +1,5 @@
 -- Runs of bytes and runs of characters: a text's bytes behind a run of bytes are its characters behind a run of characters.
-use Rattle.std.proofs.Common.{◌≡◌, ℕ, suc, zero, ◌+◌, ◌-◌, ◌<◌, ◌≤◌, Bool, true, false, not, ◌&&◌, ◌==◌, ltb, List, [], ◌∷◌, ◌++◌, length, take, drop, get_or, refl, sym, ◌∙◌, ap, subst, arith, chars, length-append, length-drop, inl, inr, ◌⊎◌, lit<, eqb-true, append_assoc}
+use Rattle.std.proofs.Common.{◌≡◌, ℕ, suc, zero, ◌+◌, ◌-◌, ◌<◌, ◌≤◌, Bool, true, false, ◌&&◌, ◌==◌, ltb, List, [], ◌∷◌, ◌++◌, length, take, drop, get_or, refl, sym, ◌∙◌, ap, subst, arith, chars, length-append, inl, inr, lit<, eqb-true, append_assoc}
 use Rattle.std.specs.Str.{IsUtf8, IsCharBoundary}
 use Rattle.std.proofs.Math.Utf8.{encodes, encode, scalars}
 use Rattle.std.proofs.lemmas.List.{get_or_append_left, take-append-drop}
@@ -9,7 +9,7 @@ use Rattle.rustc_lexer.specs.Scan.{run_len}
 use Rattle.rustc_lexer.proofs.Agree.{bool_cases, lt_or_ge}
 use Rattle.rustc_lexer.proofs.Steps.{run-true, run-false}
 use Rattle.rustc_lexer.proofs.Runs.{run_none, run_after}
-use Rattle.rustc_lexer.proofs.Wide.{wide_and, small_and, wide_is}
+use Rattle.rustc_lexer.proofs.Wide.{small_and, wide_is}
 use Rattle.rustc_lexer.proofs.Fits.{run_len-fits}
 
 -- each byte of a character past ASCII is past ASCII
@@ -236,3 +236,16 @@ front-until bs ls n u v e =
       boundary = subst (λ k. IsCharBoundary bs k) len (IsCharBoundary-at_seam bs xs ls parts v);
       front = ap chars at ∙ chars-encodes (take n cs) (scalars-take n cs (scalars-chars bs u));
     }
+
+-- behind an ASCII character
+seam-ascii-list : (cs : List ℕ) → 0 < get_or cs 0 0 → get_or cs 0 0 < 128 → (1 ≤ length (encodes cs)) × (drop 1 (encodes cs) ≡ encodes (drop 1 cs))
+seam-ascii-list [] h g = absurd (omega arith)
+seam-ascii-list (c ∷ cs) h g =
+    let one : encode c ≡ c ∷ [] = encode_ascii c g in
+    (subst (λ z. 1 ≤ length (z ++ encodes cs)) (sym one) (omega arith), ap (λ z. drop 1 (z ++ encodes cs)) one)
+
+pub seam-ascii : (bs : List ℕ) → IsUtf8 bs → 0 < get_or (chars bs) 0 0 → get_or (chars bs) 0 0 < 128 → Seam bs 1 1
+seam-ascii bs u h g =
+    let both = seam-ascii-list (chars bs) h g in
+    let some : 1 ≤ length bs = subst (λ z. 1 ≤ length z) (encodes-chars bs u) both.0 in
+    seam bs 1 1 u some both.1

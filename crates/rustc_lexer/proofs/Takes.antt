@@ -1,5 +1,5 @@
 -- A scan takes at least one character, where there is one.
-use Rattle.std.proofs.Common.{ℕ, suc, ◌+◌, ◌≤◌, List, [], ◌∷◌, length, take, arith}
+use Rattle.std.proofs.Common.{ℕ, suc, ◌≤◌, List, [], ◌∷◌, length, take, arith}
 use Rattle.rustc_lexer.specs.Scan.{Scan, skip, peek, look, ◌▸◌, spelled}
 
 pub record Takes {A : Type 0} (f : Scan A) : Type 0 where

@@ -1,9 +1,9 @@
 -- What holds of the lexemes of every text.
-use Rattle.std.specs.Prelude.{◌≡◌, ℕ, ◌+◌, ◌≤◌, true, List, [], ◌∷◌, length, take, drop}
+use Rattle.std.specs.Prelude.{◌≡◌, ℕ, ◌+◌, ◌≤◌, true, List, ◌∷◌, length, take, drop}
 use Rattle.std.specs.List.{All, sum_by}
 use Rattle.rustc_lexer.specs.Characters.{is_ident, size}
 use Rattle.rustc_lexer.specs.Lexeme.{lexeme}
-use Rattle.rustc_lexer.specs.Tokens.{Lexeme, first_lexeme, tokens, joined, token_list}
+use Rattle.rustc_lexer.specs.Tokens.{first_lexeme, tokens, joined, token_list}
 use Rattle.rustc_lexer.specs.declared.token.TokenKind.TheVariants.{Ident}
 
 -- a lexeme depends on its own characters and on two behind it; where fewer follow, on that too

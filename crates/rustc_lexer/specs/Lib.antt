@@ -2,6 +2,7 @@ pub mod Characters
 pub mod Rows
 pub mod Scan
 pub mod Lexeme
+pub mod Plain
 pub mod Tokens
 pub mod Shebang
 pub mod Reads

@@ -4,20 +4,20 @@ ghost use Rattle.std.specs.Prelude.{◌≡◌, ◌&&◌, ◌==◌, ◌||◌, not
 ghost use Rattle.rustc_lexer.specs.Characters.{line_feed, double_quote, backslash, star, slash, hash, is_whitespace, is_id_continue};
 ghost use Rattle.rustc_lexer.specs.Scan.{run_len};
 
-use crate::classes::{is_id_continue, is_whitespace};
-
 #[inline]
+#[tactic(auto, using(crate::proofs::Wide::white_ascii))]
 fn is_ascii_white(b: u8) -> bool
     ensures { result ≡ (ltb b 128 && is_whitespace b) }
 {
-    b < 128 && is_whitespace(b as char)
+    b == b' ' || (b'\t' <= b && b <= b'\r')
 }
 
 #[inline]
+#[tactic(auto, using(crate::proofs::Wide::continue_ascii))]
 fn is_ascii_continue(b: u8) -> bool
     ensures { result ≡ (ltb b 128 && is_id_continue b) }
 {
-    b < 128 && is_id_continue(b as char)
+    b.is_ascii_alphanumeric() || b == b'_'
 }
 
 /// The bytes at the front that are ASCII white space.

@@ -1,6 +1,6 @@
 //! A place in a text, from which tokens are read.
 
-ghost use Rattle.std.specs.Prelude.{◌≡◌, ◌==◌, ◌||◌, ◌↔◌, not, ℕ, [], IsTrue, chars, drop, take, if◌then◌else◌};
+ghost use Rattle.std.specs.Prelude.{◌≡◌, ◌<◌, ◌==◌, ◌||◌, ◌↔◌, not, ℕ, [], IsTrue, chars, drop, take, if◌then◌else◌};
 ghost use Rattle.rustc_lexer.specs.Characters.{line_feed, double_quote, backslash, slash, star, hash, size, is_whitespace, is_id_continue};
 ghost use Rattle.rustc_lexer.specs.Scan.{peek, run, run_len, name_len, hashes_follow};
 ghost use Rattle.rustc_lexer.specs.Reads.{Reads};
@@ -109,6 +109,16 @@ impl<'a> Cursor<'a> {
         if let Some(_) = rest.next() {
             self.rest = rest.as_str();
         }
+    }
+
+    /// Passes over a character of ASCII.
+    pub(crate) fn bump_ascii(&mut self)
+        requires some { 0 < peek 0 self.old }
+        requires ascii { peek 0 self.old < 128 }
+        ensures { self.new ≡ drop 1 self.old }
+    {
+        let rest = self.rest;
+        self.rest = &rest[1..];
     }
 
     /// The bytes that are left.

@@ -1,9 +1,10 @@
 //! What a text begins with: the first case that fits decides.
 
-ghost use Rattle.std.specs.Prelude.{◌≡◌, ◌==◌, ◌||◌, ◌&&◌, not};
-ghost use Rattle.rustc_lexer.specs.Characters.{double_quote, hash, letter_b, letter_c, letter_r, slash, tick, is_digit, is_id_start};
+ghost use Rattle.std.specs.Prelude.{◌≡◌, ◌==◌, ◌||◌, ◌&&◌, not, true, false};
+ghost use Rattle.rustc_lexer.specs.Characters.{double_quote, hash, letter_b, letter_c, letter_r, slash, tick, is_digit, is_id_start, is_whitespace};
 ghost use Rattle.rustc_lexer.specs.Scan.{peek};
 ghost use Rattle.rustc_lexer.specs.Lexeme.{Blank, Single, opens_raw, sign, literal, string, character, raw_string, number, lexeme_in, lexeme};
+ghost use Rattle.rustc_lexer.specs.Plain.{begins_plain_name, is_plain_sign};
 ghost use Rattle.rustc_lexer.specs.Reads.{Reads};
 
 use crate::classes::{is_digit, is_id_start, is_whitespace};
@@ -36,6 +37,27 @@ fn begins_lifetime(b: char, c: char) -> bool
     ensures { result ≡ (not (c == tick) && (is_id_start b || is_digit b)) }
 {
     c != '\'' && (is_id_start(b) || is_digit(b))
+}
+
+// Whether a character begins a name and no prefix: an ASCII letter but `r`, `b` and `c`, or `_`.
+fn begins_plain_name(c: char) -> bool
+    ensures { result ≡ begins_plain_name c }
+{
+    c == '_' || (c.is_ascii_alphabetic() && c != 'r' && c != 'b' && c != 'c')
+}
+
+// Whether a character is of ASCII and stands for itself, whatever follows.
+fn is_plain_sign(c: char) -> bool
+    ensures { result ≡ is_plain_sign c }
+{
+    ('(' <= c && c <= '.')
+        || (':' <= c && c <= '@')
+        || ('{' <= c && c <= '~')
+        || ('$' <= c && c <= '&')
+        || c == '!'
+        || c == '['
+        || c == ']'
+        || c == '^'
 }
 
 // The kind of a character that stands for itself.
@@ -81,9 +103,26 @@ impl<'a> Cursor<'a> {
         ensures { Reads lexeme self.old result self.new }
     {
         let first = self.first();
+        if begins_plain_name(first) {
+            return self.identifier();
+        }
+        if is_plain_sign(first) {
+            let kind = sign(first);
+            self.bump_ascii();
+            return kind;
+        }
         if is_whitespace(first) {
             return self.whitespace();
         }
+        self.rarer_lexeme(first)
+    }
+
+    // The same, where the first character tells little alone.
+    fn rarer_lexeme(&mut self, first: char) -> TokenKind
+        requires first { first ≡ peek 0 self.old }
+        requires white { is_whitespace first ≡ false }
+        ensures { Reads lexeme self.old result self.new }
+    {
         if first == '/' {
             return self.slash();
         }
@@ -116,9 +155,9 @@ impl<'a> Cursor<'a> {
 
     // White space.
     fn whitespace(&mut self) -> TokenKind
+        requires { is_whitespace (peek 0 self.old) ≡ true }
         ensures { Reads (lexeme_in Blank) self.old result self.new }
     {
-        self.bump();
         self.eat_whitespace();
         TokenKind::Whitespace
     }

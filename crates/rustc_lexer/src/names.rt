@@ -1,7 +1,8 @@
 //! Names: identifiers, lifetimes and unknown prefixes.
 
-ghost use Rattle.std.specs.Prelude.{◌≡◌, ◌==◌, ◌&&◌, not, if◌then◌else◌};
-ghost use Rattle.rustc_lexer.specs.Characters.{hash};
+ghost use Rattle.std.specs.Prelude.{◌≡◌, ◌==◌, ◌&&◌, not, true, if◌then◌else◌};
+ghost use Rattle.rustc_lexer.specs.Characters.{hash, is_id_start};
+ghost use Rattle.rustc_lexer.specs.Scan.{peek};
 ghost use Rattle.rustc_lexer.specs.Lexeme.{opens_literal, is_raw, identifier, raw_identifier, lifetime};
 ghost use Rattle.rustc_lexer.specs.Reads.{Reads};
 
@@ -37,9 +38,9 @@ fn lifetime_kind(next: char, starts_with_number: bool) -> TokenKind
 impl<'a> Cursor<'a> {
     /// An identifier or an unknown prefix, from what begins it.
     pub(crate) fn identifier(&mut self) -> TokenKind
+        requires { is_id_start (peek 0 self.old) ≡ true }
         ensures { Reads identifier self.old result self.new }
     {
-        self.bump();
         self.eat_id_continue();
         if opens_literal(self.first()) {
             TokenKind::UnknownPrefix

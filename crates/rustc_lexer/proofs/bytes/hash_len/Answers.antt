@@ -1,4 +1,4 @@
-use Rattle.std.proofs.Common.{◌≡◌, ◌&&◌, ◌==◌, ltb, true, false, sym, get_or, arith}
+use Rattle.std.proofs.Common.{◌≡◌, ◌==◌, false, sym, get_or, arith}
 use Rattle.std.proofs.lemmas.Bool.{ne_eqb}
 use Rattle.rustc_lexer.specs.Characters.{hash}
 use Rattle.rustc_lexer.proofs.Runs.{run_found, run_all}

@@ -1,4 +1,4 @@
-use Rattle.std.proofs.Common.{◌≡◌, ◌&&◌, ◌==◌, ltb, ℕ, ◌<◌, true, get_or}
+use Rattle.std.proofs.Common.{◌≡◌, ◌==◌, ℕ, ◌<◌, true, get_or}
 use Rattle.rustc_lexer.specs.Characters.{hash}
 use Rattle.rustc_lexer.proofs.bytes.hash_len.Given as goal
 

@@ -1,4 +1,4 @@
-use Rattle.std.proofs.Common.{sym, ap, not, ◌||◌, ◌==◌, arith}
+use Rattle.std.proofs.Common.{sym, ap, not, ◌==◌, arith}
 use Rattle.rustc_lexer.specs.Characters.{line_feed}
 use Rattle.rustc_lexer.proofs.Runs.{run_found, run_all, not_true}
 use Rattle.rustc_lexer.proofs.bytes.line_len.Goals as goal

@@ -1,4 +1,4 @@
-use Rattle.std.proofs.Common.{sym, ap, not, ◌||◌, ◌==◌, arith}
+use Rattle.std.proofs.Common.{sym, ap, not, ◌==◌, arith}
 use Rattle.rustc_lexer.specs.Characters.{double_quote}
 use Rattle.rustc_lexer.proofs.Runs.{run_found, run_all, not_true}
 use Rattle.rustc_lexer.proofs.bytes.unquoted_len.Goals as goal

@@ -1,4 +1,4 @@
-use Rattle.std.proofs.Common.{◌≡◌, ◌&&◌, ◌==◌, ltb, true, false, sym, get_or, arith}
+use Rattle.std.proofs.Common.{◌≡◌, ◌&&◌, ltb, false, sym, get_or, arith}
 use Rattle.rustc_lexer.specs.Characters.{is_whitespace}
 use Rattle.rustc_lexer.proofs.Runs.{run_found, run_all}
 use Rattle.rustc_lexer.proofs.bytes.white_len.Goals as goal

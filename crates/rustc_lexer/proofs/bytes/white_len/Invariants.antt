@@ -1,4 +1,4 @@
-use Rattle.std.proofs.Common.{◌≡◌, ◌&&◌, ◌==◌, ltb, ℕ, ◌<◌, true, get_or}
+use Rattle.std.proofs.Common.{◌≡◌, ◌&&◌, ltb, ℕ, ◌<◌, true, get_or}
 use Rattle.rustc_lexer.specs.Characters.{is_whitespace}
 use Rattle.rustc_lexer.proofs.bytes.white_len.Given as goal
 

@@ -1,4 +1,4 @@
-use Rattle.std.proofs.Common.{◌≡◌, ℕ, suc, ◌+◌, take, subst, arith}
+use Rattle.std.proofs.Common.{◌≡◌, suc, ◌+◌, take, subst, arith}
 use Rattle.rustc_lexer.specs.Lexeme.{lexeme}
 use Rattle.rustc_lexer.proofs.LexemesLocal.{lexeme-local}
 use Rattle.rustc_lexer.proofs.laws.lexeme_is_local.Goals as goal

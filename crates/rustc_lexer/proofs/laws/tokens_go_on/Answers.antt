@@ -1,4 +1,4 @@
-use Rattle.std.proofs.Common.{◌≡◌, ◌∙◌, ◌∷◌, sym, ap, drop}
+use Rattle.std.proofs.Common.{◌∙◌, ◌∷◌, sym, ap, drop}
 use Rattle.rustc_lexer.specs.Tokens.{first_lexeme, tokens}
 use Rattle.rustc_lexer.proofs.Cutting.{tokens-cons, first-length}
 use Rattle.rustc_lexer.proofs.laws.tokens_go_on.Goals as goal

@@ -1,4 +1,4 @@
-use Rattle.std.proofs.Common.{◌≡◌, ◌∙◌, sym, ap, true, false}
+use Rattle.std.proofs.Common.{◌∙◌, sym, ap}
 use Rattle.rustc_lexer.specs.Shebang.{opens_attribute}
 use Rattle.rustc_lexer.proofs.Lines.{attribute-past, attribute-told, attribute-none}
 use Rattle.rustc_lexer.proofs.shebang.opens_attribute.Goals as goal

@@ -1,4 +1,4 @@
-use Rattle.std.proofs.Common.{◌≡◌, ◌≤◌, ◌-◌, ◌+◌, ◌∙◌, ℕ, sym, ap, chars, take, drop, true, false, Option, Some, arith}
+use Rattle.std.proofs.Common.{◌≡◌, ◌≤◌, ◌-◌, ◌∙◌, ℕ, sym, ap, chars, take, drop, true, false, Option, Some, arith}
 use Rattle.rustc_lexer.specs.Characters.{size}
 use Rattle.rustc_lexer.specs.Tokens.{token_list}
 use Rattle.rustc_lexer.specs.Shebang.{opens_attribute, line_len, has_shebang}

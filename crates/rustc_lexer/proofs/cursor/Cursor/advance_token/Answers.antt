@@ -1,7 +1,7 @@
-use Rattle.std.proofs.Common.{◌≡◌, ◌≤◌, ◌-◌, ◌∙◌, ℕ, [], sym, ap, drop, take, length, arith}
+use Rattle.std.proofs.Common.{◌≡◌, ◌-◌, ◌∙◌, ℕ, sym, ap, drop, take, length, arith}
 use Rattle.rustc_lexer.specs.Characters.{size}
 use Rattle.rustc_lexer.specs.Lexeme.{lexeme}
-use Rattle.rustc_lexer.specs.Tokens.{Lexeme, first_lexeme, next_lexeme, token}
+use Rattle.rustc_lexer.specs.Tokens.{first_lexeme, token}
 use Rattle.rustc_lexer.specs.declared.token.Token.{Token}
 use Rattle.rustc_lexer.specs.declared.token.TokenKind.{TokenKind}
 use Rattle.rustc_lexer.proofs.Alike.{some_left, none_left}

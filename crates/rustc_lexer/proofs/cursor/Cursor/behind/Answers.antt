@@ -1,4 +1,4 @@
-use Rattle.std.proofs.Common.{◌≡◌, ◌∙◌, sym, ap, drop, chars}
+use Rattle.std.proofs.Common.{◌∙◌, sym, ap, drop, chars}
 use Rattle.std.proofs.lemmas.Str.{chars_past_char}
 use Rattle.rustc_lexer.proofs.cursor.Cursor.behind.Goals as goal
 

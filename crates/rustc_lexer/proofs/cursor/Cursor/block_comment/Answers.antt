@@ -1,11 +1,11 @@
-use Rattle.std.proofs.Common.{◌≡◌, ◌∙◌, ◌==◌, not, ℕ, List, Option, sym, ap, drop, take}
+use Rattle.std.proofs.Common.{◌≡◌, ◌∙◌, Option, sym, ap, drop, take}
 use Rattle.rustc_lexer.specs.Scan.{skip, block, ◌▸◌}
 use Rattle.rustc_lexer.specs.Reads.{Reads}
 use Rattle.rustc_lexer.specs.Lexeme.{block_comment, doc_style}
 use Rattle.rustc_lexer.specs.declared.token.DocStyle.{DocStyle}
 use Rattle.rustc_lexer.specs.declared.token.TokenKind.{TokenKind}
 use Rattle.rustc_lexer.specs.declared.token.TokenKind.TheVariants.{BlockComment}
-use Rattle.rustc_lexer.proofs.Reading.{reads-next, reads-two, reads-run, reads-spelled, reads-give}
+use Rattle.rustc_lexer.proofs.Reading.{reads-next, reads-two, reads-spelled, reads-give}
 use Rattle.rustc_lexer.proofs.cursor.Cursor.block_comment.Goals as goal
 
 pub until-requires : goal.until-requires

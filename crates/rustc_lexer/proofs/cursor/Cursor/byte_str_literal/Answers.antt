@@ -1,4 +1,4 @@
-use Rattle.std.proofs.Common.{◌≡◌, ◌≤◌, Bool, ap, refl, sym, arith}
+use Rattle.std.proofs.Common.{refl, arith}
 use Rattle.rustc_lexer.specs.Lexeme.{string}
 use Rattle.rustc_lexer.proofs.Reading.{reads-next, reads-two, reads-give, reads-literal, reads-shorter, one-shorter}
 use Rattle.rustc_lexer.proofs.cursor.Cursor.byte_str_literal.Goals as goal

@@ -1,4 +1,4 @@
-use Rattle.std.proofs.Common.{◌≡◌, ◌≤◌, ◌∙◌, ◌+◌, ◌-◌, suc, sym, ap, get_or, true, false, arith, refl}
+use Rattle.std.proofs.Common.{◌≡◌, ◌≤◌, ◌+◌, ◌-◌, suc, get_or, true, false, arith}
 use Rattle.rustc_lexer.specs.Characters.{size}
 use Rattle.rustc_lexer.specs.Scan.{opens_comment, closes_comment}
 use Rattle.rustc_lexer.proofs.Sizes.{size-drop, size-past_two}

@@ -1,6 +1,6 @@
-use Rattle.std.proofs.Common.{◌≡◌, ◌∙◌, ◌<◌, ◌≤◌, sym, ap, drop, chars, true, false, arith, ◌==◌, ℕ}
+use Rattle.std.proofs.Common.{◌∙◌, sym, ap, drop, chars, arith, ◌==◌, ℕ}
 use Rattle.rustc_lexer.specs.Characters.{hash}
-use Rattle.rustc_lexer.specs.Scan.{run_len, hashes_follow}
+use Rattle.rustc_lexer.specs.Scan.{run_len}
 use Rattle.rustc_lexer.proofs.Runs.{follow_short, follow_long}
 use Rattle.rustc_lexer.proofs.Seams.{seam-hashes, hashes-chars}
 use Rattle.rustc_lexer.proofs.cursor.Cursor.eat_closing_hashes.Goals as goal

@@ -1,4 +1,3 @@
-use Rattle.std.proofs.Common.{sym}
 use Rattle.rustc_lexer.specs.Lexeme.{digits, digits_of}
 use Rattle.rustc_lexer.proofs.Reading.{reads-along}
 use Rattle.rustc_lexer.proofs.cursor.Cursor.eat_digits.Goals as goal

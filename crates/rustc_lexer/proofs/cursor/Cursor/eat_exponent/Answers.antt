@@ -1,4 +1,4 @@
-use Rattle.std.proofs.Common.{◌≡◌, ◌∙◌, sym, ap, refl}
+use Rattle.std.proofs.Common.{◌∙◌, sym, ap, refl}
 use Rattle.rustc_lexer.specs.Lexeme.{exponent, is_exponent}
 use Rattle.rustc_lexer.proofs.Reading.{reads-next, reads-skip, reads-look, reads-give, reads-then, reads-else, reads-optional}
 use Rattle.rustc_lexer.proofs.cursor.Cursor.eat_exponent.Goals as goal

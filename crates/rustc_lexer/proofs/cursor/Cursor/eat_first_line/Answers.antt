@@ -1,4 +1,4 @@
-use Rattle.std.proofs.Common.{◌≡◌, ◌∙◌, ap, sym, drop, get_or, true, false}
+use Rattle.std.proofs.Common.{◌≡◌, ◌∙◌, ap, drop, get_or, true, false}
 use Rattle.rustc_lexer.specs.Shebang.{ends_line, line_len}
 use Rattle.rustc_lexer.proofs.Alike.{none_left}
 use Rattle.rustc_lexer.proofs.Lines.{line_ends, line_goes, line_end}

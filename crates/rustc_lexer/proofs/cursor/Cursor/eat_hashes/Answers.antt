@@ -1,4 +1,4 @@
-use Rattle.std.proofs.Common.{◌≡◌, ℕ, Bool, ◌∙◌, ◌==◌, sym, ap, drop, chars, lit<}
+use Rattle.std.proofs.Common.{ℕ, ◌∙◌, ◌==◌, sym, ap, drop, chars, lit<}
 use Rattle.std.proofs.lemmas.Str.{encodes-chars}
 use Rattle.rustc_lexer.specs.Characters.{hash}
 use Rattle.rustc_lexer.specs.Scan.{run, run_len}

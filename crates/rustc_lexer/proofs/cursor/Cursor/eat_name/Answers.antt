@@ -1,4 +1,4 @@
-use Rattle.std.proofs.Common.{◌≡◌, ◌∙◌, ap, sym, drop, get_or, true, false}
+use Rattle.std.proofs.Common.{◌≡◌, ◌∙◌, ap, sym, drop, get_or, true}
 use Rattle.rustc_lexer.specs.Characters.{is_id_start, is_id_continue}
 use Rattle.rustc_lexer.specs.Scan.{run_len}
 use Rattle.rustc_lexer.proofs.Runs.{name_more, name_none}

@@ -1,4 +1,4 @@
-use Rattle.std.proofs.Common.{◌≡◌, ℕ, Bool, ◌∙◌, ◌==◌, ◌||◌, not, ap, drop, chars, lit<}
+use Rattle.std.proofs.Common.{◌∙◌, ◌==◌, ◌||◌, not, ap, drop, chars, lit<}
 use Rattle.rustc_lexer.specs.Characters.{double_quote, backslash}
 use Rattle.rustc_lexer.specs.Scan.{run_len}
 use Rattle.rustc_lexer.proofs.Seams.{open-found}

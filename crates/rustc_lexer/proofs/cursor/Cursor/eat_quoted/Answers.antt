@@ -1,5 +1,4 @@
-use Rattle.std.proofs.Common.{◌≡◌, ◌∙◌, sym, get_or}
-use Rattle.rustc_lexer.specs.Characters.{double_quote}
+use Rattle.std.proofs.Common.{◌∙◌, sym}
 use Rattle.rustc_lexer.proofs.Alike.{alike-trans, alike-at, reads-alike, reads-at, none_left, two_ones}
 use Rattle.rustc_lexer.proofs.QuotedSteps.{quoted-plain, quoted-close, quoted-next, quoted-end}
 use Rattle.rustc_lexer.proofs.cursor.Cursor.eat_quoted.Goals as goal

@@ -1,4 +1,4 @@
-use Rattle.std.proofs.Common.{◌≡◌, ◌<◌, ℕ, Bool, ◌∙◌, ◌&&◌, ltb, ap, sym, drop, chars, get_or, subst, arith}
+use Rattle.std.proofs.Common.{◌≡◌, ◌<◌, ◌∙◌, ◌&&◌, ltb, ap, sym, drop, chars, get_or, arith}
 use Rattle.rustc_lexer.specs.Characters.{is_whitespace}
 use Rattle.rustc_lexer.specs.Scan.{run_len}
 use Rattle.rustc_lexer.proofs.Seams.{closed-found, run-front, run-front-all}

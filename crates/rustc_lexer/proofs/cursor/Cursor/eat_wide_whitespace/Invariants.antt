@@ -1,4 +1,4 @@
-use Rattle.std.proofs.Common.{◌≡◌, ℕ, drop, length}
+use Rattle.std.proofs.Common.{◌≡◌, drop, length}
 use Rattle.rustc_lexer.specs.Characters.{is_whitespace}
 use Rattle.rustc_lexer.specs.Scan.{run_len}
 use Rattle.rustc_lexer.proofs.cursor.Cursor.eat_wide_whitespace.Given as goal

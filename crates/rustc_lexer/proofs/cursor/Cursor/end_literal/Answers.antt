@@ -1,4 +1,4 @@
-use Rattle.std.proofs.Common.{◌≡◌, ◌∙◌, sym, ap, drop, true, false}
+use Rattle.std.proofs.Common.{◌∙◌, sym, ap, drop}
 use Rattle.rustc_lexer.specs.Scan.{name, give}
 use Rattle.rustc_lexer.specs.Lexeme.{suffix}
 use Rattle.rustc_lexer.proofs.cursor.Cursor.end_literal.Goals as goal

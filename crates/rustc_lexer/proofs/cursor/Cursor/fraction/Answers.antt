@@ -1,4 +1,4 @@
-use Rattle.std.proofs.Common.{◌≡◌, ◌∙◌, Bool, sym, ap, get_or, true, false, refl}
+use Rattle.std.proofs.Common.{◌≡◌, sym, ap, get_or, true, false, refl}
 use Rattle.rustc_lexer.specs.Characters.{is_digit}
 use Rattle.rustc_lexer.specs.Lexeme.{fraction, is_point}
 use Rattle.rustc_lexer.specs.declared.literals.Body.{Body}

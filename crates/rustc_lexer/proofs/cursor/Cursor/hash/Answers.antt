@@ -1,7 +1,6 @@
-use Rattle.std.proofs.Common.{◌≡◌, ◌∙◌, ◌==◌, ◌&&◌, ◌||◌, not, sym, ap, get_or, true, false, refl}
-use Rattle.std.proofs.lemmas.Bool.{ne_eqb}
+use Rattle.std.proofs.Common.{◌≡◌, ◌==◌, ◌||◌, get_or, true, false, refl}
 use Rattle.rustc_lexer.specs.Characters.{hash, double_quote}
-use Rattle.rustc_lexer.specs.Lexeme.{lexeme_in, opens_raw}
+use Rattle.rustc_lexer.specs.Lexeme.{lexeme_in}
 use Rattle.rustc_lexer.proofs.Reading.{reads-first, reads-next, reads-two, reads-give}
 use Rattle.rustc_lexer.proofs.Cases.{guard-case, hash-case}
 use Rattle.rustc_lexer.proofs.cursor.Cursor.hash.Goals as goal

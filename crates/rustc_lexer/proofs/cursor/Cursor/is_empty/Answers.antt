@@ -1,4 +1,4 @@
-use Rattle.std.proofs.Common.{◌≡◌, ◌∙◌, ℕ, List, [], ◌∷◌, sym, ap, length, chars, true, eqb-true, eq-eqb}
+use Rattle.std.proofs.Common.{◌≡◌, ◌∙◌, ℕ, List, [], ◌∷◌, sym, ap, length, chars, eqb-true, eq-eqb}
 use Rattle.std.proofs.lemmas.Str.{chars-nil}
 use Rattle.rustc_lexer.specs.Characters.{size}
 use Rattle.rustc_lexer.proofs.Sizes.{size-chars}

@@ -1,9 +1,8 @@
-use Rattle.std.proofs.Common.{◌≡◌, ◌∙◌, ◌==◌, ◌&&◌, ◌||◌, not, sym, ap, get_or, true, false, refl}
-use Rattle.std.proofs.lemmas.Bool.{ne_eqb}
+use Rattle.std.proofs.Common.{◌≡◌, ◌∙◌, ◌==◌, ◌&&◌, ap, get_or, true, false}
 use Rattle.rustc_lexer.specs.Characters.{letter_r, hash, is_id_start}
 use Rattle.rustc_lexer.specs.Lexeme.{lexeme_in, opens_raw}
 use Rattle.rustc_lexer.proofs.Reading.{reads-first}
-use Rattle.rustc_lexer.proofs.Cases.{raw_name-case, raw_str-case, r-case}
+use Rattle.rustc_lexer.proofs.Cases.{raw_name-case, raw_str-case, r-case, r_starts}
 use Rattle.rustc_lexer.proofs.cursor.Cursor.letter_r.Goals as goal
 
 pub returns-then-begins_raw_name : goal.returns-then-begins_raw_name
@@ -25,3 +24,6 @@ returns c =
     let other : (get_or c.args.self.now 1 0 == hash && is_id_start (get_or c.args.self.now 2 0)) ≡ false = cc in
     let name : opens_raw (get_or c.args.self.now 1 0) ≡ false = cc in
     reads-first letter_r c.requires (r-case _ _ other name) c.identifier.ensures
+
+pub identifier-requires : goal.identifier-requires
+identifier-requires c = ap is_id_start c.requires ∙ r_starts

@@ -1,61 +1,40 @@
-use Rattle.std.proofs.Common.{◌≡◌, ◌∙◌, ◌==◌, sym, ap, get_or, true, false}
-use Rattle.std.proofs.lemmas.Bool.{ne_eqb}
-use Rattle.rustc_lexer.specs.Characters.{slash, letter_r, letter_b, letter_c, tick, double_quote, hash, is_whitespace, is_id_start, is_digit}
-use Rattle.rustc_lexer.specs.Lexeme.{lexeme_in}
-use Rattle.rustc_lexer.proofs.Reading.{reads-lexeme, reads-first}
-use Rattle.rustc_lexer.proofs.Cases.{Plain, blank-case, name-case, number-case, str-case, single-case}
+use Rattle.std.proofs.Common.{◌∙◌, sym, ap, get_or, subst}
+use Rattle.rustc_lexer.specs.Characters.{is_id_start, is_whitespace}
+use Rattle.rustc_lexer.specs.Lexeme.{lexeme_in, sign}
+use Rattle.rustc_lexer.proofs.Plain.{PlainName, PlainSign, plain-name, plain-sign}
+use Rattle.rustc_lexer.proofs.Reading.{reads-lexeme, reads-next, reads-look, reads-skip, reads-give}
+use Rattle.rustc_lexer.proofs.Cases.{blank-case, name-case, single-case}
 use Rattle.rustc_lexer.proofs.cursor.Cursor.lexeme.Goals as goal
+
+pub identifier-requires : goal.identifier-requires
+identifier-requires c = ap is_id_start (sym c.first-first.ensures) ∙ (plain-name c.first-first.result (sym c.begins_plain_name.ensures ∙ c.if-begins_plain_name.true)).starts
+
+pub returns-then-begins_plain_name : goal.returns-then-begins_plain_name
+unfolding lexeme_in
+returns-then-begins_plain_name c =
+    let name : PlainName (get_or c.args.self.now 0 0) = subst PlainName c.first-first.ensures (plain-name c.first-first.result (sym c.begins_plain_name.ensures ∙ c.if-begins_plain_name.true)) in
+    reads-lexeme (name-case _ _ _ name.plain name.starts) c.identifier.ensures
+
+pub bump_ascii-requires-clause-some : goal.bump_ascii-requires-clause-some
+bump_ascii-requires-clause-some c =
+    let here : PlainSign (get_or c.args.self.now 0 0) = subst PlainSign c.first-first.ensures (plain-sign c.first-first.result (sym c.is_plain_sign.ensures ∙ c.if-is_plain_sign.true)) in
+    here.some
+
+pub bump_ascii-requires-clause-ascii : goal.bump_ascii-requires-clause-ascii
+bump_ascii-requires-clause-ascii c =
+    let here : PlainSign (get_or c.args.self.now 0 0) = subst PlainSign c.first-first.ensures (plain-sign c.first-first.result (sym c.is_plain_sign.ensures ∙ c.if-is_plain_sign.true)) in
+    here.ascii
+
+pub returns-then-is_plain_sign : goal.returns-then-is_plain_sign
+unfolding lexeme_in
+returns-then-is_plain_sign c =
+    let here : PlainSign (get_or c.args.self.now 0 0) = subst PlainSign c.first-first.ensures (plain-sign c.first-first.result (sym c.is_plain_sign.ensures ∙ c.if-is_plain_sign.true)) in
+    reads-lexeme (single-case _ _ _ here.plain here.name here.digit here.ticks here.quotes here.hashes)
+    (reads-next _ (reads-look _) (reads-next _ (reads-skip 1 c.bump_ascii.ensures) (reads-give (ap sign (sym c.first-first.ensures) ∙ sym c.sign-kind.ensures))))
+
+pub whitespace-requires : goal.whitespace-requires
+whitespace-requires c = ap is_whitespace (sym c.first-first.ensures) ∙ sym c.is_whitespace.ensures ∙ c.if-is_whitespace.true
 
 pub returns-then-is_whitespace : goal.returns-then-is_whitespace
 returns-then-is_whitespace c =
     reads-lexeme (blank-case _ _ _ (ap is_whitespace (sym c.first-first.ensures) ∙ sym c.is_whitespace.ensures ∙ c.if-is_whitespace.true)) c.whitespace.ensures
-
-pub returns-then-is_id_start : goal.returns-then-is_id_start
-unfolding lexeme_in
-returns-then-is_id_start c =
-    let a : get_or c.args.self.now 0 0 ≡ c.first-first.result = sym c.first-first.ensures in
-    let plain : Plain (get_or c.args.self.now 0 0) = record {
-      white = ap is_whitespace a ∙ sym c.is_whitespace.ensures ∙ c.if-is_whitespace.false;
-      slashes = ap (λ z. z == slash) a ∙ ne_eqb _ _ c.if-first-eq47.false;
-      r = ap (λ z. z == letter_r) a ∙ ne_eqb _ _ c.if-first-eq114.false;
-      b = ap (λ z. z == letter_b) a ∙ ne_eqb _ _ c.if-first-eq98.false;
-      c = ap (λ z. z == letter_c) a ∙ ne_eqb _ _ c.if-first-eq99.false;
-    } in
-    let starts = ap is_id_start a ∙ sym c.is_id_start.ensures ∙ c.if-is_id_start.true in
-    reads-lexeme (name-case _ _ _ plain starts) c.identifier.ensures
-
-pub returns-then-is_digit : goal.returns-then-is_digit
-unfolding lexeme_in
-returns-then-is_digit c =
-    let a : get_or c.args.self.now 0 0 ≡ c.first-first.result = sym c.first-first.ensures in
-    let plain : Plain (get_or c.args.self.now 0 0) = record {
-      white = ap is_whitespace a ∙ sym c.is_whitespace.ensures ∙ c.if-is_whitespace.false;
-      slashes = ap (λ z. z == slash) a ∙ ne_eqb _ _ c.if-first-eq47.false;
-      r = ap (λ z. z == letter_r) a ∙ ne_eqb _ _ c.if-first-eq114.false;
-      b = ap (λ z. z == letter_b) a ∙ ne_eqb _ _ c.if-first-eq98.false;
-      c = ap (λ z. z == letter_c) a ∙ ne_eqb _ _ c.if-first-eq99.false;
-    } in
-    let other = ap is_id_start a ∙ sym c.is_id_start.ensures ∙ c.if-is_id_start.false in
-    let digit = ap is_digit a ∙ sym c.is_digit.ensures ∙ c.if-is_digit.true in
-    reads-lexeme (number-case _ _ _ plain other digit) c.number_literal.ensures
-
-pub returns-then-first-eq34 : goal.returns-then-first-eq34
-unfolding lexeme_in
-returns-then-first-eq34 c = reads-first double_quote (sym c.first-first.ensures ∙ c.if-first-eq34.true) (str-case _ _) c.str_literal.ensures
-
-pub returns : goal.returns
-returns c =
-    let a : get_or c.args.self.now 0 0 ≡ c.first-first.result = sym c.first-first.ensures in
-    let plain : Plain (get_or c.args.self.now 0 0) = record {
-      white = ap is_whitespace a ∙ sym c.is_whitespace.ensures ∙ c.if-is_whitespace.false;
-      slashes = ap (λ z. z == slash) a ∙ ne_eqb _ _ c.if-first-eq47.false;
-      r = ap (λ z. z == letter_r) a ∙ ne_eqb _ _ c.if-first-eq114.false;
-      b = ap (λ z. z == letter_b) a ∙ ne_eqb _ _ c.if-first-eq98.false;
-      c = ap (λ z. z == letter_c) a ∙ ne_eqb _ _ c.if-first-eq99.false;
-    } in
-    let other = ap is_id_start a ∙ sym c.is_id_start.ensures ∙ c.if-is_id_start.false in
-    let none = ap is_digit a ∙ sym c.is_digit.ensures ∙ c.if-is_digit.false in
-    let t = ap (λ z. z == tick) a ∙ ne_eqb _ _ c.if-first-eq39.false in
-    let q = ap (λ z. z == double_quote) a ∙ ne_eqb _ _ c.if-first-eq34.false in
-    let h = ap (λ z. z == hash) a ∙ ne_eqb _ _ c.if-first-eq35.false in
-    reads-lexeme (single-case _ _ _ plain other none t q h) c.single.ensures

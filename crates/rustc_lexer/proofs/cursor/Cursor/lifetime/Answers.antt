@@ -1,4 +1,4 @@
-use Rattle.std.proofs.Common.{◌≡◌, ◌≤◌, ◌-◌, ◌∙◌, ◌==◌, ◌&&◌, ℕ, not, sym, ap, get_or, take, true, false, refl, arith, if◌then◌else◌}
+use Rattle.std.proofs.Common.{◌≡◌, ◌-◌, ◌∙◌, ◌==◌, ◌&&◌, ℕ, not, sym, ap, get_or, take, true, false, refl, arith, if◌then◌else◌}
 use Rattle.std.proofs.lemmas.Bool.{ne_eqb}
 use Rattle.rustc_lexer.specs.Characters.{tick, hash, is_digit, size}
 use Rattle.rustc_lexer.specs.Scan.{skip, begin, ◌▸◌}

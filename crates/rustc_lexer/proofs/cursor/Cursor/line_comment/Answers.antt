@@ -1,4 +1,4 @@
-use Rattle.std.proofs.Common.{◌≡◌, ◌∙◌, ◌==◌, not, ℕ, List, Option, sym, ap, drop, take}
+use Rattle.std.proofs.Common.{◌≡◌, ◌∙◌, ◌==◌, not, Option, sym, ap, drop, take}
 use Rattle.rustc_lexer.specs.Characters.{line_feed}
 use Rattle.rustc_lexer.specs.Scan.{skip, run, ◌▸◌}
 use Rattle.rustc_lexer.specs.Reads.{Reads}

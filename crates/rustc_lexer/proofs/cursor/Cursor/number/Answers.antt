@@ -1,4 +1,4 @@
-use Rattle.std.proofs.Common.{◌≡◌, get_or, true, false, refl, Some, None}
+use Rattle.std.proofs.Common.{◌≡◌, get_or, refl, Some, None}
 use Rattle.rustc_lexer.specs.Lexeme.{number, base_of, based}
 use Rattle.rustc_lexer.proofs.Reading.{reads-next, reads-skip, reads-two, reads-look, reads-give, reads-then, reads-else, reads-along}
 use Rattle.rustc_lexer.proofs.cursor.Cursor.number.Goals as goal

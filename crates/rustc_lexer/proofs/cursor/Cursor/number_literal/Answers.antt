@@ -1,4 +1,4 @@
-use Rattle.std.proofs.Common.{◌≤◌, arith}
+use Rattle.std.proofs.Common.{arith}
 use Rattle.rustc_lexer.proofs.Reading.{reads-literal, reads-shorter}
 use Rattle.rustc_lexer.proofs.cursor.Cursor.number_literal.Goals as goal
 

@@ -1,4 +1,4 @@
-use Rattle.std.proofs.Common.{◌≡◌, ◌≤◌, Bool, ap, refl, sym, arith}
+use Rattle.std.proofs.Common.{Bool, ap, sym, arith}
 use Rattle.rustc_lexer.specs.declared.literals.Body.{Body}
 use Rattle.rustc_lexer.specs.declared.token.LiteralKind.TheVariants.{RawByteStr}
 use Rattle.rustc_lexer.specs.Lexeme.{raw_string}

@@ -1,4 +1,4 @@
-use Rattle.std.proofs.Common.{◌≡◌, ◌∙◌, ap}
+use Rattle.std.proofs.Common.{◌∙◌, ap}
 use Rattle.rustc_lexer.specs.Characters.{size}
 use Rattle.rustc_lexer.proofs.Sizes.{size-chars}
 use Rattle.rustc_lexer.proofs.cursor.Cursor.remaining.Goals as goal

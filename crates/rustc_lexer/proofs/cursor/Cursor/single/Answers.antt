@@ -1,4 +1,4 @@
-use Rattle.std.proofs.Common.{◌≡◌, ◌∙◌, sym, ap}
+use Rattle.std.proofs.Common.{◌∙◌, sym, ap}
 use Rattle.rustc_lexer.specs.Lexeme.{lexeme_in, sign}
 use Rattle.rustc_lexer.proofs.Reading.{reads-next, reads-skip, reads-look, reads-give}
 use Rattle.rustc_lexer.proofs.cursor.Cursor.single.Goals as goal

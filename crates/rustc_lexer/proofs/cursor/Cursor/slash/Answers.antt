@@ -1,4 +1,4 @@
-use Rattle.std.proofs.Common.{◌≡◌, ◌∙◌, ◌==◌, ◌&&◌, ◌||◌, not, sym, ap, get_or, true, false, refl}
+use Rattle.std.proofs.Common.{◌∙◌, ◌==◌, sym, ap}
 use Rattle.std.proofs.lemmas.Bool.{ne_eqb}
 use Rattle.rustc_lexer.specs.Characters.{slash, star}
 use Rattle.rustc_lexer.specs.Lexeme.{lexeme_in}

@@ -1,5 +1,4 @@
-use Rattle.std.proofs.Common.{◌≡◌, ◌∙◌, ◌==◌, ◌&&◌, ◌||◌, not, sym, ap, get_or, true, false, refl}
-use Rattle.std.proofs.lemmas.Bool.{ne_eqb}
+use Rattle.std.proofs.Common.{◌≡◌, ◌==◌, ◌&&◌, ◌||◌, not, get_or, true, false}
 use Rattle.rustc_lexer.specs.Characters.{tick, is_id_start, is_digit}
 use Rattle.rustc_lexer.specs.Lexeme.{lexeme_in}
 use Rattle.rustc_lexer.proofs.Reading.{reads-first}

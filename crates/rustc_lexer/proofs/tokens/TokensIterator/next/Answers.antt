@@ -1,5 +1,5 @@
-use Rattle.std.proofs.Common.{◌≡◌, ◌<◌, ◌+◌, ◌∙◌, [], ◌∷◌, sym, ap, drop, length, arith, rules}
-use Rattle.rustc_lexer.specs.Tokens.{next_lexeme, token, token_list}
+use Rattle.std.proofs.Common.{◌∙◌, ◌∷◌, sym, ap, drop, length, arith}
+use Rattle.rustc_lexer.specs.Tokens.{next_lexeme, token_list}
 use Rattle.rustc_lexer.proofs.Alike.{some_left, none_left}
 use Rattle.rustc_lexer.proofs.Cutting.{list-cons, list-nil}
 use Rattle.rustc_lexer.proofs.tokens.TokensIterator.next.Goals as goal
