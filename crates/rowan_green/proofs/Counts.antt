@@ -1,5 +1,5 @@
 -- Lemmas on the counts of elements, and on lists of different lengths.
-use Rattle.std.proofs.Common.{◌≡◌, ◌≢◌, ℕ, zero, suc, ◌≤◌, ◌<◌, false, ◌&&◌, List, [], ◌∷◌, length, refl, arith, ap, sym, ◌∙◌, get_or}
+use Rattle.std.proofs.Common.{◌≡◌, ◌≢◌, ℕ, zero, suc, ◌≤◌, ◌<◌, false, List, [], ◌∷◌, length, refl, arith, ap, sym, ◌∙◌, get_or}
 use Rattle.std.proofs.lemmas.Bool.{and_right}
 use Rattle.rowan_green.specs.Forest.{Tree, tree_count, forest_count, same_forest}
 use Rattle.rowan_green.specs.Term.{Term, forest_of, forest_of-terms, term_count, children_of}

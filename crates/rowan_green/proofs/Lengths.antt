@@ -1,5 +1,5 @@
 -- Lemmas on the lengths of terms.
-use Rattle.std.proofs.Common.{◌≡◌, ℕ, ◌+◌, ◌≤◌, ◌<◌, List, [], ◌∷◌, length, refl, arith, length-append, ap, ◌∙◌, sym, zero, suc, add-one, append-nil, take, drop, ◌++◌, ◌^◌, length-take, length-drop, get_or, sum_by, take_all}
+use Rattle.std.proofs.Common.{◌≡◌, ℕ, ◌+◌, ◌≤◌, ◌<◌, List, [], ◌∷◌, length, refl, arith, length-append, ap, ◌∙◌, sym, zero, suc, add-one, append-nil, take, drop, ◌++◌, length-take, length-drop, get_or, sum_by, take_all}
 use Rattle.std.proofs.lemmas.List.{take_more}
 use Rattle.std.proofs.lemmas.List.Sums.{sum_by-cons, sum_by_more_le}
 use Rattle.rowan_green.specs.Forest.{Tree, forest_text, tree_text}

@@ -1,10 +1,10 @@
 -- What a builder keeps, and its word.
-use Rattle.std.proofs.Common.{◌≡◌, ℕ, ◌+◌, ◌≤◌, List, [], ◌∷◌, ◌++◌, length, length-take, reverse, zero, ◌-◌, take, drop, refl, ap, sym, ◌∙◌, arith, append_assoc, length-append, subst, Result, Ok, Err, OnOk, OnErr}
+use Rattle.std.proofs.Common.{◌≡◌, ℕ, ◌+◌, ◌≤◌, List, [], ◌∷◌, ◌++◌, length, length-take, reverse, ◌-◌, take, drop, refl, ap, sym, ◌∙◌, arith, append_assoc, length-append, subst, Result, Ok, Err, OnOk, OnErr}
 use Rattle.std.proofs.lemmas.List.{take-append-drop, take-append-le, drop-append-le, reverse-append, length-reverse, drop-drop}
 use Rattle.rowan_green.specs.Leaf.{Leaf}
 use Rattle.rowan_green.specs.Forest.{Tree}
 use Rattle.rowan_green.specs.Term.{Term, tree_of}
-use Rattle.rowan_green.specs.Word.{Sign, opens, token, closes, words, words-append, Partial, outside, inside, read, read_from, read_from-append, read_from-words, with_terms-outside, with_terms-inside, innermost}
+use Rattle.rowan_green.specs.Word.{opens, token, closes, words, words-append, Partial, outside, inside, read, read_from-append, read_from-words, with_terms-outside, with_terms-inside, innermost}
 use Rattle.rowan_green.specs.OpenNodes.{IsNested, word_in, numbers_of, building_of}
 use Rattle.rowan_green.specs.Building.{Building, with_sign, with_opened, with_closed, current_children, OpensAround}
 use Rattle.rowan_green.specs.declared.builder.OpenNode.{OpenNode}

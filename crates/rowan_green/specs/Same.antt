@@ -1,5 +1,5 @@
 -- The tests `same_leaf` and `same_tree` decide equality.
-use Rattle.std.specs.Prelude.{◌≡◌, ℕ, List, refl, Bool, true, false, ◌&&◌, nat_eq}
+use Rattle.std.specs.Prelude.{◌≡◌, ℕ, List, refl, true, ◌&&◌, nat_eq}
 use Rattle.std.proofs.Common.{subst, Decides}
 use Rattle.std.proofs.lemmas.Bool.{and_parts, and_from, false≢true}
 use Rattle.std.specs.Cmp.{unsigned_Decides, decided, IsEquivalence}

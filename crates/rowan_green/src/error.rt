@@ -15,6 +15,11 @@ pub enum GreenError {
 }
 
 impl fmt::Display for GreenError {
+    ghost use Rattle.std.specs.Prelude.{Some};
+    ghost use Rattle.rowan_green.specs.Refusal.{message_of};
+
+    ghost output = { λ e. Some (message_of e) };
+
     fn fmt<W: fmt::Write>(&self, f: &mut fmt::Formatter<W>) -> fmt::Result {
         match self {
             GreenError::TooLong => write!(f, "too long"),

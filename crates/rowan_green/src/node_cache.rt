@@ -1,9 +1,9 @@
 //! A cache of tokens and of small nodes, so that equal ones are shared.
 //!
-//! A cache changes no tree: what it gives was compared with what was asked for. A slot is
-//! taken over by the token or node that was made last, and want of memory for the slots only means
-//! that less is shared.
-ghost use Rattle.std.specs.Prelude.{◌≡◌, ◌<◌, IfOk, IfErr, IfSome, OnOk, OnSome};
+//! A cache changes no tree: what it gives was compared with what was asked for. A slot is taken
+//! over by the token or node that was made last, and want of memory for the slots only means that
+//! less is shared.
+ghost use Rattle.std.specs.Prelude.{◌≡◌, IfOk, IfErr, IfSome, OnOk, OnSome};
 ghost use Rattle.rowan_green.specs.Term.{tree_of, FitsToken, FitsNode};
 ghost use Rattle.rowan_green.specs.Refusal.{RefusesUnless};
 
@@ -15,14 +15,71 @@ use crate::syntax_kind::SyntaxKind;
 use crate::token::GreenToken;
 use std::alloc::{AllocError, Global};
 
-const SLOTS: usize = 4096;
+/// How many slots there are at first, and at most.
+const FEWEST_SLOTS: usize = 64;
+
+const MOST_SLOTS: usize = 4096;
+
+/// Slots by fingerprint, a power of two of them, or none before the first value is kept.
+#[derive(Drop)]
+struct Slots<T> {
+    slots: Vec<Option<T>>,
+    /// How many values were kept since the slots were made.
+    kept: usize,
+}
+
+impl<T: Drop> Slots<T> {
+    fn new(alloc: Global) -> Slots<T> {
+        Slots {
+            slots: Vec::new(alloc),
+            kept: 0,
+        }
+    }
+
+    fn index_of(&self, fingerprint: u64) -> usize {
+        (fingerprint >> 32) as usize & self.slots.len().wrapping_sub(1)
+    }
+
+    fn get(&self, fingerprint: u64) -> Option<&T> {
+        self.slots.get(self.index_of(fingerprint))?.as_ref()
+    }
+
+    /// Puts the value into its slot. Where memory for the slots is refused, it is let go.
+    fn keep(&mut self, alloc: Global, fingerprint: u64, value: T) {
+        let count = self.slots.len();
+        if self.kept >= count && count < MOST_SLOTS {
+            let _ = self.restart(alloc);
+        }
+        let index = self.index_of(fingerprint);
+        if index < self.slots.len() {
+            self.slots[index] = Some(value);
+            self.kept = self.kept.saturating_add(1);
+        }
+    }
+
+    /// Begins anew with four times as many slots, which are empty.
+    fn restart(&mut self, alloc: Global) -> Result<(), AllocError> {
+        let count = self
+            .slots
+            .len()
+            .saturating_mul(4)
+            .clamp(FEWEST_SLOTS, MOST_SLOTS);
+        let mut slots = Vec::with_capacity(alloc, count)?;
+        for _ in 0..count {
+            slots.push(None)?;
+        }
+        self.slots = slots;
+        self.kept = 0;
+        Ok(())
+    }
+}
 
 /// A cache that several builders may use, one after another.
 #[derive(Drop)]
 pub struct NodeCache {
     alloc: Global,
-    tokens: Vec<Option<GreenToken>>,
-    nodes: Vec<Option<GreenNode>>,
+    tokens: Slots<GreenToken>,
+    nodes: Slots<GreenNode>,
 }
 
 impl NodeCache {
@@ -30,8 +87,8 @@ impl NodeCache {
     pub fn new(alloc: Global) -> NodeCache {
         NodeCache {
             alloc,
-            tokens: Vec::new(alloc),
-            nodes: Vec::new(alloc),
+            tokens: Slots::new(alloc),
+            nodes: Slots::new(alloc),
         }
     }
 
@@ -44,13 +101,13 @@ impl NodeCache {
         if !fingerprint::is_small_text(text) {
             return GreenToken::new(self.alloc, kind, text);
         }
-        let slot = slot_of(fingerprint::of_token(kind.0, text));
-        if let Some(found) = found_token(&self.tokens, slot, kind, text) {
+        let fingerprint = fingerprint::of_token(kind.0, text);
+        if let Some(found) = found_token(self.tokens.get(fingerprint), kind, text) {
             return Ok(found);
         }
         let token = GreenToken::new(self.alloc, kind, text)?;
         if let Ok(copy) = token.clone() {
-            keep(self.alloc, &mut self.tokens, slot, copy);
+            self.tokens.keep(self.alloc, fingerprint, copy);
         }
         Ok(token)
     }
@@ -61,8 +118,8 @@ impl NodeCache {
         ensures fits { OnSome result (FitsNode children.now) }
     {
         fingerprint::small_size(children)?;
-        let slot = slot_of(fingerprint::of_node(kind.0, children));
-        found_node(&self.nodes, slot, kind, children)
+        let fingerprint = fingerprint::of_node(kind.0, children);
+        found_node(self.nodes.get(fingerprint), kind, children)
     }
 
     /// Keeps a clone of the node, if it is small.
@@ -71,71 +128,35 @@ impl NodeCache {
             return;
         }
         if let Ok(copy) = node.clone() {
-            keep(
-                self.alloc,
-                &mut self.nodes,
-                slot_of(node.fingerprint()),
-                copy,
-            );
+            self.nodes.keep(self.alloc, node.fingerprint(), copy);
         }
     }
 }
 
-fn slot_of(fingerprint: u64) -> usize
-    ensures { result < SLOTS }
-{
-    (fingerprint >> 32) as usize % SLOTS
-}
-
-fn found_token(
-    tokens: &[Option<GreenToken>],
-    slot: usize,
-    kind: SyntaxKind,
-    text: &str,
-) -> Option<GreenToken>
+/// The token found, if it is the one that is asked for.
+fn found_token(found: Option<&GreenToken>, kind: SyntaxKind, text: &str) -> Option<GreenToken>
     ensures found { IfSome result (λ t. t ≡ record { kind = kind.0; text = text.now }) }
     ensures fits { OnSome result (FitsToken text.now) }
 {
-    let found = tokens.get(slot)?.as_ref()?;
+    let found = found?;
     if found.kind().0 != kind.0 || found.text() != text {
         return None;
     }
     found.clone().ok()
 }
 
+/// The node found, if it is the one that is asked for.
 fn found_node(
-    nodes: &[Option<GreenNode>],
-    slot: usize,
+    found: Option<&GreenNode>,
     kind: SyntaxKind,
     children: &[GreenElement],
 ) -> Option<GreenNode>
     ensures found { IfSome result (λ n. n ≡ tree_of kind.0 children.now) }
     ensures fits { OnSome result (FitsNode children.now) }
 {
-    let found = nodes.get(slot)?.as_ref()?;
+    let found = found?;
     if found.kind().0 != kind.0 || !same_elements(found.elements(), children) {
         return None;
     }
     found.clone().ok()
-}
-
-/// Puts the value into its slot. Where memory for the slots is refused, it is let go.
-fn keep<T: Drop>(alloc: Global, slots: &mut Vec<Option<T>>, slot: usize, value: T) {
-    if slots.is_empty() {
-        let Ok(empty) = empty_slots(alloc) else {
-            return;
-        };
-        *slots = empty;
-    }
-    if slot < slots.len() {
-        slots[slot] = Some(value);
-    }
-}
-
-fn empty_slots<T: Drop>(alloc: Global) -> Result<Vec<Option<T>>, AllocError> {
-    let mut slots = Vec::with_capacity(alloc, SLOTS)?;
-    for _ in 0..SLOTS {
-        slots.push(None)?;
-    }
-    Ok(slots)
 }

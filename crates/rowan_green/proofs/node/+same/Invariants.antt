@@ -1,5 +1,5 @@
 use Rattle.std.proofs.Common.{◌≡◌, ◌+◌, ◌*◌, drop}
-use Rattle.rowan_green.specs.Forest.{Forest, tree_count, forest_count, same_forest}
+use Rattle.rowan_green.specs.Forest.{tree_count, forest_count, same_forest}
 use Rattle.rowan_green.specs.Term.{forest_of, term_count}
 use Rattle.rowan_green.proofs.node.+same.Given as goal
 

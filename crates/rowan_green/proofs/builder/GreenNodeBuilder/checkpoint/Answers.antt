@@ -1,4 +1,4 @@
-use Rattle.std.proofs.Common.{◌≡◌, ap, arith, length, length-drop, ◌∙◌, drop, sym, reverse}
+use Rattle.std.proofs.Common.{ap, arith, length, length-drop, ◌∙◌, drop, sym, reverse}
 use Rattle.rowan_green.proofs.OpenNodeLemmas.{base_of, current_built, innermost_is}
 use Rattle.rowan_green.proofs.builder.GreenNodeBuilder.checkpoint.Goals as goal
 

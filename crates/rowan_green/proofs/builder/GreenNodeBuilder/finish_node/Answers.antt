@@ -3,7 +3,7 @@ use Rattle.rowan_green.specs.declared.error.GreenError.TheVariants.{TooLong}
 use Rattle.rowan_green.specs.Term.{FitsNode}
 use Rattle.rowan_green.proofs.Refusals.{not_fitting}
 use Rattle.rowan_green.specs.Building.{current_children}
-use Rattle.rowan_green.specs.OpenNodes.{building_of, IsNested}
+use Rattle.rowan_green.specs.OpenNodes.{IsNested}
 use Rattle.rowan_green.proofs.OpenNodeLemmas.{base_of, current_built, innermost_is, IsNested-closed, close_built}
 use Rattle.rowan_green.proofs.builder.GreenNodeBuilder.finish_node.Goals as goal
 

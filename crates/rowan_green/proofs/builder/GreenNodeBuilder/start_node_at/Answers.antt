@@ -1,5 +1,4 @@
-use Rattle.std.proofs.Common.{◌≡◌, ◌+◌, ◌-◌, ◌≤◌, ap, arith, ◌∙◌, drop, refl, reverse, vec_len, length, length-drop}
-use Rattle.rowan_green.specs.Building.{current_children}
+use Rattle.std.proofs.Common.{◌≡◌, ap, arith, refl, reverse, length, length-drop}
 use Rattle.rowan_green.proofs.OpenNodeLemmas.{base_of, current_built, nested_after, around_after, IsNested-base}
 use Rattle.rowan_green.proofs.builder.GreenNodeBuilder.start_node_at.Goals as goal
 

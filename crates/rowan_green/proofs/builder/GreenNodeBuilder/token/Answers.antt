@@ -1,4 +1,4 @@
-use Rattle.std.proofs.Common.{◌∙◌, ap, arith, length, length-append, ◌+◌, ◌≡◌, ◌∷◌, []}
+use Rattle.std.proofs.Common.{◌∙◌, ap, arith, length-append}
 use Rattle.rowan_green.specs.Word.{token}
 use Rattle.rowan_green.specs.Building.{with_sign}
 use Rattle.rowan_green.specs.OpenNodes.{building_of}

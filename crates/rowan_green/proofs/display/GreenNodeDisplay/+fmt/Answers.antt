@@ -1,8 +1,6 @@
-use Rattle.std.proofs.Common.{arith, rules, ap, sym, ◌∙◌, take, length, ◌++◌, ◌≡◌, ◌+◌}
+use Rattle.std.proofs.Common.{arith, rules, ap, sym}
 use Rattle.std.proofs.Output.{has_written_append, has_written_of_eq}
-use Rattle.std.specs.Fmt.{HasWritten}
-use Rattle.rowan_green.specs.Forest.{tree_text}
-use Rattle.rowan_green.specs.Term.{texts_of, text_of, children_of, forest_of-terms}
+use Rattle.rowan_green.specs.Term.{text_of}
 use Rattle.rowan_green.proofs.Counts.{child_falls}
 use Rattle.rowan_green.proofs.Lengths.{texts_more, texts_all}
 use Rattle.rowan_green.proofs.display.GreenNodeDisplay.+fmt.Goals as goal
