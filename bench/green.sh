@@ -1,7 +1,8 @@
 #!/bin/sh
 # Runs `green_speed` and the same program in Rust, three times each: times in microseconds and
-# peak memory in kilobytes, on standard error. To be called in this folder.
+# peak memory in kilobytes, on standard error.
 set -e
+cd "$(dirname "$0")"
 out=$(mktemp -d)
 rustc --edition 2024 -C opt-level=3 -o "$out/green_tree" green_tree.rs
 (cd ../crates/green_speed && rt run >"$out/count" 2>/dev/null)
