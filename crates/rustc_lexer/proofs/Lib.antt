@@ -21,3 +21,6 @@ pub mod Plain
 pub mod Cases
 pub mod Identifiers
 pub mod Lines
+pub mod StringEnds
+pub mod RawEnds
+pub mod CommentEnds

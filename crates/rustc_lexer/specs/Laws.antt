@@ -1,7 +1,10 @@
 -- What holds of the lexemes of every text.
-use Rattle.std.specs.Prelude.{◌≡◌, ℕ, ◌+◌, ◌≤◌, true, List, ◌∷◌, length, take, drop}
+use Rattle.std.specs.Prelude.{◌≡◌, ℕ, suc, ◌+◌, ◌<◌, ◌≤◌, true, false, List, ◌∷◌, length, take, drop}
+use Rattle.std.specs.Bool.{MatchBool}
 use Rattle.std.specs.List.{All, sum_by}
 use Rattle.rustc_lexer.specs.Characters.{is_ident, size}
+use Rattle.rustc_lexer.specs.Scan.{block, quoted, raw}
+use Rattle.rustc_lexer.specs.Endings.{ClosesAt, ClosesRawAt, Nested}
 use Rattle.rustc_lexer.specs.Lexeme.{lexeme}
 use Rattle.rustc_lexer.specs.Tokens.{first_lexeme, tokens, joined, token_list}
 use Rattle.rustc_lexer.specs.declared.token.TokenKind.TheVariants.{Ident}
@@ -44,3 +47,18 @@ LengthsSum = (text : List ℕ) → sum_by (λ t. t.len) (token_list text) ≡ si
 -- the characters of an identifier are one
 abbrev pub IdentsAreIdents : Type 0
 IdentsAreIdents = (text : List ℕ) → All (λ l. l.kind ≡ Ident → is_ident l.text ≡ true) (tokens text)
+
+-- a string closes at the first place where it may, and is taken with it; where there is none it takes all and is open
+abbrev pub StringsClose : Type 0
+StringsClose =
+    (text : List ℕ) → MatchBool (quoted false text).value ((k : ℕ) × ((quoted false text).taken ≡ suc k) × ClosesAt text k × ((j : ℕ) → j < k → ClosesAt text j → ⊥)) (((quoted false text).taken ≡ length text) × ((j : ℕ) → ClosesAt text j → ⊥))
+
+-- so does a raw string, with its hashes
+abbrev pub RawStringsClose : Type 0
+RawStringsClose =
+    (n : ℕ) (text : List ℕ) → MatchBool (raw n text).value ((k : ℕ) × ((raw n text).taken ≡ suc k + n) × ClosesRawAt n text k × ((j : ℕ) → j < k → ClosesRawAt n text j → ⊥)) (((raw n text).taken ≡ length text) × ((j : ℕ) → ClosesRawAt n text j → ⊥))
+
+-- a block comment is closed just where its inside nests, and ends there
+abbrev pub CommentsNest : Type 0
+CommentsNest =
+    (text : List ℕ) → ((block 0 text).value ≡ true → Nested text (drop (block 0 text).taken text)) × ((rest : List ℕ) → Nested text rest → ((block 0 text).value ≡ true) × (rest ≡ drop (block 0 text).taken text))

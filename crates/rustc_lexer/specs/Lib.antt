@@ -5,5 +5,6 @@ pub mod Lexeme
 pub mod Plain
 pub mod Tokens
 pub mod Shebang
+pub mod Endings
 pub mod Reads
 pub mod Laws

@@ -1,6 +1,6 @@
 //! Laws of the definitions, each the contract of a function that makes no call.
 
-ghost use Rattle.rustc_lexer.specs.Laws.{LexemeIsLocal, FrontIsKept, TokensGoOn, BoundariesCut, TokensJoin, EachTakesOne, EachHasLength, LengthsSum, IdentsAreIdents};
+ghost use Rattle.rustc_lexer.specs.Laws.{LexemeIsLocal, FrontIsKept, TokensGoOn, BoundariesCut, TokensJoin, EachTakesOne, EachHasLength, LengthsSum, IdentsAreIdents, StringsClose, RawStringsClose, CommentsNest};
 
 /// What is lexed at a place depends on nothing past two characters behind the token's end.
 pub fn lexeme_is_local()
@@ -37,4 +37,16 @@ pub fn lengths_sum()
 /// The text of a token of kind `Ident` satisfies `is_ident`.
 pub fn idents_are_idents()
     ensures { IdentsAreIdents }
+{}
+
+/// A string closes at the first quote with an even run of `\` before it inside the string, a raw string at the first with its
+/// hashes behind it; else they run to the end.
+pub fn strings_close()
+    ensures plain { StringsClose }
+    ensures raw { RawStringsClose }
+{}
+
+/// A block comment is closed just where the comments inside it nest.
+pub fn comments_nest()
+    ensures { CommentsNest }
 {}

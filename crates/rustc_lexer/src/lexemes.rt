@@ -61,6 +61,7 @@ fn is_plain_sign(c: char) -> bool
 }
 
 // The kind of a character that stands for itself.
+#[inline(always)]
 #[tactic(auto, unfolding(crate::specs::Lexeme::sign, crate::specs::Rows::first_fit))]
 fn sign(c: char) -> TokenKind
     ensures { result ≡ sign c }
@@ -107,9 +108,8 @@ impl<'a> Cursor<'a> {
             return self.identifier();
         }
         if is_plain_sign(first) {
-            let kind = sign(first);
             self.bump_ascii();
-            return kind;
+            return sign(first);
         }
         if is_whitespace(first) {
             return self.whitespace();

@@ -30,7 +30,7 @@ unfolding lexeme_in
 returns-then-is_plain_sign c =
     let here : PlainSign (get_or c.args.self.now 0 0) = subst PlainSign c.first-first.ensures (plain-sign c.first-first.result (sym c.is_plain_sign.ensures ∙ c.if-is_plain_sign.true)) in
     reads-lexeme (single-case _ _ _ here.plain here.name here.digit here.ticks here.quotes here.hashes)
-    (reads-next _ (reads-look _) (reads-next _ (reads-skip 1 c.bump_ascii.ensures) (reads-give (ap sign (sym c.first-first.ensures) ∙ sym c.sign-kind.ensures))))
+    (reads-next _ (reads-look _) (reads-next _ (reads-skip 1 c.bump_ascii.ensures) (reads-give (ap sign (sym c.first-first.ensures) ∙ sym c.sign.ensures))))
 
 pub whitespace-requires : goal.whitespace-requires
 whitespace-requires c = ap is_whitespace (sym c.first-first.ensures) ∙ sym c.is_whitespace.ensures ∙ c.if-is_whitespace.true

@@ -1,0 +1,32 @@
+-- Where strings and comments end, in words of their own.
+use Rattle.std.specs.Prelude.{◌≡◌, ℕ, zero, suc, ◌<◌, Bool, true, not, ◌==◌, List, ◌∷◌, length, drop, get_or, if◌then◌else◌}
+use Rattle.rustc_lexer.specs.Characters.{double_quote, backslash, star, slash}
+use Rattle.rustc_lexer.specs.Scan.{peek, hashes_follow, mark, Neither}
+
+-- the number of `\` directly before a place
+abbrev pub backslashes_before : ℕ → List ℕ → ℕ
+backslashes_before zero text = 0
+backslashes_before (suc n) text = if get_or text n 0 == backslash then suc (backslashes_before n text) else 0
+
+abbrev pub is_even : ℕ → Bool
+is_even zero = true
+is_even (suc n) = not (is_even n)
+
+-- at place k of a string's inside stands a quote with an even run of `\` before it
+pub record ClosesAt (text : List ℕ) (k : ℕ) : Type 0 where
+  pub inside : k < length text
+  pub quote : get_or text k 0 ≡ double_quote
+  pub even : is_even (backslashes_before k text) ≡ true
+
+-- at place k of a raw string's inside stands a quote with so many hashes behind it
+pub record ClosesRawAt (hashes : ℕ) (text : List ℕ) (k : ℕ) : Type 0 where
+  pub inside : k < length text
+  pub quote : get_or text k 0 ≡ double_quote
+  pub follow : hashes_follow hashes (drop (suc k) text) ≡ true
+
+-- the inside of a block comment from `text` on, with the `*/` that closes it, leaves `rest`: it is made of whole comments and of
+-- characters that begin no `/*` and no `*/`
+pub data Nested : List ℕ → List ℕ → Type 0 where
+  closes : {cs : List ℕ} → Nested (star ∷ slash ∷ cs) cs
+  inner : {cs mid rest : List ℕ} → Nested cs mid → Nested mid rest → Nested (slash ∷ star ∷ cs) rest
+  other : {c : ℕ} {cs rest : List ℕ} → mark c (peek 0 cs) ≡ Neither → Nested cs rest → Nested (c ∷ cs) rest
