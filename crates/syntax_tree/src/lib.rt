@@ -1,4 +1,11 @@
 //! Trees with numbers, and the elements in them.
+//!
+//! A contract sees an element by the path that leads to it: the numbers of the children to go into,
+//! from the root on.
 #![tactic(auto)]
 
-mod stub;
+pub mod error;
+pub mod tree_ids;
+
+pub use error::{Spent, TreeError};
+pub use tree_ids::TreeIds;

@@ -1,2 +1,0 @@
-//! Holds the place.
-pub fn stub() {}
