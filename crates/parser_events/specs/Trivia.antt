@@ -1,7 +1,6 @@
 -- White space and comments before a node: which of them stand inside it.
-use Rattle.std.specs.Prelude.{ℕ, suc, ◌+◌, ◌==◌, Bool, true, false, not, ◌&&◌, ◌||◌, List, [], ◌∷◌, reverse, take, take_while, get_or, if◌then◌else◌}
+use Rattle.std.specs.Prelude.{ℕ, suc, ◌==◌, Bool, true, false, not, ◌&&◌, ◌||◌, List, [], ◌∷◌, reverse, take_while, get_or, if◌then◌else◌}
 use Rattle.std.specs.List.{list_any}
-use Rattle.std.specs.Cmp.Lexicographic.{pointwise}
 use Rattle.parser_input.specs.Kinds.{COMMENT, CONST, ENUM, FN, IMPL, MACRO_CALL, MODULE, RECORD_FIELD, STATIC, STRUCT, TRAIT, TUPLE_FIELD, TYPE_ALIAS, USE, VARIANT}
 use Rattle.parser_input.specs.Leaf.{Leaf, is_trivia}
 

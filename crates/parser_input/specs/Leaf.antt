@@ -1,6 +1,6 @@
 -- The leaves of a text: its lexemes, with the kinds that parser and tree know them by.
-use Rattle.std.specs.Prelude.{ℕ, ◌==◌, nat_eq, Bool, ◌||◌, List, [], ◌∷◌, map, Option, unwrap_or, if◌then◌else◌}
-use Rattle.std.specs.Cmp.Lexicographic.{pointwise}
+use Rattle.std.specs.Prelude.{ℕ, Bool, List, map, unwrap_or, codes, if◌then◌else◌}
+use Rattle.std.specs.Str.{bytes_eq}
 use Rattle.rustc_lexer.specs.Tokens as lexer
 use Rattle.rustc_lexer.specs.declared.token.LiteralKind.{LiteralKind}
 use Rattle.rustc_lexer.specs.declared.token.LiteralKind.TheVariants as literals
@@ -22,7 +22,7 @@ is_trivia l = Kind.is_trivia l.kind
 
 -- the kind of a word: `_`, a keyword of the edition, or a name
 unfoldable pub word_kind : Edition → List ℕ → ℕ
-word_kind edition text = if pointwise nat_eq text (95 ∷ []) then UNDERSCORE else unwrap_or (keyword_kind edition text) IDENT
+word_kind edition text = if bytes_eq text (codes "_") then UNDERSCORE else unwrap_or (keyword_kind edition text) IDENT
 
 -- the kind of a literal; raw strings are strings
 unfoldable pub literal_kind : LiteralKind → ℕ

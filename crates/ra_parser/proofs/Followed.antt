@@ -1,10 +1,7 @@
-use Rattle.std.proofs.Common.{◌≡◌, ℕ, zero, suc, ◌<◌, ◌≤◌, Bool, true, false, List, [], ◌∷◌, length, nat_lt, nat_le, ◌&&◌, refl, ap, sym, ◌∙◌, subst, arith, ◌⊎◌, inl, inr, Option, Some, None, drop}
-use Rattle.std.proofs.lemmas.Bool.{lt-ltb, le-ltb, le-leb, cases_Bool}
-use Rattle.parser_events.specs.Forest as forest
-use Rattle.parser_events.specs.Forest.{Forest, ◌then◌, Message}
-use Rattle.parser_input.specs.Input.{Token}
-use Rattle.ra_parser.specs.Rule.{Production, Rule, Look, Nothing, One, Then, Or, Opt, Star, Node, Wrap, Want, Say, When, Unless, Call, Continue, Mode, begins, Spelling}
-use Rattle.ra_parser.specs.Meaning.{Reading, Calls, Table, read, look_of, follow, meaning, calls, sees, fresh, behind, node, wrapped, say, leaf}
+use Rattle.std.proofs.Common.{◌≡◌, ℕ, ◌<◌, ◌≤◌, Bool, length, nat_lt, refl, ◌⊎◌, inl, inr}
+use Rattle.std.proofs.lemmas.Bool.{lt-ltb, le-leb, cases_Bool}
+use Rattle.ra_parser.specs.Rule.{Production}
+use Rattle.ra_parser.specs.Meaning.{Reading, Table, follow, meaning, calls}
 
 -- a call is followed where tokens were taken, or where the rank is lower
 

@@ -1,14 +1,14 @@
 -- What the items of a source file mean, token by token.
-use Rattle.std.proofs.Common.{◌≡◌, ℕ, zero, suc, pred, ◌<◌, ◌≤◌, Bool, true, false, not, ◌==◌, List, [], ◌∷◌, length, drop, nat_lt, refl, sym, ◌∙◌, ap, subst, arith, ◌⊎◌, inl, inr, if◌then◌else◌}
+use Rattle.std.proofs.Common.{◌≡◌, ℕ, zero, suc, pred, ◌<◌, ◌≤◌, Bool, true, false, ◌==◌, List, [], ◌∷◌, length, drop, nat_lt, refl, sym, ◌∙◌, ap, subst, arith, inl, inr, if◌then◌else◌}
 use Rattle.std.proofs.lemmas.Bool.{cases_Bool, lt-ltb}
 use Rattle.std.proofs.lemmas.List.{length-drop}
-use Rattle.parser_input.specs.Kinds.{EOF, SOURCE_FILE, STRUCT, STRUCT_KW, NAME, NAME_REF, PATH, PATH_SEGMENT, ERROR, IDENT, SEMICOLON}
+use Rattle.parser_input.specs.Kinds.{SOURCE_FILE, STRUCT, STRUCT_KW, NAME, NAME_REF, PATH, PATH_SEGMENT, ERROR, IDENT, SEMICOLON}
 use Rattle.parser_input.specs.Input.{Token}
-use Rattle.parser_events.specs.Forest.{Forest, End, Leaf, Said, ErrorLeaf, Node, Float, Message, Expected, ExpectedItem, ◌then◌}
-use Rattle.ra_parser.specs.Rule.{Rule, Unless, Call, source_file, item, body, name, name_ref, path, begins, passes, is_silent, width, shift, in_mode, there_at, Look, Kind}
+use Rattle.parser_events.specs.Forest.{Forest, End, Leaf, Said, ErrorLeaf, Node, Float, Expected, ExpectedItem, ◌then◌}
+use Rattle.ra_parser.specs.Rule.{Unless, Call, source_file, item, body, name, name_ref, path, begins, passes, is_silent, there_at}
 use Rattle.ra_parser.specs.Notation.{expected, wanted, at_end}
-use Rattle.ra_parser.specs.Meaning.{Reading, meaning, look_of, begins_below, read, turns, leaf, say, skip, split, fresh, node, wrapped, behind, sees, ahead}
-use Rattle.ra_parser.specs.Grammar.{rule, rank, grammar}
+use Rattle.ra_parser.specs.Meaning.{Reading, meaning, look_of, begins_below, read, turns, leaf, say, skip, fresh, node, wrapped, behind, sees, ahead}
+use Rattle.ra_parser.specs.Grammar.{rule, grammar}
 use Rattle.ra_parser.proofs.Table.{grammar-means}
 
 -- a tree, and the number of tokens that it takes

@@ -1,14 +1,14 @@
 -- In a table that passes the test each call of a rule is followed: `meaning` has its equation without bounds.
-use Rattle.std.proofs.Common.{◌≡◌, ℕ, zero, suc, ◌<◌, ◌≤◌, ◌-◌, Bool, true, false, not, ◌&&◌, ◌||◌, List, [], ◌∷◌, length, drop, ◌==◌, nat_lt, nat_le, refl, ap, ap₂, sym, ◌∙◌, subst, arith, ◌⊎◌, inl, inr, if◌then◌else◌, true≢false}
-use Rattle.std.proofs.lemmas.Bool.{lt-ltb, le-ltb, ltb-true, ltb-false, cases_Bool, or_cases}
+use Rattle.std.proofs.Common.{◌≡◌, ℕ, zero, suc, ◌<◌, ◌≤◌, Bool, true, false, not, ◌&&◌, ◌||◌, List, [], ◌∷◌, length, drop, ◌==◌, nat_lt, refl, ap, sym, ◌∙◌, subst, arith, ◌⊎◌, inl, inr, if◌then◌else◌, true≢false}
+use Rattle.std.proofs.lemmas.Bool.{ltb-true, or_cases}
 use Rattle.std.proofs.lemmas.List.{length-drop}
 use Rattle.parser_input.specs.Kinds.{EOF}
 use Rattle.parser_events.specs.Forest.{Forest}
 use Rattle.parser_input.specs.Input.{Token}
 use Rattle.ra_parser.specs.Rule.{Production, Rule, Look, Always, Never, Kind, Contextual, Joint, Left, InCondition, Given, Both, Either, Not, Nothing, One, Any, Then, Near, Or, Opt, Star, Node, Wrap, Want, Say, Skip, Split, When, Unless, Call, Continue, Mode, begins}
-use Rattle.ra_parser.specs.Meaning.{Reading, Calls, Table, read, look_of, meaning, calls, sees, fresh, behind, node, wrapped, say, skip, split, leaf, turns, ahead}
+use Rattle.ra_parser.specs.Meaning.{Reading, Table, read, look_of, meaning, calls, sees, fresh, behind, node, wrapped, say, skip, split, leaf, turns, ahead}
 use Rattle.ra_parser.specs.Fine.{takes, ranked, fails, ranked_at_end, fine}
-use Rattle.ra_parser.proofs.Unfolds.{meaning_unfolds, IsRanked}
+use Rattle.ra_parser.proofs.Unfolds.{meaning_unfolds}
 use Rattle.ra_parser.proofs.Followed.{call_followed}
 
 and_l : (x y : Bool) → (x && y) ≡ true → x ≡ true

@@ -1,10 +1,9 @@
 -- What a production gives is what its rule gives: the bounds by which `meaning` recurs make no difference.
-use Rattle.std.proofs.Common.{◌≡◌, ℕ, zero, suc, ◌<◌, ◌≤◌, Bool, true, false, length, nat_le, nat_lt, ◌&&◌, refl, ap, sym, ◌∙◌, arith, ◌⊎◌, inl, inr}
-use Rattle.std.proofs.lemmas.Bool.{lt-ltb, le-ltb, le-leb, lt-leb, ltb-true, ltb-false, leb-true, cases_Bool, both_ways}
+use Rattle.std.proofs.Common.{◌≡◌, ℕ, zero, suc, ◌<◌, ◌≤◌, Bool, length, nat_le, nat_lt, refl, ap, ◌∙◌, arith, inl, inr}
+use Rattle.std.proofs.lemmas.Bool.{ltb-true, leb-true, cases_Bool}
 use mathlib.Core.Path.{fun_ext}
-use Rattle.parser_input.specs.Input.{Token}
-use Rattle.ra_parser.specs.Rule.{Production, Rule, Look}
-use Rattle.ra_parser.specs.Meaning.{Reading, Calls, Table, read, look_of, follow, by_rank, by_length, meaning, calls, turns}
+use Rattle.ra_parser.specs.Rule.{Production}
+use Rattle.ra_parser.specs.Meaning.{Reading, Calls, Table, read, look_of, follow, by_rank, by_length, meaning, calls}
 
 -- two ways of calling that agree
 same_calls : {f h : Calls} → ((x : Production) (c : Bool) (s : Reading) → f x c s ≡ h x c s) → f ≡ h

@@ -2,7 +2,7 @@
 use Rattle.std.specs.Prelude.{ℕ, Bool, true, false}
 use Rattle.parser_input.specs.Kinds.{SOURCE_FILE, STRUCT, NAME, NAME_REF, PATH, PATH_SEGMENT, ERROR}
 use Rattle.parser_events.specs.Forest.{ExpectedItem}
-use Rattle.ra_parser.specs.Rule.{Rule, Nothing, Skip, Say, Unless, Production, source_file, item, body, name, name_ref, path}
+use Rattle.ra_parser.specs.Rule.{Rule, Skip, Say, Unless, Production, source_file, item, body, name, name_ref, path}
 use Rattle.ra_parser.specs.Notation.{◌/◌, ◌▸◌, ◌*, ◌⟨◌⟩, ◌<⟨◌⟩, ◌!, more, at_end}
 use Rattle.ra_parser.specs.Words.{'struct', 'ident', 'semi', Item, Body, Name, Ref, Path}
 use Rattle.ra_parser.specs.Meaning.{Table}

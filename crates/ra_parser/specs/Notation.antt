@@ -1,10 +1,10 @@
 -- The writing of a grammar: `a ▸ b` is a followed by b, `a / b` the first whose looks are there, `⁅ a ⁆` an option, `a *` a
 -- repetition, `N ⟨ a ⟩` a node, `N <⟨ a ⟩` a node around all that the present production gave so far and a, `a !` a part that is
 -- expected, `more a` a production as a continuation of the present one.
-use Rattle.std.specs.Prelude.{ℕ, List, [], ◌∷◌}
+use Rattle.std.specs.Prelude.{ℕ}
 use Rattle.parser_input.specs.Kinds.{NAME, NAME_REF, PATH}
 use Rattle.parser_events.specs.Forest.{Message, Expected, ExpectedExpression, ExpectedItem}
-use Rattle.ra_parser.specs.Rule.{Production, source_file, item, body, name, name_ref, path, Look, Left, Not, Rule, One, Then, Or, Opt, Star, Node, Wrap, Want, Call, Continue, Mode}
+use Rattle.ra_parser.specs.Rule.{Production, item, name, name_ref, path, Look, Left, Not, Rule, One, Then, Or, Opt, Star, Node, Wrap, Want, Call, Continue, Mode}
 
 infixr 40 ◌/◌
 infixr 50 ◌▸◌

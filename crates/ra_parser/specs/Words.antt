@@ -1,7 +1,7 @@
 -- The spellings and the productions, as rules.
-use Rattle.std.specs.Prelude.{ℕ, List, [], ◌∷◌}
+use Rattle.std.specs.Prelude.{ℕ, [], ◌∷◌}
 use Rattle.parser_input.specs.Kinds.{STRUCT_KW, IDENT, SEMICOLON}
-use Rattle.ra_parser.specs.Rule.{Rule, One, Call, Spelling, Production, source_file, item, body, name, name_ref, path}
+use Rattle.ra_parser.specs.Rule.{Rule, One, Call, source_file, item, body, name, name_ref, path}
 
 -- a spelling of one token
 abbrev pub one : ℕ → Rule
