@@ -1,16 +1,12 @@
 -- Block comments: what the loop over them does, step by step.
-use Rattle.std.proofs.Common.{◌≡◌, ℕ, suc, ◌≤◌, Bool, true, false, not, ◌&&◌, ◌||◌, ◌==◌, List, [], ◌∷◌, length, drop, get_or, refl, sym, ◌∙◌, ap, subst, arith, inl, inr, if◌then◌else◌}
+use Rattle.std.proofs.Common.{◌≡◌, ℕ, suc, ◌≤◌, Bool, true, false, not, ◌||◌, ◌==◌, List, [], ◌∷◌, length, drop, get_or, refl, sym, ◌∙◌, ap, subst, arith, inl, inr, if◌then◌else◌}
 use Rattle.std.proofs.lemmas.Bool.Decides.{nat_tests}
 use Rattle.rustc_lexer.specs.Characters.{star, slash}
 use Rattle.rustc_lexer.specs.Scan.{Scan, run_len, mark, Opens, Closes, Neither, opens_comment, closes_comment, block}
 use Rattle.rustc_lexer.specs.Reads.{Reads}
-use Rattle.rustc_lexer.proofs.Agree.{bool_cases}
+use Rattle.rustc_lexer.proofs.Booleans.{bool_cases, and_false}
 use Rattle.rustc_lexer.proofs.Steps.{run-true, run-false, block-opens, block-ends, block-closes, block-neither}
 use Rattle.rustc_lexer.proofs.Alike.{Alike, alike-refl, alike-trans, alike-at, one_on, two_on}
-
-and_false : (b : Bool) → (b && false) ≡ false
-and_false true = refl
-and_false false = refl
 
 abbrev pub unmarked : ℕ → Bool
 unmarked c = not (c == slash || c == star)

@@ -4,7 +4,7 @@ use Rattle.rustc_lexer.specs.Characters.{star, slash}
 use Rattle.rustc_lexer.specs.Scan.{peek, past, mark, Opens, Closes, Neither, opens_comment, closes_comment, block}
 use Rattle.rustc_lexer.specs.Reads.{Reads}
 use Rattle.rustc_lexer.specs.Endings.{Nested, closes, inner, other}
-use Rattle.rustc_lexer.proofs.Agree.{bool_cases}
+use Rattle.rustc_lexer.proofs.Booleans.{bool_cases}
 use Rattle.rustc_lexer.proofs.Steps.{mark_cases, block-opens, block-ends, block-closes, block-neither}
 use Rattle.rustc_lexer.proofs.Alike.{Alike, alike-trans, reads-alike, one_on, two_on}
 

@@ -1,25 +1,22 @@
 -- The text of a lexeme of kind `Ident` is an identifier.
 use Rattle.std.proofs.Common.{◌≡◌, ℕ, suc, Bool, true, false, not, ◌&&◌, ◌||◌, ◌==◌, List, [], ◌∷◌, length, take, drop, refl, sym, ◌∙◌, ap, arith, inl, inr, ◌⊎◌, if◌then◌else◌}
-use Rattle.std.specs.List.{list_all}
+use Rattle.std.specs.List.{All, list_all}
 use Rattle.rustc_lexer.specs.Characters.{hash, tick, is_digit, is_id_start, is_id_continue, is_ident}
 use Rattle.rustc_lexer.specs.Rows.{Row, first_fit}
 use Rattle.rustc_lexer.specs.Scan.{Scan, give, skip, peek, look, ◌▸◌, spelled, begin, run, run_len, name}
 use Rattle.rustc_lexer.specs.Lexeme.{Case, Blank, ToLineEnd, ToPartner, RawName, RawText, Quoted, Ticked, Name, Number, Tick, Guard, Single, cases, case_of, line_comment, block_comment, literal, identifier, raw_identifier, is_raw, named, lifetime, signs, sign, lexeme_in, lexeme}
-use Rattle.rustc_lexer.specs.Tokens.{first_lexeme}
+use Rattle.rustc_lexer.specs.Tokens.{first_lexeme, tokens}
 use Rattle.rustc_lexer.specs.declared.token.LiteralKind.TheVariants.{Char}
 use Rattle.rustc_lexer.specs.declared.token.TokenKind.{TokenKind}
 use Rattle.rustc_lexer.specs.declared.token.TokenKind.TheVariants.{Ident, UnknownPrefixLifetime, Lifetime, Literal, Unknown}
-use Rattle.rustc_lexer.proofs.Agree.{bool_cases}
+use Rattle.rustc_lexer.proofs.Cutting.{each-token}
+use Rattle.rustc_lexer.proofs.Booleans.{bool_cases, and_left, and_right}
 use Rattle.rustc_lexer.proofs.Steps.{run-true, run-false}
 
 -- a row's answer passes, or its test fails
 unfoldable pub each_ok : {A : Type 0} → (A → Bool) → List (Row A) → Bool
 each_ok ok [] = true
 each_ok ok (r ∷ rs) = (ok r.answer || not r.test) && each_ok ok rs
-
-and_parts : (a b : Bool) → (a && b) ≡ true → (a ≡ true) × (b ≡ true)
-and_parts true b h = (refl, h)
-and_parts false b h = (h, let w : false ≡ true = h in cc)
 
 or_false : (a : Bool) → (a || false) ≡ true → a ≡ true
 or_false true h = refl
@@ -30,11 +27,10 @@ pub fits_ok : {A : Type 0} (ok : A → Bool) (rs : List (Row A)) (d : A) → eac
 unfolding first_fit each_ok
 fits_ok ok [] d h e = e
 fits_ok {A} ok (r ∷ rs) d h e =
-    let parts = and_parts (ok r.answer || not r.test) (each_ok ok rs) h in
-    let rest = fits_ok ok rs d parts.1 e in
+    let rest = fits_ok ok rs d (and_right (ok r.answer || not r.test) (each_ok ok rs) h) e in
     let P : Bool → Type 0 = λ t. (ok r.answer || not t) ≡ true → ok (elim t [ true ↦ r.answer | false ↦ first_fit rs d ]) ≡ true in
     let Q : (t : Bool) → P t = λ t. elim t as P [ true ↦ λ g. or_false (ok r.answer) g | false ↦ λ g. rest ] in
-    Q r.test parts.0
+    Q r.test (and_left (ok r.answer || not r.test) (each_ok ok rs) h)
 
 unfoldable not_name : Case → Bool
 not_name Name = false
@@ -148,3 +144,7 @@ ident-is-ident x xs e =
           let w : true ≡ false = sym (other-case (case_of x b c) (x ∷ xs) h) ∙ ap not_ident e in
           cc
     ]
+
+-- the text of each token of kind `Ident` is an identifier
+pub tokens-idents : (xs : List ℕ) → All (λ l. l.kind ≡ Ident → is_ident l.text ≡ true) (tokens xs)
+tokens-idents xs = each-token (λ l. l.kind ≡ Ident → is_ident l.text ≡ true) ident-is-ident xs

@@ -2,7 +2,8 @@
 use Rattle.std.proofs.Common.{◌≡◌, ℕ, suc, zero, ◌≤◌, Bool, true, false, not, ◌&&◌, ◌||◌, ◌==◌, List, [], ◌∷◌, length, take, refl, sym, ◌∙◌, ap, subst, arith, ◌⊎◌, inl, inr}
 use Rattle.rustc_lexer.specs.Characters.{is_id_start, is_id_continue, double_quote, backslash, tick, slash, line_feed}
 use Rattle.rustc_lexer.specs.Scan.{Taken, Scan, peek, run_len, run, name_len, name, past, mark, block, quoted, hashes_follow, raw, ticked}
-use Rattle.rustc_lexer.proofs.Agree.{bool_cases, fewer, peeks}
+use Rattle.rustc_lexer.proofs.Agree.{fewer, peeks}
+use Rattle.rustc_lexer.proofs.Booleans.{bool_cases}
 use Rattle.rustc_lexer.proofs.Steps.{run-true, run-false, name-true, name-false, quoted-true, quoted-false, mark_cases, block-opens, block-ends, block-closes, block-neither, block-some, raw-true, raw-false, stops, ticked-closes, ticked-stops, ticked-goes}
 use Rattle.rustc_lexer.proofs.Local.{Local}
 

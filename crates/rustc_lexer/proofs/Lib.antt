@@ -1,3 +1,4 @@
+pub mod Booleans
 pub mod Agree
 pub mod Steps
 pub mod Takes

@@ -4,14 +4,10 @@ use Rattle.std.proofs.lemmas.Bool.Decides.{nat_tests}
 use Rattle.rustc_lexer.specs.Characters.{double_quote, backslash}
 use Rattle.rustc_lexer.specs.Scan.{run_len, past, quoted}
 use Rattle.rustc_lexer.specs.Reads.{Reads}
-use Rattle.rustc_lexer.proofs.Agree.{bool_cases}
+use Rattle.rustc_lexer.proofs.Booleans.{bool_cases, and_false}
 use Rattle.rustc_lexer.proofs.Steps.{run-true, run-false, quoted-true, quoted-false}
 use Rattle.rustc_lexer.proofs.Runs.{run_end}
 use Rattle.rustc_lexer.proofs.Alike.{Alike, alike-refl, alike-trans, alike-at, one_on, two_on}
-
-and_false : (b : Bool) → (b && false) ≡ false
-and_false true = refl
-and_false false = refl
 
 abbrev pub plain : ℕ → Bool
 plain c = not (c == double_quote || c == backslash)

@@ -4,20 +4,12 @@ use Rattle.std.specs.Bool.{MatchBool}
 use Rattle.rustc_lexer.specs.Characters.{double_quote}
 use Rattle.rustc_lexer.specs.Scan.{Taken, hashes_follow, raw}
 use Rattle.rustc_lexer.specs.Endings.{ClosesRawAt}
-use Rattle.rustc_lexer.proofs.Agree.{bool_cases}
+use Rattle.rustc_lexer.proofs.Booleans.{bool_cases, and_left, and_right}
 use Rattle.rustc_lexer.proofs.Steps.{raw-true, raw-false}
 
 abbrev Ends : (n : ℕ) (text : List ℕ) (r : Taken Bool) → Type 0
 Ends n text r =
     MatchBool r.value ((k : ℕ) × (r.taken ≡ suc k + n) × ClosesRawAt n text k × ((j : ℕ) → j < k → ClosesRawAt n text j → ⊥)) ((r.taken ≡ length text) × ((j : ℕ) → ClosesRawAt n text j → ⊥))
-
-left : (a b : Bool) → (a && b) ≡ true → a ≡ true
-left true b h = refl
-left false b h = let w : false ≡ true = h in cc
-
-right : (a b : Bool) → (a && b) ≡ true → b ≡ true
-right true b h = h
-right false b h = let w : false ≡ true = h in cc
 
 -- a place further on
 later : (n : ℕ) (c : ℕ) (cs : List ℕ) (k : ℕ) → ClosesRawAt n cs k → ClosesRawAt n (c ∷ cs) (suc k)
@@ -45,7 +37,7 @@ raw-ends n (c ∷ cs) =
     elim (bool_cases ((c == double_quote) && hashes_follow n cs)) [
       | inl h ↦
           subst (λ r. Ends n (c ∷ cs) r) (sym (raw-true n c cs h))
-          (0, (let z : suc n ≡ suc 0 + n = omega arith in z), record { inside = omega arith; quote = eqb-true c double_quote (left (c == double_quote) (hashes_follow n cs) h); follow = right (c == double_quote) (hashes_follow n cs) h }, λ j l p. absurd (omega arith))
+          (0, (let z : suc n ≡ suc 0 + n = omega arith in z), record { inside = omega arith; quote = eqb-true c double_quote (and_left (c == double_quote) (hashes_follow n cs) h); follow = and_right (c == double_quote) (hashes_follow n cs) h }, λ j l p. absurd (omega arith))
       | inr h ↦
           subst (λ r. Ends n (c ∷ cs) r) (sym (raw-false n c cs h)) (wider n c cs (raw n cs).value (raw n cs).taken h (raw-ends n cs))
     ]

@@ -2,7 +2,7 @@
 use Rattle.std.proofs.Common.{◌≡◌, ℕ, suc, zero, ◌<◌, ◌≤◌, Bool, true, false, not, ◌&&◌, ◌==◌, List, [], ◌∷◌, length, drop, get_or, refl, sym, ◌∙◌, ap, arith, inl, inr, ◌⊎◌}
 use Rattle.rustc_lexer.specs.Characters.{hash, is_id_start, is_id_continue}
 use Rattle.rustc_lexer.specs.Scan.{run_len, name_len, hashes_follow}
-use Rattle.rustc_lexer.proofs.Agree.{bool_cases}
+use Rattle.rustc_lexer.proofs.Booleans.{bool_cases}
 use Rattle.rustc_lexer.proofs.Steps.{run-true, run-false, name-true, name-false}
 
 -- past one more that passes

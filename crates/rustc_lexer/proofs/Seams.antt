@@ -1,16 +1,18 @@
 -- Runs of bytes and runs of characters: a text's bytes behind a run of bytes are its characters behind a run of characters.
-use Rattle.std.proofs.Common.{◌≡◌, ℕ, suc, zero, ◌+◌, ◌-◌, ◌<◌, ◌≤◌, Bool, true, false, ◌&&◌, ◌==◌, ltb, List, [], ◌∷◌, ◌++◌, length, take, drop, get_or, refl, sym, ◌∙◌, ap, subst, arith, chars, length-append, inl, inr, lit<, eqb-true, append_assoc}
+use Rattle.std.proofs.Common.{◌≡◌, ℕ, suc, zero, ◌+◌, ◌-◌, ◌<◌, ◌≤◌, Bool, true, false, ◌&&◌, ◌==◌, ltb, List, [], ◌∷◌, ◌++◌, length, take, drop, get_or, refl, sym, ◌∙◌, ap, subst, arith, chars, length-append, inl, inr, lit<, eqb-true}
 use Rattle.std.specs.Str.{IsUtf8, IsCharBoundary}
 use Rattle.std.proofs.Math.Utf8.{encodes, encode, scalars}
 use Rattle.std.proofs.lemmas.List.{get_or_append_left, take-append-drop}
-use Rattle.std.proofs.lemmas.Str.{encode_ascii, encodes-chars, chars-encodes, scalars-chars, inside_one, length-encode, len_utf8_bounds, IsCharBoundary-from_drop, IsCharBoundary-at_seam}
+use Rattle.std.proofs.lemmas.Str.{encode_ascii, encodes-chars, chars-encodes, scalars-chars, inside_one, length-encode, len_utf8_bounds, IsCharBoundary-from_drop, IsCharBoundary-at_seam, encodes-append}
 use Rattle.rustc_lexer.specs.Characters.{hash}
 use Rattle.rustc_lexer.specs.Scan.{run_len}
-use Rattle.rustc_lexer.proofs.Agree.{bool_cases, lt_or_ge}
+use Rattle.rustc_lexer.proofs.Agree.{lt_or_ge}
+use Rattle.rustc_lexer.proofs.Booleans.{bool_cases, and_left, and_right}
 use Rattle.rustc_lexer.proofs.Steps.{run-true, run-false}
 use Rattle.rustc_lexer.proofs.Runs.{run_none, run_after}
 use Rattle.rustc_lexer.proofs.Wide.{small_and, wide_is}
 use Rattle.rustc_lexer.proofs.Fits.{run_len-fits}
+use Rattle.std.proofs.Math.Seq.{take-append_seam}
 
 -- each byte of a character past ASCII is past ASCII
 wide : (c k : ℕ) → 128 ≤ c → k < length (encode c) → 128 ≤ get_or (encode c) k 0
@@ -98,18 +100,10 @@ run-closed p wides (c ∷ cs) =
           ∙ sym (ap (λ n. encodes (drop n (c ∷ cs))) (run-false p c cs (wides c big)))
     ]
 
-and_true_right : (a b : Bool) → (a && b) ≡ true → b ≡ true
-and_true_right true b h = h
-and_true_right false b h = let w : false ≡ true = h in cc
-
-and_true_left : (a b : Bool) → (a && b) ≡ true → a ≡ true
-and_true_left true b h = refl
-and_true_left false b h = let w : false ≡ true = h in cc
-
 scalars-drop : (n : ℕ) (cs : List ℕ) → scalars cs ≡ true → scalars (drop n cs) ≡ true
 scalars-drop zero cs h = h
 scalars-drop (suc n) [] h = h
-scalars-drop (suc n) (c ∷ cs) h = scalars-drop n cs (and_true_right _ (scalars cs) h)
+scalars-drop (suc n) (c ∷ cs) h = scalars-drop n cs (and_right _ (scalars cs) h)
 
 -- a place in a text, by its bytes and by its characters
 pub record Seam (bs : List ℕ) (n m : ℕ) : Type 0 where
@@ -149,7 +143,7 @@ run-front p (c ∷ cs) =
     elim (bool_cases (ltb c 128 && p c)) [
       | inl g ↦
           ap (λ n. drop (run_len p (drop n (c ∷ cs))) (drop n (c ∷ cs))) (run-true t c cs g) ∙ run-front p cs
-          ∙ sym (ap (λ n. drop n (c ∷ cs)) (run-true p c cs (and_true_right (ltb c 128) (p c) g)))
+          ∙ sym (ap (λ n. drop n (c ∷ cs)) (run-true p c cs (and_right (ltb c 128) (p c) g)))
       | inr g ↦ ap (λ n. drop (run_len p (drop n (c ∷ cs))) (drop n (c ∷ cs))) (run-false t c cs g)
     ]
 
@@ -201,19 +195,11 @@ hashes-chars bs bytes m u same found =
     let p : ℕ → Bool = λ z. z == hash in
     found ∙ ap (λ z. run_len p z) (same ∙ sym (encodes-chars bs u)) ∙ run-ascii p (λ b w. wide_is hash b (lit< tt) w) (chars bs)
 
-encodes-append : (xs ys : List ℕ) → encodes (xs ++ ys) ≡ encodes xs ++ encodes ys
-encodes-append [] ys = refl
-encodes-append (x ∷ xs) ys = ap (λ z. encode x ++ z) (encodes-append xs ys) ∙ sym (append_assoc (encode x) (encodes xs) (encodes ys))
-
 scalars-take : (n : ℕ) (cs : List ℕ) → scalars cs ≡ true → scalars (take n cs) ≡ true
 scalars-take zero cs h = refl
 scalars-take (suc n) [] h = refl
 scalars-take (suc n) (c ∷ cs) h =
-    ap (λ b. b && scalars (take n cs)) (and_true_left _ (scalars cs) h) ∙ scalars-take n cs (and_true_right _ (scalars cs) h)
-
-front_of_append : (xs ys : List ℕ) → take (length xs) (xs ++ ys) ≡ xs
-front_of_append [] ys = refl
-front_of_append (x ∷ xs) ys = ap (λ z. x ∷ z) (front_of_append xs ys)
+    ap (λ b. b && scalars (take n cs)) (and_left _ (scalars cs) h) ∙ scalars-take n cs (and_right _ (scalars cs) h)
 
 -- the front of a text up to a later place in it
 pub record Front (bs ls : List ℕ) (n : ℕ) : Type 0 where
@@ -230,7 +216,7 @@ front-until bs ls n u v e =
     ∙ ap (λ z. xs ++ z) (ap encodes (sym e) ∙ encodes-chars ls v) in
     let sum : length bs ≡ length xs + length ls = ap length parts ∙ length-append xs ls in
     let len : length xs ≡ length bs - length ls = omega arith in
-    let at : take (length bs - length ls) bs ≡ xs = ap (λ k. take k bs) (sym len) ∙ ap (λ z. take (length xs) z) parts ∙ front_of_append xs ls in
+    let at : take (length bs - length ls) bs ≡ xs = ap (λ k. take k bs) (sym len) ∙ ap (λ z. take (length xs) z) parts ∙ take-append_seam xs ls in
     record {
       shorter = omega arith;
       boundary = subst (λ k. IsCharBoundary bs k) len (IsCharBoundary-at_seam bs xs ls parts v);

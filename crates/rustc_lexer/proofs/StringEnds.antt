@@ -5,7 +5,8 @@ use Rattle.std.proofs.lemmas.List.{get_or-drop, drop-drop}
 use Rattle.rustc_lexer.specs.Characters.{double_quote, backslash}
 use Rattle.rustc_lexer.specs.Scan.{Taken, past, quoted}
 use Rattle.rustc_lexer.specs.Endings.{backslashes_before, is_even, ClosesAt}
-use Rattle.rustc_lexer.proofs.Agree.{bool_cases, lt_or_ge}
+use Rattle.rustc_lexer.proofs.Agree.{lt_or_ge}
+use Rattle.rustc_lexer.proofs.Booleans.{bool_cases, and_left, and_right, not_not}
 use Rattle.rustc_lexer.proofs.Steps.{quoted-true, quoted-false}
 
 -- what the rest of a string that begins at place n says
@@ -33,18 +34,6 @@ behind_place : (text : List ℕ) (n c : ℕ) (cs : List ℕ) → drop n text ≡
 behind_place text n c cs e =
     ap (λ k. drop k text) (let z : suc n ≡ n + 1 = omega arith in z) ∙ sym (drop-drop 1 n text) ∙ ap (λ z. drop 1 z) e
 
-twice : (b : Bool) → not (not b) ≡ b
-twice true = refl
-twice false = refl
-
-left : (a b : Bool) → (a && b) ≡ true → a ≡ true
-left true b h = refl
-left false b h = let w : false ≡ true = h in cc
-
-right : (a b : Bool) → (a && b) ≡ true → b ≡ true
-right true b h = h
-right false b h = let w : false ≡ true = h in cc
-
 -- from one place further on
 wider_cases : (text : List ℕ) (n : ℕ) (v : Bool) (taken : ℕ) → (ClosesAt text n → ⊥) → Ends text (suc n) (record { value = v; taken = taken }) → Ends text n (record { value = v; taken = suc taken })
 wider_cases text n true taken other ih = (
@@ -71,7 +60,7 @@ wider text n r other ih = wider_cases text n r.value r.taken other ih
 not_here : (text : List ℕ) (n c : ℕ) (odd : Bool) → get_or text n 0 ≡ c → not (is_even (backslashes_before n text)) ≡ odd → ((c == double_quote) && not odd) ≡ false → ClosesAt text n → ⊥
 not_here text n c odd at run h closes =
     let quote : (c == double_quote) ≡ true = eq-eqb c double_quote (sym at ∙ closes.quote) in
-    let even : not odd ≡ true = ap not (sym run) ∙ twice (is_even (backslashes_before n text)) ∙ closes.even in
+    let even : not odd ≡ true = ap not (sym run) ∙ not_not (is_even (backslashes_before n text)) ∙ closes.even in
     let w : true ≡ false = sym (ap (λ t. t && not odd) quote ∙ even) ∙ h in
     let v : ⊥ = cc in v
 
@@ -87,7 +76,7 @@ ends text n (c ∷ cs) odd e within run =
       | inl h ↦
           let q = quoted-true odd c cs h in
           subst (λ r. Ends text n r) (sym q)
-          (n, (let z : n + 1 ≡ suc n = omega arith in z), record { inside = more; quote = at ∙ eqb-true c double_quote (left (c == double_quote) (not odd) h); even = sym (twice (is_even (backslashes_before n text))) ∙ ap not run ∙ right (c == double_quote) (not odd) h }, λ j low high closes. absurd (omega arith))
+          (n, (let z : n + 1 ≡ suc n = omega arith in z), record { inside = more; quote = at ∙ eqb-true c double_quote (and_left (c == double_quote) (not odd) h); even = sym (not_not (is_even (backslashes_before n text))) ∙ ap not run ∙ and_right (c == double_quote) (not odd) h }, λ j low high closes. absurd (omega arith))
       | inr h ↦
           let next = (c == backslash) && not odd in
           let ih = ends text (suc n) cs next (behind_place text n c cs e) (omega arith) (parity text n c odd at run) in
