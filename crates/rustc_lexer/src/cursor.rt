@@ -148,6 +148,7 @@ impl<'a> Cursor<'a> {
     }
 
     // The same, one character at a time.
+    #[inline(never)]
     fn eat_wide_whitespace(&mut self)
         ensures { self.new ≡ drop (run_len is_whitespace self.old) self.old }
     {
@@ -157,6 +158,7 @@ impl<'a> Cursor<'a> {
     }
 
     /// Passes over the characters that may follow in an identifier.
+    #[inline(always)]
     pub(crate) fn eat_id_continue(&mut self)
         ensures { self.new ≡ drop (run_len is_id_continue self.old) self.old }
     {
@@ -169,6 +171,7 @@ impl<'a> Cursor<'a> {
     }
 
     // The same, one character at a time.
+    #[inline(never)]
     fn eat_wide_id_continue(&mut self)
         ensures { self.new ≡ drop (run_len is_id_continue self.old) self.old }
     {
