@@ -3,6 +3,10 @@
 //!
 //! A contract sees a green value as a term: a token as a leaf (a kind and a text), a node as a kind
 //! and a list of terms. Who shares which value, and which cache made it, is never seen.
+//!
+//! A node keeps its length, so `clone`, `kind`, `text_len`, `children` and `child` take constant
+//! time; an edit takes the time of one list of children, and a build that of its calls. Equality
+//! reads both values through. Dropping, printing and comparing go one call deeper for each level.
 #![tactic(auto)]
 
 pub mod builder;
