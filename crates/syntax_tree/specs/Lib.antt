@@ -1,3 +1,4 @@
 pub mod Path
 pub mod Replacement
+pub mod Lent
 pub mod Refusal

@@ -11,6 +11,11 @@ pub record Replacement : Type 0 where
   pub path : Path
   pub new : Term
 
+-- not a token
+abbrev pub IsNode : Term → Type 0
+IsNode (Node t) = Unit {0}
+IsNode (Token l) = ⊥
+
 -- a node as a tree; a token never takes the place of the root
 abbrev pub as_tree : Term → Tree
 as_tree (Node t) = t

@@ -5,7 +5,11 @@
 #![tactic(auto)]
 
 pub mod error;
+pub mod path;
+pub mod replace;
 pub mod tree_ids;
 
 pub use error::{Spent, TreeError};
+pub use path::{ElementRef, element_at, start_of};
+pub use replace::replaced_at;
 pub use tree_ids::TreeIds;
