@@ -3,7 +3,7 @@ use Rattle.std.specs.Prelude.{ℕ, Bool, true, false}
 use Rattle.parser_input.specs.Kinds.{SOURCE_FILE, STRUCT, NAME, NAME_REF, PATH, PATH_SEGMENT, ERROR}
 use Rattle.parser_events.specs.Forest.{ExpectedItem}
 use Rattle.ra_parser.specs.Rule.{Rule, Skip, Say, Unless, Production, source_file, item, body, name, name_ref, path}
-use Rattle.ra_parser.specs.Notation.{◌/◌, ◌▸◌, ◌*, ◌⟨◌⟩, ◌<⟨◌⟩, ◌!, more, at_end}
+use Rattle.ra_parser.specs.Notation.{◌or◌, ◌▸◌, ◌*, ◌⟨◌⟩, ◌<⟨◌⟩, ◌!, more, at_end}
 use Rattle.ra_parser.specs.Words.{'struct', 'ident', 'semi', Item, Body, Name, Ref, Path}
 use Rattle.ra_parser.specs.Meaning.{Table}
 
@@ -13,8 +13,8 @@ rule source_file = SOURCE_FILE ⟨ (Unless at_end Item) * ⟩
 rule item = more Body
 rule body =
     STRUCT <⟨ 'struct' ▸ Name ! ▸ 'semi' ! ⟩
-    / Path ▸ ERROR <⟨ Say ExpectedItem ⟩
-    / Skip ExpectedItem
+    or Path ▸ ERROR <⟨ Say ExpectedItem ⟩
+    or Skip ExpectedItem
 rule name = NAME ⟨ 'ident' ⟩
 rule name_ref = NAME_REF ⟨ 'ident' ⟩
 rule path = PATH ⟨ PATH_SEGMENT ⟨ Ref ! ⟩ ⟩

@@ -1,4 +1,4 @@
--- The writing of a grammar: `a ▸ b` is a followed by b, `a / b` the first whose looks are there, `⁅ a ⁆` an option, `a *` a
+-- The writing of a grammar: `a ▸ b` is a followed by b, `a or b` the first whose looks are there, `⁅ a ⁆` an option, `a *` a
 -- repetition, `N ⟨ a ⟩` a node, `N <⟨ a ⟩` a node around all that the present production gave so far and a, `a !` a part that is
 -- expected, `more a` a production as a continuation of the present one.
 use Rattle.std.specs.Prelude.{ℕ}
@@ -6,14 +6,14 @@ use Rattle.parser_input.specs.Kinds.{NAME, NAME_REF, PATH}
 use Rattle.parser_events.specs.Forest.{Message, Expected, ExpectedExpression, ExpectedItem}
 use Rattle.ra_parser.specs.Rule.{Production, item, name, name_ref, path, Look, Left, Not, Rule, One, Then, Or, Opt, Star, Node, Wrap, Want, Call, Continue, Mode}
 
-infixr 40 ◌/◌
+infixr 40 ◌or◌
 infixr 50 ◌▸◌
 infixl 70 ◌*
 infixl 70 ◌!
 infixl 80 ◌⟨◌⟩
 infixl 80 ◌<⟨◌⟩
-abbrev pub ◌/◌ : Rule → Rule → Rule
-a / b = Or a b
+abbrev pub ◌or◌ : Rule → Rule → Rule
+a or b = Or a b
 
 abbrev pub ◌▸◌ : Rule → Rule → Rule
 a ▸ b = Then a b
