@@ -1,3 +1,4 @@
 pub mod Children
 pub mod Starts
 pub mod Replaced
+pub mod Found

@@ -1,4 +1,5 @@
 pub mod Path
 pub mod Replacement
 pub mod Lent
+pub mod Walk
 pub mod Refusal

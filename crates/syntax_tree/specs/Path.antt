@@ -65,6 +65,10 @@ placed_in up i start (node k f r) =
 abbrev pub elements : Tree → List Placed
 elements t = record { path = []; start = 0; element = Node t } ∷ placed_in [] 0 0 t.forest
 
+-- whether it is of a kind and a range
+abbrev pub is_of : ℕ → ℕ → ℕ → Placed → Bool
+is_of kind start end p = kind_of p.element == kind && (p.start == start && stop p == end)
+
 -- the first element in preorder of a kind and a range
 abbrev pub first_of : ℕ → ℕ → ℕ → Tree → Option Placed
-first_of kind start end t = find (λ p. kind_of p.element == kind && p.start == start && stop p == end) (elements t)
+first_of kind start end t = find (is_of kind start end) (elements t)

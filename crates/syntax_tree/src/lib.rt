@@ -5,11 +5,13 @@
 #![tactic(auto)]
 
 pub mod error;
+pub mod find;
 pub mod path;
 pub mod replace;
 pub mod tree_ids;
 
 pub use error::{Spent, TreeError};
+pub use find::first_of;
 pub use path::{ElementRef, element_at, start_of};
 pub use replace::replaced_at;
 pub use tree_ids::TreeIds;
