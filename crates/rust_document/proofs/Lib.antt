@@ -1,0 +1,12 @@
+pub mod Emitted
+pub mod Pending
+pub mod Passing
+pub mod Nodes
+pub mod Inputs
+pub mod Structs
+pub mod Memory
+pub mod Going
+pub mod Words
+pub mod Lexing
+pub mod Sizes
+pub mod Whole

@@ -1,0 +1,20 @@
+-- What the reading of a text is in code.
+use Rattle.std.specs.Prelude.{◌≡◌, ℕ, true, false, List, map, Option, MatchOption}
+use Rattle.rowan_green.specs.Forest.{Tree}
+use Rattle.parser_input.specs.declared.edition.Edition.{Edition}
+use Rattle.rust_document.specs.Reading.{tree, messages}
+use Rattle.rust_document.specs.Thin.{is_thin}
+use Rattle.rust_document.specs.Puts.{told, says}
+use Rattle.rust_document.specs.declared.syntax_error.SyntaxError.{SyntaxError}
+use Rattle.rust_document.specs.declared.read.Reading.{Reading}
+
+-- tree and messages are those of the text, which is thin
+pub record IsReading (edition : Edition) (text : List ℕ) (root : Tree) (errors : List SyntaxError) : Type 0 where
+  pub thin : is_thin edition text ≡ true
+  pub root_is : root ≡ tree edition text
+  pub errors_are : map told errors ≡ map says (messages edition text)
+
+-- the reading of a text, where it is thin
+abbrev pub IsReadingIfThin : Edition → List ℕ → Option Reading → Type 0
+IsReadingIfThin edition text result =
+    MatchOption result (is_thin edition text ≡ false) (λ r. IsReading edition text r.root r.errors.items)

@@ -1,0 +1,12 @@
+pub mod Reading
+pub mod Thin
+pub mod Rewrite
+pub mod Step
+pub mod Messages
+pub mod Puts
+pub mod ReaderView
+pub mod Parts
+pub mod Read
+pub mod Lexed
+pub mod IsReading
+pub mod Open
