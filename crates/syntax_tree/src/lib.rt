@@ -15,3 +15,6 @@ pub use find::first_of;
 pub use path::{ElementRef, element_at, start_of};
 pub use replace::replaced_at;
 pub use tree_ids::TreeIds;
+
+#[cfg(test)]
+mod tests;
