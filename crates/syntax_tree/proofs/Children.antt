@@ -4,8 +4,8 @@ use Rattle.std.specs.Prelude.{Option, Some, None, slice_get}
 use Rattle.std.specs.Option.{option_copied}
 use Rattle.std.proofs.lemmas.Option.{slice_get_within}
 use denote.Bor.{Bor}
-use Rattle.rowan_green.specs.Forest.{Forest, empty, node, leaf, Tree, forest_text}
-use Rattle.rowan_green.specs.Term.{Term, terms, forest_of, forest_of-terms, text_of, term_len, spliced}
+use Rattle.rowan_green.specs.Forest.{Forest, empty, node, leaf, forest_text}
+use Rattle.rowan_green.specs.Term.{Term, terms, forest_of, forest_of-terms, term_len, spliced}
 use Rattle.rowan_green.specs.declared.utility_types.NodeOrToken.TheVariants.{Node, Token}
 use Rattle.syntax_tree.specs.Path.{child, with_child, before}
 use Rattle.syntax_tree.specs.Replacement.{bytes_before}

@@ -1,8 +1,8 @@
 -- Lemmas on replacing.
-use Rattle.std.proofs.Common.{◌≡◌, ℕ, zero, suc, ◌+◌, ◌≤◌, ◌<◌, List, [], ◌∷◌, length, refl, arith, ap, ◌∙◌, sym, length-append, take, drop, ◌++◌, ◌^◌, length-take, length-drop}
-use Rattle.std.specs.Prelude.{Option, Some, None}
+use Rattle.std.proofs.Common.{◌≡◌, ℕ, zero, suc, ◌+◌, ◌≤◌, ◌<◌, [], ◌∷◌, length, refl, arith, ap, ◌∙◌, length-append, take, drop, ◌++◌, ◌^◌, length-take, length-drop}
+use Rattle.std.specs.Prelude.{Some}
 use Rattle.rowan_green.specs.Forest.{Forest, empty, node, leaf, Tree, forest_text, tree_text}
-use Rattle.rowan_green.specs.Term.{Term, terms, forest_of, tree_of, children_of, term_len, spliced, FitsNode}
+use Rattle.rowan_green.specs.Term.{Term, tree_of, children_of, term_len, spliced, FitsNode}
 use Rattle.rowan_green.specs.Leaf.{Leaf}
 use Rattle.rowan_green.specs.Refusal.{RefusesUnless}
 use Rattle.rowan_green.specs.declared.error.GreenError.{GreenError}

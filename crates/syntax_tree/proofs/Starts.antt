@@ -1,11 +1,11 @@
 -- Lemmas on where elements begin.
-use Rattle.std.proofs.Common.{◌≡◌, ℕ, zero, suc, ◌+◌, ◌≤◌, List, [], ◌∷◌, length, refl, arith, ap, ◌∙◌, sym, eq-eqb}
+use Rattle.std.proofs.Common.{◌≡◌, ℕ, ◌+◌, [], ◌∷◌, length, refl, arith, ap, ◌∙◌, sym, eq-eqb}
 use Rattle.std.proofs.lemmas.Bool.{false≢true}
 use Rattle.std.specs.Cmp.{unsigned_Decides}
-use Rattle.std.specs.Prelude.{Bool, true, false, ◌==◌, Option, Some, None, option_map, unwrap_or, option_and_then}
+use Rattle.std.specs.Prelude.{true, false, ◌==◌, Option, Some, None, option_map, unwrap_or, option_and_then}
 use Rattle.rowan_green.specs.Leaf.{Leaf}
 use Rattle.rowan_green.specs.Forest.{Tree}
-use Rattle.rowan_green.specs.Term.{Term, term_len}
+use Rattle.rowan_green.specs.Term.{Term}
 use Rattle.rowan_green.specs.declared.utility_types.NodeOrToken.TheVariants.{Node, Token}
 use Rattle.syntax_tree.specs.Path.{Path, child, at}
 use Rattle.syntax_tree.specs.Replacement.{start_of, bytes_before}

@@ -1,5 +1,4 @@
 -- Elements that are lent.
-use Rattle.std.specs.Prelude.{Option}
 use denote.Bor.{Bor}
 use Rattle.rowan_green.specs.Leaf.{Leaf}
 use Rattle.rowan_green.specs.Forest.{Tree}

@@ -1,4 +1,4 @@
-use Rattle.std.proofs.Common.{◌≡◌, ◌+◌, ◌<◌, List, [], ◌∷◌, ◌++◌, take, length, arith, refl, sym, ◌∙◌, ap, ℕ}
+use Rattle.std.proofs.Common.{◌≡◌, ◌+◌, [], ◌∷◌, ◌++◌, take, length, arith, refl, sym, ◌∙◌, ap, ℕ}
 use Rattle.std.specs.Prelude.{Bool, option_map, find, Some, None}
 use Rattle.std.proofs.Math.Seq.{take-append_seam}
 use Rattle.rowan_green.specs.Forest.{Forest}

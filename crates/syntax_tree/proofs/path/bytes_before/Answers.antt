@@ -1,4 +1,4 @@
-use Rattle.std.proofs.Common.{arith, sym, ◌∙◌, ap}
+use Rattle.std.proofs.Common.{arith, sym, ◌∙◌}
 use Rattle.syntax_tree.proofs.Children.{child_lent, child_lacks, no_bytes_before, bytes_before-past, bytes_before-within, bytes_before-more, bytes_before-child}
 use Rattle.syntax_tree.proofs.path.bytes_before.Goals as goal
 
