@@ -10,3 +10,5 @@ pub mod Words
 pub mod Lexing
 pub mod Sizes
 pub mod Whole
+pub mod Bares
+pub mod Verdicts

@@ -10,3 +10,7 @@ pub mod Read
 pub mod Lexed
 pub mod IsReading
 pub mod Open
+pub mod Bare
+pub mod Commit
+pub mod Placed
+pub mod Rewritten

@@ -1,16 +1,21 @@
 //! A text that is read.
-ghost use Rattle.std.specs.Prelude.{◌≡◌, ◌+◌, chars, map, IfOk, IfErr, OnOk};
+ghost use Rattle.std.specs.Prelude.{◌≡◌, ◌+◌, ◌==◌, ◌&&◌, None, chars, map, IfOk, IfErr, OnOk};
 ghost use Rattle.rust_document.specs.Open.{IsRead, RefusesOpen};
 ghost use Rattle.rust_document.specs.Puts.{told, says};
 ghost use Rattle.rust_document.specs.Reading.{messages};
-ghost use Rattle.rust_document.specs.Step.{present};
+ghost use Rattle.rowan_green.specs.Forest.{same_tree, tree_text};
+ghost use Rattle.rust_document.specs.Commit.{RefusesCommit};
+ghost use Rattle.rust_document.specs.Rewrite.{rewritten};
+ghost use Rattle.rust_document.specs.Step.{present, verdict, Accepted};
 
-use crate::error::OpenError;
+use crate::error::{CommitError, OpenError};
 use crate::read::{Reading, read};
+use crate::rewrite::rewrite;
+use crate::syntax_editor::SyntaxEditor;
 use crate::syntax_error::SyntaxError;
 use parser_input::edition::Edition;
 use rowan_green::GreenNode;
-use std::alloc::Global;
+use std::alloc::{AllocError, Global};
 use std::marker::Model;
 use syntax_tree::TreeIds;
 
@@ -63,11 +68,11 @@ impl Document {
             return Err(OpenError::Later);
         };
         let text = String::from_str(alloc, text)?;
-        let number = ids.next()?;
+        let first = ids.next()?;
         Ok(Document {
             edition,
             text,
-            number,
+            number: first,
             reading,
         })
     }
@@ -103,5 +108,48 @@ impl Document {
         ensures { map told result.now ≡ map says (messages self.now.edition (chars self.now.text)) }
     {
         &self.reading.errors
+    }
+
+    /// An editor of the present tree, with nothing recorded.
+    pub fn editor(&self) -> Result<SyntaxEditor, AllocError>
+        ensures { IfOk result (λ e. e ≡ record { number = self.now.number; root = present self.now; change = None }) }
+    {
+        Ok(SyntaxEditor::new(self.number, self.reading.root.clone()?))
+    }
+
+    /// Whether an editor is one of the present tree.
+    fn is_of(&self, editor: &SyntaxEditor) -> bool
+        ensures { result ≡ (editor.now.number == self.now.number && same_tree editor.now.root (present self.now)) }
+    {
+        editor.number() == self.number && *editor.root() == self.reading.root
+    }
+
+    /// Makes an editor's recorded change, where its text reads as the rewritten tree; the text is the rewritten tree's, and its
+    /// tree gets the next number of `ids`.
+    ///
+    /// Refuses, in this order, an editor of another tree, a new text of more than 16,777,216 bytes, one for later, and one that
+    /// does not read as the rewritten tree, white space and comments aside; and for want of a tree number. A refusal changes
+    /// nothing. The editor is spent.
+    pub fn commit(
+        &mut self,
+        alloc: Global,
+        editor: SyntaxEditor,
+        ids: &mut TreeIds,
+    ) -> Result<(), CommitError>
+        ensures accepted { OnOk result (verdict self.old editor ≡ Accepted) }
+        ensures state { OnOk result (self.new ≡ record { edition = self.old.edition; text = tree_text (rewritten editor); number = ids.old }) }
+        ensures number { OnOk result (ids.new ≡ ids.old + 1) }
+        ensures refused { IfErr result (RefusesCommit (verdict self.old editor) ids.old) }
+        ensures kept { IfErr result (λ _. (self.new ≡ self.old) × (ids.new ≡ ids.old)) }
+    {
+        if !self.is_of(&editor) {
+            return Err(CommitError::Foreign);
+        }
+        let rewritten = rewrite(alloc, self.edition, &editor)?;
+        let number = ids.next()?;
+        self.text = rewritten.text;
+        self.number = number;
+        self.reading = rewritten.reading;
+        Ok(())
     }
 }

@@ -3,6 +3,7 @@
 //! So far a document reads texts of white space, the word `struct`, names and `;`.
 #![tactic(auto)]
 
+mod bare;
 pub mod document;
 mod elements;
 pub mod error;
@@ -10,10 +11,13 @@ mod leaf;
 mod lexed;
 mod read;
 mod reader;
+mod rewrite;
+pub mod syntax_editor;
 pub mod syntax_error;
 #[cfg(test)]
 mod tests;
 
 pub use document::{Document, MAX_TEXT};
-pub use error::OpenError;
+pub use error::{CommitError, OpenError};
+pub use syntax_editor::SyntaxEditor;
 pub use syntax_error::SyntaxError;

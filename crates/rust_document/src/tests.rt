@@ -1,5 +1,5 @@
 //! What no contract says: that texts are opened where memory is ample, and the worked cases.
-use crate::{Document, MAX_TEXT, OpenError};
+use crate::{CommitError, Document, MAX_TEXT, OpenError};
 use parser_input::edition::Edition;
 use parser_input::syntax_kind::SyntaxKind;
 use std::alloc::Global;
@@ -109,6 +109,23 @@ fn the_limit(rt: HostRuntime) -> Result<(), Fail> {
     match open(alloc, text.as_str()) {
         Ok(_) => assert!(rt; false),
         Err(error) => assert!(rt; error == OpenError::TooLong),
+    }
+    Ok(())
+}
+
+#[test]
+fn nothing_recorded(rt: HostRuntime) -> Result<(), Fail> {
+    let alloc = rt.alloc();
+    let mut ids = TreeIds::new();
+    let mut document = Document::open(alloc, Edition::Edition2024, "struct S; s", &mut ids)?;
+    let (editor, older) = (document.editor()?, document.editor()?);
+    match document.commit(alloc, editor, &mut ids) {
+        Ok(()) => assert!(rt; document.number() == 2),
+        Err(error) => assert!(rt; error == CommitError::NoMemory && document.number() == 1),
+    }
+    assert!(rt; document.text() == "struct S; s");
+    if document.number() == 2 {
+        assert!(rt; document.commit(alloc, older, &mut ids) == Err(CommitError::Foreign));
     }
     Ok(())
 }

@@ -1,0 +1,23 @@
+-- When a commit is refused, and what a refusal prints.
+use Rattle.std.specs.Prelude.{◌≡◌, ℕ, ◌^◌, List, codes}
+use Rattle.rust_document.specs.Step.{Verdict}
+use Rattle.rust_document.specs.Step as step
+use Rattle.rust_document.specs.declared.error.CommitError.{CommitError}
+use Rattle.rust_document.specs.declared.error.CommitError.TheVariants.{Foreign, TooLong, Unfaithful, NoTreeNumber, NoMemory, Later}
+
+-- A refusal tells what the verdict says. Want of a tree number comes only where none is left, want of memory at any point.
+abbrev pub RefusesCommit : Verdict → ℕ → CommitError → Type 0
+RefusesCommit v number Foreign = v ≡ step.Foreign
+RefusesCommit v number TooLong = v ≡ step.TooLong
+RefusesCommit v number Later = v ≡ step.Later
+RefusesCommit v number Unfaithful = v ≡ step.Unfaithful
+RefusesCommit v number NoTreeNumber = (v ≡ step.Accepted) × (number ≡ 2 ^ 32)
+RefusesCommit v number NoMemory = Unit {0}
+
+abbrev pub commit_message_of : CommitError → List ℕ
+commit_message_of Foreign = codes "of another tree"
+commit_message_of TooLong = codes "too long"
+commit_message_of Unfaithful = codes "not what its text says"
+commit_message_of NoTreeNumber = codes "no tree number is left"
+commit_message_of NoMemory = codes "out of memory"
+commit_message_of Later = codes "not read yet"
