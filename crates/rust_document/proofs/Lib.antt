@@ -15,3 +15,4 @@ pub mod Places
 pub mod Recordings
 pub mod Payloads
 pub mod Changes
+pub mod TreeTexts

@@ -18,3 +18,4 @@ pub mod Record
 pub mod Payload
 pub mod Tokens
 pub mod Committed
+pub mod Laws

@@ -7,6 +7,7 @@ mod bare;
 pub mod document;
 mod elements;
 pub mod error;
+pub mod laws;
 mod leaf;
 mod lexed;
 pub mod payload_entry;

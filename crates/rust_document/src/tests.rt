@@ -5,7 +5,7 @@ use crate::{
 };
 use parser_input::edition::Edition;
 use parser_input::syntax_kind::SyntaxKind;
-use rowan_green::{GreenElement, NodeOrToken, TextRange, TextSize};
+use rowan_green::{TextRange, TextSize};
 use std::alloc::{AllocError, Global};
 use std::test::Fail;
 use syntax_tree::{SyntaxElement, TreeIds};
@@ -21,31 +21,31 @@ fn range(start: u32, end: u32) -> TextRange {
     TextRange::new(TextSize::new(start), TextSize::new(end))
 }
 
-/// An element and all below it in preorder, as `KIND@start..end` and a space each.
-fn outline(element: &GreenElement, start: u32, out: &mut String) -> Result<(), Fail> {
-    let end = start.saturating_add(element.text_len().0);
-    let Some(kind) = SyntaxKind::from_raw(element.kind().0) else {
-        return Err(Fail::new("an unknown kind"));
-    };
-    write!(out, "{}@{start}..{end} ", kind.name())?;
-    let NodeOrToken::Node(node) = element else {
-        return Ok(());
-    };
-    let mut place = start;
-    for child in node.children() {
-        outline(child, place, out)?;
-        place = place.saturating_add(child.text_len().0);
+/// Whether each of these elements, by kind and range, is found at its path. Where all leaves are among them, they are the tree.
+fn has_tree(
+    alloc: Global,
+    document: &Document,
+    expected: &[(SyntaxKind, u32, u32, &[usize])],
+) -> Result<bool, Fail> {
+    for (kind, start, end, path) in expected {
+        match document.find(alloc, *kind, range(*start, *end))? {
+            Some(element) if element.path() == *path => {}
+            _ => return Ok(false),
+        }
     }
-    Ok(())
+    Ok(true)
 }
 
-/// Whether the tree of a document is this one.
-fn has_tree(alloc: Global, document: &Document, expected: &str) -> Result<bool, Fail> {
-    let root = NodeOrToken::Node(document.root().green().clone()?);
-    let mut found = String::new(alloc);
-    outline(&root, 0, &mut found)?;
-    Ok(found.trim_end() == expected)
-}
+/// The tree of `struct S;`.
+const STRUCT_TREE: &[(SyntaxKind, u32, u32, &[usize])] = &[
+    (SyntaxKind::SOURCE_FILE, 0, 9, &[]),
+    (SyntaxKind::STRUCT, 0, 9, &[0]),
+    (SyntaxKind::STRUCT_KW, 0, 6, &[0, 0]),
+    (SyntaxKind::WHITESPACE, 6, 7, &[0, 1]),
+    (SyntaxKind::NAME, 7, 8, &[0, 2]),
+    (SyntaxKind::IDENT, 7, 8, &[0, 2, 0]),
+    (SyntaxKind::SEMICOLON, 8, 9, &[0, 3]),
+];
 
 /// Whether these are the tokens, by kind and range.
 fn has_tokens(document: &Document, expected: &[(SyntaxKind, u32, u32)]) -> bool {
@@ -71,7 +71,14 @@ fn has_errors(document: &Document, expected: &[(usize, &str)]) -> bool {
 #[test]
 fn an_empty_text(rt: HostRuntime) -> Result<(), Fail> {
     let document = open(rt.alloc(), "")?;
-    assert!(rt; has_tree(rt.alloc(), &document, "SOURCE_FILE@0..0")?);
+    assert!(rt;
+        has_tree(
+            rt.alloc(),
+            &document,
+            &[(SyntaxKind::SOURCE_FILE, 0, 0, &[])]
+        )?
+    );
+    assert!(rt; document.root().green().children().len() == 0);
     assert!(rt; has_tokens(&document, &[]) && has_errors(&document, &[]));
     Ok(())
 }
@@ -81,9 +88,7 @@ fn a_struct(rt: HostRuntime) -> Result<(), Fail> {
     let document = open(rt.alloc(), "struct S;")?;
     assert!(rt; document.text() == "struct S;" && document.root().tree() == 1);
     assert!(rt; document.edition() == Edition::Edition2021);
-    let tree =
-        "SOURCE_FILE@0..9 STRUCT@0..9 STRUCT_KW@0..6 WHITESPACE@6..7 NAME@7..8 IDENT@7..8 SEMICOLON@8..9";
-    assert!(rt; has_tree(rt.alloc(), &document, tree)?);
+    assert!(rt; has_tree(rt.alloc(), &document, STRUCT_TREE)?);
     let (word, space) = (
         (SyntaxKind::STRUCT_KW, 0, 6),
         (SyntaxKind::WHITESPACE, 6, 7),
@@ -97,8 +102,16 @@ fn a_struct(rt: HostRuntime) -> Result<(), Fail> {
 #[test]
 fn a_name_is_no_item(rt: HostRuntime) -> Result<(), Fail> {
     let document = open(rt.alloc(), "S;")?;
-    let tree =
-        "SOURCE_FILE@0..2 ERROR@0..1 PATH@0..1 PATH_SEGMENT@0..1 NAME_REF@0..1 IDENT@0..1 ERROR@1..2 SEMICOLON@1..2";
+    let tree: &[(SyntaxKind, u32, u32, &[usize])] = &[
+        (SyntaxKind::SOURCE_FILE, 0, 2, &[]),
+        (SyntaxKind::ERROR, 0, 1, &[0]),
+        (SyntaxKind::PATH, 0, 1, &[0, 0]),
+        (SyntaxKind::PATH_SEGMENT, 0, 1, &[0, 0, 0]),
+        (SyntaxKind::NAME_REF, 0, 1, &[0, 0, 0, 0]),
+        (SyntaxKind::IDENT, 0, 1, &[0, 0, 0, 0, 0]),
+        (SyntaxKind::ERROR, 1, 2, &[1]),
+        (SyntaxKind::SEMICOLON, 1, 2, &[1, 0]),
+    ];
     assert!(rt; has_tree(rt.alloc(), &document, tree)?);
     let message = "expected an item";
     assert!(rt; has_errors(&document, &[(1, message), (1, message)]));
@@ -108,8 +121,15 @@ fn a_name_is_no_item(rt: HostRuntime) -> Result<(), Fail> {
 #[test]
 fn what_is_missing(rt: HostRuntime) -> Result<(), Fail> {
     let document = open(rt.alloc(), "struct struct;")?;
-    let tree =
-        "SOURCE_FILE@0..14 STRUCT@0..6 STRUCT_KW@0..6 WHITESPACE@6..7 STRUCT@7..14 STRUCT_KW@7..13 SEMICOLON@13..14";
+    let tree: &[(SyntaxKind, u32, u32, &[usize])] = &[
+        (SyntaxKind::SOURCE_FILE, 0, 14, &[]),
+        (SyntaxKind::STRUCT, 0, 6, &[0]),
+        (SyntaxKind::STRUCT_KW, 0, 6, &[0, 0]),
+        (SyntaxKind::WHITESPACE, 6, 7, &[1]),
+        (SyntaxKind::STRUCT, 7, 14, &[2]),
+        (SyntaxKind::STRUCT_KW, 7, 13, &[2, 0]),
+        (SyntaxKind::SEMICOLON, 13, 14, &[2, 1]),
+    ];
     assert!(rt; has_tree(rt.alloc(), &document, tree)?);
     let (name, semicolon) = ("expected NAME", "expected SEMICOLON");
     assert!(rt; has_errors(&document, &[(6, name), (6, semicolon), (13, name)]));
@@ -181,27 +201,18 @@ fn found(
 
 #[test]
 fn what_is_found(rt: HostRuntime) -> Result<(), Fail> {
-    let alloc = rt.alloc();
-    let document = open(alloc, "struct S;")?;
-    let cases: [(SyntaxKind, u32, u32, &[usize]); 4] = [
-        (SyntaxKind::SOURCE_FILE, 0, 9, &[]),
-        (SyntaxKind::STRUCT, 0, 9, &[0]),
-        (SyntaxKind::NAME, 7, 8, &[0, 2]),
-        (SyntaxKind::IDENT, 7, 8, &[0, 2, 0]),
-    ];
-    for (kind, start, end, path) in cases {
-        let element = found(alloc, &document, kind, start, end)?;
-        assert!(rt; element.path() == path && element.kind() == kind && element.tree() == 1);
-        assert!(rt; element.text_range() == range(start, end));
-    }
+    let document = open(rt.alloc(), "struct S;")?;
+    let name = found(rt.alloc(), &document, SyntaxKind::NAME, 7, 8)?;
+    assert!(rt; name.kind() == SyntaxKind::NAME && name.tree() == 1);
+    assert!(rt; name.text_range() == range(7, 8));
     assert!(rt;
         document
-            .find(alloc, SyntaxKind::IDENT, range(7, 9))?
+            .find(rt.alloc(), SyntaxKind::IDENT, range(7, 9))?
             .is_none()
     );
     assert!(rt;
         document
-            .find(alloc, SyntaxKind::ERROR, range(7, 8))?
+            .find(rt.alloc(), SyntaxKind::ERROR, range(7, 8))?
             .is_none()
     );
     Ok(())
@@ -301,9 +312,7 @@ fn a_keyword_for_a_name(rt: HostRuntime) -> Result<(), Fail> {
     let refused = put(rt.alloc(), &mut document, NAME, "struct", &mut ids)?.err();
     assert!(rt; refused == Some(CommitError::Unfaithful));
     assert!(rt; document.text() == "struct S;" && document.root().tree() == 1);
-    let tree =
-        "SOURCE_FILE@0..9 STRUCT@0..9 STRUCT_KW@0..6 WHITESPACE@6..7 NAME@7..8 IDENT@7..8 SEMICOLON@8..9";
-    assert!(rt; has_tree(rt.alloc(), &document, tree)?);
+    assert!(rt; has_tree(rt.alloc(), &document, STRUCT_TREE)?);
     Ok(())
 }
 

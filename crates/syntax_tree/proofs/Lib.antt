@@ -4,3 +4,4 @@ pub mod Replaced
 pub mod Found
 pub mod Placed
 pub mod Memory
+pub mod Slices

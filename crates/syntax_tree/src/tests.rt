@@ -1,31 +1,21 @@
 //! What no contract says: that calls succeed where memory is ample.
-use crate::{TreeIds, element_at, first_of, start_of};
+use crate::elements::{node, token};
+use crate::{SyntaxElement, SyntaxNode, SyntaxToken, TreeError, TreeIds, element_at, first_of, replaced_at, start_of};
 use parser_input::syntax_kind::SyntaxKind;
-use rowan_green::{GreenElement, GreenError, GreenNode, GreenToken, SyntaxKind as RawKind};
-use std::alloc::Global;
+use rowan_green::{GreenElement, GreenNode, TextRange, TextSize};
+use std::alloc::{AllocError, Global};
 use std::test::Fail;
 
-fn token(alloc: Global, kind: SyntaxKind, text: &str) -> Result<GreenElement, GreenError> {
-    let token = GreenToken::new(alloc, RawKind(kind.to_raw()), text)?;
-    Ok(GreenElement::from(token))
-}
-
-fn node(
-    alloc: Global,
-    kind: SyntaxKind,
-    children: Vec<GreenElement>,
-) -> Result<GreenNode, GreenError> {
-    GreenNode::new(alloc, RawKind(kind.to_raw()), children.into_iter())
-}
-
 /// The tree of `struct S;`.
-fn struct_tree(alloc: Global) -> Result<GreenNode, GreenError> {
+fn struct_tree(alloc: Global) -> Result<GreenNode, AllocError> {
     let keyword = token(alloc, SyntaxKind::STRUCT_KW, "struct")?;
     let space = token(alloc, SyntaxKind::WHITESPACE, " ")?;
     let ident = token(alloc, SyntaxKind::IDENT, "S")?;
-    let name = node(alloc, SyntaxKind::NAME, vec![in alloc; ident]?)?;
+    let name = node(alloc, SyntaxKind::NAME, vec![in alloc; GreenElement::from(ident)]?)?;
     let semicolon = token(alloc, SyntaxKind::SEMICOLON, ";")?;
-    let children = vec![in alloc; keyword, space, GreenElement::from(name), semicolon]?;
+    let mut children = vec![in alloc; GreenElement::from(keyword), GreenElement::from(space)]?;
+    children.push(GreenElement::from(name))?;
+    children.push(GreenElement::from(semicolon))?;
     node(alloc, SyntaxKind::STRUCT, children)
 }
 
@@ -45,5 +35,52 @@ fn ident_found(rt: HostRuntime) -> Result<(), Fail> {
     assert!(rt; path.len() == 2 && start_of(&tree, &path) == 7);
     assert!(rt; element_at(&tree, &path).is_some());
     assert!(rt; first_of(alloc, &tree, SyntaxKind::IDENT, 7, 9)?.is_none());
+    Ok(())
+}
+
+fn range(start: u32, len: u32) -> TextRange {
+    TextRange::at(TextSize::new(start.min(100)), TextSize::new(len.min(100)))
+}
+
+#[test]
+fn an_element_by_its_handle(rt: HostRuntime) -> Result<(), Fail> {
+    let alloc = rt.alloc();
+    let mut ids = TreeIds::starting_at(5);
+    let root = SyntaxNode::new_root(alloc, struct_tree(alloc)?, &mut ids)?;
+    assert!(rt; root.tree() == 5 && root.path().is_empty() && root.kind() == SyntaxKind::STRUCT);
+    assert!(rt; root.text_range() == range(0, 9));
+    match root.find(alloc, SyntaxKind::NAME, range(7, 1))? {
+        Some(SyntaxElement::Node(name)) => {
+            assert!(rt; name.tree() == 5 && name.path() == [2].as_slice());
+            assert!(rt; name.kind() == SyntaxKind::NAME && name.text_range() == range(7, 1));
+        }
+        _ => assert!(rt; false),
+    }
+    Ok(())
+}
+
+#[test]
+fn a_token_of_its_own(rt: HostRuntime) -> Result<(), Fail> {
+    let alloc = rt.alloc();
+    let mut ids = TreeIds::starting_at(u32::MAX);
+    let tee = SyntaxToken::detached(alloc, token(alloc, SyntaxKind::IDENT, "Tee")?, &mut ids)?;
+    assert!(rt; tee.tree() == u32::MAX && tee.path() == [0].as_slice());
+    assert!(rt; tee.text() == "Tee" && tee.kind() == SyntaxKind::IDENT);
+    let again = SyntaxToken::detached(alloc, tee.green().clone()?, &mut ids);
+    assert!(rt; again.err() == Some(TreeError::Spent));
+    Ok(())
+}
+
+#[test]
+fn one_element_for_another(rt: HostRuntime) -> Result<(), Fail> {
+    let alloc = rt.alloc();
+    let tree = struct_tree(alloc)?;
+    let tee = GreenElement::from(token(alloc, SyntaxKind::IDENT, "Tee")?);
+    let Some(path) = first_of(alloc, &tree, SyntaxKind::IDENT, 7, 8)? else {
+        return Err(Fail::new("not found"));
+    };
+    let changed = replaced_at(alloc, &tree, &path, &tee)?;
+    assert!(rt; format!(in alloc; "{changed}")?.as_str() == "struct Tee;");
+    assert!(rt; format!(in alloc; "{tree}")?.as_str() == "struct S;");
     Ok(())
 }

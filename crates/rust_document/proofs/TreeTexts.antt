@@ -1,0 +1,109 @@
+-- The leaves of a text's tree are the text.
+use Rattle.std.proofs.Common.{◌≡◌, ℕ, ◌==◌, Bool, true, false, not, ◌||◌, nat_lt, List, [], ◌∷◌, ◌++◌, length, map, take, drop, chars, refl, sym, ◌∙◌, ap, append-nil, eq-eqb}
+use Rattle.std.specs.Prelude.{Some, None, encode_utf8_all}
+use Rattle.std.specs.Str.{IsUtf8}
+use Rattle.std.proofs.Math.Utf8.{encodes}
+use Rattle.std.proofs.lemmas.Str.{encodes-chars, encodes-append}
+use Rattle.std.proofs.lemmas.Bool.{le-ltb}
+use Rattle.rustc_lexer.specs.Tokens as lexer
+use Rattle.rustc_lexer.specs.Rows.{row, first_fit}
+use Rattle.rustc_lexer.proofs.Cutting.{tokens-joined}
+use Rattle.rowan_green.specs.Leaf as green
+use Rattle.rowan_green.specs.Forest.{Forest, empty, node, leaf, Tree, forest_text, tree_text, same_tree}
+use Rattle.rowan_green.specs.Same.{same_tree-Decides}
+use Rattle.rowan_green.specs.declared.utility_types.NodeOrToken.TheVariants.{Node, Token}
+use Rattle.parser_input.specs.Leaf as leaves
+use Rattle.parser_input.specs.declared.edition.Edition.{Edition}
+use Rattle.parser_events.specs.Forest as forest
+use Rattle.parser_events.specs.Dressed as dressed
+use Rattle.parser_events.specs.Dressed.{Dressed, text_of}
+use Rattle.parser_input.specs.Kinds.{FIELD_EXPR}
+use Rattle.parser_events.specs.Dress.{Dressing, dress, dress_root, joined, as_dressed, put, put_each, put_pending, open_node, close_node, access, root}
+use Rattle.parser_events.proofs.Texts.{text-is-text}
+use Rattle.syntax_tree.specs.Path.{Path, at}
+use Rattle.syntax_tree.specs.Replacement.{start_of}
+use Rattle.syntax_tree.proofs.Slices.{text_from}
+use Rattle.rust_document.specs.Open.{IsOpened}
+use Rattle.rust_document.specs.Reading.{terms_of, root_of, dressed_file, tree}
+use Rattle.rust_document.specs.Rewrite.{Editing, rewritten}
+use Rattle.rust_document.specs.Step.{State, MAX_TEXT, present, bare_tree, is_faithful, verdict, Accepted, Foreign, TooLong, Later, Unfaithful}
+use Rattle.rust_document.specs.Thin.{is_thin}
+use Rattle.rust_document.specs.Laws.{untouched, IsKept}
+
+-- the text of terms is the text of what was dressed, in bytes
+terms-text : (d : Dressed) → forest_text (terms_of d) ≡ encodes (text_of d)
+terms-text dressed.End = refl
+terms-text (dressed.Leaf k t d) = ap (λ (bs : List ℕ). encodes t ++ bs) (terms-text d) ∙ sym (encodes-append t (text_of d))
+terms-text (dressed.Said m p d) = terms-text d
+terms-text (dressed.Node k c d) =
+    ap (λ (bs : List ℕ). bs ++ forest_text (terms_of d)) (terms-text c) ∙ ap (λ (bs : List ℕ). encodes (text_of c) ++ bs) (terms-text d) ∙ sym (encodes-append (text_of c) (text_of d))
+
+-- leaves alone make an error of them all
+leaves-root : (ls : List leaves.Leaf) → tree_text (root_of (terms_of (as_dressed ls))) ≡ forest_text (terms_of (as_dressed ls))
+unfolding as_dressed
+leaves-root [] = refl
+leaves-root (l ∷ ls) = refl
+
+single : (k : ℕ) (f : Forest) → tree_text (root_of (node k f empty)) ≡ forest_text (node k f empty)
+single k f = sym (append-nil (forest_text f))
+
+root-single : (k : ℕ) (s : Dressing) → tree_text (root_of (terms_of (root k s).given)) ≡ forest_text (terms_of (root k s).given)
+unfolding root close_node open_node
+root-single k s = single k (terms_of (put_each (length s.left) s).given)
+
+abbrev at_start : List leaves.Leaf → Dressing
+at_start ls = record { given = dressed.End; place = 0; left = ls }
+
+-- what an entry gives is one node
+root-text : (f : forest.Forest) (ls : List leaves.Leaf) → tree_text (root_of (terms_of (dress_root f ls))) ≡ forest_text (terms_of (dress_root f ls))
+unfolding dress_root put_each put
+root-text forest.End ls = leaves-root (take (length ls) ls)
+root-text (forest.Leaf k n f) ls = leaves-root (take (length ls) ls)
+root-text (forest.Said m f) ls = leaves-root (take (length ls) ls)
+root-text (forest.ErrorLeaf m k f) ls = leaves-root (take (length ls) ls)
+root-text (forest.Node k c f) ls = root-single k (dress c (at_start ls))
+root-text (forest.Float e c f) ls = root-single FIELD_EXPR (access (put_pending (at_start ls)) (put_pending (dress c (open_node (put_pending (at_start ls))))))
+
+leaves-joined : (edition : Edition) (ts : List lexer.Lexeme) → joined (map (leaves.leaf_of edition) ts) ≡ lexer.joined ts
+unfolding joined leaves.leaf_of
+leaves-joined edition [] = refl
+leaves-joined edition (l ∷ ls) = ap (λ (cs : List ℕ). l.text ++ cs) (leaves-joined edition ls)
+
+-- the leaves of the tree, joined, are the text
+pub tree-text : (edition : Edition) (text : List ℕ) → tree_text (tree edition text) ≡ encodes text
+unfolding tree dressed_file leaves.leaves
+tree-text edition text =
+    root-text _ (leaves.leaves edition text)
+    ∙ terms-text (dress_root _ (leaves.leaves edition text))
+    ∙ ap encodes (text-is-text _ (leaves.leaves edition text) ∙ leaves-joined edition (lexer.tokens text) ∙ tokens-joined text)
+
+-- the present tree has the document's text
+pub present-text : (d : State) → IsUtf8 d.text → tree_text (present d) ≡ d.text
+present-text d u = tree-text d.edition (chars d.text) ∙ encodes-chars d.text u
+
+pub leaf-slice : (d : State) (path : Path) (l : green.Leaf) → IsUtf8 d.text → at (Node (present d)) path ≡ Some (Token l) → take (length l.text) (drop (start_of (Node (present d)) path) d.text) ≡ l.text
+leaf-slice d path l u h =
+    ap (λ (t : List ℕ). take (length l.text) (drop (start_of (Node (present d)) path) t)) (sym (present-text d u)) ∙ text_from (Node (present d)) path (Token l) h
+
+same-itself : (t : Tree) → same_tree t t ≡ true
+same-itself t = (same_tree-Decides t t).1 refl
+
+-- the tree of its own text
+faithful-itself : (d : State) → IsUtf8 d.text → is_faithful d.edition (present d) ≡ true
+faithful-itself d u =
+    ap (λ (bs : List ℕ). same_tree (bare_tree (present d)) (bare_tree (tree d.edition (chars bs)))) (present-text d u) ∙ same-itself (bare_tree (present d))
+
+rows-false : (f l t u : Bool) → f ≡ false → l ≡ false → t ≡ false → u ≡ false → first_fit (row f Foreign ∷ row l TooLong ∷ row t Later ∷ row u Unfaithful ∷ []) Accepted ≡ Accepted
+unfolding first_fit
+rows-false f l t u p q r s = rw (p, q, r, s) refl
+
+pub untouched-kept : (d : State) → IsUtf8 d.text → IsOpened d.edition d.text → IsKept d
+untouched-kept d u o = record {
+  accepted =
+      rows-false _ _ _ _
+      (ap (λ (b : Bool). not b || not (same_tree (present d) (present d))) (eq-eqb d.number d.number refl) ∙ ap not (same-itself (present d)))
+      (ap (λ (bs : List ℕ). nat_lt MAX_TEXT (length bs)) (present-text d u) ∙ le-ltb MAX_TEXT (length d.text) o.0)
+      (ap (λ (bs : List ℕ). not (is_thin d.edition (chars bs))) (present-text d u) ∙ ap not o.1)
+      (ap not (faithful-itself d u));
+  same_text = present-text d u;
+}
