@@ -1,0 +1,66 @@
+//! Opens the text on standard input as a document, and commits another name for its last one. Prints how many bytes the text
+//! then has, or why not; the times go to standard error, in microseconds.
+#![tactic(auto)]
+
+use parser_input::edition::Edition;
+use parser_input::syntax_kind::SyntaxKind;
+use rowan_green::TextRange;
+use rust_document::{Committed, Document, PayloadEntry, SyntaxEditor, payload};
+use std::alloc::Global;
+use std::io;
+use std::time::Instant;
+use syntax_tree::{SyntaxElement, TreeIds};
+
+/// Where the last name of the text stands.
+fn last_name(document: &Document) -> Option<TextRange> {
+    let mut last = None;
+    for token in document.tokens() {
+        if token.kind == SyntaxKind::IDENT {
+            last = Some(token.range);
+        }
+    }
+    last
+}
+
+/// The last name itself.
+fn target(alloc: Global, document: &Document) -> Option<SyntaxElement> {
+    let range = last_name(document)?;
+    document.find(alloc, SyntaxKind::IDENT, range).ok()?
+}
+
+/// An editor that puts `renamed` for the last name.
+fn editor(alloc: Global, document: &Document, ids: &mut TreeIds) -> Option<SyntaxEditor> {
+    let old = target(alloc, document)?;
+    let edition = document.edition();
+    let new = payload(alloc, PayloadEntry::Token, edition, "renamed", ids).ok()?;
+    let mut editor = document.editor().ok()?;
+    editor.replace(alloc, &old, &new).ok()?;
+    Some(editor)
+}
+
+fn commit(alloc: Global, document: &mut Document, ids: &mut TreeIds) -> Option<Committed> {
+    let editor = editor(alloc, document, ids)?;
+    document.commit(alloc, editor, ids).ok()
+}
+
+fn measured(rt: &HostRuntime, text: &str) -> io::Result<()> {
+    let mut ids = TreeIds::new();
+    let start = Instant::now(rt)?;
+    let opened = Document::open(rt.alloc(), Edition::Edition2021, text, &mut ids);
+    let micros = start.elapsed(rt)?.as_micros();
+    eprintln!(rt; "open: {} bytes, {micros} microseconds", text.len())?;
+    let mut document = match opened {
+        Ok(document) => document,
+        Err(error) => return println!(rt; "{error}"),
+    };
+    let start = Instant::now(rt)?;
+    let committed = commit(rt.alloc(), &mut document, &mut ids).is_some();
+    let micros = start.elapsed(rt)?.as_micros();
+    eprintln!(rt; "find, replace and commit: {micros} microseconds")?;
+    println!(rt; "{committed} {}", document.text().len())
+}
+
+fn main(rt: HostRuntime) -> io::Result<()> {
+    let text = io::read_to_string(rt.alloc(), rt.reader())?;
+    measured(&rt, text.as_str())
+}
