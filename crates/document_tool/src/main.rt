@@ -1,0 +1,12 @@
+//! Answers a request on standard input: opens a Rust text, makes changes that are checked, and prints what became of it.
+#![tactic(auto)]
+
+mod device;
+mod fault;
+mod watched;
+
+use std::io;
+
+fn main(rt: HostRuntime) -> io::Result<()> {
+    Ok(())
+}
