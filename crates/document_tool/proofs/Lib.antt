@@ -1,1 +1,4 @@
 pub mod KnownBytes
+pub mod KindNames
+pub mod Shapes
+pub mod Walks

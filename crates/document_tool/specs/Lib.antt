@@ -1,2 +1,5 @@
 pub mod Watched
 pub mod Device
+pub mod Words
+pub mod Request
+pub mod Asked

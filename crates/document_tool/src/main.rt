@@ -3,6 +3,9 @@
 
 mod device;
 mod fault;
+mod floats;
+mod request;
+mod shape;
 mod watched;
 
 use std::io;
