@@ -2,3 +2,4 @@ pub mod KnownBytes
 pub mod KindNames
 pub mod Shapes
 pub mod Walks
+pub mod NoFloat

@@ -3,3 +3,5 @@ pub mod Device
 pub mod Words
 pub mod Request
 pub mod Asked
+pub mod Reply
+pub mod Answered

@@ -4,6 +4,8 @@
 mod device;
 mod fault;
 mod floats;
+mod print;
+mod reply;
 mod request;
 mod shape;
 mod watched;
