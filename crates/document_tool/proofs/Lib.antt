@@ -1,5 +1,0 @@
-pub mod KnownBytes
-pub mod KindNames
-pub mod Shapes
-pub mod Walks
-pub mod NoFloat
