@@ -4,7 +4,6 @@ pub mod Passing
 pub mod Nodes
 pub mod Inputs
 pub mod Structs
-pub mod Memory
 pub mod Going
 pub mod Words
 pub mod Lexing
@@ -12,3 +11,7 @@ pub mod Sizes
 pub mod Whole
 pub mod Bares
 pub mod Verdicts
+pub mod Places
+pub mod Recordings
+pub mod Payloads
+pub mod Changes

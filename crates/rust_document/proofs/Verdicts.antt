@@ -7,7 +7,10 @@ use Rattle.parser_input.specs.declared.edition.Edition.{Edition}
 use Rattle.rust_document.specs.Thin.{is_thin}
 use Rattle.rust_document.specs.Rewrite.{Editing, rewritten}
 use Rattle.rust_document.specs.Step.{State, MAX_TEXT, present, is_faithful, Verdict, verdict, Foreign, TooLong, Later, Unfaithful, Accepted}
-use Rattle.rust_document.specs.Commit.{RefusesCommit}
+use Rattle.syntax_tree.specs.Refusal.{RefusesTree}
+use Rattle.syntax_tree.specs.declared.error.TreeError.{TreeError}
+use Rattle.syntax_tree.specs.declared.error.TreeError.TheVariants as trees
+use Rattle.rust_document.specs.Commit.{RefusesCommit, commit_error_of}
 use Rattle.rust_document.specs.Rewritten.{IsRewritten, RefusesRewritten}
 use Rattle.rust_document.specs.declared.read.Reading.{Reading}
 use Rattle.rust_document.specs.declared.error.CommitError.{CommitError}
@@ -67,3 +70,8 @@ pub accepted : (d : State) (e : Editing) (b : Bool) (text : List ℕ) (reading :
 accepted d e b text reading edition is own same h =
     let P : Edition → Type 0 = λ x. IsRewritten x (rewritten e) text reading in
     by-reading d e b text reading is own (subst P same h)
+
+-- a rewrite that is accepted, and a tree that could not be made
+pub without_tree : (v : Verdict) (number : ℕ) (e : TreeError) → v ≡ Accepted → RefusesTree number e → RefusesCommit v number (commit_error_of e)
+without_tree v number trees.Spent is h = (is, h)
+without_tree v number trees.NoMemory is h = tt

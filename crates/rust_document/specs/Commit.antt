@@ -4,6 +4,8 @@ use Rattle.rust_document.specs.Step.{Verdict}
 use Rattle.rust_document.specs.Step as step
 use Rattle.rust_document.specs.declared.error.CommitError.{CommitError}
 use Rattle.rust_document.specs.declared.error.CommitError.TheVariants.{Foreign, TooLong, Unfaithful, NoTreeNumber, NoMemory, Later}
+use Rattle.syntax_tree.specs.declared.error.TreeError.{TreeError}
+use Rattle.syntax_tree.specs.declared.error.TreeError.TheVariants as trees
 
 -- A refusal tells what the verdict says. Want of a tree number comes only where none is left, want of memory at any point.
 abbrev pub RefusesCommit : Verdict → ℕ → CommitError → Type 0
@@ -21,3 +23,8 @@ commit_message_of Unfaithful = codes "not what its text says"
 commit_message_of NoTreeNumber = codes "no tree number is left"
 commit_message_of NoMemory = codes "out of memory"
 commit_message_of Later = codes "not read yet"
+
+-- a tree that could not be made
+abbrev pub commit_error_of : TreeError → CommitError
+commit_error_of trees.Spent = NoTreeNumber
+commit_error_of trees.NoMemory = NoMemory

@@ -14,3 +14,7 @@ pub mod Bare
 pub mod Commit
 pub mod Placed
 pub mod Rewritten
+pub mod Record
+pub mod Payload
+pub mod Tokens
+pub mod Committed

@@ -13,7 +13,7 @@ use Rattle.rust_document.specs.declared.error.CommitError.TheVariants.{Foreign, 
 pub record IsRewritten (edition : Edition) (t : Tree) (text : List ℕ) (reading : Reading) : Type 0 where
   pub text_is : text ≡ tree_text t
   pub fits : length (tree_text t) ≤ MAX_TEXT
-  pub reading_is : IsReading edition (chars (tree_text t)) reading.root reading.errors.items
+  pub reading_is : IsReading edition (chars (tree_text t)) reading.tokens.items reading.root reading.errors.items
   pub faithful : is_faithful edition t ≡ true
 
 -- the first case that fits; want of memory at any point

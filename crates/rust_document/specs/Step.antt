@@ -3,6 +3,7 @@ use Rattle.std.specs.Prelude.{ℕ, ◌==◌, Bool, not, ◌||◌, nat_lt, List, 
 use Rattle.rustc_lexer.specs.Rows.{row, first_fit}
 use Rattle.rowan_green.specs.Forest.{Tree, tree_text, same_tree}
 use Rattle.parser_input.specs.declared.edition.Edition.{Edition}
+use Rattle.syntax_tree.specs.Handle.{Handle}
 use Rattle.rust_document.specs.Reading.{tree}
 use Rattle.rust_document.specs.Thin.{is_thin}
 use Rattle.rust_document.specs.Rewrite.{Editing, rewritten, bare}
@@ -21,6 +22,10 @@ MAX_TEXT = 16777216
 -- the present tree
 abbrev pub present : State → Tree
 present d = tree d.edition (chars d.text)
+
+-- its root, as it is handed out
+abbrev pub root_handle : State → Handle
+root_handle d = record { number = d.number; root = present d; path = [] }
 
 -- a tree without white space and comments
 abbrev pub bare_tree : Tree → Tree

@@ -1,47 +1,63 @@
 //! A text that is read.
-ghost use Rattle.std.specs.Prelude.{◌≡◌, ◌+◌, ◌==◌, ◌&&◌, None, chars, map, IfOk, IfErr, OnOk};
-ghost use Rattle.rust_document.specs.Open.{IsRead, RefusesOpen};
+ghost use Rattle.std.specs.Prelude.{◌≡◌, ◌+◌, ◌==◌, ◌&&◌, [], None, chars, map, option_map, IfOk, IfErr, OnOk};
+ghost use Rattle.parser_input.specs.Kind.{raw_of};
+ghost use Rattle.rowan_green.specs.Forest.{same_tree, tree_text};
+ghost use Rattle.syntax_tree.specs.Element.{handle_of};
+ghost use Rattle.syntax_tree.specs.Handle.{placed_handle};
+ghost use Rattle.syntax_tree.specs.Path.{first_of};
+ghost use Rattle.rust_document.specs.Commit.{RefusesCommit};
+ghost use Rattle.rust_document.specs.Committed.{ends_of};
+ghost use Rattle.rust_document.specs.Open.{IsOpened, RefusesOpen};
 ghost use Rattle.rust_document.specs.Puts.{told, says};
 ghost use Rattle.rust_document.specs.Reading.{messages};
-ghost use Rattle.rowan_green.specs.Forest.{same_tree, tree_text};
-ghost use Rattle.rust_document.specs.Commit.{RefusesCommit};
-ghost use Rattle.rust_document.specs.Rewrite.{rewritten};
-ghost use Rattle.rust_document.specs.Step.{present, verdict, Accepted};
+ghost use Rattle.rust_document.specs.Rewrite.{rewritten, changed};
+ghost use Rattle.rust_document.specs.Step.{present, root_handle, verdict, Accepted};
+ghost use Rattle.rust_document.specs.Tokens.{shown, tokens_of};
 
 use crate::error::{CommitError, OpenError};
 use crate::read::{Reading, read};
-use crate::rewrite::rewrite;
+use crate::rewrite::{Rewritten, rewrite};
 use crate::syntax_editor::SyntaxEditor;
 use crate::syntax_error::SyntaxError;
+use crate::tokens::{LexedToken, Tokens};
 use parser_input::edition::Edition;
-use rowan_green::GreenNode;
+use parser_input::syntax_kind::SyntaxKind;
+use rowan_green::TextRange;
 use std::alloc::{AllocError, Global};
 use std::marker::Model;
-use syntax_tree::TreeIds;
+use syntax_tree::{SyntaxElement, SyntaxNode, TreeIds};
 
 /// The most bytes that a text may have.
 pub const MAX_TEXT: usize = 16_777_216;
 
-/// A text with its edition, its messages and its tree. A contract sees the edition, the text and the tree's number; messages and
-/// tree are the reading of that text.
+/// What an accepted commit tells.
+#[derive(Debug, Drop)]
+pub struct Committed {
+    /// The bytes of the new text that were put in, from front to end.
+    pub changed: Vec<TextRange>,
+}
+
+/// A text with its edition, its tokens, its messages and its tree. A contract sees the edition, the text and the tree's number;
+/// tokens, messages and tree are the reading of that text.
 #[derive(Drop)]
 pub struct Document {
     edition: Edition,
     text: String,
-    number: u32,
-    reading: Reading,
+    tokens: Vec<LexedToken>,
+    root: SyntaxNode,
+    errors: Vec<SyntaxError>,
 }
 
 impl Model for Document {
-    ghost use Rattle.std.specs.Prelude.{◌≤◌, length, chars, string_bytes};
+    ghost use Rattle.std.specs.Prelude.{◌≡◌, ◌≤◌, [], length, chars, string_bytes};
     ghost use Rattle.rust_document.specs.Step.{State, MAX_TEXT};
     ghost use Rattle.rust_document.specs.IsReading.{IsReading};
 
     ghost Value = { State };
 
-    ghost view = { λ d. record { edition = d.edition; text = string_bytes d.text; number = d.number } };
+    ghost view = { λ d. record { edition = d.edition; text = string_bytes d.text; number = d.root.number } };
 
-    ghost invariant = { λ d. (length (string_bytes d.text) ≤ MAX_TEXT) × IsReading d.edition (chars (string_bytes d.text)) d.reading.root d.reading.errors.items };
+    ghost invariant = { λ d. (length (string_bytes d.text) ≤ MAX_TEXT) × (d.root.path ≡ []) × IsReading d.edition (chars (string_bytes d.text)) d.tokens.items d.root.root d.errors.items };
 }
 
 impl Document {
@@ -57,7 +73,7 @@ impl Document {
     ) -> Result<Document, OpenError>
         ensures opened { IfOk result (λ d. d ≡ record { edition = edition; text = text.now; number = ids.old }) }
         ensures number { OnOk result (ids.new ≡ ids.old + 1) }
-        ensures is_read { OnOk result (IsRead edition text.now) }
+        ensures is_read { OnOk result (IsOpened edition text.now) }
         ensures refused { IfErr result (RefusesOpen edition text.now ids.old) }
         ensures kept { IfErr result (λ _. ids.new ≡ ids.old) }
     {
@@ -67,13 +83,19 @@ impl Document {
         let Some(reading) = read(alloc, edition, text)? else {
             return Err(OpenError::Later);
         };
+        let Reading {
+            tokens,
+            root,
+            errors,
+        } = reading;
         let text = String::from_str(alloc, text)?;
-        let first = ids.next()?;
+        let root = SyntaxNode::new_root(alloc, root, ids)?;
         Ok(Document {
             edition,
             text,
-            number: first,
-            reading,
+            tokens,
+            root,
+            errors,
         })
     }
 
@@ -89,39 +111,51 @@ impl Document {
         self.text.as_str()
     }
 
-    /// The number of the present tree.
-    pub fn number(&self) -> u32
-        ensures { result ≡ self.now.number }
+    /// The root of the present tree.
+    pub fn root(&self) -> &SyntaxNode
+        ensures { result.now ≡ root_handle self.now }
     {
-        self.number
+        &self.root
     }
 
-    /// The present tree.
-    pub fn green(&self) -> &GreenNode
-        ensures { result.now ≡ present self.now }
+    /// The tokens of the text in order, white space too.
+    pub fn tokens(&self) -> Tokens<'_>
+        ensures { map shown result ≡ tokens_of self.now.edition (chars self.now.text) }
     {
-        &self.reading.root
+        Tokens::of(&self.tokens)
     }
 
     /// The messages of the parser, in the order of its steps.
     pub fn errors(&self) -> &[SyntaxError]
         ensures { map told result.now ≡ map says (messages self.now.edition (chars self.now.text)) }
     {
-        &self.reading.errors
+        &self.errors
+    }
+
+    /// The first element in preorder that is of a kind and has a range: of several that have the range, the outermost.
+    pub fn find(
+        &self,
+        alloc: Global,
+        kind: SyntaxKind,
+        range: TextRange,
+    ) -> Result<Option<SyntaxElement>, AllocError>
+        ensures { IfOk result (λ found. option_map handle_of found ≡ option_map (placed_handle (root_handle self.now)) (first_of (raw_of kind) range.start.0 range.end.0 (present self.now))) }
+    {
+        self.root.find(alloc, kind, range)
     }
 
     /// An editor of the present tree, with nothing recorded.
     pub fn editor(&self) -> Result<SyntaxEditor, AllocError>
         ensures { IfOk result (λ e. e ≡ record { number = self.now.number; root = present self.now; change = None }) }
     {
-        Ok(SyntaxEditor::new(self.number, self.reading.root.clone()?))
+        Ok(SyntaxEditor::new(self.root.clone()?))
     }
 
     /// Whether an editor is one of the present tree.
     fn is_of(&self, editor: &SyntaxEditor) -> bool
         ensures { result ≡ (editor.now.number == self.now.number && same_tree editor.now.root (present self.now)) }
     {
-        editor.number() == self.number && *editor.root() == self.reading.root
+        editor.root().tree() == self.root.tree() && *editor.root().green() == *self.root.green()
     }
 
     /// Makes an editor's recorded change, where its text reads as the rewritten tree; the text is the rewritten tree's, and its
@@ -135,9 +169,10 @@ impl Document {
         alloc: Global,
         editor: SyntaxEditor,
         ids: &mut TreeIds,
-    ) -> Result<(), CommitError>
+    ) -> Result<Committed, CommitError>
         ensures accepted { OnOk result (verdict self.old editor ≡ Accepted) }
         ensures state { OnOk result (self.new ≡ record { edition = self.old.edition; text = tree_text (rewritten editor); number = ids.old }) }
+        ensures changed { IfOk result (λ c. map ends_of c.changed.items ≡ changed editor) }
         ensures number { OnOk result (ids.new ≡ ids.old + 1) }
         ensures refused { IfErr result (RefusesCommit (verdict self.old editor) ids.old) }
         ensures kept { IfErr result (λ _. (self.new ≡ self.old) × (ids.new ≡ ids.old)) }
@@ -145,11 +180,17 @@ impl Document {
         if !self.is_of(&editor) {
             return Err(CommitError::Foreign);
         }
-        let rewritten = rewrite(alloc, self.edition, &editor)?;
-        let number = ids.next()?;
-        self.text = rewritten.text;
-        self.number = number;
-        self.reading = rewritten.reading;
-        Ok(())
+        let Rewritten { text, reading } = rewrite(alloc, self.edition, &editor)?;
+        let Reading {
+            tokens,
+            root,
+            errors,
+        } = reading;
+        let changed = editor.changed(alloc)?;
+        self.root = SyntaxNode::new_root(alloc, root, ids)?;
+        self.text = text;
+        self.tokens = tokens;
+        self.errors = errors;
+        Ok(Committed { changed })
     }
 }

@@ -1,8 +1,8 @@
-//! Why a text was not opened, and why a commit was refused.
+//! Why a call was refused.
 use std::alloc::AllocError;
 use std::error::Error;
 use std::fmt;
-use syntax_tree::Spent;
+use syntax_tree::TreeError;
 
 /// A refusal of `Document::open`. Nothing was changed.
 #[derive(Clone, Copy, Debug, PartialEq, Eq)]
@@ -46,14 +46,17 @@ impl From<AllocError> for OpenError {
     }
 }
 
-impl From<Spent> for OpenError {
-    ghost use Rattle.rust_document.specs.declared.error.OpenError.TheVariants.{NoTreeNumber};
+impl From<TreeError> for OpenError {
+    ghost use Rattle.rust_document.specs.Open.{open_error_of};
     ghost use Rattle.std.specs.Prelude.{◌≡◌};
 
-    ghost from_gives = { λ _ e. e ≡ NoTreeNumber };
+    ghost from_gives = { λ t e. e ≡ open_error_of t };
 
-    fn from(_e: Spent) -> OpenError {
-        OpenError::NoTreeNumber
+    fn from(e: TreeError) -> OpenError {
+        match e {
+            TreeError::Spent => OpenError::NoTreeNumber,
+            TreeError::NoMemory => OpenError::NoMemory,
+        }
     }
 }
 
@@ -105,13 +108,117 @@ impl From<AllocError> for CommitError {
     }
 }
 
-impl From<Spent> for CommitError {
-    ghost use Rattle.rust_document.specs.declared.error.CommitError.TheVariants.{NoTreeNumber};
+impl From<TreeError> for CommitError {
+    ghost use Rattle.rust_document.specs.Commit.{commit_error_of};
     ghost use Rattle.std.specs.Prelude.{◌≡◌};
 
-    ghost from_gives = { λ _ e. e ≡ NoTreeNumber };
+    ghost from_gives = { λ t e. e ≡ commit_error_of t };
 
-    fn from(_e: Spent) -> CommitError {
-        CommitError::NoTreeNumber
+    fn from(e: TreeError) -> CommitError {
+        match e {
+            TreeError::Spent => CommitError::NoTreeNumber,
+            TreeError::NoMemory => CommitError::NoMemory,
+        }
+    }
+}
+
+/// A refusal of `SyntaxEditor::replace`. Nothing was recorded.
+#[derive(Clone, Copy, Debug, PartialEq, Eq)]
+pub enum RecordError {
+    /// The target has another tree number than the editor's tree, or its path leads to nothing of its kind there.
+    Foreign = 1,
+    /// The root would be replaced by a token.
+    BadTarget = 3,
+    /// Memory was refused.
+    NoMemory = 4,
+    /// Another element is already to be replaced, and editors do not record two changes yet.
+    Later = 90,
+}
+
+impl fmt::Display for RecordError {
+    ghost use Rattle.std.specs.Prelude.{Some};
+    ghost use Rattle.rust_document.specs.Record.{record_message_of};
+
+    ghost output = { λ e. Some (record_message_of e) };
+
+    fn fmt<W: fmt::Write>(&self, f: &mut fmt::Formatter<W>) -> fmt::Result {
+        match self {
+            RecordError::Foreign => write!(f, "of another tree"),
+            RecordError::BadTarget => write!(f, "a token for the root"),
+            RecordError::NoMemory => write!(f, "out of memory"),
+            RecordError::Later => write!(f, "a second change"),
+        }
+    }
+}
+
+impl Error for RecordError {}
+
+impl From<AllocError> for RecordError {
+    ghost use Rattle.rust_document.specs.declared.error.RecordError.TheVariants.{NoMemory};
+    ghost use Rattle.std.specs.Prelude.{◌≡◌};
+
+    ghost from_gives = { λ _ e. e ≡ NoMemory };
+
+    fn from(_e: AllocError) -> RecordError {
+        RecordError::NoMemory
+    }
+}
+
+/// A refusal of `payload`. No number was taken.
+#[derive(Clone, Copy, Debug, PartialEq, Eq)]
+pub enum PayloadError {
+    /// The text is no token, or more than one.
+    NotOneToken = 2,
+    /// The text has more than 16,777,216 bytes.
+    TooLong = 3,
+    /// Each tree number was given.
+    NoTreeNumber = 4,
+    /// Memory was refused.
+    NoMemory = 5,
+    /// The text has a token that documents do not read yet.
+    Later = 90,
+}
+
+impl fmt::Display for PayloadError {
+    ghost use Rattle.std.specs.Prelude.{Some};
+    ghost use Rattle.rust_document.specs.Payload.{payload_message_of};
+
+    ghost output = { λ e. Some (payload_message_of e) };
+
+    fn fmt<W: fmt::Write>(&self, f: &mut fmt::Formatter<W>) -> fmt::Result {
+        match self {
+            PayloadError::NotOneToken => write!(f, "not one token"),
+            PayloadError::TooLong => write!(f, "too long"),
+            PayloadError::NoTreeNumber => write!(f, "no tree number is left"),
+            PayloadError::NoMemory => write!(f, "out of memory"),
+            PayloadError::Later => write!(f, "not read yet"),
+        }
+    }
+}
+
+impl Error for PayloadError {}
+
+impl From<AllocError> for PayloadError {
+    ghost use Rattle.rust_document.specs.declared.error.PayloadError.TheVariants.{NoMemory};
+    ghost use Rattle.std.specs.Prelude.{◌≡◌};
+
+    ghost from_gives = { λ _ e. e ≡ NoMemory };
+
+    fn from(_e: AllocError) -> PayloadError {
+        PayloadError::NoMemory
+    }
+}
+
+impl From<TreeError> for PayloadError {
+    ghost use Rattle.rust_document.specs.Payload.{of_tree_error};
+    ghost use Rattle.std.specs.Prelude.{◌≡◌};
+
+    ghost from_gives = { λ t e. e ≡ of_tree_error t };
+
+    fn from(e: TreeError) -> PayloadError {
+        match e {
+            TreeError::Spent => PayloadError::NoTreeNumber,
+            TreeError::NoMemory => PayloadError::NoMemory,
+        }
     }
 }

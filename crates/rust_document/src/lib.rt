@@ -9,6 +9,7 @@ mod elements;
 pub mod error;
 mod leaf;
 mod lexed;
+pub mod payload_entry;
 mod read;
 mod reader;
 mod rewrite;
@@ -16,8 +17,11 @@ pub mod syntax_editor;
 pub mod syntax_error;
 #[cfg(test)]
 mod tests;
+pub mod tokens;
 
-pub use document::{Document, MAX_TEXT};
-pub use error::{CommitError, OpenError};
+pub use document::{Committed, Document, MAX_TEXT};
+pub use error::{CommitError, OpenError, PayloadError, RecordError};
+pub use payload_entry::{PayloadEntry, payload};
 pub use syntax_editor::SyntaxEditor;
 pub use syntax_error::SyntaxError;
+pub use tokens::{LexedToken, Tokens};

@@ -5,13 +5,15 @@ ghost use Rattle.rust_document.specs.IsReading.{IsReadingIfThin};
 use crate::lexed::thin_leaves;
 use crate::reader::Reader;
 use crate::syntax_error::SyntaxError;
+use crate::tokens::{LexedToken, lexed_tokens};
 use parser_input::edition::Edition;
 use rowan_green::GreenNode;
 use std::alloc::{AllocError, Global};
 
-/// The tree and the messages of a text.
+/// The tokens, the tree and the messages of a text.
 #[derive(Drop)]
 pub struct Reading {
+    pub tokens: Vec<LexedToken>,
     pub root: GreenNode,
     pub errors: Vec<SyntaxError>,
 }
@@ -28,5 +30,10 @@ pub fn read(alloc: Global, edition: Edition, text: &str) -> Result<Option<Readin
     let mut reader = Reader::new(alloc, &leaves);
     let root = reader.source_file()?;
     let errors = reader.into_errors();
-    Ok(Some(Reading { root, errors }))
+    let tokens = lexed_tokens(alloc, &leaves)?;
+    Ok(Some(Reading {
+        tokens,
+        root,
+        errors,
+    }))
 }

@@ -15,12 +15,13 @@ ghost use Rattle.parser_input.specs.declared.edition.Edition.{Edition};
 ghost use Rattle.rust_document.specs.Read.{IsRead};
 ghost use Rattle.rust_document.specs.Puts.{Puts, at_trivia, next_of, bytes_in};
 
-use crate::elements;
+use crate::elements::put_node;
 use crate::leaf::Leaf;
 use crate::syntax_error::SyntaxError;
 use parser_input::syntax_kind::SyntaxKind;
 use rowan_green::{GreenElement, GreenNode, NodeOrToken};
 use std::alloc::{AllocError, Global};
+use syntax_tree::elements::{node, token};
 
 /// Where the reader is in a text.
 #[derive(Drop)]
@@ -81,7 +82,7 @@ impl<'a> Reader<'a> {
         ensures more { OnOk result (length out.old.items < length out.new.items) }
     {
         let leaf = self.rest[0];
-        let token = elements::token(self.alloc, leaf.kind, leaf.text)?;
+        let token = token(self.alloc, leaf.kind, leaf.text)?;
         out.push(NodeOrToken::Token(token))?;
         self.rest = &self.rest[1..];
         self.place += leaf.text.len();
@@ -147,7 +148,7 @@ impl<'a> Reader<'a> {
         self.trivia(out)?;
         let mut children = Vec::new(self.alloc);
         self.leaf(SyntaxKind::IDENT, &mut children)?;
-        elements::put_node(self.alloc, kind, children, out)?;
+        put_node(self.alloc, kind, children, out)?;
         Ok(())
     }
 
@@ -193,7 +194,7 @@ impl<'a> Reader<'a> {
         self.leaf(SyntaxKind::STRUCT_KW, &mut children)?;
         self.expect_name(&mut children)?;
         self.expect_semicolon(&mut children)?;
-        elements::put_node(self.alloc, SyntaxKind::STRUCT, children, out)?;
+        put_node(self.alloc, SyntaxKind::STRUCT, children, out)?;
         Ok(())
     }
 
@@ -206,7 +207,7 @@ impl<'a> Reader<'a> {
         self.trivia(out)?;
         let mut children = Vec::new(self.alloc);
         self.identifier(SyntaxKind::NAME_REF, &mut children)?;
-        elements::put_node(self.alloc, SyntaxKind::PATH_SEGMENT, children, out)?;
+        put_node(self.alloc, SyntaxKind::PATH_SEGMENT, children, out)?;
         Ok(())
     }
 
@@ -219,7 +220,7 @@ impl<'a> Reader<'a> {
         self.trivia(out)?;
         let mut children = Vec::new(self.alloc);
         self.path_segment(&mut children)?;
-        elements::put_node(self.alloc, SyntaxKind::PATH, children, out)?;
+        put_node(self.alloc, SyntaxKind::PATH, children, out)?;
         Ok(())
     }
 
@@ -233,7 +234,7 @@ impl<'a> Reader<'a> {
         let mut children = Vec::new(self.alloc);
         self.path(&mut children)?;
         self.say("expected an item")?;
-        elements::put_node(self.alloc, SyntaxKind::ERROR, children, out)?;
+        put_node(self.alloc, SyntaxKind::ERROR, children, out)?;
         Ok(())
     }
 
@@ -249,7 +250,7 @@ impl<'a> Reader<'a> {
         let mut children = Vec::new(self.alloc);
         self.say("expected an item")?;
         self.put(&mut children)?;
-        elements::put_node(self.alloc, SyntaxKind::ERROR, children, out)?;
+        put_node(self.alloc, SyntaxKind::ERROR, children, out)?;
         Ok(())
     }
 
@@ -282,7 +283,7 @@ impl<'a> Reader<'a> {
             self.item(&mut children)?;
         }
         self.trivia(&mut children)?;
-        let tree = elements::node(self.alloc, SyntaxKind::SOURCE_FILE, children)?;
+        let tree = node(self.alloc, SyntaxKind::SOURCE_FILE, children)?;
         Ok(tree)
     }
 }

@@ -9,7 +9,7 @@ use Rattle.rowan_green.specs.declared.error.GreenError.{GreenError}
 use Rattle.rowan_green.specs.declared.error.GreenError.TheVariants.{TooLong, Unbalanced, NoMemory}
 use Rattle.rowan_green.specs.declared.utility_types.NodeOrToken.TheVariants.{Node, Token}
 use Rattle.syntax_tree.specs.Path.{Path, child, replaced, with_child, before}
-use Rattle.syntax_tree.specs.Replacement.{IsNode}
+use Rattle.syntax_tree.specs.Replacement.{IsNode, bytes_before}
 use Rattle.syntax_tree.proofs.Children.{put_child, child_within}
 
 -- one child replaced, and all that stands around it kept
@@ -31,6 +31,20 @@ changed_within (leaf l r) zero e change h =
     omega (arith, text_before (change (Token l)) r, ap (λ x. term_len (change x)) same)
 changed_within (node k f r) (suc i) e change h = omega (arith, length-append (forest_text f) (forest_text (with_child r i change)), changed_within r i e change h)
 changed_within (leaf l r) (suc i) e change h = omega (arith, length-append l.text (forest_text (with_child r i change)), changed_within r i e change h)
+
+-- the same, behind what stands before it
+pub changed_start : (f : Forest) (i : ℕ) (e : Term) (change : Term → Term) → child f i ≡ Some e → bytes_before f i + term_len (change e) ≤ length (forest_text (with_child f i change))
+changed_start empty i e change h = absurd cc
+changed_start (node k f r) zero e change h =
+    let same : Node (record { kind = k; forest = f }) ≡ e = cc in
+    omega (arith, text_before (change (Node (record { kind = k; forest = f }))) r, ap (λ x. term_len (change x)) same)
+changed_start (leaf l r) zero e change h =
+    let same : Token l ≡ e = cc in
+    omega (arith, text_before (change (Token l)) r, ap (λ x. term_len (change x)) same)
+changed_start (node k f r) (suc i) e change h =
+    omega (arith, length-append (forest_text f) (forest_text r), length-append (forest_text f) (forest_text (with_child r i change)), changed_start r i e change h)
+changed_start (leaf l r) (suc i) e change h =
+    omega (arith, length-append l.text (forest_text (with_child r i change)), changed_start r i e change h)
 
 -- the changed child's text is within the changed node's
 pub replaced_within : (t : Tree) (i : ℕ) (path : Path) (e new : Term) → child t.forest i ≡ Some e → term_len (replaced e path new) ≤ term_len (replaced (Node t) (i ∷ path) new)

@@ -3,3 +3,5 @@ pub mod Replacement
 pub mod Lent
 pub mod Walk
 pub mod Refusal
+pub mod Handle
+pub mod Element

@@ -19,15 +19,13 @@ impl fmt::Display for Spent {
 
 impl Error for Spent {}
 
-/// A refusal of this crate. What was refused changed nothing but the source of numbers.
+/// Why a tree was not made. What was refused took no number.
 #[derive(Clone, Copy, Debug, PartialEq, Eq)]
 pub enum TreeError {
-    /// A length in bytes is past `u32`.
-    TooLong = 1,
     /// Each tree number was given.
-    Spent = 2,
+    Spent = 1,
     /// Memory was refused.
-    NoMemory = 3,
+    NoMemory = 2,
 }
 
 impl fmt::Display for TreeError {
@@ -38,7 +36,6 @@ impl fmt::Display for TreeError {
 
     fn fmt<W: fmt::Write>(&self, f: &mut fmt::Formatter<W>) -> fmt::Result {
         match self {
-            TreeError::TooLong => write!(f, "too long"),
             TreeError::Spent => write!(f, "no tree number is left"),
             TreeError::NoMemory => write!(f, "out of memory"),
         }

@@ -19,8 +19,19 @@ new-reader-requires-clause-count c =
     let are = these-leaves _ _ _ _ c.in-Some.is c.in_ok-leaves.ensures in
     subst P (sym c.deref.ensures.value) (omega (arith, count-all _ _ _ c.utf8.text are.1, c.requires))
 
+pub lexed_tokens-requires : goal.lexed_tokens-requires
+lexed_tokens-requires c =
+    let P : List Leaf → Type 0 = λ ls. bytes_in ls ≤ 16777216 in
+    let are = these-leaves _ _ _ _ c.in-Some.is c.in_ok-leaves.ensures in
+    subst P (sym c.deref-2.ensures.value) (omega (arith, bytes-all _ _ _ c.utf8.text are.1, c.requires))
+
 pub returns : goal.returns
 returns c =
     let are = these-leaves _ _ _ _ c.in-Some.is c.in_ok-leaves.ensures in
-    let read = whole _ _ _ _ _ _ are (c.new-reader.ensures.rest ∙ c.deref.ensures.value) c.in_ok-root.ensures in
-    record { thin = read.thin; root_is = read.root_is; errors_are = ap (λ (es : List SyntaxError). map told es) c.into_errors-errors.ensures ∙ read.errors_are }
+    let read = whole _ _ _ _ _ _ _ _ are (c.new-reader.ensures.rest ∙ c.deref.ensures.value) c.deref-2.ensures.value c.in_ok-root.ensures c.in_ok-tokens.ensures in
+    record {
+      thin = read.thin;
+      tokens_are = read.tokens_are;
+      root_is = read.root_is;
+      errors_are = ap (λ (es : List SyntaxError). map told es) c.into_errors-errors.ensures ∙ read.errors_are;
+    }

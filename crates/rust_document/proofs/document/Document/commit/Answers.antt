@@ -2,21 +2,24 @@
 use Rattle.std.proofs.Common.{ap}
 use Rattle.rust_document.specs.Step.{State}
 use Rattle.std.proofs.lemmas.Result.{err_from_is_err_and}
-use Rattle.rust_document.proofs.Verdicts.{foreign, refused, accepted}
+use Rattle.rust_document.proofs.Verdicts.{foreign, refused, accepted, without_tree}
 use Rattle.rust_document.proofs.document.Document.commit.Goals as goal
 
 pub returns-then-not-is_of-clause-refused : goal.returns-then-not-is_of-clause-refused
 returns-then-not-is_of-clause-refused c = foreign c.args.self.now c.args.editor _ c.is_of.ensures c.if-not-is_of.true
 
-pub returns-in_err-rewritten-clause-refused : goal.returns-in_err-rewritten-clause-refused
-returns-in_err-rewritten-clause-refused c =
-    let p = err_from_is_err_and c.from_residual.result c.from_residual.ensures.1 in
-    rw (p.1, p.2) (refused c.args.self.now c.args.editor _ _ _ _ c.is_of.ensures c.if-not-is_of.false (ap (λ (s : State). s.edition) c.self.view_is) c.in_err-rewritten.ensures.refused)
-
-pub returns-in_err-number-clause-refused : goal.returns-in_err-number-clause-refused
-returns-in_err-number-clause-refused c =
-    let p = err_from_is_err_and c.from_residual-in_err-number.result c.from_residual-in_err-number.ensures.1 in
-    rw (p.1, p.2) (accepted c.args.self.now c.args.editor _ _ _ _ c.is_of.ensures c.if-not-is_of.false (ap (λ (s : State). s.edition) c.self.view_is) c.in_ok-rewritten.ensures.ok, c.in_err-number.ensures.spent.0)
-
 pub returns-clause-accepted : goal.returns-clause-accepted
-returns-clause-accepted c = accepted c.args.self.now c.args.editor _ _ _ _ c.is_of.ensures c.if-not-is_of.false (ap (λ (s : State). s.edition) c.self.view_is) c.in_ok-rewritten.ensures.ok
+returns-clause-accepted c = accepted c.args.self.now c.args.editor _ _ _ _ c.is_of.ensures c.if-not-is_of.false (ap (λ (s : State). s.edition) c.self.view_is) c.in_ok-text.ensures.ok
+
+pub returns-in_err-text-clause-refused : goal.returns-in_err-text-clause-refused
+returns-in_err-text-clause-refused c =
+    let p = err_from_is_err_and c.from_residual.result c.from_residual.ensures.1 in
+    rw (p.1, p.2) (refused c.args.self.now c.args.editor _ _ _ _ c.is_of.ensures c.if-not-is_of.false (ap (λ (s : State). s.edition) c.self.view_is) c.in_err-text.ensures.refused)
+
+pub returns-in_err-self-inside-clause-refused : goal.returns-in_err-self-inside-clause-refused
+returns-in_err-self-inside-clause-refused c =
+    let p = err_from_is_err_and c.from_residual-in_err-self-inside.result c.from_residual-in_err-self-inside.ensures.1 in
+    rw (p.1, p.2)
+    (without_tree _ c.args.ids.now c.in_err-self-inside.field-0.0
+    (accepted c.args.self.now c.args.editor _ _ _ _ c.is_of.ensures c.if-not-is_of.false (ap (λ (s : State). s.edition) c.self.view_is) c.in_ok-text.ensures.ok)
+    c.in_err-self-inside.ensures.refused)

@@ -4,8 +4,8 @@ use Rattle.std.proofs.lemmas.Iterator.{items_from_drains}
 use Rattle.std.proofs.lemmas.Iterator.Adapters.{YieldsList-from_vec}
 use Rattle.rowan_green.specs.Term.{Term, tree_of, FitsNode}
 use Rattle.parser_input.specs.Kind.{raw_of}
-use Rattle.rust_document.proofs.Memory.{map-same}
-use Rattle.rust_document.proofs.elements.node.Goals as goal
+use Rattle.syntax_tree.proofs.Memory.{map-same}
+use Rattle.syntax_tree.proofs.elements.node.Goals as goal
 
 pub returns-in-Ok : goal.returns-in-Ok
 returns-in-Ok c =
