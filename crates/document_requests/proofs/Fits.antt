@@ -1,11 +1,11 @@
 -- What was accepted is within the limit.
-use Rattle.std.proofs.Common.{◌≡◌, ◌≤◌, ◌==◌, Bool, true, false, not, ◌||◌, nat_lt, List, [], ◌∷◌, length, chars, refl}
+use Rattle.std.proofs.Common.{◌≡◌, ◌≤◌, ◌==◌, Bool, true, false, not, ◌||◌, nat_lt, [], ◌∷◌, length, chars, refl}
 use Rattle.std.proofs.lemmas.Bool.{ltb-false}
 use Rattle.rustc_lexer.specs.Rows.{row, first_fit}
 use Rattle.rowan_green.specs.Forest.{same_tree, tree_text}
 use Rattle.rust_document.specs.Thin.{is_thin}
 use Rattle.rust_document.specs.Rewrite.{Editing, rewritten}
-use Rattle.rust_document.specs.Step.{State, MAX_TEXT, present, is_faithful, Verdict, verdict, Foreign, TooLong, Later, Unfaithful, Accepted}
+use Rattle.rust_document.specs.Step.{State, MAX_TEXT, present, is_faithful, verdict, Foreign, TooLong, Later, Unfaithful, Accepted}
 
 accepted_within : (foreign long later unfaithful : Bool) → first_fit (row foreign Foreign ∷ row long TooLong ∷ row later Later ∷ row unfaithful Unfaithful ∷ []) Accepted ≡ Accepted → long ≡ false
 unfolding first_fit

@@ -1,5 +1,5 @@
 -- What was written where a run stopped.
-use Rattle.std.proofs.Common.{◌≡◌, ℕ, List, ◌++◌, sym, ap, ◌∙◌, subst, Option, Some, None, Result, Ok, Err}
+use Rattle.std.proofs.Common.{◌≡◌, ℕ, List, ap, ◌∙◌, subst, Option, Some, None, Result, Ok, Err}
 use Rattle.std.specs.Prelude.{OnErr, IfSome}
 use Rattle.document_requests.specs.Device.{AppendsFront}
 use Rattle.document_requests.specs.Output.{Output, replies}

@@ -1,11 +1,11 @@
 -- The request in some bytes.
-use Rattle.std.proofs.Common.{◌≡◌, ℕ, List, Bool, true, false, refl, sym, ap, ◌∙◌, Option, Some, None}
+use Rattle.std.proofs.Common.{◌≡◌, ℕ, List, Bool, true, false, refl, sym, ap, ◌∙◌, Some, None}
 use Rattle.std.specs.Prelude.{option_and_then, if◌then◌else◌}
 use Rattle.std.specs.Str.{IsUtf8, is_utf8}
 use Rattle.std.proofs.lemmas.Str.{IsUtf8-from_is_utf8, is_utf8-from_IsUtf8}
 use Rattle.serde_json.specs.Data.{Data}
 use Rattle.serde_json.specs.Read.{read}
-use Rattle.document_requests.specs.Output.{not_run, request_in, served_if_any, replies}
+use Rattle.document_requests.specs.Output.{not_run, served_if_any, replies}
 use Rattle.document_requests.specs.Request.{request_of}
 use Rattle.document_requests.specs.declared.reply.Refusal.TheVariants.{Later}
 

@@ -1,5 +1,5 @@
 -- What a reply is in code.
-use Rattle.std.specs.Prelude.{ℕ, List, map}
+use Rattle.std.specs.Prelude.{ℕ, map}
 use Rattle.rowan_green.specs.declared.text_range.TextRange.{TextRange}
 use Rattle.document_requests.specs.Reply as answered
 use Rattle.document_requests.specs.declared.reply.Reply.{Reply}

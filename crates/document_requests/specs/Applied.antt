@@ -1,5 +1,5 @@
 -- What code tells of commands.
-use Rattle.std.specs.Prelude.{◌≡◌, ℕ, List, ◌++◌, map, take, Option, Some, None}
+use Rattle.std.specs.Prelude.{◌≡◌, ℕ, List, ◌++◌, take}
 use Rattle.rust_document.specs.Step.{State}
 use Rattle.rust_document.specs.declared.error.CommitError.{CommitError}
 use Rattle.rust_document.specs.declared.error.CommitError.TheVariants as commits
@@ -7,14 +7,12 @@ use Rattle.rust_document.specs.declared.error.PayloadError.{PayloadError}
 use Rattle.rust_document.specs.declared.error.PayloadError.TheVariants as payloads
 use Rattle.rust_document.specs.declared.error.RecordError.{RecordError}
 use Rattle.rust_document.specs.declared.error.RecordError.TheVariants as records
-use Rattle.document_requests.specs.Answered.{reply}
 use Rattle.document_requests.specs.Reply as answered
 use Rattle.document_requests.specs.Request.{Command}
-use Rattle.document_requests.specs.Session.{Session, Answer, Run, run}
+use Rattle.document_requests.specs.Session.{Session, Answer, run}
 use Rattle.document_requests.specs.declared.stop.Stop.{Stop}
 use Rattle.document_requests.specs.declared.stop.Stop.TheVariants.{Refused, NoMemory}
 use Rattle.document_requests.specs.declared.reply.Refusal.TheVariants as refusals
-use Rattle.document_requests.specs.declared.reply.Reply.{Reply}
 
 abbrev pub session : State → ℕ → Session
 session document next = record { document = document; next = next }

@@ -1,5 +1,5 @@
 -- What a request is in code.
-use Rattle.std.specs.Prelude.{List, map}
+use Rattle.std.specs.Prelude.{map}
 use Rattle.document_requests.specs.Request as asked
 use Rattle.document_requests.specs.declared.request.Change.{Change}
 use Rattle.document_requests.specs.declared.request.Change.TheVariants.{Put}

@@ -1,5 +1,5 @@
 -- What becomes of a request in code.
-use Rattle.std.specs.Prelude.{List, map}
+use Rattle.std.specs.Prelude.{map}
 use Rattle.document_requests.specs.Answered.{reply}
 use Rattle.document_requests.specs.Output.{Output, not_run, ended}
 use Rattle.document_requests.specs.declared.serve.Outcome.{Outcome}

@@ -3,9 +3,9 @@ use Rattle.std.specs.Prelude.{ℕ, List, ◌++◌, length, chars, nat_lt, Option
 use Rattle.std.specs.Str.{is_utf8}
 use Rattle.serde_json.specs.Read.{read}
 use Rattle.parser_input.specs.declared.edition.Edition.{Edition}
-use Rattle.rust_document.specs.Step.{State, MAX_TEXT}
+use Rattle.rust_document.specs.Step.{MAX_TEXT}
 use Rattle.rust_document.specs.Thin.{is_thin}
-use Rattle.document_requests.specs.Reply.{Reply, Refused, line, lines}
+use Rattle.document_requests.specs.Reply.{Refused, line, lines}
 use Rattle.document_requests.specs.Request.{Request, request_of}
 use Rattle.document_requests.specs.Session.{Session, Run, run}
 use Rattle.document_requests.specs.declared.reply.Refusal.{Refusal}

@@ -1,4 +1,4 @@
-use Rattle.std.proofs.Common.{rules, ◌≡◌, ◌++◌, ◌∙◌, sym, ap}
+use Rattle.std.proofs.Common.{rules, ◌≡◌, ◌++◌}
 use Rattle.document_requests.specs.Outcome.{output}
 use Rattle.document_requests.proofs.Fronts.{same_front}
 use Rattle.document_requests.proofs.KnownBytes.{front_more, front_then}

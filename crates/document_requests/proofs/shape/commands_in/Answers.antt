@@ -1,6 +1,5 @@
-use Rattle.std.proofs.Common.{rules, arith, sym, ap, ◌∙◌}
+use Rattle.std.proofs.Common.{arith, sym, ap, ◌∙◌}
 use Rattle.std.specs.Prelude.{option_map}
-use Rattle.std.proofs.lemmas.Grind.{common_steps}
 use Rattle.document_requests.specs.Asked.{command}
 use Rattle.document_requests.proofs.Walks.{found_next, found_none, found_all}
 use Rattle.document_requests.proofs.shape.commands_in.Goals as goal
