@@ -1,0 +1,14 @@
+-- What a reply is in code.
+use Rattle.std.specs.Prelude.{ℕ, map}
+use Rattle.rowan_green.specs.declared.text_range.TextRange.{TextRange}
+use Rattle.document_requests.specs.Reply as answered
+use Rattle.document_requests.specs.declared.reply.Reply.{Reply}
+use Rattle.document_requests.specs.declared.reply.Reply.TheVariants.{Commit, Refused}
+
+-- a range as its first byte and the byte behind it
+abbrev pub ends_of : TextRange → ℕ × ℕ
+ends_of r = (r.start.0, r.end.0)
+
+abbrev pub reply : Reply → answered.Reply
+reply (Commit changed) = answered.Changed (map ends_of changed.items)
+reply (Refused refusal) = answered.Refused refusal

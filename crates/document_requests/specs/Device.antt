@@ -1,0 +1,41 @@
+-- What reading and writing do to watched devices.
+use Rattle.std.specs.Prelude.{◌≡◌, ◌⊎◌, ℕ, ◌+◌, ◌^◌, List, ◌++◌, Option}
+use Rattle.std.specs.Io.KnownBytes.{Appends}
+use Rattle.document_requests.specs.declared.fault.Fault.{Fault}
+use Rattle.document_requests.specs.declared.fault.Fault.TheVariants.{Reading, Writing, Memory}
+use Rattle.document_requests.specs.declared.watched.Watched.{Watched}
+use Rattle.document_requests.specs.Watched.{calls_of, failures_of, counted}
+
+-- the most reads of one run
+abbrev pub max_reads : ℕ
+max_reads = 2 ^ 26
+
+-- none of the calls failed
+abbrev pub NoneFailed : {D : Type 0} → Watched D → Watched D → Type 0
+NoneFailed old new = failures_of new ≡ failures_of old
+
+-- one of the calls failed
+abbrev pub OneFailed : {D : Type 0} → Watched D → Watched D → Type 0
+OneFailed old new = failures_of new ≡ failures_of old + 1
+
+-- Reading stops where a read failed, or where all reads were made and there may be more. Want of memory comes at any point.
+abbrev pub StopsReading : {D : Type 0} → Watched D → Watched D → Fault → Type 0
+StopsReading old new Reading = OneFailed old new ⊎ (NoneFailed old new × (calls_of new ≡ counted (calls_of old + max_reads)))
+StopsReading old new Writing = ⊥
+StopsReading old new Memory = NoneFailed old new
+
+-- known bytes grow by the first of these bytes
+abbrev pub AppendsFront : Option (List ℕ) → Option (List ℕ) → List ℕ → Type 0
+AppendsFront old new bytes = (front rest : List ℕ) × (bytes ≡ front ++ rest) × Appends old new front
+
+-- Writing stops where a write failed. Want of memory comes at any point.
+abbrev pub StopsWriting : {D : Type 0} → Watched D → Watched D → Fault → Type 0
+StopsWriting old new Reading = ⊥
+StopsWriting old new Writing = OneFailed old new
+StopsWriting old new Memory = NoneFailed old new
+
+-- A run stops at the first call that fails, or where all reads were made and there may be more, or for want of memory.
+abbrev pub StopsRun : {R W : Type 0} → Watched R → Watched R → Watched W → Watched W → Fault → Type 0
+StopsRun read read' written written' Reading = StopsReading read read' Reading × NoneFailed written written'
+StopsRun read read' written written' Writing = NoneFailed read read' × OneFailed written written'
+StopsRun read read' written written' Memory = NoneFailed read read' × NoneFailed written written'

@@ -1,0 +1,11 @@
+pub mod Watched
+pub mod Device
+pub mod Words
+pub mod Request
+pub mod Asked
+pub mod Reply
+pub mod Answered
+pub mod Session
+pub mod Applied
+pub mod Output
+pub mod Outcome

@@ -1,0 +1,45 @@
+-- What is written for a request, and the exit status.
+use Rattle.std.specs.Prelude.{ℕ, List, ◌++◌, length, chars, nat_lt, Option, Some, None, option_and_then, if◌then◌else◌}
+use Rattle.std.specs.Str.{is_utf8}
+use Rattle.serde_json.specs.Read.{read}
+use Rattle.parser_input.specs.declared.edition.Edition.{Edition}
+use Rattle.rust_document.specs.Step.{MAX_TEXT}
+use Rattle.rust_document.specs.Thin.{is_thin}
+use Rattle.document_requests.specs.Reply.{Refused, line, lines}
+use Rattle.document_requests.specs.Request.{Request, request_of}
+use Rattle.document_requests.specs.Session.{Session, Run, run}
+use Rattle.document_requests.specs.declared.reply.Refusal.{Refusal}
+use Rattle.document_requests.specs.declared.reply.Refusal.TheVariants as refusals
+
+pub record Output : Type 0 where
+  pub written : List ℕ
+  pub status : ℕ
+
+-- a request that is not run: one line
+abbrev pub not_run : Refusal → Output
+not_run refusal = record { written = line (Refused refusal); status = 1 }
+
+-- a request that was run: a line for each command, and the text as it is then
+abbrev pub ended : Run → Output
+ended r = record { written = lines r.replies ++ r.after.document.text; status = 0 }
+
+-- The first tree has the number 1.
+abbrev pub first_session : Edition → List ℕ → Session
+first_session edition text = record { document = record { edition = edition; text = text; number = 1 }; next = 2 }
+
+abbrev pub served : Request → Output
+served r =
+    if nat_lt MAX_TEXT (length r.text) then not_run refusals.TooLong
+    else if is_thin r.edition (chars r.text) then ended (run r.commands (first_session r.edition r.text))
+    else not_run refusals.Later
+
+-- the request that these bytes are: UTF-8, JSON, and of a request's shape
+abbrev pub request_in : List ℕ → Option Request
+request_in bytes = if is_utf8 bytes then option_and_then request_of (read bytes) else None
+
+abbrev pub served_if_any : Option Request → Output
+served_if_any None = not_run refusals.Later
+served_if_any (Some r) = served r
+
+abbrev pub replies : List ℕ → Output
+replies bytes = served_if_any (request_in bytes)

@@ -1,0 +1,39 @@
+-- What a command is answered, and how an answer is written.
+use Rattle.std.specs.Prelude.{ℕ, List, [], ◌∷◌, ◌++◌, map, codes}
+use Rattle.std.specs.List.{flat_map}
+use Rattle.serde_json.specs.Data.{Data, number, unsigned, string, array, object, Items, no_items, item, member, no_members}
+use Rattle.serde_json.specs.View.{items_of}
+use Rattle.serde_json.specs.Written.{compact_text}
+use Rattle.document_requests.specs.declared.reply.Refusal.{Refusal}
+use Rattle.document_requests.specs.declared.reply.Refusal.TheVariants.{TooLong, NoTarget, Payload, BadTarget, Unfaithful, NoTreeNumber, Later}
+
+-- the ranges of the new text that a commit put in, or why nothing was done
+pub data Reply : Type 0 where
+  Changed : List (ℕ × ℕ) → Reply
+  Refused : Refusal → Reply
+
+abbrev pub refusal_name : Refusal → List ℕ
+refusal_name TooLong = codes "TooLong"
+refusal_name NoTarget = codes "NoTarget"
+refusal_name Payload = codes "Payload"
+refusal_name BadTarget = codes "BadTarget"
+refusal_name Unfaithful = codes "Unfaithful"
+refusal_name NoTreeNumber = codes "NoTreeNumber"
+refusal_name Later = codes "Later"
+
+abbrev pub range_data : ℕ × ℕ → Data
+range_data range = array (item (number (unsigned range.0)) (item (number (unsigned range.1)) no_items))
+
+abbrev pub ranges_data : List (ℕ × ℕ) → Items
+ranges_data ranges = items_of (map range_data ranges)
+
+abbrev pub reply_data : Reply → Data
+reply_data (Changed ranges) = object (member (codes "changed") (array (ranges_data ranges)) (member (codes "ok") (string (codes "commit")) no_members))
+reply_data (Refused refusal) = object (member (codes "err") (string (refusal_name refusal)) no_members)
+
+-- JSON with no space, and a line feed
+abbrev pub line : Reply → List ℕ
+line reply = compact_text (reply_data reply) ++ 10 ∷ []
+
+abbrev pub lines : List Reply → List ℕ
+lines replies = flat_map line replies

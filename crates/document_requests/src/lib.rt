@@ -1,0 +1,25 @@
+//! Requests: a Rust text is read, changes to it are made where the new text reads as the changed tree, and each is answered.
+//!
+//! `run` reads a request as JSON from any reader, and writes its answer to any writer.
+#![tactic(auto)]
+
+pub mod apply;
+mod device;
+pub mod fault;
+mod floats;
+mod print;
+pub mod reply;
+pub mod request;
+pub mod run;
+pub mod serve;
+mod shape;
+pub mod stop;
+pub mod watched;
+
+pub use fault::Fault;
+pub use reply::{Refusal, Reply};
+pub use request::{Change, Command, Entry, Op, Request, Target};
+pub use watched::Watched;
+
+#[cfg(test)]
+mod tests;

@@ -1,0 +1,53 @@
+//! What a request asks.
+use parser_input::edition::Edition;
+use parser_input::syntax_kind::SyntaxKind;
+
+/// A text in an edition, and what is done to it.
+#[derive(Drop)]
+pub struct Request<'a> {
+    pub edition: Edition,
+    pub text: &'a str,
+    pub commands: Vec<Command<'a>>,
+}
+
+/// A step of a request.
+#[derive(Drop)]
+pub enum Command<'a> {
+    /// Changes that are made at once.
+    Commit { changes: Vec<Change<'a>> },
+}
+
+/// A part of a commit.
+#[derive(Clone, Copy)]
+pub enum Change<'a> {
+    /// A text, read as `entry`, is put at the target.
+    Put {
+        op: Op,
+        target: Target,
+        entry: Entry,
+        text: &'a str,
+    },
+}
+
+/// How a text is put at its target.
+#[derive(Clone, Copy, Debug, PartialEq, Eq)]
+pub enum Op {
+    /// In its place.
+    Replace,
+}
+
+/// What a text is read as.
+#[derive(Clone, Copy, Debug, PartialEq, Eq)]
+pub enum Entry {
+    /// One token.
+    Token,
+}
+
+/// An element of the present tree: the first in preorder that is of this kind and has the bytes from `start` to just before
+/// `stop`.
+#[derive(Clone, Copy, Debug, PartialEq, Eq)]
+pub struct Target {
+    pub kind: SyntaxKind,
+    pub start: u64,
+    pub stop: u64,
+}

@@ -1,0 +1,77 @@
+//! A request's bytes, and what becomes of them.
+ghost use Rattle.std.specs.Prelude.{◌≡◌, map, option_map, IfOk};
+ghost use Rattle.document_requests.specs.Asked.{request as request_asked};
+ghost use Rattle.document_requests.specs.Outcome.{output};
+ghost use Rattle.document_requests.specs.Output.{served, served_if_any, replies};
+ghost use Rattle.document_requests.specs.Request.{request_of};
+ghost use Rattle.serde_json.specs.View.{view};
+
+use crate::apply::apply;
+use crate::reply::{Refusal, Reply};
+use crate::request::Request;
+use crate::shape::request_of;
+use rust_document::{Document, OpenError};
+use serde_json::{Category, Value};
+use std::alloc::{AllocError, Global};
+use syntax_tree::TreeIds;
+
+/// What became of a request.
+#[derive(Drop)]
+pub enum Outcome {
+    /// It was not run.
+    NotRun(Refusal),
+    /// It was run: the document that it left, and a reply for each command.
+    Run {
+        document: Document,
+        replies: Vec<Reply>,
+    },
+}
+
+/// Runs a request.
+fn serve(alloc: Global, request: &Request<'_>) -> Result<Outcome, AllocError>
+    ensures { IfOk result (λ outcome. output outcome ≡ served (request_asked request.now)) }
+{
+    let mut ids = TreeIds::new();
+    let mut document = match Document::open(alloc, request.edition, request.text, &mut ids) {
+        Ok(document) => document,
+        Err(OpenError::TooLong) => return Ok(Outcome::NotRun(Refusal::TooLong)),
+        Err(OpenError::NoTreeNumber) => unreachable!(),
+        Err(OpenError::NoMemory) => return Err(AllocError),
+        Err(OpenError::Later) => return Ok(Outcome::NotRun(Refusal::Later)),
+    };
+    let mut replies = Vec::new(alloc);
+    apply(
+        alloc,
+        &mut document,
+        &request.commands,
+        &mut replies,
+        &mut ids,
+    )?;
+    Ok(Outcome::Run { document, replies })
+}
+
+/// Runs the request that a value holds, if it holds one.
+fn serve_value(alloc: Global, value: &Value) -> Result<Outcome, AllocError>
+    ensures { IfOk result (λ outcome. output outcome ≡ served_if_any (request_of (view value.now))) }
+{
+    match request_of(alloc, value)? {
+        Some(request) => serve(alloc, &request),
+        None => Ok(Outcome::NotRun(Refusal::Later)),
+    }
+}
+
+/// Runs the request that is in these bytes, if there is one.
+pub fn serve_bytes(alloc: Global, bytes: &[u8]) -> Result<Outcome, AllocError>
+    ensures { IfOk result (λ outcome. output outcome ≡ replies bytes.now) }
+{
+    let Ok(text) = str::from_utf8(bytes) else {
+        return Ok(Outcome::NotRun(Refusal::Later));
+    };
+    match Value::from_str(alloc, text) {
+        Ok(value) => serve_value(alloc, &value),
+        Err(error) => match error.classify() {
+            Category::Memory => Err(AllocError),
+            _ => Ok(Outcome::NotRun(Refusal::Later)),
+        },
+    }
+}

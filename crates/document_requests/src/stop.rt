@@ -1,0 +1,72 @@
+//! Why a command was not done.
+ghost use Rattle.std.specs.Prelude.{◌≡◌};
+
+use crate::reply::Refusal;
+use rust_document::{CommitError, PayloadError, RecordError};
+use std::alloc::AllocError;
+
+/// What kept a command from being done. The document is as before.
+#[derive(Clone, Copy, Debug, PartialEq, Eq)]
+pub enum Stop {
+    /// The command is answered by a refusal.
+    Refused(Refusal),
+    /// Memory was refused, and the command has no answer.
+    NoMemory,
+}
+
+impl From<AllocError> for Stop {
+    ghost use Rattle.document_requests.specs.declared.stop.Stop.TheVariants.{NoMemory};
+
+    ghost from_gives = { λ _ stop. stop ≡ NoMemory };
+
+    fn from(_refused: AllocError) -> Stop {
+        Stop::NoMemory
+    }
+}
+
+impl From<PayloadError> for Stop {
+    ghost use Rattle.document_requests.specs.Applied.{stop_of_payload};
+
+    ghost from_gives = { λ error stop. stop ≡ stop_of_payload error };
+
+    fn from(error: PayloadError) -> Stop {
+        match error {
+            PayloadError::NotOneToken | PayloadError::TooLong => Stop::Refused(Refusal::Payload),
+            PayloadError::NoTreeNumber => Stop::Refused(Refusal::NoTreeNumber),
+            PayloadError::NoMemory => Stop::NoMemory,
+            PayloadError::Later => Stop::Refused(Refusal::Later),
+        }
+    }
+}
+
+impl From<RecordError> for Stop {
+    ghost use Rattle.document_requests.specs.Applied.{stop_of_record};
+
+    ghost from_gives = { λ error stop. stop ≡ stop_of_record error };
+
+    fn from(error: RecordError) -> Stop {
+        match error {
+            RecordError::Foreign => Stop::Refused(Refusal::NoTarget),
+            RecordError::BadTarget => Stop::Refused(Refusal::BadTarget),
+            RecordError::NoMemory => Stop::NoMemory,
+            RecordError::Later => Stop::Refused(Refusal::Later),
+        }
+    }
+}
+
+impl From<CommitError> for Stop {
+    ghost use Rattle.document_requests.specs.Applied.{stop_of_commit};
+
+    ghost from_gives = { λ error stop. stop ≡ stop_of_commit error };
+
+    fn from(error: CommitError) -> Stop {
+        match error {
+            CommitError::Foreign => Stop::Refused(Refusal::NoTarget),
+            CommitError::TooLong => Stop::Refused(Refusal::TooLong),
+            CommitError::Unfaithful => Stop::Refused(Refusal::Unfaithful),
+            CommitError::NoTreeNumber => Stop::Refused(Refusal::NoTreeNumber),
+            CommitError::NoMemory => Stop::NoMemory,
+            CommitError::Later => Stop::Refused(Refusal::Later),
+        }
+    }
+}

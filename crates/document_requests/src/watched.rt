@@ -1,0 +1,107 @@
+//! A device that counts its calls.
+ghost use Rattle.std.specs.Prelude.{◌≡◌, ◌≢◌, ◌+◌, if◌then◌else◌, IfOk, OnOk, OnErr};
+ghost use Rattle.std.specs.Io.{ReadsAtMost, WritesAtMost};
+ghost use Rattle.std.specs.Io.KnownBytes.{Keeps, ReadConsumes, WriteAppends};
+
+use std::io;
+use std::io::{Read, Write};
+
+/// A reader or a writer that counts its calls and those of them that failed. A read fails by an error, a write by an error or by
+/// taking no byte. A count stays at 18,446,744,073,709,551,615.
+#[derive(Drop)]
+pub struct Watched<D> {
+    device: D,
+    calls: u64,
+    failures: u64,
+}
+
+impl<D> Watched<D> {
+    ghost use Rattle.document_requests.specs.Watched.{device_of, calls_of, failures_of, counted};
+
+    /// A device of which no call was made yet.
+    pub fn new(device: D) -> Watched<D>
+        ensures device { device_of result ≡ device }
+        ensures calls { calls_of result ≡ 0 }
+        ensures failures { failures_of result ≡ 0 }
+    {
+        Watched {
+            device,
+            calls: 0,
+            failures: 0,
+        }
+    }
+
+    /// How many calls were made.
+    pub fn calls(&self) -> u64
+        ensures { result ≡ calls_of self.now }
+    {
+        self.calls
+    }
+
+    /// How many calls failed.
+    pub fn failures(&self) -> u64
+        ensures { result ≡ failures_of self.now }
+    {
+        self.failures
+    }
+
+    /// Counts a call.
+    fn count(&mut self, failed: bool)
+        ensures device { device_of self.new ≡ device_of self.old }
+        ensures calls { calls_of self.new ≡ counted (calls_of self.old + 1) }
+        ensures failures { failures_of self.new ≡ (if failed then counted (failures_of self.old + 1) else failures_of self.old) }
+    {
+        self.calls = self.calls.saturating_add(1);
+        if failed {
+            self.failures = self.failures.saturating_add(1);
+        }
+    }
+}
+
+impl<R: Read> Read for Watched<R> {
+    ghost use Rattle.document_requests.specs.Watched.{device_of, calls_of, failures_of, counted};
+
+    ghost remaining = { λ w. R.remaining (device_of w) };
+
+    fn read(&mut self, buf: &mut [u8]) -> io::Result<usize>
+        ensures bound { ReadsAtMost result buf.new }
+        ensures bytes { ReadConsumes (R.remaining (device_of self.old)) (R.remaining (device_of self.new)) result buf.new }
+        ensures calls { calls_of self.new ≡ counted (calls_of self.old + 1) }
+        ensures ok { OnOk result (failures_of self.new ≡ failures_of self.old) }
+        ensures err { OnErr result (failures_of self.new ≡ counted (failures_of self.old + 1)) }
+    {
+        let result = self.device.read(buf);
+        self.count(result.is_err());
+        result
+    }
+}
+
+impl<W: Write> Write for Watched<W> {
+    ghost use Rattle.document_requests.specs.Watched.{device_of, calls_of, failures_of, counted};
+
+    ghost contents = { λ w. W.contents (device_of w) };
+
+    fn write(&mut self, buf: &[u8]) -> io::Result<usize>
+        ensures bound { WritesAtMost result buf.now }
+        ensures bytes { WriteAppends (W.contents (device_of self.old)) (W.contents (device_of self.new)) result buf.now }
+        ensures calls { calls_of self.new ≡ counted (calls_of self.old + 1) }
+        ensures some { IfOk result (λ n. n ≢ 0 → failures_of self.new ≡ failures_of self.old) }
+        ensures none { IfOk result (λ n. n ≡ 0 → failures_of self.new ≡ counted (failures_of self.old + 1)) }
+        ensures err { OnErr result (failures_of self.new ≡ counted (failures_of self.old + 1)) }
+    {
+        let result = self.device.write(buf);
+        self.count(!matches!(&result, Ok(1..)));
+        result
+    }
+
+    fn flush(&mut self) -> io::Result<()>
+        ensures bytes { Keeps (W.contents (device_of self.old)) (W.contents (device_of self.new)) }
+        ensures calls { calls_of self.new ≡ counted (calls_of self.old + 1) }
+        ensures ok { OnOk result (failures_of self.new ≡ failures_of self.old) }
+        ensures err { OnErr result (failures_of self.new ≡ counted (failures_of self.old + 1)) }
+    {
+        let result = self.device.flush();
+        self.count(result.is_err());
+        result
+    }
+}

@@ -1,0 +1,48 @@
+//! Replays cases of requests: each line of the input is a JSON object with a request, what must be written for it, and the exit
+//! status. Prints the cases that are answered otherwise, and how many there are of both.
+//!
+//! The cases that lie beside it were computed by a slow, plain reader of the rules that shares no code with these crates.
+#![tactic(auto)]
+
+use document_requests::Watched;
+use document_requests::run::run;
+use serde_json::Value;
+use std::alloc::Global;
+use std::io;
+
+/// Whether a case is answered as it says.
+fn is_met(alloc: Global, line: &str) -> anyhow::Result<bool> {
+    let case = Value::from_str(alloc, line)?;
+    let Some(mut input) = case
+        .get("request")
+        .and_then(Value::as_str)
+        .map(str::as_bytes)
+    else {
+        return Ok(false);
+    };
+    let expected = case.get("output").and_then(Value::as_str);
+    let expected_status = case.get("status").and_then(Value::as_u64);
+    let mut output = Vec::new(alloc);
+    let mut reader = Watched::new(&mut input);
+    let mut writer = Watched::new(&mut output);
+    let status = run(alloc, &mut reader, &mut writer)?;
+    let written = expected.is_some_and(|text| text.as_bytes() == output.as_slice());
+    Ok(written && expected_status == Some(u64::from(status)))
+}
+
+fn main(rt: HostRuntime) -> anyhow::Result<()> {
+    let alloc = rt.alloc();
+    let cases = io::read_to_string(alloc, rt.reader())?;
+    let mut passed = 0u32;
+    let mut failed = 0u32;
+    for line in cases.as_str().lines() {
+        if is_met(alloc, line)? {
+            passed = passed.saturating_add(1);
+        } else {
+            println!(rt; "{line}")?;
+            failed = failed.saturating_add(1);
+        }
+    }
+    println!(rt; "{passed} passed, {failed} failed")?;
+    Ok(())
+}
