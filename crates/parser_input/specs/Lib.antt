@@ -4,4 +4,6 @@ pub mod Kind
 pub mod Kinds
 pub mod Leaf
 pub mod Input
+pub mod Recorded
+pub mod Packed
 pub mod WordTable

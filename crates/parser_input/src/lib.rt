@@ -2,6 +2,7 @@
 #![tactic(auto)]
 
 pub mod edition;
+pub mod input;
 pub mod keywords;
 mod kind_table;
 pub mod syntax_kind;

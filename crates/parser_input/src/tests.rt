@@ -1,8 +1,10 @@
 //! What no clause says: that the tables are the ones that were meant, by values written by hand.
 
 use crate::edition::Edition;
+use crate::input::Input;
 use crate::keywords::{contextual_keyword, keyword};
 use crate::syntax_kind::SyntaxKind;
+use std::alloc::AllocError;
 
 const EDITIONS: [Edition; 4] = [
     Edition::Edition2015,
@@ -135,4 +137,28 @@ fn words_by_their_texts(rt: HostRuntime) {
             assert_eq!(rt; contextual_keyword(edition, text), None, "at {text}");
         }
     }
+}
+
+#[test]
+fn an_input_of_three_tokens(rt: HostRuntime) -> Result<(), AllocError> {
+    let mut input = Input::with_capacity(rt.alloc(), 2)?;
+    assert_eq!(rt; input.len(), 0);
+    assert_eq!(rt; input.kind(0), SyntaxKind::EOF);
+    input.push_ident(SyntaxKind::UNION_KW)?;
+    input.was_joint();
+    input.push(SyntaxKind::BANG)?;
+    input.push_ident(SyntaxKind::IDENT)?;
+    assert_eq!(rt; input.len(), 3);
+    for (place, kind, contextual, joint) in [
+        (0, SyntaxKind::IDENT, SyntaxKind::UNION_KW, true),
+        (1, SyntaxKind::BANG, SyntaxKind::EOF, false),
+        (2, SyntaxKind::IDENT, SyntaxKind::IDENT, false),
+        (3, SyntaxKind::EOF, SyntaxKind::EOF, false),
+        (usize::MAX, SyntaxKind::EOF, SyntaxKind::EOF, false),
+    ] {
+        assert_eq!(rt; input.kind(place), kind, "at {place}");
+        assert_eq!(rt; input.contextual_kind(place), contextual, "at {place}");
+        assert_eq!(rt; input.is_joint(place), joint, "at {place}");
+    }
+    Ok(())
 }
