@@ -1,5 +1,6 @@
 pub mod KeywordKinds
 pub mod KindTable
+pub mod Lines
 pub mod Recorded
 pub mod WordKinds
 pub mod WordPlaces

@@ -3,6 +3,7 @@ pub mod Keywords
 pub mod Kind
 pub mod Kinds
 pub mod Leaf
+pub mod Lines
 pub mod Input
 pub mod Recorded
 pub mod Packed

@@ -5,6 +5,7 @@ pub mod edition;
 pub mod input;
 pub mod keywords;
 mod kind_table;
+mod scanner;
 pub mod syntax_kind;
 #[cfg(test)]
 mod tests;
