@@ -5,6 +5,8 @@ pub mod Kinds
 pub mod Leaf
 pub mod Lines
 pub mod Input
+pub mod Preface
+pub mod Spans
 pub mod Recorded
 pub mod Packed
 pub mod WordTable

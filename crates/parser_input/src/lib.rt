@@ -2,6 +2,8 @@
 #![tactic(auto)]
 
 pub mod edition;
+pub mod frontmatter;
+pub mod frontmatter_error;
 pub mod input;
 pub mod keywords;
 mod kind_table;

@@ -1,5 +1,5 @@
-use Rattle.std.proofs.Common.{◌≡◌, ◌==◌, ◌∙◌, ℕ, List, refl, sym, ap, drop, get_or, true, false, if◌then◌else◌}
-use Rattle.rustc_lexer.specs.Characters.{is_whitespace, line_feed}
+use Rattle.std.proofs.Common.{◌≡◌, ◌∙◌, ℕ, List, refl, sym, ap, get_or, true, false}
+use Rattle.rustc_lexer.specs.Characters.{is_whitespace}
 use Rattle.rustc_lexer.proofs.Runs.{run_shorter}
 use Rattle.rustc_lexer.proofs.Wide.{white_zero}
 use Rattle.parser_input.specs.Lines.{blank_len}

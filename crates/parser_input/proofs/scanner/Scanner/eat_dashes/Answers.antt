@@ -1,7 +1,7 @@
-use Rattle.std.proofs.Common.{◌≡◌, ◌==◌, ◌+◌, ◌∙◌, ℕ, refl, sym, ap, arith, drop, get_or, true, false}
+use Rattle.std.proofs.Common.{◌≡◌, ◌==◌, ◌∙◌, ℕ, refl, sym, ap, arith, drop, get_or, true, false}
 use Rattle.std.proofs.lemmas.Bool.{ne_eqb}
 use Rattle.rustc_lexer.specs.Characters.{size}
-use Rattle.rustc_lexer.proofs.Runs.{run_more, run_shorter, run_none}
+use Rattle.rustc_lexer.proofs.Runs.{run_more, run_none}
 use Rattle.parser_input.specs.Lines.{dash, dashes}
 use Rattle.parser_input.proofs.Lines.{dashes-size}
 use Rattle.parser_input.proofs.scanner.Scanner.eat_dashes.Goals as goal

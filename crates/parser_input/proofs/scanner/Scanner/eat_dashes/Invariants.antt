@@ -1,5 +1,4 @@
-use Rattle.std.proofs.Common.{◌≡◌, ℕ, drop, length}
-use Rattle.rustc_lexer.specs.Characters.{size}
+use Rattle.std.proofs.Common.{◌≡◌, drop, length}
 use Rattle.parser_input.specs.Lines.{dashes}
 use Rattle.parser_input.proofs.scanner.Scanner.eat_dashes.Given as goal
 

@@ -1,8 +1,7 @@
-use Rattle.std.proofs.Common.{◌≡◌, ◌==◌, ◌∙◌, ℕ, List, refl, sym, ap, drop, get_or, true, false, if◌then◌else◌, [], not}
-use Rattle.rustc_lexer.specs.Characters.{is_whitespace}
+use Rattle.std.proofs.Common.{◌≡◌, ◌∙◌, ℕ, List, refl, sym, ap, true, false}
 use Rattle.rustc_lexer.proofs.Alike.{none_left}
 use Rattle.parser_input.specs.Lines.{solid_len}
-use Rattle.parser_input.proofs.Lines.{behind, behind-start, solid-more, solid-end, shorter}
+use Rattle.parser_input.proofs.Lines.{behind, behind-start, solid-more, solid-end}
 use Rattle.parser_input.proofs.scanner.Scanner.eat_solid.Goals as goal
 
 pub run-init : goal.run-init

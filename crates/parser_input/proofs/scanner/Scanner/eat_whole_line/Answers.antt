@@ -1,5 +1,4 @@
-use Rattle.std.proofs.Common.{◌≡◌, ◌==◌, ◌∙◌, ℕ, List, sym, ap, drop, get_or, true, false}
-use Rattle.rustc_lexer.specs.Characters.{line_feed}
+use Rattle.std.proofs.Common.{◌≡◌, ◌==◌, ◌∙◌, ap, get_or, true, false}
 use Rattle.rustc_lexer.proofs.Alike.{none_left}
 use Rattle.parser_input.specs.Lines.{behind_line}
 use Rattle.parser_input.proofs.Lines.{line-more, line-feed, line-none}
