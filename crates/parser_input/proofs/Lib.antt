@@ -1,7 +1,11 @@
+pub mod EscapeSteps
 pub mod KeywordKinds
 pub mod KindTable
+pub mod LeavesLaw
 pub mod Lines
+pub mod LiteralSteps
 pub mod Prefaces
 pub mod Recorded
+pub mod Words
 pub mod WordKinds
 pub mod WordPlaces

@@ -4,6 +4,10 @@ pub mod Kind
 pub mod Kinds
 pub mod Leaf
 pub mod Lines
+pub mod Lexed
+pub mod Laws
+pub mod Escapes
+pub mod Messages
 pub mod Input
 pub mod Preface
 pub mod Spans

@@ -56,13 +56,22 @@ impl<'a> Scanner<'a> {
         }
     }
 
-    // The character behind the next one, `'\0'` past the end.
-    fn second(&self) -> char
+    /// The character behind the next one, `'\0'` past the end.
+    pub(crate) fn second(&self) -> char
         ensures { result ≡ peek 1 self.now }
     {
         let mut behind = self.here();
         behind.bump();
         behind.first()
+    }
+
+    /// The third character, `'\0'` past the end.
+    pub(crate) fn third(&self) -> char
+        ensures { result ≡ peek 2 self.now }
+    {
+        let mut behind = self.here();
+        behind.bump();
+        behind.second()
     }
 
     /// The same place, to be kept while this one moves on.
