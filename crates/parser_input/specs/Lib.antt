@@ -6,6 +6,7 @@ pub mod Leaf
 pub mod Lines
 pub mod Lexed
 pub mod Laws
+pub mod Stored
 pub mod Escapes
 pub mod Messages
 pub mod Input

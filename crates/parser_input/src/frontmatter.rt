@@ -1,6 +1,6 @@
 //! The first lines of a file: a shebang, and a frontmatter between two lines of dashes.
 
-ghost use Rattle.std.specs.Prelude.{◌≡◌, ◌+◌, ◌≤◌, ◌<◌, ◌^◌, ℕ, true, IfSome, chars, drop, length, option_map};
+ghost use Rattle.std.specs.Prelude.{◌≡◌, ◌+◌, ◌≤◌, ◌<◌, ◌^◌, ℕ, true, IfSome, Ok, chars, drop, length, option_map};
 ghost use Rattle.rustc_lexer.specs.Characters.{size, is_whitespace};
 ghost use Rattle.parser_input.specs.Lines.{behind_line, first_line, is_fence};
 ghost use Rattle.parser_input.specs.Preface.{
@@ -17,6 +17,7 @@ ghost use Rattle.parser_input.specs.Preface.{
   shebang_piece,
   source,
 };
+ghost use Rattle.parser_input.specs.Stored.{frontmatter_end};
 ghost use Rattle.parser_input.specs.Spans.{chars_of, end_of, range_of, span_of, text_of};
 
 use crate::frontmatter_error::FrontmatterError;
@@ -356,5 +357,14 @@ impl<'s> ScriptSource<'s> {
         ensures end { result.end ≡ end_of self.now.content }
     {
         self.content.span()
+    }
+    // Where the frontmatter ends, if there is one.
+    pub(crate) fn frontmatter_end(&self) -> Option<usize>
+        ensures { result ≡ frontmatter_end (Ok self.now) }
+    {
+        match &self.closing {
+            Some(_) => Some(self.content.span().start),
+            None => None,
+        }
     }
 }

@@ -10,6 +10,7 @@ pub mod keywords;
 mod kind_table;
 pub mod laws;
 mod leaves;
+pub mod lexed_str;
 mod literals;
 mod message;
 mod scanner;

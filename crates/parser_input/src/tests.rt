@@ -5,8 +5,9 @@ use crate::frontmatter::{ScriptSource, is_rust_whitespace};
 use crate::frontmatter_error::FrontmatterError;
 use crate::input::Input;
 use crate::keywords::{contextual_keyword, keyword};
+use crate::lexed_str::LexedStr;
 use crate::syntax_kind::SyntaxKind;
-use std::alloc::AllocError;
+use std::alloc::{AllocError, Global};
 use std::ops::Range;
 
 const EDITIONS: [Edition; 4] = [
@@ -272,4 +273,163 @@ fn white_space_of_rust(rt: HostRuntime) {
     ] {
         assert!(rt; !is_rust_whitespace(c));
     }
+}
+
+// The kinds of the leaves and the messages, each behind the number of its leaf.
+fn reads(
+    alloc: Global,
+    edition: Edition,
+    text: &str,
+    kinds: &[SyntaxKind],
+    messages: &[(usize, &'static str)],
+) -> Result<bool, AllocError> {
+    let lexed = LexedStr::new(alloc, edition, text)?;
+    if lexed.as_str() != text
+        || lexed.len() != kinds.len()
+        || lexed.is_empty() != kinds.is_empty()
+    {
+        return Ok(false);
+    }
+    let mut next = 0;
+    for (i, kind) in kinds.iter().enumerate() {
+        if i >= lexed.len() || lexed.kind(i) != *kind {
+            return Ok(false);
+        }
+        if let Some(message) = lexed.error(i) {
+            if next >= messages.len() || messages[next] != (i, message) {
+                return Ok(false);
+            }
+            next += 1;
+        }
+    }
+    Ok(next == messages.len())
+}
+
+#[test]
+fn guarded_prefixes(rt: HostRuntime) -> Result<(), AllocError> {
+    let alloc = rt.alloc();
+    let before = Edition::Edition2021;
+    let latest = Edition::Edition2024;
+    assert!(rt;
+        reads(
+            alloc,
+            before,
+            "#\"a\"",
+            &[SyntaxKind::POUND, SyntaxKind::STRING],
+            &[]
+        )?
+    );
+    assert!(rt;
+        reads(
+            alloc,
+            latest,
+            "#\"a\"",
+            &[SyntaxKind::ERROR, SyntaxKind::IDENT, SyntaxKind::STRING],
+            &[
+                (0, "guarded prefix"),
+                (1, "unknown prefix"),
+                (2, "unterminated literal"),
+            ],
+        )?
+    );
+    assert!(rt;
+        reads(
+            alloc,
+            before,
+            "##\"a\"",
+            &[SyntaxKind::POUND, SyntaxKind::POUND, SyntaxKind::STRING],
+            &[],
+        )?
+    );
+    assert!(rt;
+        reads(
+            alloc,
+            latest,
+            "##\"a\"",
+            &[SyntaxKind::ERROR, SyntaxKind::STRING],
+            &[(0, "guarded prefix")],
+        )?
+    );
+    Ok(())
+}
+
+#[test]
+fn prefaces_are_leaves(rt: HostRuntime) -> Result<(), AllocError> {
+    let alloc = rt.alloc();
+    let edition = Edition::Edition2021;
+    let both = [SyntaxKind::SHEBANG, SyntaxKind::FRONTMATTER];
+    assert!(rt; reads(alloc, edition, "#!x\n--- toml\na = 1\n---\n", &both, &[])?);
+    assert!(rt; reads(alloc, edition, "", &[], &[])?);
+    let front = [SyntaxKind::FRONTMATTER, SyntaxKind::STRUCT_KW];
+    assert!(rt; reads(alloc, edition, "---\n---\nstruct", &front, &[])?);
+    let refused = [
+        SyntaxKind::SHEBANG,
+        SyntaxKind::WHITESPACE,
+        SyntaxKind::MINUS,
+    ];
+    assert!(rt; reads(alloc, edition, "#!x\n-", &refused, &[])?);
+    Ok(())
+}
+
+#[test]
+fn messages_by_the_table(rt: HostRuntime) -> Result<(), AllocError> {
+    let alloc = rt.alloc();
+    let edition = Edition::Edition2021;
+    for (text, kind, message) in [
+        (
+            "/* /* */",
+            SyntaxKind::COMMENT,
+            "unterminated block comment",
+        ),
+        ("0x", SyntaxKind::INT_NUMBER, "no digits"),
+        ("1e", SyntaxKind::FLOAT_NUMBER, "no exponent digits"),
+        ("\"a", SyntaxKind::STRING, "unterminated literal"),
+        ("b'a", SyntaxKind::BYTE, "unterminated literal"),
+        ("r#\"a\"", SyntaxKind::STRING, "invalid raw string"),
+        ("\"\\q\"", SyntaxKind::STRING, "bad escape"),
+        ("'\\x80'", SyntaxKind::CHAR, "bad escape"),
+        ("'\\u{D800}'", SyntaxKind::CHAR, "bad escape"),
+        ("'\\u{0000001}'", SyntaxKind::CHAR, "bad escape"),
+        ("\"\\u{_1}\"", SyntaxKind::STRING, "bad escape"),
+        ("b'\\u{41}'", SyntaxKind::BYTE, "bad escape"),
+        ("c\"\\0\"", SyntaxKind::C_STRING, "bad escape"),
+        ("c\"\\u{0}\"", SyntaxKind::C_STRING, "bad escape"),
+        ("cr\"\0\"", SyntaxKind::C_STRING, "bad escape"),
+        ("\"\\\r\n\"", SyntaxKind::STRING, "bad escape"),
+        ("b\"é\"", SyntaxKind::BYTE_STRING, "byte literal past ASCII"),
+        (
+            "br\"é\"",
+            SyntaxKind::BYTE_STRING,
+            "byte literal past ASCII",
+        ),
+        ("''", SyntaxKind::CHAR, "bad literal length"),
+        ("b'ab'", SyntaxKind::BYTE, "bad literal length"),
+        (
+            "'1a",
+            SyntaxKind::LIFETIME_IDENT,
+            "lifetime starts with a digit",
+        ),
+        ("\u{1}", SyntaxKind::ERROR, "unknown character"),
+    ] {
+        assert!(rt;
+            reads(alloc, edition, text, &[kind], &[(0, message)])?,
+            "at {text}"
+        );
+    }
+    for (text, kind) in [
+        (
+            "\"\\n\\r\\t\\\\\\0\\'\\\"\\x7F\\u{1_}\\u{10FFFF}\\\n\"",
+            SyntaxKind::STRING,
+        ),
+        ("b\"\\xFF\"é", SyntaxKind::BYTE_STRING),
+        ("c\"\\xFFé\"", SyntaxKind::C_STRING),
+        ("'''", SyntaxKind::CHAR),
+        ("'\\u{e9}'x", SyntaxKind::CHAR),
+        ("b'\\''", SyntaxKind::BYTE),
+        ("_", SyntaxKind::UNDERSCORE),
+        ("r#fn", SyntaxKind::IDENT),
+    ] {
+        assert!(rt; reads(alloc, edition, text, &[kind], &[])?, "at {text}");
+    }
+    Ok(())
 }
