@@ -1,4 +1,13 @@
+pub mod EscapeSteps
 pub mod KeywordKinds
 pub mod KindTable
+pub mod LeavesLaw
+pub mod LexedSteps
+pub mod Lines
+pub mod LiteralSteps
+pub mod PrefaceSteps
+pub mod Prefaces
+pub mod Recorded
+pub mod Words
 pub mod WordKinds
 pub mod WordPlaces

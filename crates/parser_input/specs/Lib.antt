@@ -3,5 +3,15 @@ pub mod Keywords
 pub mod Kind
 pub mod Kinds
 pub mod Leaf
+pub mod Lines
+pub mod Lexed
+pub mod Laws
+pub mod Stored
+pub mod Escapes
+pub mod Messages
 pub mod Input
+pub mod Preface
+pub mod Spans
+pub mod Recorded
+pub mod Packed
 pub mod WordTable

@@ -2,8 +2,18 @@
 #![tactic(auto)]
 
 pub mod edition;
+mod escapes;
+pub mod frontmatter;
+pub mod frontmatter_error;
+pub mod input;
 pub mod keywords;
 mod kind_table;
+pub mod laws;
+mod leaves;
+pub mod lexed_str;
+mod literals;
+mod message;
+mod scanner;
 pub mod syntax_kind;
 #[cfg(test)]
 mod tests;

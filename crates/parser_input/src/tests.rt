@@ -1,8 +1,14 @@
 //! What no clause says: that the tables are the ones that were meant, by values written by hand.
 
 use crate::edition::Edition;
+use crate::frontmatter::{ScriptSource, is_rust_whitespace};
+use crate::frontmatter_error::FrontmatterError;
+use crate::input::Input;
 use crate::keywords::{contextual_keyword, keyword};
+use crate::lexed_str::LexedStr;
 use crate::syntax_kind::SyntaxKind;
+use std::alloc::{AllocError, Global};
+use std::ops::Range;
 
 const EDITIONS: [Edition; 4] = [
     Edition::Edition2015,
@@ -135,4 +141,295 @@ fn words_by_their_texts(rt: HostRuntime) {
             assert_eq!(rt; contextual_keyword(edition, text), None, "at {text}");
         }
     }
+}
+
+#[test]
+fn an_input_of_three_tokens(rt: HostRuntime) -> Result<(), AllocError> {
+    let mut input = Input::with_capacity(rt.alloc(), 2)?;
+    assert_eq!(rt; input.len(), 0);
+    assert_eq!(rt; input.kind(0), SyntaxKind::EOF);
+    input.push_ident(SyntaxKind::UNION_KW)?;
+    input.was_joint();
+    input.push(SyntaxKind::BANG)?;
+    input.push_ident(SyntaxKind::IDENT)?;
+    assert_eq!(rt; input.len(), 3);
+    for (place, kind, contextual, joint) in [
+        (0, SyntaxKind::IDENT, SyntaxKind::UNION_KW, true),
+        (1, SyntaxKind::BANG, SyntaxKind::EOF, false),
+        (2, SyntaxKind::IDENT, SyntaxKind::IDENT, false),
+        (3, SyntaxKind::EOF, SyntaxKind::EOF, false),
+        (usize::MAX, SyntaxKind::EOF, SyntaxKind::EOF, false),
+    ] {
+        assert_eq!(rt; input.kind(place), kind, "at {place}");
+        assert_eq!(rt; input.contextual_kind(place), contextual, "at {place}");
+        assert_eq!(rt; input.is_joint(place), joint, "at {place}");
+    }
+    Ok(())
+}
+
+fn span(range: Option<Range<usize>>) -> Option<(usize, usize)> {
+    range.map(|range| (range.start, range.end))
+}
+
+#[test]
+fn a_shebang_and_a_frontmatter(rt: HostRuntime) {
+    let source = ScriptSource::parse("#!x\n--- toml\na = 1\n---\n");
+    assert!(rt; source.is_ok());
+    if let Ok(source) = source {
+        assert_eq!(rt; source.shebang(), Some("#!x"));
+        assert_eq!(rt; span(source.shebang_span()), Some((0, 3)));
+        assert_eq!(rt; span(source.open_span()), Some((4, 7)));
+        assert_eq!(rt; source.info(), Some("toml"));
+        assert_eq!(rt; span(source.info_span()), Some((8, 12)));
+        assert_eq!(rt; source.frontmatter(), Some("a = 1\n"));
+        assert_eq!(rt; span(source.frontmatter_span()), Some((13, 19)));
+        assert_eq!(rt; span(source.close_span()), Some((19, 22)));
+        assert_eq!(rt; source.content(), "");
+        let content = source.content_span();
+        assert_eq!(rt; (content.start, content.end), (23, 23));
+    }
+}
+
+#[test]
+fn texts_without_frontmatter(rt: HostRuntime) {
+    // A front without a line feed is not passed over, and an attribute is no shebang.
+    for (text, shebang, content) in [
+        ("", None, ""),
+        ("struct S;", None, "struct S;"),
+        ("  ---", None, "  ---"),
+        ("\n  ---\n  ---\n", None, "\n  ---\n  ---\n"),
+        ("#![a]\nfn", None, "#![a]\nfn"),
+        ("#!x\r\nfn", Some("#!x"), "\r\nfn"),
+        ("#!x", Some("#!x"), ""),
+    ] {
+        let source = ScriptSource::parse(text);
+        assert!(rt; source.is_ok(), "at {text}");
+        if let Ok(source) = source {
+            assert_eq!(rt; source.shebang(), shebang, "at {text}");
+            assert_eq!(rt; source.content(), content, "at {text}");
+            assert_eq!(rt; source.frontmatter(), None, "at {text}");
+            assert_eq!(rt; source.info(), None, "at {text}");
+            assert_eq!(rt; span(source.open_span()), None, "at {text}");
+        }
+    }
+}
+
+#[test]
+fn frontmatters_by_their_lines(rt: HostRuntime) {
+    // White space around the info goes, other lines of dashes are passed over, and a carriage return is no part of a line.
+    for (text, info, frontmatter, content) in [
+        ("---\n---\nstruct S;", None, "", "struct S;"),
+        ("---\n---", None, "", ""),
+        (
+            "\n \n--- \t\n--\n----\n--- x\n--- \t\r\nfn",
+            None,
+            "--\n----\n--- x\n",
+            "fn",
+        ),
+        ("---- a  b \r\n---\n----\n", Some("a  b"), "---\n", ""),
+        ("---\u{2003}é\u{85}\n---\n", Some("\u{2003}é"), "", ""),
+    ] {
+        let source = ScriptSource::parse(text);
+        assert!(rt; source.is_ok(), "at {text}");
+        if let Ok(source) = source {
+            assert_eq!(rt; source.info(), info, "at {text}");
+            assert_eq!(rt; source.frontmatter(), Some(frontmatter), "at {text}");
+            assert_eq!(rt; source.content(), content, "at {text}");
+        }
+    }
+}
+
+#[test]
+fn frontmatters_that_are_refused(rt: HostRuntime) {
+    for (text, too_few, start, end) in [
+        ("-\n", true, 0, 1),
+        ("#!x\n--é", true, 4, 6),
+        ("---", false, 0, 3),
+        ("----\n---\nstruct S;", false, 0, 4),
+        (" \n---\n ---\n", false, 2, 5),
+    ] {
+        match ScriptSource::parse(text) {
+            Ok(_) => assert!(rt; false, "at {text}"),
+            Err(refusal) => {
+                let dashes = refusal.primary_span();
+                assert_eq!(rt; (dashes.start, dashes.end), (start, end), "at {text}");
+                let is_too_few = matches!(&refusal, FrontmatterError::TooFewDashes { .. });
+                assert_eq!(rt; is_too_few, too_few, "at {text}");
+            }
+        }
+    }
+}
+
+#[test]
+fn white_space_of_rust(rt: HostRuntime) {
+    for c in [
+        '\t', '\n', '\u{B}', '\u{C}', '\r', ' ', '\u{85}', '\u{200E}', '\u{200F}', '\u{2028}',
+        '\u{2029}',
+    ] {
+        assert!(rt; is_rust_whitespace(c));
+    }
+    for c in [
+        '\0', 'a', '\u{8}', '\u{E}', '\u{A0}', '\u{2003}', '\u{3000}',
+    ] {
+        assert!(rt; !is_rust_whitespace(c));
+    }
+}
+
+// The kinds of the leaves and the messages, each behind the number of its leaf.
+fn reads(
+    alloc: Global,
+    edition: Edition,
+    text: &str,
+    kinds: &[SyntaxKind],
+    messages: &[(usize, &'static str)],
+) -> Result<bool, AllocError> {
+    let lexed = LexedStr::new(alloc, edition, text)?;
+    if lexed.as_str() != text
+        || lexed.len() != kinds.len()
+        || lexed.is_empty() != kinds.is_empty()
+    {
+        return Ok(false);
+    }
+    let mut next = 0;
+    for (i, kind) in kinds.iter().enumerate() {
+        if i >= lexed.len() || lexed.kind(i) != *kind {
+            return Ok(false);
+        }
+        if let Some(message) = lexed.error(i) {
+            if next >= messages.len() || messages[next] != (i, message) {
+                return Ok(false);
+            }
+            next += 1;
+        }
+    }
+    Ok(next == messages.len())
+}
+
+#[test]
+fn guarded_prefixes(rt: HostRuntime) -> Result<(), AllocError> {
+    let alloc = rt.alloc();
+    let before = Edition::Edition2021;
+    let latest = Edition::Edition2024;
+    assert!(rt;
+        reads(
+            alloc,
+            before,
+            "#\"a\"",
+            &[SyntaxKind::POUND, SyntaxKind::STRING],
+            &[]
+        )?
+    );
+    assert!(rt;
+        reads(
+            alloc,
+            latest,
+            "#\"a\"",
+            &[SyntaxKind::ERROR, SyntaxKind::IDENT, SyntaxKind::STRING],
+            &[
+                (0, "guarded prefix"),
+                (1, "unknown prefix"),
+                (2, "unterminated literal"),
+            ],
+        )?
+    );
+    assert!(rt;
+        reads(
+            alloc,
+            before,
+            "##\"a\"",
+            &[SyntaxKind::POUND, SyntaxKind::POUND, SyntaxKind::STRING],
+            &[],
+        )?
+    );
+    assert!(rt;
+        reads(
+            alloc,
+            latest,
+            "##\"a\"",
+            &[SyntaxKind::ERROR, SyntaxKind::STRING],
+            &[(0, "guarded prefix")],
+        )?
+    );
+    Ok(())
+}
+
+#[test]
+fn prefaces_are_leaves(rt: HostRuntime) -> Result<(), AllocError> {
+    let alloc = rt.alloc();
+    let edition = Edition::Edition2021;
+    let both = [SyntaxKind::SHEBANG, SyntaxKind::FRONTMATTER];
+    assert!(rt; reads(alloc, edition, "#!x\n--- toml\na = 1\n---\n", &both, &[])?);
+    assert!(rt; reads(alloc, edition, "", &[], &[])?);
+    let front = [SyntaxKind::FRONTMATTER, SyntaxKind::STRUCT_KW];
+    assert!(rt; reads(alloc, edition, "---\n---\nstruct", &front, &[])?);
+    let refused = [
+        SyntaxKind::SHEBANG,
+        SyntaxKind::WHITESPACE,
+        SyntaxKind::MINUS,
+    ];
+    assert!(rt; reads(alloc, edition, "#!x\n-", &refused, &[])?);
+    Ok(())
+}
+
+#[test]
+fn messages_by_the_table(rt: HostRuntime) -> Result<(), AllocError> {
+    let alloc = rt.alloc();
+    let edition = Edition::Edition2021;
+    for (text, kind, message) in [
+        (
+            "/* /* */",
+            SyntaxKind::COMMENT,
+            "unterminated block comment",
+        ),
+        ("0x", SyntaxKind::INT_NUMBER, "no digits"),
+        ("1e", SyntaxKind::FLOAT_NUMBER, "no exponent digits"),
+        ("\"a", SyntaxKind::STRING, "unterminated literal"),
+        ("b'a", SyntaxKind::BYTE, "unterminated literal"),
+        ("r#\"a\"", SyntaxKind::STRING, "invalid raw string"),
+        ("\"\\q\"", SyntaxKind::STRING, "bad escape"),
+        ("'\\x80'", SyntaxKind::CHAR, "bad escape"),
+        ("'\\u{D800}'", SyntaxKind::CHAR, "bad escape"),
+        ("'\\u{0000001}'", SyntaxKind::CHAR, "bad escape"),
+        ("\"\\u{_1}\"", SyntaxKind::STRING, "bad escape"),
+        ("b'\\u{41}'", SyntaxKind::BYTE, "bad escape"),
+        ("c\"\\0\"", SyntaxKind::C_STRING, "bad escape"),
+        ("c\"\\u{0}\"", SyntaxKind::C_STRING, "bad escape"),
+        ("cr\"\0\"", SyntaxKind::C_STRING, "bad escape"),
+        ("\"\\\r\n\"", SyntaxKind::STRING, "bad escape"),
+        ("b\"é\"", SyntaxKind::BYTE_STRING, "byte literal past ASCII"),
+        (
+            "br\"é\"",
+            SyntaxKind::BYTE_STRING,
+            "byte literal past ASCII",
+        ),
+        ("''", SyntaxKind::CHAR, "bad literal length"),
+        ("b'ab'", SyntaxKind::BYTE, "bad literal length"),
+        (
+            "'1a",
+            SyntaxKind::LIFETIME_IDENT,
+            "lifetime starts with a digit",
+        ),
+        ("\u{1}", SyntaxKind::ERROR, "unknown character"),
+    ] {
+        assert!(rt;
+            reads(alloc, edition, text, &[kind], &[(0, message)])?,
+            "at {text}"
+        );
+    }
+    for (text, kind) in [
+        (
+            "\"\\n\\r\\t\\\\\\0\\'\\\"\\x7F\\u{1_}\\u{10FFFF}\\\n\"",
+            SyntaxKind::STRING,
+        ),
+        ("b\"\\xFF\"é", SyntaxKind::BYTE_STRING),
+        ("c\"\\xFFé\"", SyntaxKind::C_STRING),
+        ("'''", SyntaxKind::CHAR),
+        ("'\\u{e9}'x", SyntaxKind::CHAR),
+        ("b'\\''", SyntaxKind::BYTE),
+        ("_", SyntaxKind::UNDERSCORE),
+        ("r#fn", SyntaxKind::IDENT),
+    ] {
+        assert!(rt; reads(alloc, edition, text, &[kind], &[])?, "at {text}");
+    }
+    Ok(())
 }

@@ -1,0 +1,20 @@
+-- The input as it is recorded, token by token.
+use Rattle.std.specs.Prelude.{ℕ, true, false, List, slice_index_or}
+use Rattle.parser_input.specs.Kinds.{EOF, IDENT}
+use Rattle.parser_input.specs.Input.{Token}
+
+-- a token that is no identifier
+abbrev pub plain : ℕ → Token
+plain kind = record { kind = kind; contextual = EOF; joint = false }
+
+-- an identifier, with the kind that its word has as a contextual keyword
+abbrev pub identifier : ℕ → Token
+identifier contextual = record { kind = IDENT; contextual = contextual; joint = false }
+
+-- the same token, which touches the next one
+abbrev pub touching : Token → Token
+touching t = record { kind = t.kind; contextual = t.contextual; joint = true }
+
+-- the token at a place; past the end it is one of kind `EOF`
+abbrev pub token_at : List Token → ℕ → Token
+token_at tokens n = slice_index_or tokens n (plain EOF)

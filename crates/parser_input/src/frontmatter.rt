@@ -1,0 +1,370 @@
+//! The first lines of a file: a shebang, and a frontmatter between two lines of dashes.
+
+ghost use Rattle.std.specs.Prelude.{◌≡◌, ◌+◌, ◌≤◌, ◌<◌, ◌^◌, ℕ, true, IfSome, Ok, chars, drop, length, option_map};
+ghost use Rattle.rustc_lexer.specs.Characters.{size, is_whitespace};
+ghost use Rattle.parser_input.specs.Lines.{behind_line, first_line, is_fence};
+ghost use Rattle.parser_input.specs.Preface.{
+  Piece,
+  bare,
+  behind_shebang,
+  closing_line,
+  fenced,
+  info_piece,
+  opening_line,
+  piece,
+  place,
+  remainder,
+  shebang_piece,
+  source,
+};
+ghost use Rattle.parser_input.specs.Stored.{frontmatter_end};
+ghost use Rattle.parser_input.specs.Spans.{chars_of, end_of, range_of, span_of, text_of};
+
+use crate::frontmatter_error::FrontmatterError;
+use crate::scanner::Scanner;
+use rustc_lexer::{is_horizontal_whitespace, strip_shebang};
+use std::marker::Model;
+use std::ops::Range;
+
+/// Whether a character is white space of Rust: U+0009 to U+000D, space, U+0085, U+200E, U+200F, U+2028, U+2029.
+pub fn is_rust_whitespace(c: char) -> bool
+    ensures { result ≡ is_whitespace c }
+{
+    rustc_lexer::is_whitespace(c)
+}
+
+/// A piece of a text, and where it stands.
+#[derive(Drop)]
+struct Piece<'s> {
+    start: usize,
+    end: usize,
+    text: &'s str,
+}
+
+impl<'s> Model for Piece<'s> {
+    ghost use Rattle.std.specs.Prelude.{◌≡◌, ◌+◌, IsUtf8, chars, length};
+    ghost use Rattle.parser_input.specs.Preface.{Piece};
+
+    ghost Value = { Piece };
+
+    ghost view = { λ p. record { start = p.start; text = chars p.text.now } };
+
+    ghost invariant = { λ p. (p.end ≡ p.start + length p.text.now) × IsUtf8 p.text.now };
+}
+
+impl<'s> Piece<'s> {
+    // A piece that begins so many bytes behind the front of its text.
+    fn new(start: usize, text: &'s str) -> Piece<'s>
+        requires { start + length text.now < 2 ^ 64 }
+        ensures { result ≡ record { start = start; text = chars text.now } }
+    {
+        Piece {
+            start,
+            end: start + text.len(),
+            text,
+        }
+    }
+
+    // What stands from one place of a text up to a later one.
+    fn between(text: &Scanner<'s>, from: &Scanner<'s>, until: &Scanner<'s>) -> Piece<'s>
+        requires inside { size from.now ≤ size text.now }
+        requires order { (n : ℕ) × (until.now ≡ drop n from.now) }
+        ensures { (n : ℕ) → until.now ≡ drop n from.now → result ≡ piece text.now from.now n }
+    {
+        Piece::new(
+            text.remaining() - from.remaining(),
+            from.until(until).as_str(),
+        )
+    }
+
+    // What stands from a place of a text up to its end.
+    fn remainder(text: &Scanner<'s>, from: &Scanner<'s>) -> Piece<'s>
+        requires { size from.now ≤ size text.now }
+        ensures { result ≡ remainder text.now from.now }
+    {
+        Piece::new(text.remaining() - from.remaining(), from.as_str())
+    }
+
+    fn text(&self) -> &'s str
+        ensures { chars result.now ≡ self.now.text }
+    {
+        self.text
+    }
+
+    fn span(&self) -> Range<usize>
+        ensures start { result.start ≡ self.now.start }
+        ensures end { result.end ≡ end_of self.now }
+    {
+        self.start..self.end
+    }
+}
+
+// What is left behind the shebang.
+fn behind_shebang<'s>(text: &Scanner<'s>) -> Scanner<'s>
+    ensures rest { result ≡ behind_shebang text.now }
+    ensures inside { size result ≤ size text.now }
+{
+    let mut rest = text.here();
+    if strip_shebang(text.as_str()).is_some() {
+        rest.eat_line();
+    }
+    rest
+}
+
+fn shebang_piece<'s>(text: &Scanner<'s>) -> Option<Piece<'s>>
+    ensures { result ≡ shebang_piece text.now }
+{
+    if strip_shebang(text.as_str()).is_some() {
+        let mut end = text.here();
+        end.eat_line();
+        return Some(Piece::between(text, text, &end));
+    }
+    None
+}
+
+// The first line that is not passed over.
+fn opening_line<'s>(text: &Scanner<'s>) -> Scanner<'s>
+    ensures line { result ≡ opening_line text.now }
+    ensures inside { size result ≤ size text.now }
+{
+    let mut rest = behind_shebang(text);
+    rest.eat_blank_lines();
+    rest
+}
+
+// What is left of the first line.
+fn first_line<'s>(rest: &Scanner<'s>) -> Scanner<'s>
+    ensures { result ≡ first_line rest.now }
+{
+    let mut end = rest.here();
+    end.eat_line();
+    rest.until(&end)
+}
+
+// What is left of the first line, without the white space at both its ends.
+fn info_piece<'s>(text: &Scanner<'s>, after: &Scanner<'s>) -> Option<Piece<'s>>
+    requires { size after.now ≤ size text.now }
+    ensures { result ≡ info_piece text.now after.now }
+{
+    let line = first_line(after);
+    let mut solid = line.here();
+    solid.eat_whitespace();
+    let mut end = solid.here();
+    end.eat_solid();
+    let info = solid.until(&end);
+    if info.is_empty() {
+        return None;
+    }
+    let start = text.remaining() - after.remaining() + (line.remaining() - solid.remaining());
+    Some(Piece::new(start, info.as_str()))
+}
+
+// Whether the first line has so many dashes and nothing else but tabs and spaces.
+fn is_fence(rest: &Scanner, count: usize) -> bool
+    ensures { result ≡ is_fence count (first_line rest.now) }
+{
+    let mut line = first_line(rest);
+    if line.eat_dashes() != count {
+        return false;
+    }
+    line.as_str().chars().all(|c| is_horizontal_whitespace(c))
+}
+
+// The first line with so many dashes and nothing else but tabs and spaces.
+fn closing_line<'s>(mut rest: Scanner<'s>, count: usize) -> Option<Scanner<'s>>
+    ensures line { result ≡ closing_line count true rest.entry }
+    ensures behind { IfSome result (λ line. (n : ℕ) × (line ≡ drop n rest.entry)) }
+{
+    'lines: while !rest.is_empty() {
+        if is_fence(&rest, count) {
+            return Some(rest);
+        }
+        rest.eat_whole_line();
+    }
+    None
+}
+
+/// The first lines of a text, told apart from what the grammar reads.
+///
+/// A shebang is a first line that begins with `#!`, unless that begins an attribute. Behind it a line that begins with three dashes or
+/// more opens a frontmatter, and a line of as many dashes closes it.
+#[derive(Drop)]
+pub struct ScriptSource<'s> {
+    shebang: Option<Piece<'s>>,
+    opening: Option<Piece<'s>>,
+    info: Option<Piece<'s>>,
+    frontmatter: Option<Piece<'s>>,
+    closing: Option<Piece<'s>>,
+    content: Piece<'s>,
+}
+
+impl<'s> Model for ScriptSource<'s> {
+    ghost use Rattle.parser_input.specs.Preface.{Source};
+
+    ghost Value = { Source };
+
+    ghost view = { λ s. record { shebang = s.shebang; opening = s.opening; info = s.info; frontmatter = s.frontmatter; closing = s.closing; content = s.content } };
+}
+
+// The span of a piece that may be missing.
+fn span_of(piece: &Option<Piece>) -> Option<Range<usize>>
+    ensures { option_map range_of result ≡ option_map span_of piece.now }
+{
+    match piece {
+        Some(piece) => Some(piece.span()),
+        None => None,
+    }
+}
+
+// The text of a piece that may be missing.
+fn text_of<'s>(piece: &Option<Piece<'s>>) -> Option<&'s str>
+    ensures { option_map chars_of result ≡ option_map text_of piece.now }
+{
+    match piece {
+        Some(piece) => Some(piece.text()),
+        None => None,
+    }
+}
+
+impl<'s> ScriptSource<'s> {
+    // A text without frontmatter.
+    fn bare(text: &Scanner<'s>) -> ScriptSource<'s>
+        ensures { result ≡ bare text.now }
+    {
+        ScriptSource {
+            shebang: shebang_piece(text),
+            opening: None,
+            info: None,
+            frontmatter: None,
+            closing: None,
+            content: Piece::remainder(text, &behind_shebang(text)),
+        }
+    }
+    // A text with a frontmatter between the lines that start at these places.
+    fn fenced(text: &Scanner<'s>, opening: &Scanner<'s>, closing: &Scanner<'s>) -> ScriptSource<'s>
+        requires inside { size opening.now ≤ size text.now }
+        requires order { (n : ℕ) × (closing.now ≡ drop n (behind_line opening.now)) }
+        ensures { result ≡ fenced text.now opening.now closing.now }
+    {
+        let mut after = opening.here();
+        after.eat_dashes();
+        let mut inside = opening.here();
+        inside.eat_whole_line();
+        let mut closed = closing.here();
+        closed.eat_dashes();
+        let mut content = closing.here();
+        content.eat_whole_line();
+        ScriptSource {
+            shebang: shebang_piece(text),
+            opening: Some(Piece::between(text, opening, &after)),
+            info: info_piece(text, &after),
+            frontmatter: Some(Piece::between(text, &inside, closing)),
+            closing: Some(Piece::between(text, closing, &closed)),
+            content: Piece::remainder(text, &content),
+        }
+    }
+
+    /// Tells the first lines of a text apart. Refused where one or two dashes begin the first line that is not blank, or where no later
+    /// line closes the frontmatter.
+    pub fn parse(raw: &'s str) -> Result<ScriptSource<'s>, FrontmatterError>
+        ensures { result ≡ source (chars raw.now) }
+    {
+        let text = Scanner::new(raw);
+        let opening = opening_line(&text);
+        let count = opening.here().eat_dashes();
+        if count == 0 {
+            return Ok(ScriptSource::bare(&text));
+        }
+        let start = text.remaining() - opening.remaining();
+        let end = start + count;
+        if count < 3 {
+            return Err(FrontmatterError::TooFewDashes { start, end });
+        }
+        let mut inside = opening.here();
+        inside.eat_whole_line();
+        match closing_line(inside, count) {
+            Some(closing) => Ok(ScriptSource::fenced(&text, &opening, &closing)),
+            None => Err(FrontmatterError::Unclosed { start, end }),
+        }
+    }
+
+    /// The shebang, without the end of its line.
+    pub fn shebang(&self) -> Option<&'s str>
+        ensures { option_map chars_of result ≡ option_map text_of self.now.shebang }
+    {
+        text_of(&self.shebang)
+    }
+
+    /// Where the shebang stands, in bytes.
+    pub fn shebang_span(&self) -> Option<Range<usize>>
+        ensures { option_map range_of result ≡ option_map span_of self.now.shebang }
+    {
+        span_of(&self.shebang)
+    }
+
+    /// Where the dashes stand that open the frontmatter, in bytes.
+    pub fn open_span(&self) -> Option<Range<usize>>
+        ensures { option_map range_of result ≡ option_map span_of self.now.opening }
+    {
+        span_of(&self.opening)
+    }
+
+    /// What follows these dashes on their line, without white space at its ends. None where that is empty.
+    pub fn info(&self) -> Option<&'s str>
+        ensures { option_map chars_of result ≡ option_map text_of self.now.info }
+    {
+        text_of(&self.info)
+    }
+
+    /// Where that stands, in bytes.
+    pub fn info_span(&self) -> Option<Range<usize>>
+        ensures { option_map range_of result ≡ option_map span_of self.now.info }
+    {
+        span_of(&self.info)
+    }
+
+    /// The lines between the two lines of dashes, with the ends of their lines.
+    pub fn frontmatter(&self) -> Option<&'s str>
+        ensures { option_map chars_of result ≡ option_map text_of self.now.frontmatter }
+    {
+        text_of(&self.frontmatter)
+    }
+
+    /// Where these lines stand, in bytes.
+    pub fn frontmatter_span(&self) -> Option<Range<usize>>
+        ensures { option_map range_of result ≡ option_map span_of self.now.frontmatter }
+    {
+        span_of(&self.frontmatter)
+    }
+
+    /// Where the dashes stand that close the frontmatter, in bytes.
+    pub fn close_span(&self) -> Option<Range<usize>>
+        ensures { option_map range_of result ≡ option_map span_of self.now.closing }
+    {
+        span_of(&self.closing)
+    }
+
+    /// What is left for the grammar: all behind the frontmatter, or behind the shebang.
+    pub fn content(&self) -> &'s str
+        ensures { chars result.now ≡ self.now.content.text }
+    {
+        self.content.text()
+    }
+
+    /// Where that stands, in bytes.
+    pub fn content_span(&self) -> Range<usize>
+        ensures start { result.start ≡ self.now.content.start }
+        ensures end { result.end ≡ end_of self.now.content }
+    {
+        self.content.span()
+    }
+    // Where the frontmatter ends, if there is one.
+    pub(crate) fn frontmatter_end(&self) -> Option<usize>
+        ensures { result ≡ frontmatter_end (Ok self.now) }
+    {
+        match &self.closing {
+            Some(_) => Some(self.content.span().start),
+            None => None,
+        }
+    }
+}

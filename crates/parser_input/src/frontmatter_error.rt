@@ -1,0 +1,28 @@
+//! Why the front of a text was refused.
+
+ghost use Rattle.std.specs.Prelude.{◌≡◌};
+ghost use Rattle.parser_input.specs.Spans.{refused_start, refused_end};
+
+use std::ops::Range;
+
+/// A refusal of `ScriptSource::parse`, with the dashes of the opening line, in bytes.
+#[derive(Clone, Copy, Debug, PartialEq, Eq)]
+pub enum FrontmatterError {
+    /// The line begins with one or two dashes: a frontmatter asks for three or more.
+    TooFewDashes { start: usize, end: usize },
+    /// No later line has as many dashes and nothing else but tabs and spaces.
+    Unclosed { start: usize, end: usize },
+}
+
+impl FrontmatterError {
+    /// Where the dashes of the opening line stand, in bytes.
+    pub fn primary_span(&self) -> Range<usize>
+        ensures start { result.start ≡ refused_start self.now }
+        ensures end { result.end ≡ refused_end self.now }
+    {
+        match self {
+            FrontmatterError::TooFewDashes { start, end } => *start..*end,
+            FrontmatterError::Unclosed { start, end } => *start..*end,
+        }
+    }
+}

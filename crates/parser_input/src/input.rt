@@ -1,0 +1,128 @@
+//! What the parser sees of a text: its tokens without their texts.
+
+ghost use Rattle.std.specs.Prelude.{◌≡◌, ◌≢◌, ◌<◌, [], ◌∷◌, ◌++◌, List, length, is_ok, if◌then◌else◌, IfOk};
+ghost use Rattle.parser_input.specs.Input.{Token};
+ghost use Rattle.parser_input.specs.Kind.{raw_of};
+ghost use Rattle.parser_input.specs.Kinds as kinds;
+ghost use Rattle.parser_input.specs.Recorded.{plain, identifier, touching, token_at};
+
+use crate::syntax_kind::SyntaxKind;
+use std::alloc::{AllocError, Global};
+use std::marker::Model;
+
+/// A token as it is kept, in three bytes.
+#[derive(Clone, Copy)]
+struct InputToken {
+    kind: SyntaxKind,
+    /// The kind that the word of an identifier has as a contextual keyword, or `IDENT`. `EOF` at any other token.
+    contextual_kind: SyntaxKind,
+    /// Whether nothing stands between this token and the next one.
+    joint: bool,
+}
+
+/// The tokens that the parser sees. It knows no texts: only kinds, and which tokens touch.
+#[derive(Drop)]
+pub struct Input {
+    tokens: Vec<InputToken>,
+}
+
+impl Model for Input {
+    ghost use Rattle.std.specs.Prelude.{List, ◌≢◌, map};
+    ghost use Rattle.std.specs.List.{All};
+    ghost use Rattle.parser_input.specs.Input.{Token};
+
+    ghost Value = { List Token };
+
+    ghost use Rattle.parser_input.specs.Kind.{raw_of};
+    ghost use Rattle.parser_input.specs.Kinds as kinds;
+    ghost use Rattle.parser_input.specs.Packed.{seen};
+
+    ghost view = { λ i. map seen i.tokens.items };
+
+    ghost invariant = { λ i. All (λ t. raw_of t.kind ≢ kinds.EOF) i.tokens.items };
+}
+
+impl Input {
+    /// An input without tokens, with room for so many.
+    pub fn with_capacity(alloc: Global, capacity: usize) -> Result<Input, AllocError>
+        ensures { IfOk result (λ input. input ≡ []) }
+    {
+        Ok(Input {
+            tokens: Vec::with_capacity(alloc, capacity)?,
+        })
+    }
+
+    /// Adds a token that is no identifier. It does not touch the next one.
+    pub fn push(&mut self, kind: SyntaxKind) -> Result<(), AllocError>
+        requires { raw_of kind ≢ kinds.EOF }
+        ensures { self.new ≡ (if is_ok result then self.old ++ plain (raw_of kind) ∷ [] else self.old) }
+    {
+        let token = InputToken {
+            kind,
+            contextual_kind: SyntaxKind::EOF,
+            joint: false,
+        };
+        self.tokens.push(token)?;
+        Ok(())
+    }
+
+    /// Adds an identifier, with the kind that its word has as a contextual keyword. It does not touch the next token.
+    pub fn push_ident(&mut self, contextual_kind: SyntaxKind) -> Result<(), AllocError>
+        ensures { self.new ≡ (if is_ok result then self.old ++ identifier (raw_of contextual_kind) ∷ [] else self.old) }
+    {
+        let token = InputToken {
+            kind: SyntaxKind::IDENT,
+            contextual_kind,
+            joint: false,
+        };
+        self.tokens.push(token)?;
+        Ok(())
+    }
+
+    /// Says that the token that was added last touches the next one. There must be one.
+    pub fn was_joint(&mut self)
+        requires { 0 < length self.old }
+        ensures { (front : List Token) (last : Token) → self.old ≡ front ++ last ∷ [] → self.new ≡ front ++ touching last ∷ [] }
+    {
+        let last = self.tokens.len() - 1;
+        self.tokens[last].joint = true;
+    }
+
+    /// The number of tokens.
+    pub fn len(&self) -> usize
+        ensures { result ≡ length self.now }
+    {
+        self.tokens.len()
+    }
+
+    /// The kind of a token; `EOF` past the end, and there alone.
+    pub fn kind(&self, n: usize) -> SyntaxKind
+        ensures kind { raw_of result ≡ (token_at self.now n).kind }
+        ensures token { n < length self.now → raw_of result ≢ kinds.EOF }
+    {
+        match self.tokens.get(n) {
+            Some(token) => token.kind,
+            None => SyntaxKind::EOF,
+        }
+    }
+
+    /// The kind that the word of an identifier has as a contextual keyword, or `IDENT`; `EOF` at any other token and past the end.
+    pub fn contextual_kind(&self, n: usize) -> SyntaxKind
+        ensures { raw_of result ≡ (token_at self.now n).contextual }
+    {
+        match self.tokens.get(n) {
+            Some(token) => token.contextual_kind,
+            None => SyntaxKind::EOF,
+        }
+    }
+
+    /// Whether a token touches the next one, so that both may be read as one operator. No past the end.
+    pub fn is_joint(&self, n: usize) -> bool
+        ensures { result ≡ (token_at self.now n).joint }
+    {
+        match self.tokens.get(n) {
+            Some(token) => token.joint,
+            None => false,
+        }
+    }
+}

@@ -1,0 +1,8 @@
+//! Laws of the definitions, each the contract of a function that makes no call.
+
+ghost use Rattle.parser_input.specs.Laws.{LexedIsLeaves};
+
+/// Where a text has no shebang and no frontmatter, and no guarded prefix that is cut anew, its leaves are its tokens.
+pub fn lexed_is_leaves()
+    ensures { LexedIsLeaves }
+{}
