@@ -1,0 +1,4 @@
+pub mod Place
+pub mod Around
+pub mod Sound
+pub mod Falls

@@ -1,0 +1,122 @@
+//! Steps from a cursor to the cursors next to it. Each reads one or two children of one node, but for
+//! the search for the next child that is a node.
+ghost use Rattle.std.specs.Prelude.{◌≡◌, ◌+◌, ◌≤◌, length, IfOk, OnErr, IsSome};
+ghost use Rattle.rowan.specs.Place.{below, terms_below, start_of};
+ghost use Rattle.rowan.specs.Around.{children, children_back, children_before, children_from, behind, ahead, nodes, first};
+
+use crate::cursor::{SyntaxElement, SyntaxNode, SyntaxToken};
+use rowan_green::NodeOrToken;
+use std::alloc::{AllocError, Global};
+
+impl SyntaxNode {
+    pub fn first_child_or_token(&self, alloc: Global) -> Result<Option<SyntaxElement>, AllocError>
+        ensures { IfOk result (λ r. r ≡ first (children self.now)) }
+    {
+        self.child(alloc, 0, self.start())
+    }
+
+    pub fn last_child_or_token(&self, alloc: Global) -> Result<Option<SyntaxElement>, AllocError>
+        ensures { IfOk result (λ r. r ≡ first (children_back self.now)) }
+    {
+        self.child_before(alloc, self.green().children().len(), self.end())
+    }
+
+    pub fn next_sibling_or_token(&self, alloc: Global) -> Result<Option<SyntaxElement>, AllocError>
+        ensures { IfOk result (λ r. r ≡ first (behind self.now)) }
+    {
+        match self.parent() {
+            None => Ok(None),
+            Some(parent) => parent.child(alloc, self.index() as usize + 1, self.end()),
+        }
+    }
+
+    pub fn prev_sibling_or_token(&self, alloc: Global) -> Result<Option<SyntaxElement>, AllocError>
+        ensures { IfOk result (λ r. r ≡ first (ahead self.now)) }
+    {
+        prove!(self.green().text_len().0 <= u32::MAX);
+        match self.parent() {
+            None => Ok(None),
+            Some(parent) => parent.child_before(alloc, self.index() as usize, self.start()),
+        }
+    }
+
+    /// The nearest child before a number, where the children before it end at this offset.
+    pub fn child_before(
+        &self,
+        alloc: Global,
+        count: usize,
+        end: u32,
+    ) -> Result<Option<SyntaxElement>, AllocError>
+        requires at_end { end ≡ start_of (below self.now count) }
+        requires within { count ≤ length (terms_below self.now) }
+        ensures { IfOk result (λ r. r ≡ first (children_before self.now count)) }
+    {
+        let Some(index) = count.checked_sub(1) else {
+            return Ok(None);
+        };
+        let Some(child) = self.green().child(index) else {
+            return Ok(None);
+        };
+        self.child(alloc, index, end - child.text_len().0)
+    }
+
+    /// The first node among the children from a number on, which begin at this offset.
+    pub fn node_from(
+        &self,
+        alloc: Global,
+        from: usize,
+        offset: u32,
+    ) -> Result<Option<SyntaxNode>, AllocError>
+        requires { offset ≡ start_of (below self.now from) }
+        ensures ok { IfOk result (λ r. r ≡ first (nodes (children_from self.now from))) }
+        ensures refused { OnErr result (IsSome (first (nodes (children_from self.now from)))) }
+    {
+        let green = self.green();
+        let count = green.children().len();
+        prove!(self.start() <= u32::MAX);
+        let mut offset = offset;
+        let mut index = from;
+        while index < count {
+            let Some(child) = green.child(index) else {
+                return Ok(None);
+            };
+            match child {
+                NodeOrToken::Node(node) => {
+                    let child = self.child_node(alloc, index as u32, offset, node.clone()?)?;
+                    return Ok(Some(child));
+                }
+                NodeOrToken::Token(token) => offset += token.text_len().0,
+            }
+            index += 1;
+        }
+        Ok(None)
+    }
+
+    /// The nearest node among the children before a number, which end at this offset.
+    pub fn node_before(
+        &self,
+        alloc: Global,
+        count: usize,
+        end: u32,
+    ) -> Result<Option<SyntaxNode>, AllocError>
+        requires at_end { end ≡ start_of (below self.now count) }
+        ensures { IfOk result (λ r. r ≡ first (nodes (children_before self.now count))) }
+    {
+        let green = self.green();
+        prove!(green.children().len() <= u32::MAX as usize);
+        let mut end = end;
+        let mut index = count;
+        while index > 0 {
+            index -= 1;
+            let Some(child) = green.child(index) else {
+                continue;
+            };
+            end -= child.text_len().0;
+            if let NodeOrToken::Node(node) = child {
+                let child = self.child_node(alloc, index as u32, end, node.clone()?)?;
+                return Ok(Some(child));
+            }
+        }
+        Ok(None)
+    }
+}

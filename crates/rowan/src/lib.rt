@@ -1,0 +1,5 @@
+//! Cursors.
+#![tactic(auto)]
+
+pub mod cursor;
+pub mod cursor_step;
