@@ -1,7 +1,7 @@
 //! Steps from a cursor to the cursors next to it. Each reads one or two children of one node, but for
 //! the search for the next child that is a node.
 ghost use Rattle.std.specs.Prelude.{◌≡◌, ◌+◌, ◌≤◌, length, IfOk, OnErr, IsSome};
-ghost use Rattle.rowan.specs.Place.{below, terms_below, start_of};
+ghost use Rattle.rowan.specs.Place.{below, terms_below, start_of, top_of};
 ghost use Rattle.rowan.specs.Around.{children, children_back, children_before, children_from, behind, ahead, nodes, first};
 
 use crate::cursor::{SyntaxElement, SyntaxNode, SyntaxToken};
@@ -99,7 +99,7 @@ impl SyntaxNode {
         count: usize,
         end: u32,
     ) -> Result<Option<SyntaxNode>, AllocError>
-        requires at_end { end ≡ start_of (below self.now count) }
+        requires { end ≡ start_of (below self.now count) }
         ensures { IfOk result (λ r. r ≡ first (nodes (children_before self.now count))) }
     {
         let green = self.green();
@@ -118,5 +118,65 @@ impl SyntaxNode {
             }
         }
         Ok(None)
+    }
+}
+
+impl SyntaxNode {
+    pub fn first_child(&self, alloc: Global) -> Result<Option<SyntaxNode>, AllocError>
+        ensures { IfOk result (λ r. r ≡ first (nodes (children self.now))) }
+    {
+        self.node_from(alloc, 0, self.start())
+    }
+
+    pub fn last_child(&self, alloc: Global) -> Result<Option<SyntaxNode>, AllocError>
+        ensures { IfOk result (λ r. r ≡ first (nodes (children_back self.now))) }
+    {
+        self.node_before(alloc, self.green().children().len(), self.end())
+    }
+
+    pub fn next_sibling(&self, alloc: Global) -> Result<Option<SyntaxNode>, AllocError>
+        ensures { IfOk result (λ r. r ≡ first (nodes (behind self.now))) }
+    {
+        match self.parent() {
+            None => Ok(None),
+            Some(parent) => parent.node_from(alloc, self.index() as usize + 1, self.end()),
+        }
+    }
+
+    pub fn prev_sibling(&self, alloc: Global) -> Result<Option<SyntaxNode>, AllocError>
+        ensures { IfOk result (λ r. r ≡ first (nodes (ahead self.now))) }
+    {
+        match self.parent() {
+            None => Ok(None),
+            Some(parent) => parent.node_before(alloc, self.index() as usize, self.start()),
+        }
+    }
+
+    /// The root of the tree.
+    pub fn tree_top(&self) -> &SyntaxNode
+        ensures { result.now ≡ top_of self.now }
+    {
+        let mut top = self;
+        while let Some(parent) = top.parent() {
+            top = parent;
+        }
+        top
+    }
+}
+
+impl SyntaxToken {
+    pub fn next_sibling_or_token(&self, alloc: Global) -> Result<Option<SyntaxElement>, AllocError>
+        ensures { IfOk result (λ r. r ≡ first (behind self.now)) }
+    {
+        let parent = self.parent();
+        parent.child(alloc, self.index() as usize + 1, self.end())
+    }
+
+    pub fn prev_sibling_or_token(&self, alloc: Global) -> Result<Option<SyntaxElement>, AllocError>
+        ensures { IfOk result (λ r. r ≡ first (ahead self.now)) }
+    {
+        prove!(self.green().text_len().0 <= u32::MAX);
+        let parent = self.parent();
+        parent.child_before(alloc, self.index() as usize, self.start())
     }
 }

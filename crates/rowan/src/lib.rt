@@ -1,5 +1,7 @@
 //! Cursors.
 #![tactic(auto)]
 
+pub mod api;
 pub mod cursor;
 pub mod cursor_step;
+pub mod language;
