@@ -1,5 +1,6 @@
 //! Cursors that know their language's kinds.
-ghost use Rattle.std.specs.Prelude.{◌≡◌, [], IfOk, Some};
+ghost use Rattle.std.specs.Prelude.{◌≡◌, [], IfOk, IsSome, Some};
+ghost use Rattle.rowan_green.specs.Forest.{Tree};
 ghost use Rattle.rowan_green.specs.declared.utility_types.NodeOrToken.TheVariants.{Node, Token};
 ghost use Rattle.rowan.specs.Place.{Place, above, term_at, kind_at, text_at, start_of, end_of, index_of, top_of};
 ghost use Rattle.rowan.specs.Around.{Cursor, children, children_back, behind, ahead, nodes, first};
@@ -132,10 +133,51 @@ impl<L: Language> SyntaxNode<L> {
         Ok(node_of(self.cursor.last_child(alloc)?))
     }
 
+    /// The first child, node or token.
     pub fn first_child_or_token(&self, alloc: Global) -> Result<Option<SyntaxElement<L>>, AllocError>
         ensures { IfOk result (λ r. r ≡ first (children self.now)) }
     {
         Ok(element_of(self.cursor.first_child_or_token(alloc)?))
+    }
+
+    /// The last child, node or token.
+    pub fn last_child_or_token(&self, alloc: Global) -> Result<Option<SyntaxElement<L>>, AllocError>
+        ensures { IfOk result (λ r. r ≡ first (children_back self.now)) }
+    {
+        Ok(element_of(self.cursor.last_child_or_token(alloc)?))
+    }
+
+    /// The next sibling that is a node.
+    pub fn next_sibling(&self, alloc: Global) -> Result<Option<SyntaxNode<L>>, AllocError>
+        ensures { IfOk result (λ r. r ≡ first (nodes (behind self.now))) }
+    {
+        Ok(node_of(self.cursor.next_sibling(alloc)?))
+    }
+
+    /// The nearest sibling before it that is a node.
+    pub fn prev_sibling(&self, alloc: Global) -> Result<Option<SyntaxNode<L>>, AllocError>
+        ensures { IfOk result (λ r. r ≡ first (nodes (ahead self.now))) }
+    {
+        Ok(node_of(self.cursor.prev_sibling(alloc)?))
+    }
+
+    pub fn next_sibling_or_token(&self, alloc: Global) -> Result<Option<SyntaxElement<L>>, AllocError>
+        ensures { IfOk result (λ r. r ≡ first (behind self.now)) }
+    {
+        Ok(element_of(self.cursor.next_sibling_or_token(alloc)?))
+    }
+
+    pub fn prev_sibling_or_token(&self, alloc: Global) -> Result<Option<SyntaxElement<L>>, AllocError>
+        ensures { IfOk result (λ r. r ≡ first (ahead self.now)) }
+    {
+        Ok(element_of(self.cursor.prev_sibling_or_token(alloc)?))
+    }
+
+    /// The root of a tree of its own, with this green node.
+    pub fn clone_subtree(&self, alloc: Global) -> Result<SyntaxNode<L>, AllocError>
+        ensures { IfOk result (λ n. (g : Tree) × (term_at self.now ≡ Some (Node g)) × (n ≡ record { root = g; up = [] })) }
+    {
+        SyntaxNode::new_root(alloc, self.green().clone()?)
     }
 }
 
@@ -176,5 +218,106 @@ impl<L: Language> SyntaxToken<L> {
         ensures { result.now ≡ self.now }
     {
         &self.cursor
+    }
+
+    pub fn kind(&self) -> L::Kind
+        ensures { result ≡ L.from_raw (kind_at self.now) }
+    {
+        L::kind_from_raw(self.cursor.kind())
+    }
+
+    /// Where its text stands in the text of the tree.
+    pub fn text_range(&self) -> TextRange
+        ensures start { result.start.0 ≡ start_of self.now }
+        ensures end { result.end.0 ≡ end_of self.now }
+    {
+        let end = TextSize(self.cursor.end());
+        TextRange::new(TextSize(self.cursor.start()), end)
+    }
+
+    /// Its number among its parent's children, nodes and tokens alike.
+    pub fn index(&self) -> usize
+        ensures { result ≡ index_of self.now }
+    {
+        self.cursor.index() as usize
+    }
+
+    pub fn text(&self) -> &str
+        ensures { result.now ≡ text_at self.now }
+    {
+        self.cursor.text()
+    }
+
+    pub fn green(&self) -> &GreenToken
+        ensures { term_at self.now ≡ Some (Token result.now) }
+    {
+        self.cursor.green()
+    }
+
+    /// The parent. A token always has one.
+    pub fn parent(&self) -> Result<Option<SyntaxNode<L>>, AllocError>
+        ensures ok { IfOk result (λ r. r ≡ above self.now) }
+        ensures some { IfOk result IsSome }
+    {
+        Ok(Some(SyntaxNode::of(self.cursor.parent().clone()?)))
+    }
+
+    /// The root of the tree.
+    pub fn tree_top(&self) -> Result<SyntaxNode<L>, AllocError>
+        ensures { IfOk result (λ r. r ≡ top_of self.now) }
+    {
+        Ok(SyntaxNode::of(self.cursor.tree_top().clone()?))
+    }
+
+    pub fn next_sibling_or_token(&self, alloc: Global) -> Result<Option<SyntaxElement<L>>, AllocError>
+        ensures { IfOk result (λ r. r ≡ first (behind self.now)) }
+    {
+        Ok(element_of(self.cursor.next_sibling_or_token(alloc)?))
+    }
+
+    pub fn prev_sibling_or_token(&self, alloc: Global) -> Result<Option<SyntaxElement<L>>, AllocError>
+        ensures { IfOk result (λ r. r ≡ first (ahead self.now)) }
+    {
+        Ok(element_of(self.cursor.prev_sibling_or_token(alloc)?))
+    }
+}
+
+impl<L: Language> Clone for SyntaxNode<L> {
+    ghost is_clone = { λ n copy. copy ≡ n };
+
+    /// Refuses only where as many clones stand as a `usize` can count.
+    fn clone(&self) -> Result<SyntaxNode<L>, AllocError> {
+        Ok(SyntaxNode::of(self.cursor.clone()?))
+    }
+}
+
+impl<L: Language> Clone for SyntaxToken<L> {
+    ghost is_clone = { λ t copy. copy ≡ t };
+
+    /// Refuses only where as many clones stand as a `usize` can count.
+    fn clone(&self) -> Result<SyntaxToken<L>, AllocError> {
+        Ok(SyntaxToken::of(self.cursor.clone()?))
+    }
+}
+
+impl<L: Language> From<SyntaxNode<L>> for NodeOrToken<SyntaxNode<L>, SyntaxToken<L>> {
+    ghost use Rattle.std.specs.Prelude.{◌≡◌};
+    ghost use Rattle.rowan_green.specs.declared.utility_types.NodeOrToken.TheVariants.{Node};
+
+    ghost from_gives = { λ node element. element ≡ Node node };
+
+    fn from(node: SyntaxNode<L>) -> SyntaxElement<L> {
+        NodeOrToken::Node(node)
+    }
+}
+
+impl<L: Language> From<SyntaxToken<L>> for NodeOrToken<SyntaxNode<L>, SyntaxToken<L>> {
+    ghost use Rattle.std.specs.Prelude.{◌≡◌};
+    ghost use Rattle.rowan_green.specs.declared.utility_types.NodeOrToken.TheVariants.{Token};
+
+    ghost from_gives = { λ token element. element ≡ Token token };
+
+    fn from(token: SyntaxToken<L>) -> SyntaxElement<L> {
+        NodeOrToken::Token(token)
     }
 }

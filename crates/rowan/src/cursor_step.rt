@@ -1,8 +1,9 @@
 //! Steps from a cursor to the cursors next to it. Each reads one or two children of one node, but for
 //! the search for the next child that is a node.
 ghost use Rattle.std.specs.Prelude.{◌≡◌, ◌+◌, ◌≤◌, length, IfOk, OnErr, IsSome};
-ghost use Rattle.rowan.specs.Place.{below, terms_below, start_of, top_of};
-ghost use Rattle.rowan.specs.Around.{children, children_back, children_before, children_from, behind, ahead, nodes, first};
+ghost use Rattle.std.specs.Option.{option_copied};
+ghost use Rattle.rowan.specs.Place.{above, below, terms_below, start_of, top_of};
+ghost use Rattle.rowan.specs.Around.{place_in, children, children_back, children_before, children_from, behind, ahead, nodes, first};
 
 use crate::cursor::{SyntaxElement, SyntaxNode, SyntaxToken};
 use rowan_green::NodeOrToken;
@@ -178,5 +179,61 @@ impl SyntaxToken {
         prove!(self.green().text_len().0 <= u32::MAX);
         let parent = self.parent();
         parent.child_before(alloc, self.index() as usize, self.start())
+    }
+
+    /// The root of the tree.
+    pub fn tree_top(&self) -> &SyntaxNode
+        ensures { result.now ≡ top_of self.now }
+    {
+        self.parent().tree_top()
+    }
+}
+
+/// The first child of a node; a token has none.
+pub fn first_child_of(
+    element: &SyntaxElement,
+    alloc: Global,
+) -> Result<Option<SyntaxElement>, AllocError>
+    ensures { IfOk result (λ r. r ≡ first (children (place_in element.now))) }
+{
+    match element {
+        NodeOrToken::Node(node) => node.first_child_or_token(alloc),
+        NodeOrToken::Token(token) => {
+            prove!(token.green().text_len().0 <= u32::MAX);
+            Ok(None)
+        }
+    }
+}
+
+pub fn next_sibling_of(
+    element: &SyntaxElement,
+    alloc: Global,
+) -> Result<Option<SyntaxElement>, AllocError>
+    ensures { IfOk result (λ r. r ≡ first (behind (place_in element.now))) }
+{
+    match element {
+        NodeOrToken::Node(node) => node.next_sibling_or_token(alloc),
+        NodeOrToken::Token(token) => token.next_sibling_or_token(alloc),
+    }
+}
+
+pub fn prev_sibling_of(
+    element: &SyntaxElement,
+    alloc: Global,
+) -> Result<Option<SyntaxElement>, AllocError>
+    ensures { IfOk result (λ r. r ≡ first (ahead (place_in element.now))) }
+{
+    match element {
+        NodeOrToken::Node(node) => node.prev_sibling_or_token(alloc),
+        NodeOrToken::Token(token) => token.prev_sibling_or_token(alloc),
+    }
+}
+
+pub fn parent_of(element: &SyntaxElement) -> Option<&SyntaxNode>
+    ensures { option_copied result ≡ above (place_in element.now) }
+{
+    match element {
+        NodeOrToken::Node(node) => node.parent(),
+        NodeOrToken::Token(token) => Some(token.parent()),
     }
 }

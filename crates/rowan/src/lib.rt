@@ -5,3 +5,4 @@ pub mod api;
 pub mod cursor;
 pub mod cursor_step;
 pub mod language;
+pub mod utility_types;
