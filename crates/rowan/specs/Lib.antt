@@ -1,4 +1,7 @@
 pub mod Place
 pub mod Around
+pub mod Walk
+pub mod Yields
 pub mod Sound
 pub mod Falls
+pub mod Left

@@ -191,6 +191,16 @@ pub(crate) fn node_of<L: Language>(cursor: Option<cursor::SyntaxNode>) -> Option
     }
 }
 
+/// The element of a cursor.
+pub(crate) fn element<L: Language>(cursor: cursor::SyntaxElement) -> SyntaxElement<L>
+    ensures { result ≡ cursor }
+{
+    match cursor {
+        NodeOrToken::Node(cursor) => NodeOrToken::Node(SyntaxNode::of(cursor)),
+        NodeOrToken::Token(cursor) => NodeOrToken::Token(SyntaxToken::of(cursor)),
+    }
+}
+
 /// The element of a cursor, if there is one.
 pub(crate) fn element_of<L: Language>(
     cursor: Option<cursor::SyntaxElement>,
@@ -198,8 +208,7 @@ pub(crate) fn element_of<L: Language>(
     ensures { result ≡ cursor }
 {
     match cursor {
-        Some(NodeOrToken::Node(cursor)) => Some(NodeOrToken::Node(SyntaxNode::of(cursor))),
-        Some(NodeOrToken::Token(cursor)) => Some(NodeOrToken::Token(SyntaxToken::of(cursor))),
+        Some(cursor) => Some(element(cursor)),
         None => None,
     }
 }

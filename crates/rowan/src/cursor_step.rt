@@ -189,22 +189,6 @@ impl SyntaxToken {
     }
 }
 
-/// The first child of a node; a token has none.
-pub fn first_child_of(
-    element: &SyntaxElement,
-    alloc: Global,
-) -> Result<Option<SyntaxElement>, AllocError>
-    ensures { IfOk result (λ r. r ≡ first (children (place_in element.now))) }
-{
-    match element {
-        NodeOrToken::Node(node) => node.first_child_or_token(alloc),
-        NodeOrToken::Token(token) => {
-            prove!(token.green().text_len().0 <= u32::MAX);
-            Ok(None)
-        }
-    }
-}
-
 pub fn next_sibling_of(
     element: &SyntaxElement,
     alloc: Global,

@@ -5,4 +5,6 @@ pub mod api;
 pub mod cursor;
 pub mod cursor_step;
 pub mod language;
+pub mod preorder;
 pub mod utility_types;
+pub mod walk;
