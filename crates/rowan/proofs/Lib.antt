@@ -2,3 +2,4 @@ pub mod Places
 pub mod Lists
 pub mod Steps
 pub mod Walks
+pub mod Lefts

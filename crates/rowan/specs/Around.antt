@@ -7,6 +7,8 @@ use Rattle.rowan_green.specs.Either.{node_part, token_part}
 use Rattle.rowan_green.specs.declared.utility_types.NodeOrToken.{NodeOrToken}
 use Rattle.rowan_green.specs.declared.utility_types.NodeOrToken.TheVariants.{Node, Token}
 use Rattle.rowan.specs.Place.{Place, below, term_at, terms_below}
+use Rattle.rowan.specs.declared.utility_types.Direction.{Direction}
+use Rattle.rowan.specs.declared.utility_types.Direction.TheVariants.{Next, Prev}
 
 -- the place of a node, or the place of a token
 abbrev pub Cursor : Type 0
@@ -78,3 +80,21 @@ tokens cs = filter_map token_part cs
 abbrev pub first : {A : Type 0} → List A → Option A
 first [] = None
 first (x ∷ xs) = Some x
+
+-- a place and those above it, up to the root
+abbrev pub ancestors : Place → List Place
+ancestors p = ancestors_by p.root p.up
+  where
+    ancestors_by : Tree → List ℕ → List Place
+    ancestors_by root [] = record { root = root; up = [] } ∷ []
+    ancestors_by root (i ∷ up) = record { root = root; up = i ∷ up } ∷ ancestors_by root up
+
+-- an element and its siblings behind it, or ahead of it, the nearest first
+abbrev pub siblings : Direction → Cursor → List Cursor
+siblings Next c = c ∷ behind (place_in c)
+siblings Prev c = c ∷ ahead (place_in c)
+
+-- the same of nodes alone
+abbrev pub sibling_nodes : Direction → Place → List Place
+sibling_nodes Next p = p ∷ nodes (behind p)
+sibling_nodes Prev p = p ∷ nodes (ahead p)

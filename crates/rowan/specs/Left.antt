@@ -1,12 +1,15 @@
--- What a walk has left at a step: an element that is entered or left next, so many levels below where the walk began.
+-- What iterators have left.
 use Rattle.std.specs.Prelude.{ℕ, zero, suc, ◌+◌, List, [], ◌∷◌, ◌++◌, Option, Some, None, Bool, true, false}
 use Rattle.rowan_green.specs.Forest.{Tree}
 use Rattle.rowan_green.specs.declared.utility_types.NodeOrToken.TheVariants.{Node, Token}
 use Rattle.rowan.specs.Place.{Place}
-use Rattle.rowan.specs.Around.{Cursor, place_in}
+use Rattle.rowan.specs.Around.{Cursor, place_in, children_from, ancestors, siblings, sibling_nodes}
+use Rattle.rowan.specs.declared.utility_types.Direction.{Direction}
 use Rattle.rowan.specs.Walk.{Event, walk_from}
 use Rattle.rowan.specs.declared.utility_types.WalkEvent.TheVariants.{Enter, Leave}
 use Rattle.rowan.specs.declared.walk.Step.{Step}
+
+-- ---- a walk at a step: an element that is entered or left next, so many levels below where the walk began
 
 -- what is left once an element is left
 abbrev pub left_above : Tree → List ℕ → ℕ → List Event
@@ -31,3 +34,23 @@ event_of false c = Enter c
 abbrev pub left_by : Option Step → List Event
 left_by None = []
 left_by (Some s) = left_at s.leaving s.element s.depth
+
+-- ---- children from a number on, unless the iterator has ended
+
+abbrev pub children_left : Bool → Place → ℕ → List Cursor
+children_left true p i = []
+children_left false p i = children_from p i
+
+-- ---- an element, if there is one, and those that follow it
+
+abbrev pub ancestors_left : Option Place → List Place
+ancestors_left None = []
+ancestors_left (Some p) = ancestors p
+
+abbrev pub siblings_left : Direction → Option Cursor → List Cursor
+siblings_left d None = []
+siblings_left d (Some c) = siblings d c
+
+abbrev pub sibling_nodes_left : Direction → Option Place → List Place
+sibling_nodes_left d None = []
+sibling_nodes_left d (Some p) = sibling_nodes d p

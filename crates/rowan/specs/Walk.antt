@@ -35,6 +35,10 @@ entered_by (Leave c) = None
 abbrev pub entered : List Event → List Cursor
 entered w = filter_map entered_by w
 
+-- the nodes that are entered, in order
+abbrev pub entered_nodes : List Event → List Place
+entered_nodes w = nodes (entered w)
+
 abbrev pub node_event : Event → Option (WalkEvent Place)
 node_event (Enter (Node p)) = Some (Enter p)
 node_event (Enter (Token p)) = None

@@ -1,8 +1,8 @@
 //! Steps from a cursor to the cursors next to it. Each reads one or two children of one node, but for
 //! the search for the next child that is a node.
-ghost use Rattle.std.specs.Prelude.{◌≡◌, ◌+◌, ◌≤◌, length, IfOk, OnErr, IsSome};
+ghost use Rattle.std.specs.Prelude.{◌≡◌, ◌+◌, ◌<◌, ◌≤◌, ◌^◌, length, IfOk, OnErr, IsSome};
 ghost use Rattle.std.specs.Option.{option_copied};
-ghost use Rattle.rowan.specs.Place.{above, below, terms_below, start_of, top_of};
+ghost use Rattle.rowan.specs.Place.{above, below, terms_below, start_of, end_of, index_of, top_of};
 ghost use Rattle.rowan.specs.Around.{place_in, children, children_back, children_before, children_from, behind, ahead, nodes, first};
 
 use crate::cursor::{SyntaxElement, SyntaxNode, SyntaxToken};
@@ -219,5 +219,37 @@ pub fn parent_of(element: &SyntaxElement) -> Option<&SyntaxNode>
     match element {
         NodeOrToken::Node(node) => node.parent(),
         NodeOrToken::Token(token) => Some(token.parent()),
+    }
+}
+
+/// Its number among its parent's children.
+pub fn index_of(element: &SyntaxElement) -> u32
+    ensures { result ≡ index_of (place_in element.now) }
+{
+    match element {
+        NodeOrToken::Node(node) => node.index(),
+        NodeOrToken::Token(token) => token.index(),
+    }
+}
+
+/// Where its text begins.
+pub fn start_of(element: &SyntaxElement) -> u32
+    ensures start { result ≡ start_of (place_in element.now) }
+    ensures fits { end_of (place_in element.now) < 2 ^ 32 }
+{
+    match element {
+        NodeOrToken::Node(node) => node.start(),
+        NodeOrToken::Token(token) => token.start(),
+    }
+}
+
+/// Where its text ends.
+pub fn end_of(element: &SyntaxElement) -> u32
+    ensures end { result ≡ end_of (place_in element.now) }
+    ensures ordered { start_of (place_in element.now) ≤ end_of (place_in element.now) }
+{
+    match element {
+        NodeOrToken::Node(node) => node.end(),
+        NodeOrToken::Token(token) => token.end(),
     }
 }

@@ -1,10 +1,10 @@
 //! Walks in preorder.
-ghost use Rattle.std.specs.Prelude.{◌≡◌, IfOk, OnErr};
+ghost use Rattle.std.specs.Prelude.{◌≡◌, ◌<◌, length, IfOk, OnErr, IsSome};
+ghost use Rattle.rowan.specs.Yields.{PicksOrFails};
 ghost use Rattle.rowan_green.specs.declared.utility_types.NodeOrToken.TheVariants.{Node};
-ghost use Rattle.rowan.specs.Walk.{walk, skipped, node_events, entered};
-ghost use Rattle.rowan.specs.Around.{nodes};
+ghost use Rattle.rowan.specs.Walk.{walk, skipped, node_events, entered, entered_nodes};
 
-use crate::api::{SyntaxElement, element};
+use crate::api::{SyntaxElement, SyntaxNode, element};
 use crate::cursor;
 use crate::language::Language;
 use crate::utility_types::WalkEvent;
@@ -94,4 +94,56 @@ impl<L: Language> Iterator for PreorderWithTokens<L> {
             Err(e) => Some(Err(e)),
         }
     }
+}
+
+/// The next event of a node in a walk.
+fn next_node_event<L: Language>(
+    walk: &mut PreorderWithTokens<L>,
+) -> Option<Result<WalkEvent<SyntaxNode<L>>, AllocError>>
+    ensures gives { PicksOrFails node_events walk.old result walk.new }
+    ensures goes { IsSome result → length walk.new < length walk.old }
+{
+    while let Some(event) = walk.next() {
+        match event {
+            Ok(WalkEvent::Enter(NodeOrToken::Node(node))) => return Some(Ok(WalkEvent::Enter(node))),
+            Ok(WalkEvent::Leave(NodeOrToken::Node(node))) => return Some(Ok(WalkEvent::Leave(node))),
+            Ok(_) => {}
+            Err(e) => return Some(Err(e)),
+        }
+    }
+    None
+}
+
+/// The next element that a walk enters.
+fn next_entered<L: Language>(
+    walk: &mut PreorderWithTokens<L>,
+) -> Option<Result<SyntaxElement<L>, AllocError>>
+    ensures gives { PicksOrFails entered walk.old result walk.new }
+    ensures goes { IsSome result → length walk.new < length walk.old }
+{
+    while let Some(event) = walk.next() {
+        match event {
+            Ok(WalkEvent::Enter(element)) => return Some(Ok(element)),
+            Ok(WalkEvent::Leave(_)) => {}
+            Err(e) => return Some(Err(e)),
+        }
+    }
+    None
+}
+
+/// The next node that a walk enters.
+fn next_entered_node<L: Language>(
+    walk: &mut PreorderWithTokens<L>,
+) -> Option<Result<SyntaxNode<L>, AllocError>>
+    ensures gives { PicksOrFails entered_nodes walk.old result walk.new }
+    ensures goes { IsSome result → length walk.new < length walk.old }
+{
+    while let Some(event) = walk.next() {
+        match event {
+            Ok(WalkEvent::Enter(NodeOrToken::Node(node))) => return Some(Ok(node)),
+            Ok(_) => {}
+            Err(e) => return Some(Err(e)),
+        }
+    }
+    None
 }
