@@ -6,7 +6,7 @@ use Rattle.rowan_green.specs.Term.{Term}
 use Rattle.rowan_green.specs.Either.{node_part, token_part}
 use Rattle.rowan_green.specs.declared.utility_types.NodeOrToken.{NodeOrToken}
 use Rattle.rowan_green.specs.declared.utility_types.NodeOrToken.TheVariants.{Node, Token}
-use Rattle.rowan.specs.Place.{Place, below, term_at, terms_below}
+use Rattle.rowan.specs.Place.{Place, above, below, term_at, terms_below}
 use Rattle.rowan.specs.declared.utility_types.Direction.{Direction}
 use Rattle.rowan.specs.declared.utility_types.Direction.TheVariants.{Next, Prev}
 
@@ -88,6 +88,16 @@ ancestors p = ancestors_by p.root p.up
     ancestors_by : Tree → List ℕ → List Place
     ancestors_by root [] = record { root = root; up = [] } ∷ []
     ancestors_by root (i ∷ up) = record { root = root; up = i ∷ up } ∷ ancestors_by root up
+
+-- those of a place, if there is one
+abbrev pub ancestors_of : Option Place → List Place
+ancestors_of None = []
+ancestors_of (Some p) = ancestors p
+
+-- those of a node; those of a token's parent
+abbrev pub element_ancestors : Cursor → List Place
+element_ancestors (Node p) = ancestors p
+element_ancestors (Token p) = ancestors_of (above p)
 
 -- an element and its siblings behind it, or ahead of it, the nearest first
 abbrev pub siblings : Direction → Cursor → List Cursor

@@ -3,7 +3,7 @@ use Rattle.std.specs.Prelude.{ℕ, zero, suc, ◌+◌, List, [], ◌∷◌, ◌+
 use Rattle.rowan_green.specs.Forest.{Tree}
 use Rattle.rowan_green.specs.declared.utility_types.NodeOrToken.TheVariants.{Node, Token}
 use Rattle.rowan.specs.Place.{Place}
-use Rattle.rowan.specs.Around.{Cursor, place_in, children_from, ancestors, siblings, sibling_nodes}
+use Rattle.rowan.specs.Around.{Cursor, place_in, children_from, siblings, sibling_nodes}
 use Rattle.rowan.specs.declared.utility_types.Direction.{Direction}
 use Rattle.rowan.specs.Walk.{Event, walk_from}
 use Rattle.rowan.specs.declared.utility_types.WalkEvent.TheVariants.{Enter, Leave}
@@ -42,10 +42,6 @@ children_left true p i = []
 children_left false p i = children_from p i
 
 -- ---- an element, if there is one, and those that follow it
-
-abbrev pub ancestors_left : Option Place → List Place
-ancestors_left None = []
-ancestors_left (Some p) = ancestors p
 
 abbrev pub siblings_left : Direction → Option Cursor → List Cursor
 siblings_left d None = []

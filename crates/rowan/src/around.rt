@@ -1,13 +1,16 @@
 //! The elements around an element, as iterators: ancestors and siblings.
 ghost use Rattle.std.specs.Prelude.{◌≡◌, ◌∷◌, IfOk};
-ghost use Rattle.rowan.specs.Around.{ancestors, siblings, sibling_nodes};
+ghost use Rattle.rowan_green.specs.declared.utility_types.NodeOrToken.TheVariants.{Node, Token};
+ghost use Rattle.rowan.specs.Place.{above};
+ghost use Rattle.rowan.specs.Around.{ancestors, ancestors_of, siblings, sibling_nodes};
 ghost use Rattle.rowan.specs.Left.{siblings_left, sibling_nodes_left};
 
-use crate::api::{SyntaxElement, SyntaxNode, element};
+use crate::api::{SyntaxElement, SyntaxNode, SyntaxToken, element};
 use crate::cursor;
 use crate::cursor_step::{next_sibling_of, prev_sibling_of};
 use crate::language::Language;
 use crate::utility_types::Direction;
+use rowan_green::NodeOrToken;
 use std::alloc::{AllocError, Global};
 use std::marker::{Model, PhantomData};
 
@@ -28,9 +31,9 @@ impl<L: Language> Model for Ancestors<L> {
 
     ghost coded = { Prim.hlevel (codes, tree_code) };
 
-    ghost use Rattle.rowan.specs.Left.{ancestors_left};
+    ghost use Rattle.rowan.specs.Around.{ancestors_of};
 
-    ghost view = { λ a. ancestors_left a.next };
+    ghost view = { λ a. ancestors_of a.next };
 }
 
 impl<L: Language> Ancestors<L> {
@@ -221,5 +224,54 @@ fn node_beside(
     match direction {
         Direction::Next => current.next_sibling(alloc),
         Direction::Prev => current.prev_sibling(alloc),
+    }
+}
+
+impl<L: Language> SyntaxNode<L> {
+    /// The node, its parent, and so on up to the root.
+    pub fn ancestors(&self) -> Result<Ancestors<L>, AllocError>
+        ensures { IfOk result (λ a. a ≡ ancestors self.now) }
+    {
+        Ok(Ancestors::new(self.cursor().clone()?))
+    }
+
+    /// The node, and then its siblings on one side that are nodes.
+    pub fn siblings(&self, alloc: Global, direction: Direction) -> Result<Siblings<L>, AllocError>
+        ensures { IfOk result (λ s. s ≡ sibling_nodes direction self.now) }
+    {
+        Ok(Siblings::new(alloc, direction, self.cursor().clone()?))
+    }
+
+    /// The node, and then its siblings on one side, nodes and tokens.
+    pub fn siblings_with_tokens(
+        &self,
+        alloc: Global,
+        direction: Direction,
+    ) -> Result<SiblingsWithTokens<L>, AllocError>
+        ensures { IfOk result (λ s. s ≡ siblings direction (Node self.now)) }
+    {
+        let start = NodeOrToken::Node(self.cursor().clone()?);
+        Ok(SiblingsWithTokens::new(alloc, direction, start))
+    }
+}
+
+impl<L: Language> SyntaxToken<L> {
+    /// The token's parent, that one's parent, and so on up to the root.
+    pub fn parent_ancestors(&self) -> Result<Ancestors<L>, AllocError>
+        ensures { IfOk result (λ a. a ≡ ancestors_of (above self.now)) }
+    {
+        Ok(Ancestors::new(self.cursor().parent().clone()?))
+    }
+
+    /// The token, and then its siblings on one side, nodes and tokens.
+    pub fn siblings_with_tokens(
+        &self,
+        alloc: Global,
+        direction: Direction,
+    ) -> Result<SiblingsWithTokens<L>, AllocError>
+        ensures { IfOk result (λ s. s ≡ siblings direction (Token self.now)) }
+    {
+        let start = NodeOrToken::Token(self.cursor().clone()?);
+        Ok(SiblingsWithTokens::new(alloc, direction, start))
     }
 }

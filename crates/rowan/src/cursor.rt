@@ -1,5 +1,7 @@
 //! Cursors over nodes and tokens that know no language: a green value and where it stands.
 ghost use Rattle.std.specs.Prelude.{◌≡◌, ◌+◌, ◌<◌, ◌≤◌, ◌^◌, [], length, IfOk, OnErr, IsSome, Some};
+ghost use Rattle.std.specs.Prelude.{nat_eq};
+ghost use Rattle.std.specs.Cmp.Lexicographic.{pointwise};
 ghost use Rattle.std.specs.Option.{option_copied};
 ghost use Rattle.rowan_green.specs.Leaf.{Leaf};
 ghost use Rattle.rowan_green.specs.declared.utility_types.NodeOrToken.TheVariants.{Node, Token};
@@ -8,6 +10,7 @@ ghost use Rattle.rowan.specs.Around.{Cursor, cursor_at};
 
 use rowan_green::{GreenNode, GreenToken, NodeOrToken, SyntaxKind};
 use std::alloc::{AllocError, Global};
+use std::hash::{Hash, Hasher};
 use std::marker::Model;
 use std::rc::Rc;
 
@@ -290,5 +293,92 @@ impl Clone for SyntaxToken {
             offset: self.offset,
             green: self.green.clone()?,
         })
+    }
+}
+
+/// Whether two nodes have the same way up to their roots.
+fn same_way(a: &SyntaxNode, b: &SyntaxNode) -> bool
+    ensures { result ≡ pointwise nat_eq a.now.up b.now.up }
+{
+    match (&a.shared.spot, &b.shared.spot) {
+        (Spot::Root, Spot::Root) => true,
+        (Spot::Child(above_a, i), Spot::Child(above_b, j)) => *i == *j && same_way(above_a, above_b),
+        _ => false,
+    }
+}
+
+impl PartialEq for SyntaxNode {
+    ghost use Rattle.rowan.specs.Same.{same_place, same_place-equiv};
+    ghost use Rattle.std.specs.Cmp.{partial_equiv_from_equiv};
+
+    ghost eq = { same_place };
+
+    ghost laws = { partial_equiv_from_equiv same_place-equiv };
+
+    fn eq(&self, other: &SyntaxNode) -> bool {
+        same_way(self, other) && self.tree_top().green() == other.tree_top().green()
+    }
+}
+
+impl Eq for SyntaxNode {
+    ghost use Rattle.rowan.specs.Same.{same_place-equiv};
+
+    ghost laws = { same_place-equiv };
+}
+
+/// A hash of the offset and the number alone: equal nodes hash alike.
+impl Hash for SyntaxNode {
+    ghost use Rattle.rowan.specs.Place.{Place, start_of, index_of};
+    ghost use Rattle.rowan.specs.Same.{same_place-Decides};
+    ghost use Rattle.std.specs.Prelude.{◌++◌};
+    ghost use Rattle.std.specs.Hash as fed;
+    ghost use Rattle.std.proofs.Common.{ap};
+
+    ghost hash_input = { λ p. fed.u32 (start_of p) ++ fed.u32 (index_of p) };
+
+    ghost respects_eq = { λ x y p. ap (λ (q : Place). fed.u32 (start_of q) ++ fed.u32 (index_of q)) ((same_place-Decides x y).0 p) };
+
+    fn hash<H: Hasher>(&self, state: &mut H) {
+        self.start().hash(state);
+        self.index().hash(state);
+    }
+}
+
+impl PartialEq for SyntaxToken {
+    ghost use Rattle.rowan.specs.Same.{same_place, same_place-equiv};
+    ghost use Rattle.std.specs.Cmp.{partial_equiv_from_equiv};
+
+    ghost eq = { same_place };
+
+    ghost laws = { partial_equiv_from_equiv same_place-equiv };
+
+    fn eq(&self, other: &SyntaxToken) -> bool {
+        self.index == other.index
+            && same_way(&self.parent, &other.parent)
+            && self.parent.tree_top().green() == other.parent.tree_top().green()
+    }
+}
+
+impl Eq for SyntaxToken {
+    ghost use Rattle.rowan.specs.Same.{same_place-equiv};
+
+    ghost laws = { same_place-equiv };
+}
+
+/// A hash of the offset and the number alone: equal tokens hash alike.
+impl Hash for SyntaxToken {
+    ghost use Rattle.rowan.specs.Place.{Place, start_of, index_of};
+    ghost use Rattle.rowan.specs.Same.{same_place-Decides};
+    ghost use Rattle.std.specs.Prelude.{◌++◌};
+    ghost use Rattle.std.specs.Hash as fed;
+    ghost use Rattle.std.proofs.Common.{ap};
+
+    ghost hash_input = { λ p. fed.u32 (start_of p) ++ fed.u32 (index_of p) };
+
+    ghost respects_eq = { λ x y p. ap (λ (q : Place). fed.u32 (start_of q) ++ fed.u32 (index_of q)) ((same_place-Decides x y).0 p) };
+
+    fn hash<H: Hasher>(&self, state: &mut H) {
+        self.start().hash(state);
+        self.index().hash(state);
     }
 }

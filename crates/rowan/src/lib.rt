@@ -5,6 +5,7 @@ pub mod api;
 pub mod around;
 pub mod cursor;
 pub mod cursor_step;
+pub mod element;
 pub mod language;
 pub mod preorder;
 pub mod syntax_children;

@@ -147,3 +147,157 @@ fn next_entered_node<L: Language>(
     }
     None
 }
+
+/// The events of a node and of the nodes below it. A contract sees all events that are left.
+#[derive(Drop)]
+pub struct Preorder<L: Language> {
+    walk: PreorderWithTokens<L>,
+}
+
+impl<L: Language> Model for Preorder<L> {
+    ghost use Rattle.std.specs.Prelude.{List};
+    ghost use Rattle.std.specs.Coded.{codes};
+    ghost use Rattle.rowan_green.specs.Forest.{tree_code};
+    ghost use Rattle.rowan.specs.Walk.{Event};
+
+    ghost Value = { List Event };
+
+    ghost coded = { Prim.hlevel (codes, tree_code) };
+
+    ghost view = { λ p. p.walk };
+}
+
+impl<L: Language> Preorder<L> {
+    /// As in a walk with tokens.
+    pub fn skip_subtree(&mut self) -> Result<(), AllocError>
+        ensures ok { IfOk result (λ _. self.new ≡ skipped 0 self.old) }
+        ensures err { OnErr result (self.new ≡ self.old) }
+    {
+        self.walk.skip_subtree()
+    }
+}
+
+impl<L: Language> Iterator for Preorder<L> {
+    type Item = Result<WalkEvent<SyntaxNode<L>>, AllocError>;
+
+    ghost use Rattle.std.specs.Prelude.{length};
+    ghost use Rattle.std.specs.Iterator.{at_most};
+    ghost use Rattle.rowan.specs.Yields.{PicksOrFails};
+    ghost use Rattle.rowan.specs.Walk.{node_events};
+
+    ghost next_gives = { PicksOrFails node_events };
+
+    ghost remaining = { λ s. at_most (length s) };
+
+    fn next(&mut self) -> Option<Result<WalkEvent<SyntaxNode<L>>, AllocError>> {
+        next_node_event(&mut self.walk)
+    }
+}
+
+/// A node and all nodes below it, each before those below it. A contract sees all events that are left.
+#[derive(Drop)]
+pub struct Descendants<L: Language> {
+    walk: PreorderWithTokens<L>,
+}
+
+impl<L: Language> Model for Descendants<L> {
+    ghost use Rattle.std.specs.Prelude.{List};
+    ghost use Rattle.std.specs.Coded.{codes};
+    ghost use Rattle.rowan_green.specs.Forest.{tree_code};
+    ghost use Rattle.rowan.specs.Walk.{Event};
+
+    ghost Value = { List Event };
+
+    ghost coded = { Prim.hlevel (codes, tree_code) };
+
+    ghost view = { λ p. p.walk };
+}
+
+impl<L: Language> Iterator for Descendants<L> {
+    type Item = Result<SyntaxNode<L>, AllocError>;
+
+    ghost use Rattle.std.specs.Prelude.{length};
+    ghost use Rattle.std.specs.Iterator.{at_most};
+    ghost use Rattle.rowan.specs.Yields.{PicksOrFails};
+    ghost use Rattle.rowan.specs.Walk.{entered_nodes};
+
+    ghost next_gives = { PicksOrFails entered_nodes };
+
+    ghost remaining = { λ s. at_most (length s) };
+
+    fn next(&mut self) -> Option<Result<SyntaxNode<L>, AllocError>> {
+        next_entered_node(&mut self.walk)
+    }
+}
+
+/// A node and all elements below it, each before those below it. A contract sees all events that are left.
+#[derive(Drop)]
+pub struct DescendantsWithTokens<L: Language> {
+    walk: PreorderWithTokens<L>,
+}
+
+impl<L: Language> Model for DescendantsWithTokens<L> {
+    ghost use Rattle.std.specs.Prelude.{List};
+    ghost use Rattle.std.specs.Coded.{codes};
+    ghost use Rattle.rowan_green.specs.Forest.{tree_code};
+    ghost use Rattle.rowan.specs.Walk.{Event};
+
+    ghost Value = { List Event };
+
+    ghost coded = { Prim.hlevel (codes, tree_code) };
+
+    ghost view = { λ p. p.walk };
+}
+
+impl<L: Language> Iterator for DescendantsWithTokens<L> {
+    type Item = Result<SyntaxElement<L>, AllocError>;
+
+    ghost use Rattle.std.specs.Prelude.{length};
+    ghost use Rattle.std.specs.Iterator.{at_most};
+    ghost use Rattle.rowan.specs.Yields.{PicksOrFails};
+    ghost use Rattle.rowan.specs.Walk.{entered};
+
+    ghost next_gives = { PicksOrFails entered };
+
+    ghost remaining = { λ s. at_most (length s) };
+
+    fn next(&mut self) -> Option<Result<SyntaxElement<L>, AllocError>> {
+        next_entered(&mut self.walk)
+    }
+}
+
+impl<L: Language> SyntaxNode<L> {
+    /// A walk through the node and all that stands below it.
+    pub fn preorder_with_tokens(&self, alloc: Global) -> Result<PreorderWithTokens<L>, AllocError>
+        ensures { IfOk result (λ w. w ≡ walk (Node self.now)) }
+    {
+        Ok(PreorderWithTokens::new(alloc, self.cursor().clone()?))
+    }
+
+    /// A walk through the node and all nodes below it.
+    pub fn preorder(&self, alloc: Global) -> Result<Preorder<L>, AllocError>
+        ensures { IfOk result (λ w. w ≡ walk (Node self.now)) }
+    {
+        let walk = self.preorder_with_tokens(alloc)?;
+        Ok(Preorder { walk })
+    }
+
+    /// The node and all nodes below it.
+    pub fn descendants(&self, alloc: Global) -> Result<Descendants<L>, AllocError>
+        ensures { IfOk result (λ w. w ≡ walk (Node self.now)) }
+    {
+        let walk = self.preorder_with_tokens(alloc)?;
+        Ok(Descendants { walk })
+    }
+
+    /// The node and all elements below it.
+    pub fn descendants_with_tokens(
+        &self,
+        alloc: Global,
+    ) -> Result<DescendantsWithTokens<L>, AllocError>
+        ensures { IfOk result (λ w. w ≡ walk (Node self.now)) }
+    {
+        let walk = self.preorder_with_tokens(alloc)?;
+        Ok(DescendantsWithTokens { walk })
+    }
+}

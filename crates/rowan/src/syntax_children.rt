@@ -1,5 +1,5 @@
 //! The children of a node, as iterators.
-ghost use Rattle.std.specs.Prelude.{◌≡◌};
+ghost use Rattle.std.specs.Prelude.{◌≡◌, IfOk};
 ghost use Rattle.rowan.specs.Around.{children, nodes};
 
 use crate::api::{SyntaxElement, SyntaxNode, element};
@@ -162,5 +162,24 @@ impl<L: Language> Iterator for SyntaxNodeChildren<L> {
                 Some(Err(e))
             }
         }
+    }
+}
+
+impl<L: Language> SyntaxNode<L> {
+    /// The children that are nodes, in order.
+    pub fn children(&self, alloc: Global) -> Result<SyntaxNodeChildren<L>, AllocError>
+        ensures { IfOk result (λ c. c ≡ nodes (children self.now)) }
+    {
+        Ok(SyntaxNodeChildren::new(alloc, self.cursor().clone()?))
+    }
+
+    /// The children in order, nodes and tokens.
+    pub fn children_with_tokens(
+        &self,
+        alloc: Global,
+    ) -> Result<SyntaxElementChildren<L>, AllocError>
+        ensures { IfOk result (λ c. c ≡ children self.now) }
+    {
+        Ok(SyntaxElementChildren::new(alloc, self.cursor().clone()?))
     }
 }
