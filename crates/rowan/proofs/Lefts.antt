@@ -19,7 +19,7 @@ none_is_empty : {A : Type 0} (xs : List A) → None ≡ first xs → xs ≡ []
 none_is_empty [] h = refl
 none_is_empty (x ∷ xs) h = absurd (cc)
 
-number_is : (p : Place) (i k : ℕ) (c : Cursor) → Some c ≡ cursor_at (below p i) → k ≡ index_of (place_in c) → k ≡ i
+pub number_is : (p : Place) (i k : ℕ) (c : Cursor) → Some c ≡ cursor_at (below p i) → k ≡ index_of (place_in c) → k ≡ i
 number_is p i k c h e = e ∙ ap index_of (place_of_child p i c h)
 
 pub step_some : (b : Bool) (p : Place) (i k : ℕ) (c : Cursor) (now : List Cursor) → b ≡ false → children_left b p i ≡ now → Some c ≡ cursor_at (below p i) → k ≡ index_of (place_in c) → now ≡ c ∷ children_left b p (k + 1)

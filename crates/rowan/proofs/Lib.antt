@@ -3,3 +3,4 @@ pub mod Lists
 pub mod Steps
 pub mod Walks
 pub mod Lefts
+pub mod Leaves

@@ -26,7 +26,7 @@ start_last p g n end h l e =
     let k : n ≡ length (terms_below p) = l ∙ sym (ap (λ o. length (children_in o)) h) in
     e ∙ sym (last_end p g h) ∙ ap (λ m. start_of (below p m)) (sym k)
 
-count_is : (p : Place) (g : Tree) (n : ℕ) → term_at p ≡ Some (Node g) → n ≡ length (children_of g) → n ≡ length (terms_below p)
+pub count_is : (p : Place) (g : Tree) (n : ℕ) → term_at p ≡ Some (Node g) → n ≡ length (children_of g) → n ≡ length (terms_below p)
 count_is p g n h l = l ∙ sym (ap (λ o. length (children_in o)) h)
 
 module _ (q p : Place) (i : ℕ) (h : Some p ≡ above q) (k : i ≡ index_of q) where
@@ -54,7 +54,7 @@ module _ (q p : Place) (i : ℕ) (h : Some p ≡ above q) (k : i ≡ index_of q)
   pub next_here : cursor_at (below p (i + 1)) ≡ first (behind q)
   next_here = sym (first_from p (i + 1)) ∙ ap first (sym behind_here)
 
-get_past : (es : List Term) (i : ℕ) → length es ≤ i → slice_get es i ≡ None
+pub get_past : (es : List Term) (i : ℕ) → length es ≤ i → slice_get es i ≡ None
 get_past [] i h = refl
 get_past (e ∷ es) zero h = absurd (omega arith)
 get_past (e ∷ es) (suc i) h = get_past es i (omega arith)

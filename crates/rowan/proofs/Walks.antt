@@ -19,7 +19,7 @@ events_by (Some c) w = Enter c ∷ (walk_from (place_in c) 0 ++ Leave c ∷ w)
 walk_inside : (p : Place) (i : ℕ) (t : Tree) → slice_get (terms_below p) i ≡ Some (Node t) → walk_from (below p i) 0 ≡ walk_forest (below p i) 0 t.forest
 walk_inside p i t h = ap (λ o. walk_forest (below p i) 0 (forest_of (drop 0 (children_in o)))) h ∙ ap (walk_forest (below p i) 0) (forest_of-terms t.forest)
 
-walk_nothing : (p : Place) (i : ℕ) (l : Leaf) → slice_get (terms_below p) i ≡ Some (Token l) → walk_from (below p i) 0 ≡ []
+pub walk_nothing : (p : Place) (i : ℕ) (l : Leaf) → slice_get (terms_below p) i ≡ Some (Token l) → walk_from (below p i) 0 ≡ []
 walk_nothing p i l h = ap (λ o. walk_forest (below p i) 0 (forest_of (drop 0 (children_in o)))) h
 
 drop_none : (es : List Term) (i : ℕ) → slice_get es i ≡ None → drop i es ≡ []

@@ -1,7 +1,10 @@
 pub mod Place
 pub mod Around
 pub mod Walk
+pub mod Leaves
 pub mod Yields
+pub mod Cast
+pub mod Replace
 pub mod Same
 pub mod Sound
 pub mod Falls

@@ -1,8 +1,9 @@
 //! Cursors that know their language's kinds.
-ghost use Rattle.std.specs.Prelude.{◌≡◌, [], IfOk, IsSome, Some};
+ghost use Rattle.std.specs.Prelude.{◌≡◌, [], reverse, IfOk, IsSome, Some};
 ghost use Rattle.rowan_green.specs.Forest.{Tree};
 ghost use Rattle.rowan_green.specs.declared.utility_types.NodeOrToken.TheVariants.{Node, Token};
 ghost use Rattle.rowan.specs.Place.{Place, above, term_at, kind_at, text_at, start_of, end_of, index_of, top_of};
+ghost use Rattle.rowan.specs.Leaves.{tokens_in, tokens_behind, tokens_ahead};
 ghost use Rattle.rowan.specs.Around.{Cursor, children, children_back, behind, ahead, nodes, first};
 
 use crate::cursor;
@@ -174,6 +175,20 @@ impl<L: Language> SyntaxNode<L> {
         Ok(element_of(self.cursor.prev_sibling_or_token(alloc)?))
     }
 
+    /// The first token below the node, however many empty nodes stand before it.
+    pub fn first_token(&self, alloc: Global) -> Result<Option<SyntaxToken<L>>, AllocError>
+        ensures { IfOk result (λ r. r ≡ first (tokens_in self.now)) }
+    {
+        Ok(token_of(self.cursor.first_token(alloc)?))
+    }
+
+    /// The last token below the node, however many empty nodes stand behind it.
+    pub fn last_token(&self, alloc: Global) -> Result<Option<SyntaxToken<L>>, AllocError>
+        ensures { IfOk result (λ r. r ≡ first (reverse (tokens_in self.now))) }
+    {
+        Ok(token_of(self.cursor.last_token(alloc)?))
+    }
+
     /// The root of a tree of its own, with this green node.
     pub fn clone_subtree(&self, alloc: Global) -> Result<SyntaxNode<L>, AllocError>
         ensures { IfOk result (λ n. (g : Tree) × (term_at self.now ≡ Some (Node g)) × (n ≡ record { root = g; up = [] })) }
@@ -188,6 +203,16 @@ pub(crate) fn node_of<L: Language>(cursor: Option<cursor::SyntaxNode>) -> Option
 {
     match cursor {
         Some(cursor) => Some(SyntaxNode::of(cursor)),
+        None => None,
+    }
+}
+
+/// The token of a cursor, if there is one.
+pub(crate) fn token_of<L: Language>(cursor: Option<cursor::SyntaxToken>) -> Option<SyntaxToken<L>>
+    ensures { result ≡ cursor }
+{
+    match cursor {
+        Some(cursor) => Some(SyntaxToken::of(cursor)),
         None => None,
     }
 }
@@ -289,6 +314,20 @@ impl<L: Language> SyntaxToken<L> {
         ensures { IfOk result (λ r. r ≡ first (ahead self.now)) }
     {
         Ok(element_of(self.cursor.prev_sibling_or_token(alloc)?))
+    }
+
+    /// The token behind this one in the tree, wherever it stands.
+    pub fn next_token(&self, alloc: Global) -> Result<Option<SyntaxToken<L>>, AllocError>
+        ensures { IfOk result (λ r. r ≡ first (tokens_behind self.now)) }
+    {
+        Ok(token_of(self.cursor.next_token(alloc)?))
+    }
+
+    /// The token ahead of this one in the tree, wherever it stands.
+    pub fn prev_token(&self, alloc: Global) -> Result<Option<SyntaxToken<L>>, AllocError>
+        ensures { IfOk result (λ r. r ≡ first (tokens_ahead self.now)) }
+    {
+        Ok(token_of(self.cursor.prev_token(alloc)?))
     }
 }
 

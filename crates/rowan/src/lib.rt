@@ -15,11 +15,14 @@
 
 pub mod api;
 pub mod around;
+pub mod ast;
 mod cursor;
 mod cursor_step;
+mod cursor_tokens;
 pub mod element;
 pub mod language;
 pub mod preorder;
+pub mod replace;
 pub mod syntax_children;
 pub mod utility_types;
 mod walk;
