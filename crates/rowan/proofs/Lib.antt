@@ -4,3 +4,4 @@ pub mod Steps
 pub mod Walks
 pub mod Lefts
 pub mod Leaves
+pub mod Ranges

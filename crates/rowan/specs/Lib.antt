@@ -5,6 +5,7 @@ pub mod Leaves
 pub mod Yields
 pub mod Cast
 pub mod Replace
+pub mod Ranges
 pub mod Same
 pub mod Sound
 pub mod Falls

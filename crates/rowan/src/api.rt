@@ -1,8 +1,9 @@
 //! Cursors that know their language's kinds.
-ghost use Rattle.std.specs.Prelude.{◌≡◌, [], reverse, IfOk, IsSome, Some};
+ghost use Rattle.std.specs.Prelude.{◌≡◌, ◌≤◌, [], reverse, IfOk, IsSome, Some};
 ghost use Rattle.rowan_green.specs.Forest.{Tree};
 ghost use Rattle.rowan_green.specs.declared.utility_types.NodeOrToken.TheVariants.{Node, Token};
 ghost use Rattle.rowan.specs.Place.{Place, above, term_at, kind_at, text_at, start_of, end_of, index_of, top_of};
+ghost use Rattle.rowan.specs.Ranges.{child_at_range, LeadsTo};
 ghost use Rattle.rowan.specs.Leaves.{tokens_in, tokens_behind, tokens_ahead};
 ghost use Rattle.rowan.specs.Around.{Cursor, children, children_back, behind, ahead, nodes, first};
 
@@ -187,6 +188,33 @@ impl<L: Language> SyntaxNode<L> {
         ensures { IfOk result (λ r. r ≡ first (reverse (tokens_in self.now))) }
     {
         Ok(token_of(self.cursor.last_token(alloc)?))
+    }
+
+    /// The first child whose range contains this one.
+    pub fn child_or_token_at_range(
+        &self,
+        alloc: Global,
+        range: TextRange,
+    ) -> Result<Option<SyntaxElement<L>>, AllocError>
+        ensures { IfOk result (λ r. r ≡ child_at_range range.start.0 range.end.0 self.now) }
+    {
+        let child = self.cursor.child_at_range(alloc, range.start().0, range.end().0)?;
+        Ok(element_of(child))
+    }
+
+    /// The innermost element on the way down by `child_or_token_at_range`. The range lies in the
+    /// node's.
+    pub fn covering_element(
+        &self,
+        alloc: Global,
+        range: TextRange,
+    ) -> Result<SyntaxElement<L>, AllocError>
+        requires starts { start_of self.now ≤ range.start.0 }
+        requires ends { range.end.0 ≤ end_of self.now }
+        ensures { IfOk result (LeadsTo range.start.0 range.end.0 self.now) }
+    {
+        let found = self.cursor.covering_element(alloc, range.start().0, range.end().0)?;
+        Ok(element(found))
     }
 
     /// The root of a tree of its own, with this green node.

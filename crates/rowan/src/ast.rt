@@ -1,6 +1,8 @@
 //! Typed nodes: a wrapper for each kind of node that has a meaning of its own.
-ghost use Rattle.std.specs.Prelude.{◌≡◌, ◌↔◌, ◌<◌, ℕ, Bool, true, length, IfSome, IsSome};
-ghost use Rattle.rowan.specs.Place.{Place, kind_at};
+ghost use Rattle.std.specs.Prelude.{◌≡◌, ◌↔◌, ◌<◌, ℕ, [], Bool, true, length, Some, IfOk, IfSome, IsSome};
+ghost use Rattle.rowan_green.specs.Forest.{Tree};
+ghost use Rattle.rowan_green.specs.declared.utility_types.NodeOrToken.TheVariants.{Node};
+ghost use Rattle.rowan.specs.Place.{Place, term_at, kind_at};
 ghost use Rattle.rowan.specs.Cast.{can, CastsOrFails};
 
 pub mod support;
@@ -8,7 +10,7 @@ pub mod support;
 use crate::api::SyntaxNode;
 use crate::language::Language;
 use crate::syntax_children::SyntaxNodeChildren;
-use std::alloc::AllocError;
+use std::alloc::{AllocError, Global};
 use std::marker::{Model, PhantomData};
 
 /// A node of a kind that can be cast to the type.
@@ -33,6 +35,14 @@ pub trait AstNode: Sized {
     fn syntax(&self) -> &SyntaxNode<Self::Language>
         ensures back { result.now ≡ place self.now }
         ensures own_kind { casts (Self.Language.from_raw (kind_at (place self.now))) ≡ true };
+
+    /// The same node as the root of a tree of its own.
+    fn clone_subtree(&self, alloc: Global) -> Result<Self, AllocError>
+        ensures { IfOk result (λ x. (g : Tree) × (term_at (place self.now) ≡ Some (Node g)) × (place x ≡ record { root = g; up = [] })) }
+    {
+        let copy = self.syntax().clone_subtree(alloc)?;
+        Ok(Self::cast(copy).unwrap())
+    }
 }
 
 /// The children of a node that can be cast, in order. A contract sees the child nodes that are left.
