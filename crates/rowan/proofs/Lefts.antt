@@ -61,7 +61,7 @@ nodes_by p q cs (Node t ∷ es) i d h =
     let n : index_of q ≡ i = ap index_of e in (
       e ∙ ap (below p) (sym n),
       ap (λ xs. below p i ∷ nodes (numbered p (i + 1) xs)) (sym (drop_tail cs es (Node t) i d))
-      ∙ ap (λ k. below p i ∷ nodes (numbered p (k + 1) (drop (k + 1) cs))) (sym n) ∙ ap (λ x. x ∷ nodes (numbered p (index_of q + 1) (drop (index_of q + 1) cs))) (sym e),
+          ∙ ap (λ k. below p i ∷ nodes (numbered p (k + 1) (drop (k + 1) cs))) (sym n) ∙ ap (λ x. x ∷ nodes (numbered p (index_of q + 1) (drop (index_of q + 1) cs))) (sym e),
     )
 nodes_by p q cs (Token l ∷ es) i d h = nodes_by p q cs es (i + 1) (drop_tail cs es (Token l) i d) h
 

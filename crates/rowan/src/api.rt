@@ -137,7 +137,10 @@ impl<L: Language> SyntaxNode<L> {
     }
 
     /// The first child, node or token.
-    pub fn first_child_or_token(&self, alloc: Global) -> Result<Option<SyntaxElement<L>>, AllocError>
+    pub fn first_child_or_token(
+        &self,
+        alloc: Global,
+    ) -> Result<Option<SyntaxElement<L>>, AllocError>
         ensures { IfOk result (λ r. r ≡ first (children self.now)) }
     {
         Ok(element_of(self.cursor.first_child_or_token(alloc)?))
@@ -164,13 +167,19 @@ impl<L: Language> SyntaxNode<L> {
         Ok(node_of(self.cursor.prev_sibling(alloc)?))
     }
 
-    pub fn next_sibling_or_token(&self, alloc: Global) -> Result<Option<SyntaxElement<L>>, AllocError>
+    pub fn next_sibling_or_token(
+        &self,
+        alloc: Global,
+    ) -> Result<Option<SyntaxElement<L>>, AllocError>
         ensures { IfOk result (λ r. r ≡ first (behind self.now)) }
     {
         Ok(element_of(self.cursor.next_sibling_or_token(alloc)?))
     }
 
-    pub fn prev_sibling_or_token(&self, alloc: Global) -> Result<Option<SyntaxElement<L>>, AllocError>
+    pub fn prev_sibling_or_token(
+        &self,
+        alloc: Global,
+    ) -> Result<Option<SyntaxElement<L>>, AllocError>
         ensures { IfOk result (λ r. r ≡ first (ahead self.now)) }
     {
         Ok(element_of(self.cursor.prev_sibling_or_token(alloc)?))
@@ -198,7 +207,9 @@ impl<L: Language> SyntaxNode<L> {
     ) -> Result<Option<SyntaxElement<L>>, AllocError>
         ensures { IfOk result (λ r. r ≡ child_at_range range.start.0 range.end.0 self.now) }
     {
-        let child = self.cursor.child_at_range(alloc, range.start().0, range.end().0)?;
+        let child = self
+            .cursor
+            .child_at_range(alloc, range.start().0, range.end().0)?;
         Ok(element_of(child))
     }
 
@@ -213,7 +224,9 @@ impl<L: Language> SyntaxNode<L> {
         requires ends { range.end.0 ≤ end_of self.now }
         ensures { IfOk result (LeadsTo range.start.0 range.end.0 self.now) }
     {
-        let found = self.cursor.covering_element(alloc, range.start().0, range.end().0)?;
+        let found = self
+            .cursor
+            .covering_element(alloc, range.start().0, range.end().0)?;
         Ok(element(found))
     }
 
@@ -332,13 +345,19 @@ impl<L: Language> SyntaxToken<L> {
         Ok(SyntaxNode::of(self.cursor.tree_top().clone()?))
     }
 
-    pub fn next_sibling_or_token(&self, alloc: Global) -> Result<Option<SyntaxElement<L>>, AllocError>
+    pub fn next_sibling_or_token(
+        &self,
+        alloc: Global,
+    ) -> Result<Option<SyntaxElement<L>>, AllocError>
         ensures { IfOk result (λ r. r ≡ first (behind self.now)) }
     {
         Ok(element_of(self.cursor.next_sibling_or_token(alloc)?))
     }
 
-    pub fn prev_sibling_or_token(&self, alloc: Global) -> Result<Option<SyntaxElement<L>>, AllocError>
+    pub fn prev_sibling_or_token(
+        &self,
+        alloc: Global,
+    ) -> Result<Option<SyntaxElement<L>>, AllocError>
         ensures { IfOk result (λ r. r ≡ first (ahead self.now)) }
     {
         Ok(element_of(self.cursor.prev_sibling_or_token(alloc)?))

@@ -174,11 +174,7 @@ impl<L: Language> Model for Siblings<L> {
 }
 
 impl<L: Language> Siblings<L> {
-    pub(crate) fn new(
-        alloc: Global,
-        direction: Direction,
-        start: cursor::SyntaxNode,
-    ) -> Siblings<L>
+    pub(crate) fn new(alloc: Global, direction: Direction, start: cursor::SyntaxNode) -> Siblings<L>
         ensures { result ≡ sibling_nodes direction start }
     {
         Siblings {

@@ -302,7 +302,8 @@ fn same_way(a: &SyntaxNode, b: &SyntaxNode) -> bool
 {
     match (&a.shared.spot, &b.shared.spot) {
         (Spot::Root, Spot::Root) => true,
-        (Spot::Child(above_a, i), Spot::Child(above_b, j)) => *i == *j && same_way(above_a, above_b),
+        (Spot::Child(above_a, i), Spot::Child(above_b, j)) => *i == *j
+            && same_way(above_a, above_b),
         _ => false,
     }
 }

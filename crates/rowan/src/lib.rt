@@ -36,6 +36,3 @@ pub use language::Language;
 pub use preorder::{Descendants, DescendantsWithTokens, Preorder, PreorderWithTokens};
 pub use syntax_children::{SyntaxElementChildren, SyntaxNodeChildren};
 pub use utility_types::{Direction, WalkEvent};
-
-#[cfg(test)]
-mod tests;

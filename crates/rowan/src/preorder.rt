@@ -105,8 +105,12 @@ fn next_node_event<L: Language>(
 {
     while let Some(event) = walk.next() {
         match event {
-            Ok(WalkEvent::Enter(NodeOrToken::Node(node))) => return Some(Ok(WalkEvent::Enter(node))),
-            Ok(WalkEvent::Leave(NodeOrToken::Node(node))) => return Some(Ok(WalkEvent::Leave(node))),
+            Ok(WalkEvent::Enter(NodeOrToken::Node(node))) => return Some(Ok(WalkEvent::Enter(
+                node,
+            ))),
+            Ok(WalkEvent::Leave(NodeOrToken::Node(node))) => return Some(Ok(WalkEvent::Leave(
+                node,
+            ))),
             Ok(_) => {}
             Err(e) => return Some(Err(e)),
         }

@@ -25,7 +25,9 @@ fn replaced(
     while let Some(parent) = place.parent() {
         prove!(place.green().text_len().0 <= u32::MAX);
         let child = NodeOrToken::Node(replaced);
-        replaced = parent.green().replace_child(alloc, place.index() as usize, child)?;
+        replaced = parent
+            .green()
+            .replace_child(alloc, place.index() as usize, child)?;
         place = parent;
     }
     Ok(replaced)
@@ -60,7 +62,9 @@ fn token_replaced(
     prove!(place.green().text_len().0 <= u32::MAX);
     let parent = place.parent();
     let child = NodeOrToken::Token(replacement);
-    let node = parent.green().replace_child(alloc, place.index() as usize, child)?;
+    let node = parent
+        .green()
+        .replace_child(alloc, place.index() as usize, child)?;
     replaced(alloc, parent, node)
 }
 

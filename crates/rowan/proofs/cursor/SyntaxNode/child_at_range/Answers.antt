@@ -12,8 +12,8 @@ pub returns-then-holds : goal.returns-then-holds
 returns-then-holds c =
     let o = over_child c.args.self.now _ c.loop-index.index c.green-green.ensures _ _ _ c.in-Some.ensures c.text_len.ensures c.loop-index.invariant.at_offset in
     let e =
-        c.loop-index.invariant.none_so_far
-        ∙ holds_here c.args.self.now _ c.loop-index.index c.args.start c.args.end c.loop-index.offset _ _ c.green-green.ensures c.in-Some.ensures c.loop-index.invariant.at_offset o.0 (sym c.holds.ensures ∙ c.if-holds.true) in
+    c.loop-index.invariant.none_so_far
+    ∙ holds_here c.args.self.now _ c.loop-index.index c.args.start c.args.end c.loop-index.offset _ _ c.green-green.ensures c.in-Some.ensures c.loop-index.invariant.at_offset o.0 (sym c.holds.ensures ∙ c.if-holds.true) in
     rw e c.child-then-holds.ensures.ok
 
 pub loop-index-preserved : goal.loop-index-preserved
