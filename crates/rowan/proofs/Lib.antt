@@ -1,0 +1,7 @@
+pub mod Places
+pub mod Lists
+pub mod Steps
+pub mod Walks
+pub mod Lefts
+pub mod Leaves
+pub mod Ranges

@@ -1,0 +1,9 @@
+use Rattle.std.proofs.Common.{◌≡◌, ◌∙◌, length, ap, sym}
+use Rattle.rowan_green.specs.Term.{children_of}
+use Rattle.rowan.proofs.Steps.{start_last}
+use Rattle.rowan.proofs.cursor.SyntaxNode.last_child.Goals as goal
+
+pub node_before-requires : goal.node_before-requires
+node_before-requires c =
+    let n : c.len.result ≡ length (children_of c.green.result.now) = c.len.ensures.value ∙ ap length c.children.ensures.children in
+    start_last c.args.self.now _ _ _ c.green.ensures n c.end.ensures.end

@@ -1,0 +1,13 @@
+use Rattle.std.proofs.Common.{◌≡◌, ◌-◌}
+use Rattle.rowan.specs.Place.{start_of, below}
+use Rattle.rowan.specs.Around.{children_from, nodes, first}
+use Rattle.rowan.proofs.cursor.SyntaxNode.node_from.Given as goal
+
+abbrev pub invariant-loop-index : goal.invariant-loop-index
+invariant-loop-index l = record {
+  at_offset : l.offset ≡ start_of (below l.self l.index);
+  none_so_far : first (nodes (children_from l.self l.from)) ≡ first (nodes (children_from l.self l.index));
+}
+
+abbrev pub decreases-loop-index : goal.decreases-loop-index
+decreases-loop-index l = l.count - l.index

@@ -1,0 +1,12 @@
+pub mod Place
+pub mod Around
+pub mod Walk
+pub mod Leaves
+pub mod Yields
+pub mod Cast
+pub mod Replace
+pub mod Ranges
+pub mod Same
+pub mod Sound
+pub mod Falls
+pub mod Left

@@ -1,0 +1,491 @@
+//! Cursors that know their language's kinds.
+ghost use Rattle.std.specs.Prelude.{◌≡◌, ◌≤◌, [], reverse, IfOk, IsSome, Some};
+ghost use Rattle.rowan_green.specs.Forest.{Tree};
+ghost use Rattle.rowan_green.specs.declared.utility_types.NodeOrToken.TheVariants.{Node, Token};
+ghost use Rattle.rowan.specs.Place.{Place, above, term_at, kind_at, text_at, start_of, end_of, index_of, top_of};
+ghost use Rattle.rowan.specs.Ranges.{child_at_range, LeadsTo};
+ghost use Rattle.rowan.specs.Leaves.{tokens_in, tokens_behind, tokens_ahead};
+ghost use Rattle.rowan.specs.Around.{Cursor, children, children_back, behind, ahead, nodes, first};
+
+use crate::cursor;
+use crate::language::Language;
+use rowan_green::{GreenNode, GreenToken, NodeOrToken, TextRange, TextSize};
+use std::alloc::{AllocError, Global};
+use std::hash::{Hash, Hasher};
+use std::marker::{Model, PhantomData};
+
+/// A node where it stands in a tree. A clone takes no memory.
+#[derive(Drop)]
+pub struct SyntaxNode<L: Language> {
+    cursor: cursor::SyntaxNode,
+    language: PhantomData<L>,
+}
+
+impl<L: Language> Model for SyntaxNode<L> {
+    ghost use Rattle.rowan.specs.Place.{Place};
+    ghost use Rattle.rowan_green.specs.Forest.{tree_code};
+    ghost use Rattle.std.specs.Coded.{codes};
+
+    ghost Value = { Place };
+
+    ghost coded = { Prim.hlevel (codes, tree_code) };
+
+    ghost view = { λ n. n.cursor };
+}
+
+/// A token where it stands in a tree. A clone takes no memory.
+#[derive(Drop)]
+pub struct SyntaxToken<L: Language> {
+    cursor: cursor::SyntaxToken,
+    language: PhantomData<L>,
+}
+
+impl<L: Language> Model for SyntaxToken<L> {
+    ghost use Rattle.rowan.specs.Place.{Place};
+    ghost use Rattle.rowan_green.specs.Forest.{tree_code};
+    ghost use Rattle.std.specs.Coded.{codes};
+
+    ghost Value = { Place };
+
+    ghost coded = { Prim.hlevel (codes, tree_code) };
+
+    ghost view = { λ t. t.cursor };
+}
+
+/// A node or a token where it stands in a tree.
+pub type SyntaxElement<L> = NodeOrToken<SyntaxNode<L>, SyntaxToken<L>>;
+
+impl<L: Language> SyntaxNode<L> {
+    pub(crate) fn of(cursor: cursor::SyntaxNode) -> SyntaxNode<L>
+        ensures { result ≡ cursor }
+    {
+        SyntaxNode {
+            cursor,
+            language: PhantomData,
+        }
+    }
+
+    pub(crate) fn cursor(&self) -> &cursor::SyntaxNode
+        ensures { result.now ≡ self.now }
+    {
+        &self.cursor
+    }
+
+    /// The root of a tree.
+    pub fn new_root(alloc: Global, green: GreenNode) -> Result<SyntaxNode<L>, AllocError>
+        ensures { IfOk result (λ n. n ≡ record { root = green; up = [] }) }
+    {
+        Ok(SyntaxNode::of(cursor::SyntaxNode::new_root(alloc, green)?))
+    }
+
+    pub fn kind(&self) -> L::Kind
+        ensures { result ≡ L.from_raw (kind_at self.now) }
+    {
+        L::kind_from_raw(self.cursor.kind())
+    }
+
+    /// Where its text stands in the text of the tree.
+    pub fn text_range(&self) -> TextRange
+        ensures start { result.start.0 ≡ start_of self.now }
+        ensures end { result.end.0 ≡ end_of self.now }
+    {
+        let end = TextSize(self.cursor.end());
+        TextRange::new(TextSize(self.cursor.start()), end)
+    }
+
+    /// Its number among its parent's children, nodes and tokens alike; 0 for a root.
+    pub fn index(&self) -> usize
+        ensures { result ≡ index_of self.now }
+    {
+        self.cursor.index() as usize
+    }
+
+    pub fn green(&self) -> &GreenNode
+        ensures { term_at self.now ≡ Some (Node result.now) }
+    {
+        self.cursor.green()
+    }
+
+    pub fn parent(&self) -> Result<Option<SyntaxNode<L>>, AllocError>
+        ensures { IfOk result (λ r. r ≡ above self.now) }
+    {
+        match self.cursor.parent() {
+            Some(parent) => Ok(Some(SyntaxNode::of(parent.clone()?))),
+            None => Ok(None),
+        }
+    }
+
+    /// The root of the tree.
+    pub fn tree_top(&self) -> Result<SyntaxNode<L>, AllocError>
+        ensures { IfOk result (λ r. r ≡ top_of self.now) }
+    {
+        Ok(SyntaxNode::of(self.cursor.tree_top().clone()?))
+    }
+
+    /// The first child that is a node.
+    pub fn first_child(&self, alloc: Global) -> Result<Option<SyntaxNode<L>>, AllocError>
+        ensures { IfOk result (λ r. r ≡ first (nodes (children self.now))) }
+    {
+        Ok(node_of(self.cursor.first_child(alloc)?))
+    }
+
+    /// The last child that is a node.
+    pub fn last_child(&self, alloc: Global) -> Result<Option<SyntaxNode<L>>, AllocError>
+        ensures { IfOk result (λ r. r ≡ first (nodes (children_back self.now))) }
+    {
+        Ok(node_of(self.cursor.last_child(alloc)?))
+    }
+
+    /// The first child, node or token.
+    pub fn first_child_or_token(
+        &self,
+        alloc: Global,
+    ) -> Result<Option<SyntaxElement<L>>, AllocError>
+        ensures { IfOk result (λ r. r ≡ first (children self.now)) }
+    {
+        Ok(element_of(self.cursor.first_child_or_token(alloc)?))
+    }
+
+    /// The last child, node or token.
+    pub fn last_child_or_token(&self, alloc: Global) -> Result<Option<SyntaxElement<L>>, AllocError>
+        ensures { IfOk result (λ r. r ≡ first (children_back self.now)) }
+    {
+        Ok(element_of(self.cursor.last_child_or_token(alloc)?))
+    }
+
+    /// The next sibling that is a node.
+    pub fn next_sibling(&self, alloc: Global) -> Result<Option<SyntaxNode<L>>, AllocError>
+        ensures { IfOk result (λ r. r ≡ first (nodes (behind self.now))) }
+    {
+        Ok(node_of(self.cursor.next_sibling(alloc)?))
+    }
+
+    /// The nearest sibling before it that is a node.
+    pub fn prev_sibling(&self, alloc: Global) -> Result<Option<SyntaxNode<L>>, AllocError>
+        ensures { IfOk result (λ r. r ≡ first (nodes (ahead self.now))) }
+    {
+        Ok(node_of(self.cursor.prev_sibling(alloc)?))
+    }
+
+    pub fn next_sibling_or_token(
+        &self,
+        alloc: Global,
+    ) -> Result<Option<SyntaxElement<L>>, AllocError>
+        ensures { IfOk result (λ r. r ≡ first (behind self.now)) }
+    {
+        Ok(element_of(self.cursor.next_sibling_or_token(alloc)?))
+    }
+
+    pub fn prev_sibling_or_token(
+        &self,
+        alloc: Global,
+    ) -> Result<Option<SyntaxElement<L>>, AllocError>
+        ensures { IfOk result (λ r. r ≡ first (ahead self.now)) }
+    {
+        Ok(element_of(self.cursor.prev_sibling_or_token(alloc)?))
+    }
+
+    /// The first token below the node, however many empty nodes stand before it.
+    pub fn first_token(&self, alloc: Global) -> Result<Option<SyntaxToken<L>>, AllocError>
+        ensures { IfOk result (λ r. r ≡ first (tokens_in self.now)) }
+    {
+        Ok(token_of(self.cursor.first_token(alloc)?))
+    }
+
+    /// The last token below the node, however many empty nodes stand behind it.
+    pub fn last_token(&self, alloc: Global) -> Result<Option<SyntaxToken<L>>, AllocError>
+        ensures { IfOk result (λ r. r ≡ first (reverse (tokens_in self.now))) }
+    {
+        Ok(token_of(self.cursor.last_token(alloc)?))
+    }
+
+    /// The first child whose range contains this one.
+    pub fn child_or_token_at_range(
+        &self,
+        alloc: Global,
+        range: TextRange,
+    ) -> Result<Option<SyntaxElement<L>>, AllocError>
+        ensures { IfOk result (λ r. r ≡ child_at_range range.start.0 range.end.0 self.now) }
+    {
+        let child = self
+            .cursor
+            .child_at_range(alloc, range.start().0, range.end().0)?;
+        Ok(element_of(child))
+    }
+
+    /// The innermost element on the way down by `child_or_token_at_range`. The range lies in the
+    /// node's.
+    pub fn covering_element(
+        &self,
+        alloc: Global,
+        range: TextRange,
+    ) -> Result<SyntaxElement<L>, AllocError>
+        requires starts { start_of self.now ≤ range.start.0 }
+        requires ends { range.end.0 ≤ end_of self.now }
+        ensures { IfOk result (LeadsTo range.start.0 range.end.0 self.now) }
+    {
+        let found = self
+            .cursor
+            .covering_element(alloc, range.start().0, range.end().0)?;
+        Ok(element(found))
+    }
+
+    /// The root of a tree of its own, with this green node.
+    pub fn clone_subtree(&self, alloc: Global) -> Result<SyntaxNode<L>, AllocError>
+        ensures { IfOk result (λ n. (g : Tree) × (term_at self.now ≡ Some (Node g)) × (n ≡ record { root = g; up = [] })) }
+    {
+        SyntaxNode::new_root(alloc, self.green().clone()?)
+    }
+}
+
+/// The node of a cursor, if there is one.
+pub(crate) fn node_of<L: Language>(cursor: Option<cursor::SyntaxNode>) -> Option<SyntaxNode<L>>
+    ensures { result ≡ cursor }
+{
+    match cursor {
+        Some(cursor) => Some(SyntaxNode::of(cursor)),
+        None => None,
+    }
+}
+
+/// The token of a cursor, if there is one.
+pub(crate) fn token_of<L: Language>(cursor: Option<cursor::SyntaxToken>) -> Option<SyntaxToken<L>>
+    ensures { result ≡ cursor }
+{
+    match cursor {
+        Some(cursor) => Some(SyntaxToken::of(cursor)),
+        None => None,
+    }
+}
+
+/// The element of a cursor.
+pub(crate) fn element<L: Language>(cursor: cursor::SyntaxElement) -> SyntaxElement<L>
+    ensures { result ≡ cursor }
+{
+    match cursor {
+        NodeOrToken::Node(cursor) => NodeOrToken::Node(SyntaxNode::of(cursor)),
+        NodeOrToken::Token(cursor) => NodeOrToken::Token(SyntaxToken::of(cursor)),
+    }
+}
+
+/// The element of a cursor, if there is one.
+pub(crate) fn element_of<L: Language>(
+    cursor: Option<cursor::SyntaxElement>,
+) -> Option<SyntaxElement<L>>
+    ensures { result ≡ cursor }
+{
+    match cursor {
+        Some(cursor) => Some(element(cursor)),
+        None => None,
+    }
+}
+
+impl<L: Language> SyntaxToken<L> {
+    pub(crate) fn of(cursor: cursor::SyntaxToken) -> SyntaxToken<L>
+        ensures { result ≡ cursor }
+    {
+        SyntaxToken {
+            cursor,
+            language: PhantomData,
+        }
+    }
+
+    pub(crate) fn cursor(&self) -> &cursor::SyntaxToken
+        ensures { result.now ≡ self.now }
+    {
+        &self.cursor
+    }
+
+    pub fn kind(&self) -> L::Kind
+        ensures { result ≡ L.from_raw (kind_at self.now) }
+    {
+        L::kind_from_raw(self.cursor.kind())
+    }
+
+    /// Where its text stands in the text of the tree.
+    pub fn text_range(&self) -> TextRange
+        ensures start { result.start.0 ≡ start_of self.now }
+        ensures end { result.end.0 ≡ end_of self.now }
+    {
+        let end = TextSize(self.cursor.end());
+        TextRange::new(TextSize(self.cursor.start()), end)
+    }
+
+    /// Its number among its parent's children, nodes and tokens alike.
+    pub fn index(&self) -> usize
+        ensures { result ≡ index_of self.now }
+    {
+        self.cursor.index() as usize
+    }
+
+    pub fn text(&self) -> &str
+        ensures { result.now ≡ text_at self.now }
+    {
+        self.cursor.text()
+    }
+
+    pub fn green(&self) -> &GreenToken
+        ensures { term_at self.now ≡ Some (Token result.now) }
+    {
+        self.cursor.green()
+    }
+
+    /// The parent. A token always has one.
+    pub fn parent(&self) -> Result<Option<SyntaxNode<L>>, AllocError>
+        ensures ok { IfOk result (λ r. r ≡ above self.now) }
+        ensures some { IfOk result IsSome }
+    {
+        Ok(Some(SyntaxNode::of(self.cursor.parent().clone()?)))
+    }
+
+    /// The root of the tree.
+    pub fn tree_top(&self) -> Result<SyntaxNode<L>, AllocError>
+        ensures { IfOk result (λ r. r ≡ top_of self.now) }
+    {
+        Ok(SyntaxNode::of(self.cursor.tree_top().clone()?))
+    }
+
+    pub fn next_sibling_or_token(
+        &self,
+        alloc: Global,
+    ) -> Result<Option<SyntaxElement<L>>, AllocError>
+        ensures { IfOk result (λ r. r ≡ first (behind self.now)) }
+    {
+        Ok(element_of(self.cursor.next_sibling_or_token(alloc)?))
+    }
+
+    pub fn prev_sibling_or_token(
+        &self,
+        alloc: Global,
+    ) -> Result<Option<SyntaxElement<L>>, AllocError>
+        ensures { IfOk result (λ r. r ≡ first (ahead self.now)) }
+    {
+        Ok(element_of(self.cursor.prev_sibling_or_token(alloc)?))
+    }
+
+    /// The token behind this one in the tree, wherever it stands.
+    pub fn next_token(&self, alloc: Global) -> Result<Option<SyntaxToken<L>>, AllocError>
+        ensures { IfOk result (λ r. r ≡ first (tokens_behind self.now)) }
+    {
+        Ok(token_of(self.cursor.next_token(alloc)?))
+    }
+
+    /// The token ahead of this one in the tree, wherever it stands.
+    pub fn prev_token(&self, alloc: Global) -> Result<Option<SyntaxToken<L>>, AllocError>
+        ensures { IfOk result (λ r. r ≡ first (tokens_ahead self.now)) }
+    {
+        Ok(token_of(self.cursor.prev_token(alloc)?))
+    }
+}
+
+impl<L: Language> Clone for SyntaxNode<L> {
+    ghost is_clone = { λ n copy. copy ≡ n };
+
+    /// Refuses only where as many clones stand as a `usize` can count.
+    fn clone(&self) -> Result<SyntaxNode<L>, AllocError> {
+        Ok(SyntaxNode::of(self.cursor.clone()?))
+    }
+}
+
+impl<L: Language> Clone for SyntaxToken<L> {
+    ghost is_clone = { λ t copy. copy ≡ t };
+
+    /// Refuses only where as many clones stand as a `usize` can count.
+    fn clone(&self) -> Result<SyntaxToken<L>, AllocError> {
+        Ok(SyntaxToken::of(self.cursor.clone()?))
+    }
+}
+
+impl<L: Language> From<SyntaxNode<L>> for NodeOrToken<SyntaxNode<L>, SyntaxToken<L>> {
+    ghost use Rattle.std.specs.Prelude.{◌≡◌};
+    ghost use Rattle.rowan_green.specs.declared.utility_types.NodeOrToken.TheVariants.{Node};
+
+    ghost from_gives = { λ node element. element ≡ Node node };
+
+    fn from(node: SyntaxNode<L>) -> SyntaxElement<L> {
+        NodeOrToken::Node(node)
+    }
+}
+
+impl<L: Language> From<SyntaxToken<L>> for NodeOrToken<SyntaxNode<L>, SyntaxToken<L>> {
+    ghost use Rattle.std.specs.Prelude.{◌≡◌};
+    ghost use Rattle.rowan_green.specs.declared.utility_types.NodeOrToken.TheVariants.{Token};
+
+    ghost from_gives = { λ token element. element ≡ Token token };
+
+    fn from(token: SyntaxToken<L>) -> SyntaxElement<L> {
+        NodeOrToken::Token(token)
+    }
+}
+
+impl<L: Language> PartialEq for SyntaxNode<L> {
+    ghost use Rattle.rowan.specs.Same.{same_place, same_place-equiv};
+    ghost use Rattle.std.specs.Cmp.{partial_equiv_from_equiv};
+
+    ghost eq = { same_place };
+
+    ghost laws = { partial_equiv_from_equiv same_place-equiv };
+
+    /// Equal root terms and equal paths.
+    fn eq(&self, other: &SyntaxNode<L>) -> bool {
+        self.cursor == other.cursor
+    }
+}
+
+impl<L: Language> Eq for SyntaxNode<L> {
+    ghost use Rattle.rowan.specs.Same.{same_place-equiv};
+
+    ghost laws = { same_place-equiv };
+}
+
+impl<L: Language> Hash for SyntaxNode<L> {
+    ghost use Rattle.rowan.specs.Place.{Place, start_of, index_of};
+    ghost use Rattle.rowan.specs.Same.{same_place-Decides};
+    ghost use Rattle.std.specs.Prelude.{◌++◌};
+    ghost use Rattle.std.specs.Hash as fed;
+    ghost use Rattle.std.proofs.Common.{ap};
+
+    ghost hash_input = { λ p. fed.u32 (start_of p) ++ fed.u32 (index_of p) };
+
+    ghost respects_eq = { λ x y p. ap (λ (q : Place). fed.u32 (start_of q) ++ fed.u32 (index_of q)) ((same_place-Decides x y).0 p) };
+
+    fn hash<H: Hasher>(&self, state: &mut H) {
+        self.cursor.hash(state);
+    }
+}
+
+impl<L: Language> PartialEq for SyntaxToken<L> {
+    ghost use Rattle.rowan.specs.Same.{same_place, same_place-equiv};
+    ghost use Rattle.std.specs.Cmp.{partial_equiv_from_equiv};
+
+    ghost eq = { same_place };
+
+    ghost laws = { partial_equiv_from_equiv same_place-equiv };
+
+    /// Equal root terms and equal paths.
+    fn eq(&self, other: &SyntaxToken<L>) -> bool {
+        self.cursor == other.cursor
+    }
+}
+
+impl<L: Language> Eq for SyntaxToken<L> {
+    ghost use Rattle.rowan.specs.Same.{same_place-equiv};
+
+    ghost laws = { same_place-equiv };
+}
+
+impl<L: Language> Hash for SyntaxToken<L> {
+    ghost use Rattle.rowan.specs.Place.{Place, start_of, index_of};
+    ghost use Rattle.rowan.specs.Same.{same_place-Decides};
+    ghost use Rattle.std.specs.Prelude.{◌++◌};
+    ghost use Rattle.std.specs.Hash as fed;
+    ghost use Rattle.std.proofs.Common.{ap};
+
+    ghost hash_input = { λ p. fed.u32 (start_of p) ++ fed.u32 (index_of p) };
+
+    ghost respects_eq = { λ x y p. ap (λ (q : Place). fed.u32 (start_of q) ++ fed.u32 (index_of q)) ((same_place-Decides x y).0 p) };
+
+    fn hash<H: Hasher>(&self, state: &mut H) {
+        self.cursor.hash(state);
+    }
+}

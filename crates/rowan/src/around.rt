@@ -1,0 +1,273 @@
+//! The elements around an element, as iterators: ancestors and siblings.
+ghost use Rattle.std.specs.Prelude.{◌≡◌, ◌∷◌, IfOk};
+ghost use Rattle.rowan_green.specs.declared.utility_types.NodeOrToken.TheVariants.{Node, Token};
+ghost use Rattle.rowan.specs.Place.{above};
+ghost use Rattle.rowan.specs.Around.{ancestors, ancestors_of, siblings, sibling_nodes};
+ghost use Rattle.rowan.specs.Left.{siblings_left, sibling_nodes_left};
+
+use crate::api::{SyntaxElement, SyntaxNode, SyntaxToken, element};
+use crate::cursor;
+use crate::cursor_step::{next_sibling_of, prev_sibling_of};
+use crate::language::Language;
+use crate::utility_types::Direction;
+use rowan_green::NodeOrToken;
+use std::alloc::{AllocError, Global};
+use std::marker::{Model, PhantomData};
+
+/// A node and those above it, up to the root. A contract sees those that are left.
+#[derive(Drop)]
+pub struct Ancestors<L: Language> {
+    next: Option<cursor::SyntaxNode>,
+    language: PhantomData<L>,
+}
+
+impl<L: Language> Model for Ancestors<L> {
+    ghost use Rattle.std.specs.Prelude.{List};
+    ghost use Rattle.std.specs.Coded.{codes};
+    ghost use Rattle.rowan_green.specs.Forest.{tree_code};
+    ghost use Rattle.rowan.specs.Place.{Place};
+
+    ghost Value = { List Place };
+
+    ghost coded = { Prim.hlevel (codes, tree_code) };
+
+    ghost use Rattle.rowan.specs.Around.{ancestors_of};
+
+    ghost view = { λ a. ancestors_of a.next };
+}
+
+impl<L: Language> Ancestors<L> {
+    pub(crate) fn new(start: cursor::SyntaxNode) -> Ancestors<L>
+        ensures { result ≡ ancestors start }
+    {
+        Ancestors {
+            next: Some(start),
+            language: PhantomData,
+        }
+    }
+}
+
+impl<L: Language> Iterator for Ancestors<L> {
+    type Item = Result<SyntaxNode<L>, AllocError>;
+
+    ghost use Rattle.std.specs.Prelude.{length};
+    ghost use Rattle.std.specs.Iterator.{at_most};
+    ghost use Rattle.rowan.specs.Yields.{YieldsOrFails};
+
+    ghost next_gives = { YieldsOrFails };
+
+    ghost remaining = { λ s. at_most (length s) };
+
+    fn next(&mut self) -> Option<Result<SyntaxNode<L>, AllocError>> {
+        let node = self.next.take()?;
+        if let Some(parent) = node.parent() {
+            match parent.clone() {
+                Ok(parent) => self.next = Some(parent),
+                Err(e) => return Some(Err(e)),
+            }
+        }
+        Some(Ok(SyntaxNode::of(node)))
+    }
+}
+
+/// An element and its siblings on one side, the nearest first. A contract sees those that are left.
+#[derive(Drop)]
+pub struct SiblingsWithTokens<L: Language> {
+    alloc: Global,
+    direction: Direction,
+    next: Option<cursor::SyntaxElement>,
+    language: PhantomData<L>,
+}
+
+impl<L: Language> Model for SiblingsWithTokens<L> {
+    ghost use Rattle.std.specs.Prelude.{List};
+    ghost use Rattle.std.specs.Coded.{codes};
+    ghost use Rattle.rowan_green.specs.Forest.{tree_code};
+    ghost use Rattle.rowan.specs.Around.{Cursor};
+
+    ghost Value = { List Cursor };
+
+    ghost coded = { Prim.hlevel (codes, tree_code) };
+
+    ghost use Rattle.rowan.specs.Left.{siblings_left};
+
+    ghost view = { λ s. siblings_left s.direction s.next };
+}
+
+impl<L: Language> SiblingsWithTokens<L> {
+    pub(crate) fn new(
+        alloc: Global,
+        direction: Direction,
+        start: cursor::SyntaxElement,
+    ) -> SiblingsWithTokens<L>
+        ensures { result ≡ siblings direction start }
+    {
+        SiblingsWithTokens {
+            alloc,
+            direction,
+            next: Some(start),
+            language: PhantomData,
+        }
+    }
+}
+
+impl<L: Language> Iterator for SiblingsWithTokens<L> {
+    type Item = Result<SyntaxElement<L>, AllocError>;
+
+    ghost use Rattle.std.specs.Prelude.{length};
+    ghost use Rattle.std.specs.Iterator.{at_most};
+    ghost use Rattle.rowan.specs.Yields.{YieldsOrFails};
+
+    ghost next_gives = { YieldsOrFails };
+
+    ghost remaining = { λ s. at_most (length s) };
+
+    fn next(&mut self) -> Option<Result<SyntaxElement<L>, AllocError>> {
+        let current = self.next.take()?;
+        match beside(self.alloc, self.direction, &current) {
+            Ok(next) => {
+                self.next = next;
+                Some(Ok(element(current)))
+            }
+            Err(e) => Some(Err(e)),
+        }
+    }
+}
+
+/// The sibling next to an element on one side.
+fn beside(
+    alloc: Global,
+    direction: Direction,
+    current: &cursor::SyntaxElement,
+) -> Result<Option<cursor::SyntaxElement>, AllocError>
+    ensures { IfOk result (λ r. siblings direction current.now ≡ current.now ∷ siblings_left direction r) }
+{
+    match direction {
+        Direction::Next => next_sibling_of(current, alloc),
+        Direction::Prev => prev_sibling_of(current, alloc),
+    }
+}
+
+/// A node and its siblings on one side that are nodes, the nearest first. A contract sees those that
+/// are left.
+#[derive(Drop)]
+pub struct Siblings<L: Language> {
+    alloc: Global,
+    direction: Direction,
+    next: Option<cursor::SyntaxNode>,
+    language: PhantomData<L>,
+}
+
+impl<L: Language> Model for Siblings<L> {
+    ghost use Rattle.std.specs.Prelude.{List};
+    ghost use Rattle.std.specs.Coded.{codes};
+    ghost use Rattle.rowan_green.specs.Forest.{tree_code};
+    ghost use Rattle.rowan.specs.Place.{Place};
+
+    ghost Value = { List Place };
+
+    ghost coded = { Prim.hlevel (codes, tree_code) };
+
+    ghost use Rattle.rowan.specs.Left.{sibling_nodes_left};
+
+    ghost view = { λ s. sibling_nodes_left s.direction s.next };
+}
+
+impl<L: Language> Siblings<L> {
+    pub(crate) fn new(alloc: Global, direction: Direction, start: cursor::SyntaxNode) -> Siblings<L>
+        ensures { result ≡ sibling_nodes direction start }
+    {
+        Siblings {
+            alloc,
+            direction,
+            next: Some(start),
+            language: PhantomData,
+        }
+    }
+}
+
+impl<L: Language> Iterator for Siblings<L> {
+    type Item = Result<SyntaxNode<L>, AllocError>;
+
+    ghost use Rattle.std.specs.Prelude.{length};
+    ghost use Rattle.std.specs.Iterator.{at_most};
+    ghost use Rattle.rowan.specs.Yields.{YieldsOrFails};
+
+    ghost next_gives = { YieldsOrFails };
+
+    ghost remaining = { λ s. at_most (length s) };
+
+    fn next(&mut self) -> Option<Result<SyntaxNode<L>, AllocError>> {
+        let current = self.next.take()?;
+        match node_beside(self.alloc, self.direction, &current) {
+            Ok(next) => {
+                self.next = next;
+                Some(Ok(SyntaxNode::of(current)))
+            }
+            Err(e) => Some(Err(e)),
+        }
+    }
+}
+
+/// The nearest sibling of a node on one side that is a node.
+fn node_beside(
+    alloc: Global,
+    direction: Direction,
+    current: &cursor::SyntaxNode,
+) -> Result<Option<cursor::SyntaxNode>, AllocError>
+    ensures { IfOk result (λ r. sibling_nodes direction current.now ≡ current.now ∷ sibling_nodes_left direction r) }
+{
+    match direction {
+        Direction::Next => current.next_sibling(alloc),
+        Direction::Prev => current.prev_sibling(alloc),
+    }
+}
+
+impl<L: Language> SyntaxNode<L> {
+    /// The node, its parent, and so on up to the root.
+    pub fn ancestors(&self) -> Result<Ancestors<L>, AllocError>
+        ensures { IfOk result (λ a. a ≡ ancestors self.now) }
+    {
+        Ok(Ancestors::new(self.cursor().clone()?))
+    }
+
+    /// The node, and then its siblings on one side that are nodes.
+    pub fn siblings(&self, alloc: Global, direction: Direction) -> Result<Siblings<L>, AllocError>
+        ensures { IfOk result (λ s. s ≡ sibling_nodes direction self.now) }
+    {
+        Ok(Siblings::new(alloc, direction, self.cursor().clone()?))
+    }
+
+    /// The node, and then its siblings on one side, nodes and tokens.
+    pub fn siblings_with_tokens(
+        &self,
+        alloc: Global,
+        direction: Direction,
+    ) -> Result<SiblingsWithTokens<L>, AllocError>
+        ensures { IfOk result (λ s. s ≡ siblings direction (Node self.now)) }
+    {
+        let start = NodeOrToken::Node(self.cursor().clone()?);
+        Ok(SiblingsWithTokens::new(alloc, direction, start))
+    }
+}
+
+impl<L: Language> SyntaxToken<L> {
+    /// The token's parent, that one's parent, and so on up to the root.
+    pub fn parent_ancestors(&self) -> Result<Ancestors<L>, AllocError>
+        ensures { IfOk result (λ a. a ≡ ancestors_of (above self.now)) }
+    {
+        Ok(Ancestors::new(self.cursor().parent().clone()?))
+    }
+
+    /// The token, and then its siblings on one side, nodes and tokens.
+    pub fn siblings_with_tokens(
+        &self,
+        alloc: Global,
+        direction: Direction,
+    ) -> Result<SiblingsWithTokens<L>, AllocError>
+        ensures { IfOk result (λ s. s ≡ siblings direction (Token self.now)) }
+    {
+        let start = NodeOrToken::Token(self.cursor().clone()?);
+        Ok(SiblingsWithTokens::new(alloc, direction, start))
+    }
+}

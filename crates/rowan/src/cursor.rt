@@ -1,0 +1,385 @@
+//! Cursors over nodes and tokens that know no language: a green value and where it stands.
+ghost use Rattle.std.specs.Prelude.{◌≡◌, ◌+◌, ◌<◌, ◌≤◌, ◌^◌, [], length, IfOk, OnErr, IsSome, Some};
+ghost use Rattle.std.specs.Prelude.{nat_eq};
+ghost use Rattle.std.specs.Cmp.Lexicographic.{pointwise};
+ghost use Rattle.std.specs.Option.{option_copied};
+ghost use Rattle.rowan_green.specs.Leaf.{Leaf};
+ghost use Rattle.rowan_green.specs.declared.utility_types.NodeOrToken.TheVariants.{Node, Token};
+ghost use Rattle.rowan.specs.Place.{Place, above, below, term_at, kind_at, text_at, start_of, end_of, index_of};
+ghost use Rattle.rowan.specs.Around.{Cursor, cursor_at};
+
+use rowan_green::{GreenNode, GreenToken, NodeOrToken, SyntaxKind};
+use std::alloc::{AllocError, Global};
+use std::hash::{Hash, Hasher};
+use std::marker::Model;
+use std::rc::Rc;
+
+#[cycle(cursor)]
+#[derive(Drop)]
+struct NodeData {
+    green: GreenNode,
+    offset: u32,
+    spot: Spot,
+}
+
+/// Where a node stands: at the top, or below a node with this number among its children.
+#[cycle(cursor)]
+#[derive(Drop)]
+enum Spot {
+    Root,
+    Child(SyntaxNode, u32),
+}
+
+/// A node where it stands. A clone shares the way up to the root, and takes no memory.
+#[cycle(cursor)]
+#[derive(Drop)]
+pub struct SyntaxNode {
+    shared: Rc<NodeData>,
+}
+
+impl Model for SyntaxNode {
+    ghost use Rattle.std.specs.Prelude.{length};
+    ghost use Rattle.rowan.specs.Place.{Place};
+    ghost use Rattle.rowan_green.specs.Forest.{tree_code};
+    ghost use Rattle.std.specs.Coded.{codes};
+
+    ghost Value = { Place };
+
+    ghost coded = { Prim.hlevel (codes, tree_code) };
+
+    ghost use Rattle.rowan.specs.Sound.{place_of, IsSound};
+
+    ghost view = { λ a. place_of a.shared.value };
+
+    ghost invariant = { λ a. IsSound a.shared.value };
+
+    ghost size = { λ p. length p.up };
+
+    ghost use Rattle.rowan.specs.Falls.{falls};
+
+    ghost size_decreases = { λ a h. falls a.shared.value.green a.shared.value.spot };
+}
+
+/// A token where it stands.
+#[derive(Drop)]
+pub struct SyntaxToken {
+    parent: SyntaxNode,
+    index: u32,
+    offset: u32,
+    green: GreenToken,
+}
+
+impl Model for SyntaxToken {
+    ghost use Rattle.rowan.specs.Place.{Place, below};
+    ghost use Rattle.rowan_green.specs.Forest.{tree_code};
+    ghost use Rattle.rowan_green.specs.declared.utility_types.NodeOrToken.TheVariants.{Token};
+    ghost use Rattle.std.specs.Coded.{codes};
+
+    ghost Value = { Place };
+
+    ghost coded = { Prim.hlevel (codes, tree_code) };
+
+    ghost use Rattle.rowan.specs.Sound.{Stands};
+
+    ghost view = { λ a. below a.parent a.index };
+
+    ghost invariant = { λ a. Stands (below a.parent a.index) (Token a.green) a.offset };
+}
+
+/// A node or a token where it stands.
+pub type SyntaxElement = NodeOrToken<SyntaxNode, SyntaxToken>;
+
+impl SyntaxNode {
+    /// The root of a tree.
+    pub fn new_root(alloc: Global, green: GreenNode) -> Result<SyntaxNode, AllocError>
+        ensures { IfOk result (λ p. p ≡ record { root = green; up = [] }) }
+    {
+        prove!(green.text_len().0 <= u32::MAX);
+        let shared = Rc::new(
+            alloc,
+            NodeData {
+                green,
+                offset: 0,
+                spot: Spot::Root,
+            },
+        )?;
+        Ok(SyntaxNode { shared })
+    }
+
+    pub fn green(&self) -> &GreenNode
+        ensures { term_at self.now ≡ Some (Node result.now) }
+    {
+        &self.shared.green
+    }
+
+    pub fn kind(&self) -> SyntaxKind
+        ensures { result.0 ≡ kind_at self.now }
+    {
+        self.green().kind()
+    }
+
+    /// Where its text begins.
+    pub fn start(&self) -> u32
+        ensures start { result ≡ start_of self.now }
+        ensures fits { end_of self.now < 2 ^ 32 }
+    {
+        self.shared.offset
+    }
+
+    /// Where its text ends.
+    pub fn end(&self) -> u32
+        ensures end { result ≡ end_of self.now }
+        ensures ordered { start_of self.now ≤ end_of self.now }
+    {
+        self.shared.offset + self.shared.green.text_len().0
+    }
+
+    /// Its number among its parent's children, 0 for a root.
+    pub fn index(&self) -> u32
+        ensures { result ≡ index_of self.now }
+    {
+        match &self.shared.spot {
+            Spot::Root => 0,
+            Spot::Child(_, index) => *index,
+        }
+    }
+
+    /// The parent, `None` at the top.
+    pub fn parent(&self) -> Option<&SyntaxNode>
+        ensures { option_copied result ≡ above self.now }
+    {
+        match &self.shared.spot {
+            Spot::Root => None,
+            Spot::Child(parent, _) => Some(parent),
+        }
+    }
+
+    /// The child of this number, which begins at this offset.
+    pub fn child(
+        &self,
+        alloc: Global,
+        index: usize,
+        offset: u32,
+    ) -> Result<Option<SyntaxElement>, AllocError>
+        requires { offset ≡ start_of (below self.now index) }
+        ensures ok { IfOk result (λ r. r ≡ cursor_at (below self.now index)) }
+        ensures refused { OnErr result (IsSome (cursor_at (below self.now index))) }
+    {
+        let green = self.green();
+        prove!(green.children().len() <= u32::MAX as usize);
+        match green.child(index) {
+            None => Ok(None),
+            Some(NodeOrToken::Node(node)) => {
+                let child = self.child_node(alloc, index as u32, offset, node.clone()?)?;
+                Ok(Some(NodeOrToken::Node(child)))
+            }
+            Some(NodeOrToken::Token(token)) => {
+                let child = self.child_token(index as u32, offset, token.clone()?)?;
+                Ok(Some(NodeOrToken::Token(child)))
+            }
+        }
+    }
+
+    pub(crate) fn child_node(
+        &self,
+        alloc: Global,
+        index: u32,
+        offset: u32,
+        green: GreenNode,
+    ) -> Result<SyntaxNode, AllocError>
+        requires is_child { term_at (below self.now index) ≡ Some (Node green) }
+        requires at_offset { offset ≡ start_of (below self.now index) }
+        ensures { IfOk result (λ c. c ≡ below self.now index) }
+    {
+        prove!(self.start() <= u32::MAX);
+        let shared = Rc::new(
+            alloc,
+            NodeData {
+                green,
+                offset,
+                spot: Spot::Child(self.clone()?, index),
+            },
+        )?;
+        Ok(SyntaxNode { shared })
+    }
+
+    fn child_token(
+        &self,
+        index: u32,
+        offset: u32,
+        green: GreenToken,
+    ) -> Result<SyntaxToken, AllocError>
+        requires is_child { term_at (below self.now index) ≡ Some (Token green) }
+        requires at_offset { offset ≡ start_of (below self.now index) }
+        ensures { IfOk result (λ c. c ≡ below self.now index) }
+    {
+        prove!(self.start() <= u32::MAX);
+        Ok(SyntaxToken {
+            parent: self.clone()?,
+            index,
+            offset,
+            green,
+        })
+    }
+}
+
+impl SyntaxToken {
+    pub fn green(&self) -> &GreenToken
+        ensures { term_at self.now ≡ Some (Token result.now) }
+    {
+        &self.green
+    }
+
+    pub fn kind(&self) -> SyntaxKind
+        ensures { result.0 ≡ kind_at self.now }
+    {
+        self.green().kind()
+    }
+
+    pub fn text(&self) -> &str
+        ensures { result.now ≡ text_at self.now }
+    {
+        self.green.text()
+    }
+
+    /// Where its text begins.
+    pub fn start(&self) -> u32
+        ensures start { result ≡ start_of self.now }
+        ensures fits { end_of self.now < 2 ^ 32 }
+    {
+        self.offset
+    }
+
+    /// Where its text ends.
+    pub fn end(&self) -> u32
+        ensures end { result ≡ end_of self.now }
+        ensures ordered { start_of self.now ≤ end_of self.now }
+    {
+        self.offset + self.green.text_len().0
+    }
+
+    /// Its number among its parent's children.
+    pub fn index(&self) -> u32
+        ensures { result ≡ index_of self.now }
+    {
+        self.index
+    }
+
+    pub fn parent(&self) -> &SyntaxNode
+        ensures { Some result.now ≡ above self.now }
+    {
+        &self.parent
+    }
+}
+
+impl Clone for SyntaxNode {
+    ghost is_clone = { λ n copy. copy ≡ n };
+
+    /// Refuses only where as many clones stand as a `usize` can count.
+    fn clone(&self) -> Result<SyntaxNode, AllocError> {
+        let shared = self.shared.clone()?;
+        Ok(SyntaxNode { shared })
+    }
+}
+
+impl Clone for SyntaxToken {
+    ghost is_clone = { λ n copy. copy ≡ n };
+
+    /// Refuses only where as many clones stand as a `usize` can count.
+    fn clone(&self) -> Result<SyntaxToken, AllocError> {
+        Ok(SyntaxToken {
+            parent: self.parent.clone()?,
+            index: self.index,
+            offset: self.offset,
+            green: self.green.clone()?,
+        })
+    }
+}
+
+/// Whether two nodes have the same way up to their roots.
+fn same_way(a: &SyntaxNode, b: &SyntaxNode) -> bool
+    ensures { result ≡ pointwise nat_eq a.now.up b.now.up }
+{
+    match (&a.shared.spot, &b.shared.spot) {
+        (Spot::Root, Spot::Root) => true,
+        (Spot::Child(above_a, i), Spot::Child(above_b, j)) => *i == *j
+            && same_way(above_a, above_b),
+        _ => false,
+    }
+}
+
+impl PartialEq for SyntaxNode {
+    ghost use Rattle.rowan.specs.Same.{same_place, same_place-equiv};
+    ghost use Rattle.std.specs.Cmp.{partial_equiv_from_equiv};
+
+    ghost eq = { same_place };
+
+    ghost laws = { partial_equiv_from_equiv same_place-equiv };
+
+    fn eq(&self, other: &SyntaxNode) -> bool {
+        same_way(self, other) && self.tree_top().green() == other.tree_top().green()
+    }
+}
+
+impl Eq for SyntaxNode {
+    ghost use Rattle.rowan.specs.Same.{same_place-equiv};
+
+    ghost laws = { same_place-equiv };
+}
+
+/// A hash of the offset and the number alone: equal nodes hash alike.
+impl Hash for SyntaxNode {
+    ghost use Rattle.rowan.specs.Place.{Place, start_of, index_of};
+    ghost use Rattle.rowan.specs.Same.{same_place-Decides};
+    ghost use Rattle.std.specs.Prelude.{◌++◌};
+    ghost use Rattle.std.specs.Hash as fed;
+    ghost use Rattle.std.proofs.Common.{ap};
+
+    ghost hash_input = { λ p. fed.u32 (start_of p) ++ fed.u32 (index_of p) };
+
+    ghost respects_eq = { λ x y p. ap (λ (q : Place). fed.u32 (start_of q) ++ fed.u32 (index_of q)) ((same_place-Decides x y).0 p) };
+
+    fn hash<H: Hasher>(&self, state: &mut H) {
+        self.start().hash(state);
+        self.index().hash(state);
+    }
+}
+
+impl PartialEq for SyntaxToken {
+    ghost use Rattle.rowan.specs.Same.{same_place, same_place-equiv};
+    ghost use Rattle.std.specs.Cmp.{partial_equiv_from_equiv};
+
+    ghost eq = { same_place };
+
+    ghost laws = { partial_equiv_from_equiv same_place-equiv };
+
+    fn eq(&self, other: &SyntaxToken) -> bool {
+        self.index == other.index
+            && same_way(&self.parent, &other.parent)
+            && self.parent.tree_top().green() == other.parent.tree_top().green()
+    }
+}
+
+impl Eq for SyntaxToken {
+    ghost use Rattle.rowan.specs.Same.{same_place-equiv};
+
+    ghost laws = { same_place-equiv };
+}
+
+/// A hash of the offset and the number alone: equal tokens hash alike.
+impl Hash for SyntaxToken {
+    ghost use Rattle.rowan.specs.Place.{Place, start_of, index_of};
+    ghost use Rattle.rowan.specs.Same.{same_place-Decides};
+    ghost use Rattle.std.specs.Prelude.{◌++◌};
+    ghost use Rattle.std.specs.Hash as fed;
+    ghost use Rattle.std.proofs.Common.{ap};
+
+    ghost hash_input = { λ p. fed.u32 (start_of p) ++ fed.u32 (index_of p) };
+
+    ghost respects_eq = { λ x y p. ap (λ (q : Place). fed.u32 (start_of q) ++ fed.u32 (index_of q)) ((same_place-Decides x y).0 p) };
+
+    fn hash<H: Hasher>(&self, state: &mut H) {
+        self.start().hash(state);
+        self.index().hash(state);
+    }
+}

@@ -1,0 +1,255 @@
+//! Steps from a cursor to the cursors next to it. Each reads one or two children of one node, but for
+//! the search for the next child that is a node.
+ghost use Rattle.std.specs.Prelude.{◌≡◌, ◌+◌, ◌<◌, ◌≤◌, ◌^◌, length, IfOk, OnErr, IsSome};
+ghost use Rattle.std.specs.Option.{option_copied};
+ghost use Rattle.rowan.specs.Place.{above, below, terms_below, start_of, end_of, index_of, top_of};
+ghost use Rattle.rowan.specs.Around.{place_in, children, children_back, children_before, children_from, behind, ahead, nodes, first};
+
+use crate::cursor::{SyntaxElement, SyntaxNode, SyntaxToken};
+use rowan_green::NodeOrToken;
+use std::alloc::{AllocError, Global};
+
+impl SyntaxNode {
+    pub fn first_child_or_token(&self, alloc: Global) -> Result<Option<SyntaxElement>, AllocError>
+        ensures { IfOk result (λ r. r ≡ first (children self.now)) }
+    {
+        self.child(alloc, 0, self.start())
+    }
+
+    pub fn last_child_or_token(&self, alloc: Global) -> Result<Option<SyntaxElement>, AllocError>
+        ensures { IfOk result (λ r. r ≡ first (children_back self.now)) }
+    {
+        self.child_before(alloc, self.green().children().len(), self.end())
+    }
+
+    pub fn next_sibling_or_token(&self, alloc: Global) -> Result<Option<SyntaxElement>, AllocError>
+        ensures { IfOk result (λ r. r ≡ first (behind self.now)) }
+    {
+        match self.parent() {
+            None => Ok(None),
+            Some(parent) => parent.child(alloc, self.index() as usize + 1, self.end()),
+        }
+    }
+
+    pub fn prev_sibling_or_token(&self, alloc: Global) -> Result<Option<SyntaxElement>, AllocError>
+        ensures { IfOk result (λ r. r ≡ first (ahead self.now)) }
+    {
+        prove!(self.green().text_len().0 <= u32::MAX);
+        match self.parent() {
+            None => Ok(None),
+            Some(parent) => parent.child_before(alloc, self.index() as usize, self.start()),
+        }
+    }
+
+    /// The nearest child before a number, where the children before it end at this offset.
+    pub fn child_before(
+        &self,
+        alloc: Global,
+        count: usize,
+        end: u32,
+    ) -> Result<Option<SyntaxElement>, AllocError>
+        requires at_end { end ≡ start_of (below self.now count) }
+        requires within { count ≤ length (terms_below self.now) }
+        ensures { IfOk result (λ r. r ≡ first (children_before self.now count)) }
+    {
+        let Some(index) = count.checked_sub(1) else {
+            return Ok(None);
+        };
+        let Some(child) = self.green().child(index) else {
+            return Ok(None);
+        };
+        self.child(alloc, index, end - child.text_len().0)
+    }
+
+    /// The first node among the children from a number on, which begin at this offset.
+    pub fn node_from(
+        &self,
+        alloc: Global,
+        from: usize,
+        offset: u32,
+    ) -> Result<Option<SyntaxNode>, AllocError>
+        requires { offset ≡ start_of (below self.now from) }
+        ensures ok { IfOk result (λ r. r ≡ first (nodes (children_from self.now from))) }
+        ensures refused { OnErr result (IsSome (first (nodes (children_from self.now from)))) }
+    {
+        let green = self.green();
+        let count = green.children().len();
+        prove!(self.start() <= u32::MAX);
+        let mut offset = offset;
+        let mut index = from;
+        while index < count {
+            let Some(child) = green.child(index) else {
+                return Ok(None);
+            };
+            match child {
+                NodeOrToken::Node(node) => {
+                    let child = self.child_node(alloc, index as u32, offset, node.clone()?)?;
+                    return Ok(Some(child));
+                }
+                NodeOrToken::Token(token) => offset += token.text_len().0,
+            }
+            index += 1;
+        }
+        Ok(None)
+    }
+
+    /// The nearest node among the children before a number, which end at this offset.
+    pub fn node_before(
+        &self,
+        alloc: Global,
+        count: usize,
+        end: u32,
+    ) -> Result<Option<SyntaxNode>, AllocError>
+        requires { end ≡ start_of (below self.now count) }
+        ensures { IfOk result (λ r. r ≡ first (nodes (children_before self.now count))) }
+    {
+        let green = self.green();
+        prove!(green.children().len() <= u32::MAX as usize);
+        let mut end = end;
+        let mut index = count;
+        while index > 0 {
+            index -= 1;
+            let Some(child) = green.child(index) else {
+                continue;
+            };
+            end -= child.text_len().0;
+            if let NodeOrToken::Node(node) = child {
+                let child = self.child_node(alloc, index as u32, end, node.clone()?)?;
+                return Ok(Some(child));
+            }
+        }
+        Ok(None)
+    }
+}
+
+impl SyntaxNode {
+    pub fn first_child(&self, alloc: Global) -> Result<Option<SyntaxNode>, AllocError>
+        ensures { IfOk result (λ r. r ≡ first (nodes (children self.now))) }
+    {
+        self.node_from(alloc, 0, self.start())
+    }
+
+    pub fn last_child(&self, alloc: Global) -> Result<Option<SyntaxNode>, AllocError>
+        ensures { IfOk result (λ r. r ≡ first (nodes (children_back self.now))) }
+    {
+        self.node_before(alloc, self.green().children().len(), self.end())
+    }
+
+    pub fn next_sibling(&self, alloc: Global) -> Result<Option<SyntaxNode>, AllocError>
+        ensures { IfOk result (λ r. r ≡ first (nodes (behind self.now))) }
+    {
+        match self.parent() {
+            None => Ok(None),
+            Some(parent) => parent.node_from(alloc, self.index() as usize + 1, self.end()),
+        }
+    }
+
+    pub fn prev_sibling(&self, alloc: Global) -> Result<Option<SyntaxNode>, AllocError>
+        ensures { IfOk result (λ r. r ≡ first (nodes (ahead self.now))) }
+    {
+        match self.parent() {
+            None => Ok(None),
+            Some(parent) => parent.node_before(alloc, self.index() as usize, self.start()),
+        }
+    }
+
+    /// The root of the tree.
+    pub fn tree_top(&self) -> &SyntaxNode
+        ensures { result.now ≡ top_of self.now }
+    {
+        let mut top = self;
+        while let Some(parent) = top.parent() {
+            top = parent;
+        }
+        top
+    }
+}
+
+impl SyntaxToken {
+    pub fn next_sibling_or_token(&self, alloc: Global) -> Result<Option<SyntaxElement>, AllocError>
+        ensures { IfOk result (λ r. r ≡ first (behind self.now)) }
+    {
+        let parent = self.parent();
+        parent.child(alloc, self.index() as usize + 1, self.end())
+    }
+
+    pub fn prev_sibling_or_token(&self, alloc: Global) -> Result<Option<SyntaxElement>, AllocError>
+        ensures { IfOk result (λ r. r ≡ first (ahead self.now)) }
+    {
+        prove!(self.green().text_len().0 <= u32::MAX);
+        let parent = self.parent();
+        parent.child_before(alloc, self.index() as usize, self.start())
+    }
+
+    /// The root of the tree.
+    pub fn tree_top(&self) -> &SyntaxNode
+        ensures { result.now ≡ top_of self.now }
+    {
+        self.parent().tree_top()
+    }
+}
+
+pub fn next_sibling_of(
+    element: &SyntaxElement,
+    alloc: Global,
+) -> Result<Option<SyntaxElement>, AllocError>
+    ensures { IfOk result (λ r. r ≡ first (behind (place_in element.now))) }
+{
+    match element {
+        NodeOrToken::Node(node) => node.next_sibling_or_token(alloc),
+        NodeOrToken::Token(token) => token.next_sibling_or_token(alloc),
+    }
+}
+
+pub fn prev_sibling_of(
+    element: &SyntaxElement,
+    alloc: Global,
+) -> Result<Option<SyntaxElement>, AllocError>
+    ensures { IfOk result (λ r. r ≡ first (ahead (place_in element.now))) }
+{
+    match element {
+        NodeOrToken::Node(node) => node.prev_sibling_or_token(alloc),
+        NodeOrToken::Token(token) => token.prev_sibling_or_token(alloc),
+    }
+}
+
+pub fn parent_of(element: &SyntaxElement) -> Option<&SyntaxNode>
+    ensures { option_copied result ≡ above (place_in element.now) }
+{
+    match element {
+        NodeOrToken::Node(node) => node.parent(),
+        NodeOrToken::Token(token) => Some(token.parent()),
+    }
+}
+
+/// Its number among its parent's children.
+pub fn index_of(element: &SyntaxElement) -> u32
+    ensures { result ≡ index_of (place_in element.now) }
+{
+    match element {
+        NodeOrToken::Node(node) => node.index(),
+        NodeOrToken::Token(token) => token.index(),
+    }
+}
+
+/// Where its text begins.
+pub fn start_of(element: &SyntaxElement) -> u32
+    ensures start { result ≡ start_of (place_in element.now) }
+    ensures fits { end_of (place_in element.now) < 2 ^ 32 }
+{
+    match element {
+        NodeOrToken::Node(node) => node.start(),
+        NodeOrToken::Token(token) => token.start(),
+    }
+}
+
+/// Where its text ends.
+pub fn end_of(element: &SyntaxElement) -> u32
+    ensures end { result ≡ end_of (place_in element.now) }
+    ensures ordered { start_of (place_in element.now) ≤ end_of (place_in element.now) }
+{
+    match element {
+        NodeOrToken::Node(node) => node.end(),
+        NodeOrToken::Token(token) => token.end(),
+    }
+}

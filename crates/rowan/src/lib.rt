@@ -1,0 +1,38 @@
+//! Cursors over green trees: nodes and tokens that know where they stand.
+//!
+//! A contract sees a cursor as a place: a root term, and the way up to the root, child numbers with
+//! the innermost first. The path from the root is that way read backwards. Everything else follows
+//! from the two: the green value is the term there, an offset is the length of all text before it, a
+//! walk is a stretch of the word of the tree.
+//!
+//! A node keeps its parent and its offset, so a step to parent, child or neighbouring sibling takes
+//! constant time and at most one small block of memory; a token takes none. A clone takes none. Steps
+//! to a sibling that is a node pass over the tokens between. Comparing two cursors reads both roots.
+//!
+//! What makes cursors wants memory, so it answers a `Result`. An iterator gives one `Err`, and then
+//! ends.
+#![tactic(auto)]
+
+pub mod api;
+pub mod around;
+pub mod ast;
+mod cursor;
+mod cursor_ranges;
+mod cursor_step;
+mod cursor_tokens;
+mod display;
+pub mod element;
+pub mod language;
+pub mod preorder;
+pub mod replace;
+pub mod syntax_children;
+pub mod utility_types;
+mod walk;
+
+pub use api::{SyntaxElement, SyntaxNode, SyntaxToken};
+pub use around::{Ancestors, Siblings, SiblingsWithTokens};
+pub use element::ElementExt;
+pub use language::Language;
+pub use preorder::{Descendants, DescendantsWithTokens, Preorder, PreorderWithTokens};
+pub use syntax_children::{SyntaxElementChildren, SyntaxNodeChildren};
+pub use utility_types::{Direction, WalkEvent};
