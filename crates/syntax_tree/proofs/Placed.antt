@@ -80,14 +80,16 @@ stands_behind_leaf up i s l r p h = record {
 
 all_stand : (up : Path) (i s : ℕ) (f : Forest) → every (Stands up i s f) (placed_in up i s f)
 all_stand up i s empty = tt
-all_stand up i s (leaf l r) =
-    (stands_first up i s (leaf l r) (Token l) refl,
-    every-more (Stands up (suc i) (s + length l.text) r) (Stands up i s (leaf l r)) (stands_behind_leaf up i s l r) (placed_in up (suc i) (s + length l.text) r) (all_stand up (suc i) (s + length l.text) r))
-all_stand up i s (node k f r) =
-    (stands_first up i s (node k f r) (Node (record { kind = k; forest = f })) refl,
-    every-append (Stands up i s (node k f r)) (placed_in (up ++ i ∷ []) 0 s f) (placed_in up (suc i) (s + length (forest_text f)) r)
-    (every-more (Stands (up ++ i ∷ []) 0 s f) (Stands up i s (node k f r)) (stands_below up i s k f r) (placed_in (up ++ i ∷ []) 0 s f) (all_stand (up ++ i ∷ []) 0 s f))
-    (every-more (Stands up (suc i) (s + length (forest_text f)) r) (Stands up i s (node k f r)) (stands_behind_node up i s k f r) (placed_in up (suc i) (s + length (forest_text f)) r) (all_stand up (suc i) (s + length (forest_text f)) r)))
+all_stand up i s (leaf l r) = (
+  stands_first up i s (leaf l r) (Token l) refl,
+  every-more (Stands up (suc i) (s + length l.text) r) (Stands up i s (leaf l r)) (stands_behind_leaf up i s l r) (placed_in up (suc i) (s + length l.text) r) (all_stand up (suc i) (s + length l.text) r),
+)
+all_stand up i s (node k f r) = (
+  stands_first up i s (node k f r) (Node (record { kind = k; forest = f })) refl,
+  every-append (Stands up i s (node k f r)) (placed_in (up ++ i ∷ []) 0 s f) (placed_in up (suc i) (s + length (forest_text f)) r)
+      (every-more (Stands (up ++ i ∷ []) 0 s f) (Stands up i s (node k f r)) (stands_below up i s k f r) (placed_in (up ++ i ∷ []) 0 s f) (all_stand (up ++ i ∷ []) 0 s f))
+      (every-more (Stands up (suc i) (s + length (forest_text f)) r) (Stands up i s (node k f r)) (stands_behind_node up i s k f r) (placed_in up (suc i) (s + length (forest_text f)) r) (all_stand up (suc i) (s + length (forest_text f)) r)),
+)
 
 -- The path of an element leads to it, and it begins where the path says.
 pub record IsThere (t : Tree) (p : Placed) : Type 0 where

@@ -21,10 +21,10 @@ slice_in whole part small i j p q = record {
   before = p.before ++ q.before;
   behind = q.behind ++ p.behind;
   whole_is =
-    p.whole_is
-    ∙ ap (λ (t : List ℕ). p.before ++ (t ++ p.behind)) q.whole_is
-    ∙ ap (λ (t : List ℕ). p.before ++ t) (append_assoc q.before (small ++ q.behind) p.behind ∙ ap (λ (t : List ℕ). q.before ++ t) (append_assoc small q.behind p.behind))
-    ∙ sym (append_assoc p.before q.before (small ++ (q.behind ++ p.behind)));
+      p.whole_is
+      ∙ ap (λ (t : List ℕ). p.before ++ (t ++ p.behind)) q.whole_is
+      ∙ ap (λ (t : List ℕ). p.before ++ t) (append_assoc q.before (small ++ q.behind) p.behind ∙ ap (λ (t : List ℕ). q.before ++ t) (append_assoc small q.behind p.behind))
+      ∙ sym (append_assoc p.before q.before (small ++ (q.behind ++ p.behind)));
   start_is = omega (arith, length-append p.before q.before, p.start_is, q.start_is);
 }
 

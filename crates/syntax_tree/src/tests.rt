@@ -1,6 +1,9 @@
 //! What no contract says: that calls succeed where memory is ample.
 use crate::elements::{node, token};
-use crate::{SyntaxElement, SyntaxNode, SyntaxToken, TreeError, TreeIds, element_at, first_of, replaced_at, start_of};
+use crate::{
+    SyntaxElement, SyntaxNode, SyntaxToken, TreeError, TreeIds, element_at, first_of, replaced_at,
+    start_of,
+};
 use parser_input::syntax_kind::SyntaxKind;
 use rowan_green::{GreenElement, GreenNode, TextRange, TextSize};
 use std::alloc::{AllocError, Global};
@@ -11,7 +14,11 @@ fn struct_tree(alloc: Global) -> Result<GreenNode, AllocError> {
     let keyword = token(alloc, SyntaxKind::STRUCT_KW, "struct")?;
     let space = token(alloc, SyntaxKind::WHITESPACE, " ")?;
     let ident = token(alloc, SyntaxKind::IDENT, "S")?;
-    let name = node(alloc, SyntaxKind::NAME, vec![in alloc; GreenElement::from(ident)]?)?;
+    let name = node(
+        alloc,
+        SyntaxKind::NAME,
+        vec![in alloc; GreenElement::from(ident)]?,
+    )?;
     let semicolon = token(alloc, SyntaxKind::SEMICOLON, ";")?;
     let mut children = vec![in alloc; GreenElement::from(keyword), GreenElement::from(space)]?;
     children.push(GreenElement::from(name))?;
