@@ -1,9 +1,6 @@
 //! What no contract says: that calls succeed where memory is ample.
 use crate::elements::{node, token};
-use crate::{
-    SyntaxElement, SyntaxNode, SyntaxToken, TreeError, TreeIds, element_at, first_of, replaced_at,
-    start_of,
-};
+use crate::{SyntaxNode, SyntaxToken, TreeError, TreeIds, element_at, first_of, start_of};
 use parser_input::syntax_kind::SyntaxKind;
 use rowan_green::{GreenElement, GreenNode, TextRange, TextSize};
 use std::alloc::{AllocError, Global};
@@ -56,13 +53,11 @@ fn an_element_by_its_handle(rt: HostRuntime) -> Result<(), Fail> {
     let root = SyntaxNode::new_root(alloc, struct_tree(alloc)?, &mut ids)?;
     assert!(rt; root.tree() == 5 && root.path().is_empty() && root.kind() == SyntaxKind::STRUCT);
     assert!(rt; root.text_range() == range(0, 9));
-    match root.find(alloc, SyntaxKind::NAME, range(7, 1))? {
-        Some(SyntaxElement::Node(name)) => {
-            assert!(rt; name.tree() == 5 && name.path() == [2].as_slice());
-            assert!(rt; name.kind() == SyntaxKind::NAME && name.text_range() == range(7, 1));
-        }
-        _ => assert!(rt; false),
-    }
+    let Some(name) = root.find(alloc, SyntaxKind::NAME, range(7, 1))? else {
+        return Err(Fail::new("not found"));
+    };
+    assert!(rt; name.tree() == 5 && name.path() == [2].as_slice());
+    assert!(rt; name.kind() == SyntaxKind::NAME && name.text_range() == range(7, 1));
     Ok(())
 }
 
@@ -75,19 +70,5 @@ fn a_token_of_its_own(rt: HostRuntime) -> Result<(), Fail> {
     assert!(rt; tee.text() == "Tee" && tee.kind() == SyntaxKind::IDENT);
     let again = SyntaxToken::detached(alloc, tee.green().clone()?, &mut ids);
     assert!(rt; again.err() == Some(TreeError::Spent));
-    Ok(())
-}
-
-#[test]
-fn one_element_for_another(rt: HostRuntime) -> Result<(), Fail> {
-    let alloc = rt.alloc();
-    let tree = struct_tree(alloc)?;
-    let tee = GreenElement::from(token(alloc, SyntaxKind::IDENT, "Tee")?);
-    let Some(path) = first_of(alloc, &tree, SyntaxKind::IDENT, 7, 8)? else {
-        return Err(Fail::new("not found"));
-    };
-    let changed = replaced_at(alloc, &tree, &path, &tee)?;
-    assert!(rt; format!(in alloc; "{changed}")?.as_str() == "struct Tee;");
-    assert!(rt; format!(in alloc; "{tree}")?.as_str() == "struct S;");
     Ok(())
 }
