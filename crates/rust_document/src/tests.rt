@@ -304,24 +304,6 @@ fn a_name_for_a_name(rt: HostRuntime) -> Result<(), Fail> {
     Ok(())
 }
 
-/// Where memory is refused the document is as before; with ample memory it is not refused.
-#[test]
-fn all_or_nothing(rt: HostRuntime) -> Result<(), Fail> {
-    let mut ids = TreeIds::new();
-    let edition = Edition::Edition2021;
-    let mut document = Document::open(rt.alloc(), edition, "struct S;", &mut ids)?;
-    match put(rt.alloc(), &mut document, NAME, "Tee", &mut ids)? {
-        Ok(_) => assert!(rt; document.text() == "struct Tee;" && document.root().tree() == 3),
-        Err(error) => {
-            assert!(rt; error == CommitError::NoMemory && document.text() == "struct S;");
-            assert!(rt; document.root().tree() == 1 && has_errors(&document, &[]));
-            assert!(rt; document.tokens().count() == 4);
-            return Err(Fail::new(error));
-        }
-    }
-    Ok(())
-}
-
 #[test]
 fn a_keyword_for_a_name(rt: HostRuntime) -> Result<(), Fail> {
     let mut ids = TreeIds::new();
