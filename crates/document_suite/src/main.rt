@@ -10,6 +10,9 @@ use serde_json::Value;
 use std::alloc::Global;
 use std::io;
 
+#[cfg(test)]
+mod tests;
+
 /// Whether a case is answered as it says.
 fn is_met(alloc: Global, line: &str) -> anyhow::Result<bool> {
     let case = Value::from_str(alloc, line)?;

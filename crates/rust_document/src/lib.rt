@@ -16,8 +16,6 @@ mod reader;
 mod rewrite;
 pub mod syntax_editor;
 pub mod syntax_error;
-#[cfg(test)]
-mod tests;
 pub mod tokens;
 
 pub use document::{Committed, Document, MAX_TEXT};

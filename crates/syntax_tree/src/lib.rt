@@ -18,6 +18,3 @@ pub use path::{ElementRef, element_at, start_of};
 pub use replace::replaced_at;
 pub use syntax_node::{SyntaxElement, SyntaxNode, SyntaxToken};
 pub use tree_ids::TreeIds;
-
-#[cfg(test)]
-mod tests;

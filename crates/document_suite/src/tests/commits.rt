@@ -1,0 +1,172 @@
+//! Commits: what is changed, and what is refused and changes nothing.
+use super::{IDENT, Place, ROOT, SPACE, found, open, range, replacing, spaces};
+use parser_input::edition::Edition;
+use rowan_green::TextRange;
+use rust_document::{
+    CommitError, Committed, Document, MAX_TEXT, PayloadEntry, SyntaxEditor, payload,
+};
+use std::alloc::Global;
+use std::test::Fail;
+use syntax_tree::{SyntaxElement, TreeIds};
+
+/// The only range that a commit tells.
+fn only_range(committed: &Committed) -> Option<TextRange> {
+    match committed.changed.as_slice() {
+        [changed] => Some(*changed),
+        _ => None,
+    }
+}
+
+/// What a document answers to an editor: the range that is changed, if there is just one.
+fn commit(
+    alloc: Global,
+    document: &mut Document,
+    editor: SyntaxEditor,
+    ids: &mut TreeIds,
+) -> Result<Option<TextRange>, CommitError> {
+    let committed = document.commit(alloc, editor, ids)?;
+    Ok(only_range(&committed))
+}
+
+/// An editor that puts an element for another.
+fn recorded(
+    alloc: Global,
+    document: &Document,
+    place: Place,
+    new: &SyntaxElement,
+) -> Result<SyntaxEditor, Fail> {
+    let target = found(alloc, document, place)?;
+    let editor = document.editor()?;
+    replacing(alloc, editor, &target, new)
+}
+
+/// An editor that puts a token for an element.
+fn put(
+    alloc: Global,
+    document: &Document,
+    place: Place,
+    (edition, text): (Edition, &str),
+    ids: &mut TreeIds,
+) -> Result<SyntaxEditor, Fail> {
+    let new = payload(alloc, PayloadEntry::Token, edition, text, ids)?;
+    recorded(alloc, document, place, &new)
+}
+
+/// A token of an edition that is put for the name in `struct S;` of another; the range that is changed, and the text.
+#[derive(Clone, Copy)]
+struct Row {
+    edition: Edition,
+    token: (Edition, &'static str),
+    answer: Result<Option<TextRange>, CommitError>,
+    text: &'static str,
+    number: u32,
+}
+
+/// Whether a commit does what its row says.
+fn is_answered(alloc: Global, row: Row) -> Result<bool, Fail> {
+    let mut ids = TreeIds::new();
+    let mut document = Document::open(alloc, row.edition, "struct S;", &mut ids)?;
+    let editor = put(alloc, &document, IDENT, row.token, &mut ids)?;
+    let answer = commit(alloc, &mut document, editor, &mut ids);
+    let number = document.root().tree() == row.number;
+    Ok((answer == row.answer) & number & (document.text() == row.text))
+}
+
+#[test]
+fn tokens_for_a_name(rt: HostRuntime) -> Result<(), Fail> {
+    let (old, new) = (Edition::Edition2015, Edition::Edition2021);
+    let row = |edition, token, answer, text, number| Row {
+        edition,
+        token,
+        answer,
+        text,
+        number,
+    };
+    for row in [
+        row(new, (new, "Tee"), Ok(Some(range(7, 10))), "struct Tee;", 3),
+        row(
+            old,
+            (old, "async"),
+            Ok(Some(range(7, 12))),
+            "struct async;",
+            3,
+        ),
+        row(
+            new,
+            (new, "struct"),
+            Err(CommitError::Unfaithful),
+            "struct S;",
+            1,
+        ),
+        row(new, (old, "async"), Err(CommitError::Later), "struct S;", 1),
+    ] {
+        assert!(rt; is_answered(rt.alloc(), row)?, "{}", row.token.1);
+    }
+    Ok(())
+}
+
+/// What an editor with nothing recorded makes of a text whose tree has the number 1, with these numbers left.
+fn untouched(alloc: Global, ids: &mut TreeIds) -> Result<(Option<CommitError>, u32), Fail> {
+    let mut document = open(alloc, "struct S; s")?;
+    let editor = document.editor()?;
+    let answer = commit(alloc, &mut document, editor, ids);
+    Ok((answer.err(), document.root().tree()))
+}
+
+#[test]
+fn nothing_recorded(rt: HostRuntime) -> Result<(), Fail> {
+    let mut ids = TreeIds::starting_at(u32::MAX);
+    assert!(rt; untouched(rt.alloc(), &mut ids)? == (None, u32::MAX));
+    assert!(rt; untouched(rt.alloc(), &mut ids)? == (Some(CommitError::NoTreeNumber), 1));
+    Ok(())
+}
+
+/// What a document answers to an editor, and then to an older one.
+fn older(alloc: Global) -> Result<(Option<CommitError>, Option<CommitError>, u32), Fail> {
+    let mut ids = TreeIds::starting_at(2);
+    let mut document = open(alloc, "struct S;")?;
+    let older = document.editor()?;
+    let editor = document.editor()?;
+    let first = commit(alloc, &mut document, editor, &mut ids);
+    let second = commit(alloc, &mut document, older, &mut ids);
+    Ok((first.err(), second.err(), document.root().tree()))
+}
+
+#[test]
+fn an_older_editor(rt: HostRuntime) -> Result<(), Fail> {
+    assert!(rt; older(rt.alloc())? == (None, Some(CommitError::Foreign), 2));
+    Ok(())
+}
+
+/// What becomes of `struct S;` where its space is so many spaces: its length.
+fn spaced(alloc: Global, count: usize) -> Result<(Option<CommitError>, usize), Fail> {
+    let mut ids = TreeIds::starting_at(2);
+    let text = spaces(alloc, count)?;
+    let mut document = open(alloc, "struct S;")?;
+    let token = (Edition::Edition2021, text.as_str());
+    let editor = put(alloc, &document, SPACE, token, &mut ids)?;
+    let answer = commit(alloc, &mut document, editor, &mut ids);
+    Ok((answer.err(), document.text().len()))
+}
+
+#[test]
+fn the_limit(rt: HostRuntime) -> Result<(), Fail> {
+    assert!(rt; spaced(rt.alloc(), MAX_TEXT - 8)? == (None, MAX_TEXT));
+    assert!(rt; spaced(rt.alloc(), MAX_TEXT - 7)? == (Some(CommitError::TooLong), 9));
+    Ok(())
+}
+
+/// What becomes of `struct S;` where its root is put for itself: the changed range, and the number of the tree.
+fn put_again(alloc: Global) -> Result<(Result<Option<TextRange>, CommitError>, u32), Fail> {
+    let mut document = open(alloc, "struct S;")?;
+    let root = found(alloc, &document, ROOT)?;
+    let editor = recorded(alloc, &document, ROOT, &root)?;
+    let answer = commit(alloc, &mut document, editor, &mut TreeIds::starting_at(7));
+    Ok((answer, document.root().tree()))
+}
+
+#[test]
+fn the_root_by_itself(rt: HostRuntime) -> Result<(), Fail> {
+    assert!(rt; put_again(rt.alloc())? == (Ok(Some(range(0, 9))), 7));
+    Ok(())
+}

@@ -1,0 +1,212 @@
+//! Texts that are opened: their trees, tokens and messages.
+use super::{IDENT, Place, ROOT, SEMICOLON, SPACE, open, range, spaces};
+use parser_input::edition::Edition;
+use parser_input::syntax_kind::SyntaxKind;
+use rust_document::{Document, MAX_TEXT, OpenError};
+use std::alloc::{AllocError, Global};
+use std::test::Fail;
+use syntax_tree::TreeIds;
+
+/// The path to the element at a place, if there is one, is this.
+fn stands_at(
+    alloc: Global,
+    document: &Document,
+    place: Place,
+    path: &[usize],
+) -> Result<bool, AllocError> {
+    let (kind, start, end) = place;
+    match document.find(alloc, kind, range(start, end))? {
+        Some(element) => Ok(element.path() == path),
+        None => Ok(false),
+    }
+}
+
+/// Whether each of these elements is found at its path. Where all leaves are among them, they are the tree.
+fn has_tree(
+    alloc: Global,
+    document: &Document,
+    expected: &[(Place, &[usize])],
+) -> Result<bool, AllocError> {
+    for (place, path) in expected {
+        if !stands_at(alloc, document, *place, path)? {
+            return Ok(false);
+        }
+    }
+    Ok(true)
+}
+
+/// Whether these are the tokens.
+fn has_tokens(document: &Document, expected: &[Place]) -> bool {
+    let mut tokens = document.tokens();
+    for (kind, start, end) in expected {
+        match tokens.next() {
+            Some(token) if token.kind == *kind && token.range == range(*start, *end) => {}
+            _ => return false,
+        }
+    }
+    tokens.next().is_none()
+}
+
+/// Whether these are the messages, each with its place.
+fn has_errors(document: &Document, expected: &[(usize, &str)]) -> bool {
+    let errors = document.errors();
+    errors.len() == expected.len()
+        && errors.iter().zip(expected.iter()).all(|(error, (offset, message))| error.offset
+            == *offset
+            && error.message == *message)
+}
+
+/// A text with what is read of it: its elements with the paths that lead to them, its tokens, and its messages with their places.
+#[derive(Clone, Copy)]
+struct Row {
+    text: &'static str,
+    tree: &'static [(Place, &'static [usize])],
+    tokens: &'static [Place],
+    errors: &'static [(usize, &'static str)],
+}
+
+const EMPTY: Row = Row {
+    text: "",
+    tree: &[((SyntaxKind::SOURCE_FILE, 0, 0), &[])],
+    tokens: &[],
+    errors: &[],
+};
+
+const STRUCT: Row = Row {
+    text: "struct S;",
+    tree: &[
+        (ROOT, &[]),
+        ((SyntaxKind::STRUCT, 0, 9), &[0]),
+        ((SyntaxKind::STRUCT_KW, 0, 6), &[0, 0]),
+        (SPACE, &[0, 1]),
+        ((SyntaxKind::NAME, 7, 8), &[0, 2]),
+        (IDENT, &[0, 2, 0]),
+        (SEMICOLON, &[0, 3]),
+    ],
+    tokens: &[(SyntaxKind::STRUCT_KW, 0, 6), SPACE, IDENT, SEMICOLON],
+    errors: &[],
+};
+
+const NO_ITEM: Row = Row {
+    text: "S;",
+    tree: &[
+        ((SyntaxKind::SOURCE_FILE, 0, 2), &[]),
+        ((SyntaxKind::ERROR, 0, 1), &[0]),
+        ((SyntaxKind::PATH, 0, 1), &[0, 0]),
+        ((SyntaxKind::PATH_SEGMENT, 0, 1), &[0, 0, 0]),
+        ((SyntaxKind::NAME_REF, 0, 1), &[0, 0, 0, 0]),
+        ((SyntaxKind::IDENT, 0, 1), &[0, 0, 0, 0, 0]),
+        ((SyntaxKind::ERROR, 1, 2), &[1]),
+        ((SyntaxKind::SEMICOLON, 1, 2), &[1, 0]),
+    ],
+    tokens: &[(SyntaxKind::IDENT, 0, 1), (SyntaxKind::SEMICOLON, 1, 2)],
+    errors: &[(1, "expected an item"), (1, "expected an item")],
+};
+
+const MISSING: Row = Row {
+    text: "struct struct;",
+    tree: &[
+        ((SyntaxKind::SOURCE_FILE, 0, 14), &[]),
+        ((SyntaxKind::STRUCT, 0, 6), &[0]),
+        ((SyntaxKind::STRUCT_KW, 0, 6), &[0, 0]),
+        ((SyntaxKind::WHITESPACE, 6, 7), &[1]),
+        ((SyntaxKind::STRUCT, 7, 14), &[2]),
+        ((SyntaxKind::STRUCT_KW, 7, 13), &[2, 0]),
+        ((SyntaxKind::SEMICOLON, 13, 14), &[2, 1]),
+    ],
+    tokens: &[
+        (SyntaxKind::STRUCT_KW, 0, 6),
+        (SyntaxKind::WHITESPACE, 6, 7),
+        (SyntaxKind::STRUCT_KW, 7, 13),
+        (SyntaxKind::SEMICOLON, 13, 14),
+    ],
+    errors: &[
+        (6, "expected NAME"),
+        (6, "expected SEMICOLON"),
+        (13, "expected NAME"),
+    ],
+};
+
+/// Whether a text is read as its row says.
+fn is_read(alloc: Global, row: Row) -> Result<bool, Fail> {
+    let document = open(alloc, row.text)?;
+    let tree = has_tree(alloc, &document, row.tree)?;
+    let tokens = has_tokens(&document, row.tokens);
+    let errors = has_errors(&document, row.errors);
+    let number = document.root().tree() == 1;
+    Ok(tree & tokens & errors & number & (document.text() == row.text))
+}
+
+#[test]
+fn texts_are_read(rt: HostRuntime) -> Result<(), Fail> {
+    for row in [EMPTY, STRUCT, NO_ITEM, MISSING] {
+        assert!(rt; is_read(rt.alloc(), row)?, "{}", row.text);
+    }
+    Ok(())
+}
+
+/// Whether the root of an empty text has no child.
+fn is_bare(alloc: Global) -> Result<bool, OpenError> {
+    let document = open(alloc, "")?;
+    Ok(document.root().green().children().len() == 0)
+}
+
+#[test]
+fn an_empty_text(rt: HostRuntime) -> Result<(), Fail> {
+    assert!(rt; is_bare(rt.alloc())?);
+    Ok(())
+}
+
+/// Why a text is not opened in edition 2015.
+fn refusal(alloc: Global, text: &str, ids: &mut TreeIds) -> Option<OpenError> {
+    Document::open(alloc, Edition::Edition2015, text, ids).err()
+}
+
+#[test]
+fn other_texts(rt: HostRuntime) {
+    let mut ids = TreeIds::new();
+    for text in ["struct S {}", "struct _;", "fn", "struct S; // s"] {
+        assert!(rt; refusal(rt.alloc(), text, &mut ids) == Some(OpenError::Later));
+    }
+    assert!(rt; ids.next() == Ok(1));
+}
+
+#[test]
+fn no_number_is_left(rt: HostRuntime) {
+    let mut ids = TreeIds::starting_at(u32::MAX);
+    assert!(rt; refusal(rt.alloc(), "struct S;", &mut ids).is_none());
+    assert!(rt; refusal(rt.alloc(), "struct S;", &mut ids) == Some(OpenError::NoTreeNumber));
+}
+
+/// Why so many spaces are not opened.
+fn refusal_of_spaces(alloc: Global, count: usize) -> Result<Option<OpenError>, AllocError> {
+    let text = spaces(alloc, count)?;
+    Ok(refusal(alloc, text.as_str(), &mut TreeIds::new()))
+}
+
+#[test]
+fn the_limit(rt: HostRuntime) -> Result<(), Fail> {
+    assert!(rt; refusal_of_spaces(rt.alloc(), MAX_TEXT)?.is_none());
+    assert!(rt; refusal_of_spaces(rt.alloc(), MAX_TEXT + 1)? == Some(OpenError::TooLong));
+    Ok(())
+}
+
+/// Whether nothing is found at a place.
+fn is_free(alloc: Global, document: &Document, place: Place) -> Result<bool, AllocError> {
+    let (kind, start, end) = place;
+    Ok(document.find(alloc, kind, range(start, end))?.is_none())
+}
+
+/// Whether nothing is found where `struct S;` has an element of another kind, or of another length.
+fn is_found_exactly(alloc: Global) -> Result<bool, Fail> {
+    let document = open(alloc, "struct S;")?;
+    let longer = is_free(alloc, &document, (SyntaxKind::IDENT, 7, 9))?;
+    let other = is_free(alloc, &document, (SyntaxKind::ERROR, 7, 8))?;
+    Ok(longer & other)
+}
+
+#[test]
+fn what_is_not_there(rt: HostRuntime) -> Result<(), Fail> {
+    assert!(rt; is_found_exactly(rt.alloc())?);
+    Ok(())
+}

@@ -1,0 +1,75 @@
+//! What an editor records, and what it refuses.
+use super::{IDENT, Place, ROOT, SEMICOLON, found, open, replacing};
+use parser_input::edition::Edition;
+use parser_input::syntax_kind::SyntaxKind;
+use rust_document::{Document, PayloadEntry, RecordError, SyntaxEditor, payload};
+use std::alloc::Global;
+use std::test::Fail;
+use syntax_tree::{SyntaxElement, TreeIds};
+
+/// What an editor answers to a token for an element.
+fn answer(
+    alloc: Global,
+    mut editor: SyntaxEditor,
+    target: &SyntaxElement,
+) -> Result<Option<RecordError>, Fail> {
+    let ids = &mut TreeIds::new();
+    let new = payload(alloc, PayloadEntry::Token, Edition::Edition2021, "T", ids)?;
+    Ok(editor.replace(alloc, target, &new).err())
+}
+
+/// What a new editor of `struct S;`, whose tree has the number 1, answers to a token for an element of another tree.
+fn answer_to(alloc: Global, target: &SyntaxElement) -> Result<Option<RecordError>, Fail> {
+    let document = open(alloc, "struct S;")?;
+    let editor = document.editor()?;
+    answer(alloc, editor, target)
+}
+
+/// What it answers where the element stands in another text, whose tree has this number.
+fn of_another(
+    alloc: Global,
+    text: &str,
+    number: u32,
+    place: Place,
+) -> Result<Option<RecordError>, Fail> {
+    let mut ids = TreeIds::starting_at(number);
+    let other = Document::open(alloc, Edition::Edition2021, text, &mut ids)?;
+    let target = found(alloc, &other, place)?;
+    answer_to(alloc, &target)
+}
+
+#[test]
+fn targets(rt: HostRuntime) -> Result<(), Fail> {
+    let second = (SyntaxKind::SEMICOLON, 5, 6);
+    for (text, number, place, expected) in [
+        ("struct S;", 2, IDENT, Some(RecordError::Foreign)),
+        ("S; S ;", 1, second, Some(RecordError::Foreign)),
+        ("struct S;", 1, ROOT, Some(RecordError::BadTarget)),
+        ("struct T;", 1, IDENT, None),
+    ] {
+        assert!(rt; of_another(rt.alloc(), text, number, place)? == expected);
+    }
+    Ok(())
+}
+
+/// What an editor answers to a token for the semicolon of `struct S;`, where something is put for its name already, twice.
+fn answer_to_second(alloc: Global, document: &Document) -> Result<Option<RecordError>, Fail> {
+    let name = found(alloc, document, IDENT)?;
+    let editor = document.editor()?;
+    let editor = replacing(alloc, editor, &name, &name)?;
+    let editor = replacing(alloc, editor, &name, &name)?;
+    let semicolon = found(alloc, document, SEMICOLON)?;
+    answer(alloc, editor, &semicolon)
+}
+
+/// The same of a new document.
+fn second_answer(alloc: Global) -> Result<Option<RecordError>, Fail> {
+    let document = open(alloc, "struct S;")?;
+    answer_to_second(alloc, &document)
+}
+
+#[test]
+fn a_second_element(rt: HostRuntime) -> Result<(), Fail> {
+    assert!(rt; second_answer(rt.alloc())? == Some(RecordError::Later));
+    Ok(())
+}

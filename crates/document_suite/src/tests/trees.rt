@@ -1,0 +1,66 @@
+//! Trees with numbers, and the elements in them.
+use super::open;
+use parser_input::syntax_kind::SyntaxKind;
+use rowan_green::{GreenElement, GreenNode};
+use std::alloc::{AllocError, Global};
+use std::test::Fail;
+use syntax_tree::elements::{node, token};
+use syntax_tree::{SyntaxNode, SyntaxToken, TreeError, TreeIds, element_at, first_of, start_of};
+
+#[test]
+fn numbers(rt: HostRuntime) {
+    let mut ids = TreeIds::new();
+    assert!(rt; ids.next() == Ok(1) && ids.next() == Ok(2));
+    let mut last = TreeIds::starting_at(u32::MAX);
+    assert!(rt; last.next() == Ok(u32::MAX) && last.next().is_err() && last.next().is_err());
+}
+
+/// Where the name of a tree of `struct S;` stands, if at this path there is an element and the name is nowhere else.
+fn place_of_name(alloc: Global, tree: &GreenNode) -> Result<(usize, usize, bool), AllocError> {
+    let path = first_of(alloc, tree, SyntaxKind::IDENT, 7, 8)?.unwrap_or(Vec::new(alloc));
+    Ok((
+        path.len(),
+        start_of(tree, &path),
+        element_at(tree, &path).is_some(),
+    ))
+}
+
+/// The same of a new document.
+fn name_of_struct(alloc: Global) -> Result<(usize, usize, bool), Fail> {
+    let document = open(alloc, "struct S;")?;
+    Ok(place_of_name(alloc, document.root().green())?)
+}
+
+#[test]
+fn a_name_in_its_tree(rt: HostRuntime) -> Result<(), Fail> {
+    assert!(rt; name_of_struct(rt.alloc())? == (3, 7, true));
+    Ok(())
+}
+
+/// A name of one token.
+fn name(alloc: Global) -> Result<GreenNode, AllocError> {
+    let ident = GreenElement::from(token(alloc, SyntaxKind::IDENT, "Tee")?);
+    node(alloc, SyntaxKind::NAME, vec![in alloc; ident]?)
+}
+
+/// A root, where the numbers last: its number, its kind, and its length in bytes.
+fn root(alloc: Global, ids: &mut TreeIds) -> Result<(u32, SyntaxKind, u32), TreeError> {
+    let root = SyntaxNode::new_root(alloc, name(alloc)?, ids)?;
+    Ok((root.tree(), root.kind(), root.text_range().len().0))
+}
+
+/// A token in a tree of its own, where the numbers last: the same of it.
+fn detached(alloc: Global, ids: &mut TreeIds) -> Result<(u32, SyntaxKind, u32), TreeError> {
+    let token = token(alloc, SyntaxKind::IDENT, "Tee")?;
+    let token = SyntaxToken::detached(alloc, token, ids)?;
+    Ok((token.tree(), token.kind(), token.text_range().len().0))
+}
+
+#[test]
+fn roots_and_tokens(rt: HostRuntime) {
+    let mut ids = TreeIds::starting_at(u32::MAX - 1);
+    assert!(rt; root(rt.alloc(), &mut ids) == Ok((u32::MAX - 1, SyntaxKind::NAME, 3)));
+    assert!(rt; detached(rt.alloc(), &mut ids) == Ok((u32::MAX, SyntaxKind::IDENT, 3)));
+    assert!(rt; detached(rt.alloc(), &mut ids) == Err(TreeError::Spent));
+    assert!(rt; root(rt.alloc(), &mut ids) == Err(TreeError::Spent));
+}
