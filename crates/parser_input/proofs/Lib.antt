@@ -1,12 +1,15 @@
 pub mod EscapeSteps
+pub mod InputSteps
 pub mod KeywordKinds
 pub mod KindTable
+pub mod LeafKinds
 pub mod LeavesLaw
 pub mod LexedSteps
 pub mod Lines
 pub mod LiteralSteps
 pub mod PrefaceSteps
 pub mod Prefaces
+pub mod Readings
 pub mod Recorded
 pub mod Words
 pub mod WordKinds

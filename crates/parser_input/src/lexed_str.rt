@@ -1,22 +1,28 @@
 //! The leaves of a text.
 
-ghost use Rattle.std.specs.Prelude.{◌≡◌, ◌<◌, ◌==◌, length, chars, [], IfOk, OnOk, option_map};
+ghost use Rattle.std.specs.Prelude.{◌≡◌, ◌≢◌, ℕ, List, drop, ◌<◌, ◌≤◌, ◌+◌, ◌==◌, length, chars, [], IfOk, OnOk, option_map, slice_range};
+ghost use Rattle.std.specs.List.{All, flat_map};
 ghost use Rattle.parser_input.specs.Preface.{source};
 ghost use Rattle.rustc_lexer.specs.Characters.{size};
 ghost use Rattle.parser_input.specs.Kind.{raw_of};
-ghost use Rattle.parser_input.specs.Lexed.{is_split, lexed};
+ghost use Rattle.parser_input.specs.Input.{input, touches};
+ghost use Rattle.parser_input.specs.Kinds.{EOF};
+ghost use Rattle.parser_input.specs.Lexed.{is_split, leaves_of, lexed};
 ghost use Rattle.parser_input.specs.Messages.{wording};
-ghost use Rattle.parser_input.specs.Stored.{Begun, Found, Opened, bytes_of, frontmatter_end, leaf_at, leaf_next};
+ghost use Rattle.parser_input.specs.Stored.{AreSpans, Begun, Found, Opened, bytes_of, frontmatter_end, leaf_at, leaf_next, offset, seen_from};
 
 use crate::edition::Edition;
 use crate::frontmatter::ScriptSource;
+use crate::input::Input;
 use crate::leaves::{kind_of, message_of};
 use crate::message::Message;
+use crate::parser_token::{contextual_kind, is_joint};
 use crate::scanner::Scanner;
 use crate::syntax_kind::SyntaxKind;
 use rustc_lexer::{Cursor, TokenKind, strip_shebang};
 use std::alloc::{AllocError, Global};
 use std::marker::Model;
+use std::ops::Range;
 
 /// A leaf as it is kept: it starts where the one before it ends.
 #[derive(Clone, Copy)]
@@ -144,6 +150,44 @@ fn push_frontmatter(
     }
 }
 
+// Whether there is a leaf at a place, and it is one that the parser sees.
+fn is_solid(leaves: &[StoredLeaf], i: usize) -> bool
+    ensures { (text : List ℕ) (place : ℕ) → result ≡ touches (leaves_of (seen_from text place (drop i leaves.now))) }
+{
+    match leaves.get(i) {
+        Some(leaf) => !leaf.kind.is_trivia(),
+        None => false,
+    }
+}
+
+// What the parser sees of stored leaves, one after another.
+fn tokens(
+    alloc: Global,
+    edition: Edition,
+    text: &str,
+    leaves: &[StoredLeaf],
+) -> Result<Input, AllocError>
+    requires spans { AreSpans text.now 0 leaves.now }
+    requires kinds { All (λ p. raw_of p.kind ≢ EOF) leaves.now }
+    ensures { IfOk result (λ tokens. tokens ≡ input edition (leaves_of (seen_from text.now 0 leaves.now))) }
+{
+    let mut tokens = Input::with_capacity(alloc, leaves.len())?;
+    let mut place = 0;
+    for i in 0..leaves.len() {
+        let leaf = leaves[i];
+        let start = place;
+        place = leaf.end;
+        if leaf.kind.is_trivia() {
+            continue;
+        }
+        let own = &text[start..leaf.end];
+        let contextual = contextual_kind(edition, leaf.kind, own);
+        let joint = is_joint(leaf.kind, own, is_solid(leaves, i + 1));
+        tokens.push_token(leaf.kind, contextual, joint)?;
+    }
+    Ok(tokens)
+}
+
 /// A text with its leaves: the shebang, the frontmatter, and then each token, with what is wrong with it.
 #[derive(Drop)]
 pub struct LexedStr<'a> {
@@ -153,14 +197,17 @@ pub struct LexedStr<'a> {
 }
 
 impl<'a> Model for LexedStr<'a> {
-    ghost use Rattle.std.specs.Prelude.{◌≡◌, chars, length, IsUtf8};
+    ghost use Rattle.std.specs.Prelude.{◌≡◌, ◌≢◌, chars, length, IsUtf8};
+    ghost use Rattle.std.specs.List.{All};
+    ghost use Rattle.parser_input.specs.Kind.{raw_of};
+    ghost use Rattle.parser_input.specs.Kinds.{EOF};
     ghost use Rattle.parser_input.specs.Stored.{AreSpans, Whole, end_from, seen_from};
 
     ghost Value = { Whole };
 
     ghost view = { λ s. record { edition = s.edition; text = chars s.text.now; leaves = seen_from s.text.now 0 s.leaves.items } };
 
-    ghost invariant = { λ s. AreSpans s.text.now 0 s.leaves.items × (end_from 0 s.leaves.items ≡ length s.text.now) × IsUtf8 s.text.now };
+    ghost invariant = { λ s. AreSpans s.text.now 0 s.leaves.items × (end_from 0 s.leaves.items ≡ length s.text.now) × IsUtf8 s.text.now × All (λ p. raw_of p.kind ≢ EOF) s.leaves.items };
 }
 
 impl<'a> LexedStr<'a> {
@@ -216,5 +263,73 @@ impl<'a> LexedStr<'a> {
             Some(message) => Some(message.text()),
             None => None,
         }
+    }
+
+    // Where a leaf starts, in bytes; behind the last one, where the text ends.
+    fn offset(&self, i: usize) -> usize
+        requires { i ≤ length self.now.leaves }
+        ensures { result ≡ offset self.now.leaves i }
+    {
+        if i == 0 {
+            return 0;
+        }
+        self.leaves[i - 1].end
+    }
+
+    // Where a leaf ends, in bytes.
+    fn end(&self, i: usize) -> usize
+        requires { i < length self.now.leaves }
+        ensures { result ≡ offset self.now.leaves (i + 1) }
+    {
+        self.leaves[i].end
+    }
+
+    /// Where a leaf starts, in bytes.
+    pub fn text_start(&self, i: usize) -> usize
+        requires { i < length self.now.leaves }
+        ensures { result ≡ offset self.now.leaves i }
+    {
+        self.offset(i)
+    }
+
+    /// How many bytes a leaf has.
+    pub fn text_len(&self, i: usize) -> usize
+        requires { i < length self.now.leaves }
+        ensures { result ≡ size (leaf_at self.now.leaves i).leaf.text }
+    {
+        self.end(i) - self.offset(i)
+    }
+
+    /// Where a leaf stands, in bytes.
+    pub fn text_range(&self, i: usize) -> Range<usize>
+        requires { i < length self.now.leaves }
+        ensures start { result.start ≡ offset self.now.leaves i }
+        ensures end { result.end ≡ offset self.now.leaves i + size (leaf_at self.now.leaves i).leaf.text }
+    {
+        self.offset(i)..self.end(i)
+    }
+
+    /// The text of a leaf.
+    pub fn text(&self, i: usize) -> &'a str
+        requires { i < length self.now.leaves }
+        ensures { chars result.now ≡ (leaf_at self.now.leaves i).leaf.text }
+    {
+        &self.text[self.offset(i)..self.end(i)]
+    }
+
+    /// The text of a row of leaves, given by their numbers.
+    pub fn range_text(&self, leaves: Range<usize>) -> &'a str
+        requires order { leaves.start ≤ leaves.end }
+        requires within { leaves.end ≤ length self.now.leaves }
+        ensures { chars result.now ≡ flat_map (λ l. l.leaf.text) (slice_range self.now.leaves leaves.start leaves.end) }
+    {
+        &self.text[self.offset(leaves.start)..self.offset(leaves.end)]
+    }
+
+    /// What the parser sees of the text: its leaves without white space and comments.
+    pub fn to_input(&self, alloc: Global) -> Result<Input, AllocError>
+        ensures { IfOk result (λ tokens. tokens ≡ input self.now.edition (leaves_of self.now.leaves)) }
+    {
+        tokens(alloc, self.edition, self.text, &self.leaves)
     }
 }

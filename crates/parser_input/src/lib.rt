@@ -13,6 +13,7 @@ mod leaves;
 pub mod lexed_str;
 mod literals;
 mod message;
+mod parser_token;
 mod scanner;
 pub mod syntax_kind;
 #[cfg(test)]

@@ -433,3 +433,93 @@ fn messages_by_the_table(rt: HostRuntime) -> Result<(), AllocError> {
     }
     Ok(())
 }
+
+#[test]
+fn where_leaves_stand(rt: HostRuntime) -> Result<(), AllocError> {
+    let lexed = LexedStr::new(rt.alloc(), Edition::Edition2021, "é = 'x';")?;
+    for (i, start, end, text) in [
+        (0, 0, 2, "é"),
+        (1, 2, 3, " "),
+        (2, 3, 4, "="),
+        (4, 5, 8, "'x'"),
+        (5, 8, 9, ";"),
+    ] {
+        if i < lexed.len() {
+            assert_eq!(rt; lexed.text_start(i), start, "at {i}");
+            assert_eq!(rt; lexed.text_len(i), end - start, "at {i}");
+            assert_eq!(rt; lexed.text(i), text, "at {i}");
+        }
+    }
+    Ok(())
+}
+
+#[test]
+fn rows_of_leaves(rt: HostRuntime) -> Result<(), AllocError> {
+    let lexed = LexedStr::new(rt.alloc(), Edition::Edition2021, "é = 'x';")?;
+    assert!(rt; lexed.len() == 6);
+    let count = lexed.len();
+    if count == 6 {
+        let range = lexed.text_range(2);
+        assert_eq!(rt; (range.start, range.end), (3, 4));
+        assert_eq!(rt; lexed.range_text(0..3), "é =");
+        assert_eq!(rt; lexed.range_text(3..6), " 'x';");
+        assert_eq!(rt; lexed.range_text(6..6), "");
+    }
+    Ok(())
+}
+
+// What the parser sees of a text, token by token.
+fn sees(
+    alloc: Global,
+    text: &str,
+    tokens: &[(SyntaxKind, SyntaxKind, bool)],
+) -> Result<bool, AllocError> {
+    let lexed = LexedStr::new(alloc, Edition::Edition2015, text)?;
+    let input = lexed.to_input(alloc)?;
+    let mut same = input.len() == tokens.len();
+    for (i, (kind, contextual, joint)) in tokens.iter().enumerate() {
+        same = same
+            && input.kind(i) == *kind
+            && input.contextual_kind(i) == *contextual
+            && input.is_joint(i) == *joint;
+    }
+    Ok(same)
+}
+
+#[test]
+fn floats_are_joint_by_their_ends(rt: HostRuntime) -> Result<(), AllocError> {
+    let x = (SyntaxKind::IDENT, SyntaxKind::IDENT, true);
+    let dot = (SyntaxKind::DOT, SyntaxKind::EOF, true);
+    let whole = (SyntaxKind::FLOAT_NUMBER, SyntaxKind::EOF, true);
+    let open = (SyntaxKind::FLOAT_NUMBER, SyntaxKind::EOF, false);
+    assert!(rt; sees(rt.alloc(), "x.0.1", &[x, dot, whole])?);
+    assert!(rt; sees(rt.alloc(), "x.0.", &[x, dot, open])?);
+    assert!(rt;
+        sees(
+            rt.alloc(),
+            "0.1 .",
+            &[whole, (SyntaxKind::DOT, SyntaxKind::EOF, false)]
+        )?
+    );
+    Ok(())
+}
+
+#[test]
+fn trivia_part_tokens(rt: HostRuntime) -> Result<(), AllocError> {
+    let a = (SyntaxKind::IDENT, SyntaxKind::IDENT, false);
+    let joint = (SyntaxKind::L_ANGLE, SyntaxKind::EOF, true);
+    let apart = (SyntaxKind::L_ANGLE, SyntaxKind::EOF, false);
+    assert!(rt; sees(rt.alloc(), "a << b", &[a, joint, apart, a])?);
+    assert!(rt; sees(rt.alloc(), "a < </**/ b", &[a, apart, apart, a])?);
+    Ok(())
+}
+
+#[test]
+fn contextual_words(rt: HostRuntime) -> Result<(), AllocError> {
+    let dynamic = (SyntaxKind::IDENT, SyntaxKind::DYN_KW, false);
+    let union = (SyntaxKind::IDENT, SyntaxKind::UNION_KW, true);
+    let text = (SyntaxKind::STRING, SyntaxKind::EOF, false);
+    assert!(rt; sees(rt.alloc(), "dyn union\"a\"", &[dynamic, union, text])?);
+    assert!(rt; sees(rt.alloc(), " // dyn\n", &[])?);
+    Ok(())
+}
