@@ -1,4 +1,5 @@
 pub mod EscapeSteps
+pub mod Faults
 pub mod InputSteps
 pub mod KeywordKinds
 pub mod KindTable
@@ -11,6 +12,7 @@ pub mod PrefaceSteps
 pub mod Prefaces
 pub mod Readings
 pub mod Recorded
+pub mod Single
 pub mod Words
 pub mod WordKinds
 pub mod WordPlaces

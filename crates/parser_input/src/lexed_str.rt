@@ -1,6 +1,6 @@
 //! The leaves of a text.
 
-ghost use Rattle.std.specs.Prelude.{◌≡◌, ◌≢◌, ℕ, List, drop, ◌<◌, ◌≤◌, ◌+◌, ◌==◌, length, chars, [], IfOk, OnOk, option_map, slice_range};
+ghost use Rattle.std.specs.Prelude.{◌≡◌, ◌≢◌, ℕ, List, drop, ◌<◌, ◌≤◌, ◌+◌, ◌==◌, length, chars, [], IfOk, OnOk, map, option_map, slice_range};
 ghost use Rattle.std.specs.List.{All, flat_map};
 ghost use Rattle.parser_input.specs.Preface.{source};
 ghost use Rattle.rustc_lexer.specs.Characters.{size};
@@ -8,10 +8,13 @@ ghost use Rattle.parser_input.specs.Kind.{raw_of};
 ghost use Rattle.parser_input.specs.Input.{input, touches};
 ghost use Rattle.parser_input.specs.Kinds.{EOF};
 ghost use Rattle.parser_input.specs.Lexed.{is_split, leaves_of, lexed};
+ghost use Rattle.parser_input.specs.Faults.{faults};
 ghost use Rattle.parser_input.specs.Messages.{wording};
+ghost use Rattle.parser_input.specs.Single.{read, single, told};
 ghost use Rattle.parser_input.specs.Stored.{AreSpans, Begun, Found, Opened, bytes_of, frontmatter_end, leaf_at, leaf_next, offset, seen_from};
 
 use crate::edition::Edition;
+use crate::errors::Errors;
 use crate::frontmatter::ScriptSource;
 use crate::input::Input;
 use crate::leaves::{kind_of, message_of};
@@ -26,9 +29,9 @@ use std::ops::Range;
 
 /// A leaf as it is kept: it starts where the one before it ends.
 #[derive(Clone, Copy)]
-struct StoredLeaf {
+pub(crate) struct StoredLeaf {
     kind: SyntaxKind,
-    message: Option<Message>,
+    pub(crate) message: Option<Message>,
     /// Where it ends, in bytes.
     end: usize,
 }
@@ -41,6 +44,16 @@ fn is_split(edition: Edition, kind: TokenKind) -> bool
     match kind {
         TokenKind::GuardedStrPrefix => !edition.is_from(Edition::Edition2024),
         _ => false,
+    }
+}
+
+// What is wrong with a leaf, in words.
+fn words(message: Option<Message>) -> Option<&'static str>
+    ensures { option_map bytes_of result ≡ option_map wording message }
+{
+    match message {
+        Some(message) => Some(message.text()),
+        None => None,
     }
 }
 
@@ -226,6 +239,21 @@ impl<'a> LexedStr<'a> {
         })
     }
 
+    /// The kind of a text that is one token, with what is wrong with it. `None` where it is not one token, or is cut into
+    /// several leaves. No preface is read: a shebang is no token.
+    pub fn single_token(edition: Edition, text: &str) -> Option<(SyntaxKind, Option<&'static str>)>
+        ensures { option_map read result ≡ option_map told (single edition (chars text.now)) }
+    {
+        if text.is_empty() {
+            return None;
+        }
+        let next = next_leaf(edition, text);
+        if next.len < text.len() {
+            return None;
+        }
+        Some((next.kind, words(next.message)))
+    }
+
     /// The text.
     pub fn as_str(&self) -> &'a str
         ensures { chars result.now ≡ self.now.text }
@@ -259,10 +287,14 @@ impl<'a> LexedStr<'a> {
         requires { i < length self.now.leaves }
         ensures { option_map bytes_of result ≡ option_map wording (leaf_at self.now.leaves i).message }
     {
-        match self.leaves[i].message {
-            Some(message) => Some(message.text()),
-            None => None,
-        }
+        words(self.leaves[i].message)
+    }
+
+    /// The numbers of the leaves that something is wrong with, in order, and what it is.
+    pub fn errors(&self) -> Errors<'_>
+        ensures { result ≡ faults 0 (map (λ l. l.message) self.now.leaves) }
+    {
+        Errors::of(&self.leaves)
     }
 
     // Where a leaf starts, in bytes; behind the last one, where the text ends.

@@ -2,6 +2,7 @@
 #![tactic(auto)]
 
 pub mod edition;
+pub mod errors;
 mod escapes;
 pub mod frontmatter;
 pub mod frontmatter_error;

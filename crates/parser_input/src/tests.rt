@@ -523,3 +523,40 @@ fn contextual_words(rt: HostRuntime) -> Result<(), AllocError> {
     assert!(rt; sees(rt.alloc(), " // dyn\n", &[])?);
     Ok(())
 }
+
+#[test]
+fn texts_of_one_token(rt: HostRuntime) {
+    for (text, kind, message) in [
+        ("struct", SyntaxKind::STRUCT_KW, None),
+        ("1e", SyntaxKind::FLOAT_NUMBER, Some("no exponent digits")),
+        (
+            "/* a",
+            SyntaxKind::COMMENT,
+            Some("unterminated block comment"),
+        ),
+        ("#\"", SyntaxKind::ERROR, Some("guarded prefix")),
+    ] {
+        let token = LexedStr::single_token(Edition::Edition2024, text);
+        assert_eq!(rt; token, Some((kind, message)), "at {text}");
+    }
+}
+
+#[test]
+fn texts_of_no_token_or_several(rt: HostRuntime) {
+    for text in ["", "a b", "::", "#!x", "#\"", "##"] {
+        let token = LexedStr::single_token(Edition::Edition2021, text);
+        assert!(rt; token.is_none(), "at {text}");
+    }
+}
+
+#[test]
+fn errors_by_leaf(rt: HostRuntime) -> Result<(), AllocError> {
+    let lexed = LexedStr::new(rt.alloc(), Edition::Edition2021, "1e ok '' b\"é\"")?;
+    let mut errors = lexed.errors();
+    assert_eq!(rt; errors.next(), Some((0, "no exponent digits")));
+    assert_eq!(rt; errors.next(), Some((4, "bad literal length")));
+    assert_eq!(rt; errors.next(), Some((6, "byte literal past ASCII")));
+    assert_eq!(rt; errors.next(), None);
+    assert_eq!(rt; errors.next(), None);
+    Ok(())
+}
