@@ -13,6 +13,7 @@ pub mod Prefaces
 pub mod Readings
 pub mod Recorded
 pub mod Single
+pub mod TokenSteps
 pub mod Words
 pub mod WordKinds
 pub mod WordPlaces

@@ -1,13 +1,14 @@
 //! The leaves of a text.
 
-ghost use Rattle.std.specs.Prelude.{◌≡◌, ◌≢◌, ℕ, List, drop, ◌<◌, ◌≤◌, ◌+◌, ◌==◌, length, chars, [], IfOk, OnOk, map, option_map, slice_range};
+ghost use Rattle.std.specs.Prelude.{◌≡◌, ◌≢◌, false, ℕ, List, drop, ◌<◌, ◌≤◌, ◌+◌, ◌==◌, length, chars, [], IfOk, OnOk, map, option_map, slice_range};
 ghost use Rattle.std.specs.List.{All, flat_map};
 ghost use Rattle.parser_input.specs.Preface.{source};
 ghost use Rattle.rustc_lexer.specs.Characters.{size};
+ghost use Rattle.rustc_lexer.specs.Tokens as lexer;
 ghost use Rattle.parser_input.specs.Kind.{raw_of};
 ghost use Rattle.parser_input.specs.Input.{input, touches};
 ghost use Rattle.parser_input.specs.Kinds.{EOF};
-ghost use Rattle.parser_input.specs.Lexed.{is_split, leaves_of, lexed};
+ghost use Rattle.parser_input.specs.Lexed.{content, is_split, leaves_of, lexed};
 ghost use Rattle.parser_input.specs.Faults.{faults};
 ghost use Rattle.parser_input.specs.Messages.{wording};
 ghost use Rattle.parser_input.specs.Single.{read, single, told};
@@ -22,7 +23,7 @@ use crate::message::Message;
 use crate::parser_token::{contextual_kind, is_joint};
 use crate::scanner::Scanner;
 use crate::syntax_kind::SyntaxKind;
-use rustc_lexer::{Cursor, TokenKind, strip_shebang};
+use rustc_lexer::{Cursor, Token, TokenKind, strip_shebang};
 use std::alloc::{AllocError, Global};
 use std::marker::Model;
 use std::ops::Range;
@@ -65,6 +66,22 @@ struct NextLeaf {
     len: usize,
 }
 
+// The leaf of the token that a text begins with, where the token is one leaf.
+fn leaf_of(edition: Edition, token: Token, rest: &str) -> NextLeaf
+    requires token { token ≡ lexer.token (lexer.first_lexeme (chars rest.now)) }
+    requires whole { is_split edition token.kind ≡ false }
+    ensures kind { raw_of result.kind ≡ (leaf_next edition (chars rest.now)).leaf.kind }
+    ensures message { result.message ≡ (leaf_next edition (chars rest.now)).message }
+    ensures len { result.len ≡ size (leaf_next edition (chars rest.now)).leaf.text }
+{
+    let text = &rest[..token.len];
+    NextLeaf {
+        kind: kind_of(edition, token.kind, text),
+        message: message_of(edition, token.kind, text),
+        len: token.len,
+    }
+}
+
 fn next_leaf(edition: Edition, rest: &str) -> NextLeaf
     requires { 0 < length rest.now }
     ensures kind { raw_of result.kind ≡ (leaf_next edition (chars rest.now)).leaf.kind }
@@ -79,12 +96,7 @@ fn next_leaf(edition: Edition, rest: &str) -> NextLeaf
             len: Scanner::new(rest).first().len_utf8(),
         };
     }
-    let text = &rest[..token.len];
-    NextLeaf {
-        kind: kind_of(edition, token.kind, text),
-        message: message_of(edition, token.kind, text),
-        len: token.len,
-    }
+    leaf_of(edition, token, rest)
 }
 
 // Adds the leaves of a text from a place on.
@@ -100,6 +112,33 @@ fn push_content(
     let mut place = start;
     'leaves: while place < text.len() {
         let next = next_leaf(edition, &text[place..]);
+        place += next.len;
+        let leaf = StoredLeaf {
+            kind: next.kind,
+            message: next.message,
+            end: place,
+        };
+        leaves.push(leaf)?;
+    }
+    Ok(())
+}
+
+// Adds the leaves of a text from a place on, whose tokens are known.
+fn push_tokens(
+    edition: Edition,
+    text: &str,
+    start: usize,
+    tokens: &[Token],
+    leaves: &mut Vec<StoredLeaf>,
+) -> Result<(), AllocError>
+    requires found { Found edition text.now start leaves.old.items }
+    requires tokens { tokens.now ≡ lexer.token_list (chars (drop start text.now)) }
+    requires whole { All (λ t. is_split edition t.kind ≡ false) tokens.now }
+    ensures { OnOk result (Found edition text.now (length text.now) leaves.new.items) }
+{
+    let mut place = start;
+    for i in 0..tokens.len() {
+        let next = leaf_of(edition, tokens[i], &text[place..]);
         place += next.len;
         let leaf = StoredLeaf {
             kind: next.kind,
@@ -232,6 +271,29 @@ impl<'a> LexedStr<'a> {
         let start = push_shebang(text, &mut leaves)?;
         let start = push_frontmatter(text, start, &mut leaves)?;
         push_content(edition, text, start, &mut leaves)?;
+        Ok(LexedStr {
+            edition,
+            text,
+            leaves,
+        })
+    }
+
+    /// Reads a text like [`LexedStr::new`], where the tokens of what is left behind its first lines are known. Before 2024
+    /// none of them may be a guarded prefix, which is no token there.
+    pub fn from_tokens(
+        alloc: Global,
+        edition: Edition,
+        text: &'a str,
+        tokens: &[Token],
+    ) -> Result<LexedStr<'a>, AllocError>
+        requires tokens { tokens.now ≡ lexer.token_list (content (chars text.now)) }
+        requires whole { All (λ t. is_split edition t.kind ≡ false) tokens.now }
+        ensures { IfOk result (λ whole. whole ≡ record { edition = edition; text = chars text.now; leaves = lexed edition (chars text.now) }) }
+    {
+        let mut leaves = Vec::new(alloc);
+        let start = push_shebang(text, &mut leaves)?;
+        let start = push_frontmatter(text, start, &mut leaves)?;
+        push_tokens(edition, text, start, tokens, &mut leaves)?;
         Ok(LexedStr {
             edition,
             text,
