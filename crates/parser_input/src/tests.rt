@@ -1,5 +1,8 @@
 //! What no clause says: that the tables are the ones that were meant, by values written by hand.
 
+ghost use Rattle.std.specs.Prelude.{◌≡◌, IfOk, chars};
+ghost use Rattle.rustc_lexer.specs.Tokens.{token_list};
+
 use crate::edition::Edition;
 use crate::frontmatter::{ScriptSource, is_rust_whitespace};
 use crate::frontmatter_error::FrontmatterError;
@@ -7,6 +10,7 @@ use crate::input::Input;
 use crate::keywords::{contextual_keyword, keyword};
 use crate::lexed_str::LexedStr;
 use crate::syntax_kind::SyntaxKind;
+use rustc_lexer::{Token, tokenize};
 use std::alloc::{AllocError, Global};
 use std::ops::Range;
 
@@ -558,5 +562,34 @@ fn errors_by_leaf(rt: HostRuntime) -> Result<(), AllocError> {
     assert_eq!(rt; errors.next(), Some((6, "byte literal past ASCII")));
     assert_eq!(rt; errors.next(), None);
     assert_eq!(rt; errors.next(), None);
+    Ok(())
+}
+
+// The tokens of a text.
+fn tokens_of(alloc: Global, text: &str) -> Result<Vec<Token>, AllocError>
+    ensures { IfOk result (λ tokens. tokens.items ≡ token_list (chars text.now)) }
+{
+    tokenize(text).collect(alloc)
+}
+
+// Whether a text has the same leaves where its tokens are given.
+fn reads_alike(alloc: Global, text: &str) -> Result<bool, AllocError> {
+    let Ok(source) = ScriptSource::parse(text) else {
+        return Ok(false);
+    };
+    let tokens = tokens_of(alloc, source.content())?;
+    let known = LexedStr::from_tokens(alloc, Edition::Edition2024, text, &tokens)?;
+    for (leaf, own) in [(0, "#!x"), (1, "\n---\n---\n"), (2, "a"), (3, " ")] {
+        if leaf >= known.len() || known.text(leaf) != own {
+            return Ok(false);
+        }
+    }
+    Ok(known.len() == 4)
+}
+
+#[test]
+fn leaves_of_known_tokens(rt: HostRuntime) -> Result<(), AllocError> {
+    assert!(rt; reads_alike(rt.alloc(), "#!x\n---\n---\na ")?);
+    assert!(rt; !reads_alike(rt.alloc(), "#!x\n---\n---\nab ")?);
     Ok(())
 }
