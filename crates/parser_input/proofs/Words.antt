@@ -6,7 +6,7 @@ use Rattle.std.proofs.Math.Utf8.{encodes}
 use Rattle.std.proofs.lemmas.Bool.{cases_Bool, and_parts, ltb-true}
 use Rattle.std.proofs.lemmas.Slice.Eq.{bytes_eq-Decides}
 use Rattle.std.proofs.lemmas.Str.{encodes-IsAscii, chars-IsAscii, encodes-chars}
-use Rattle.parser_input.specs.Keywords.{Word, words, word_of, keyword_kind, is_keyword_in}
+use Rattle.parser_input.specs.Keywords.{Word, words, word_of, contextual_kind, keyword_kind, is_contextual_in, is_keyword_in}
 use Rattle.std.specs.Option.{unwrap_or}
 use Rattle.parser_input.specs.Kinds.{UNDERSCORE, IDENT}
 use Rattle.parser_input.specs.Leaf.{word_kind}
@@ -55,6 +55,11 @@ pub keyword-bytes : (edition : Edition) (bs : List ℕ) → IsUtf8 bs → keywor
 unfolding word_of
 keyword-bytes edition bs u =
     ap (λ (o : Option Word). option_and_then (λ (w : Word). if is_keyword_in edition w then Some w.kind else None) o) (found-same words bs words-ascii u)
+
+pub contextual-bytes : (edition : Edition) (bs : List ℕ) → IsUtf8 bs → contextual_kind edition bs ≡ contextual_kind edition (chars bs)
+unfolding word_of
+contextual-bytes edition bs u =
+    ap (λ (o : Option Word). option_and_then (λ (w : Word). if is_contextual_in edition w then Some w.kind else None) o) (found-same words bs words-ascii u)
 
 flipped : (xs ys : List ℕ) → bytes_eq xs ys ≡ bytes_eq ys xs
 flipped xs ys = elim (cases_Bool (bytes_eq xs ys)) [

@@ -15,3 +15,5 @@ pub mod Spans
 pub mod Recorded
 pub mod Packed
 pub mod WordTable
+pub mod Single
+pub mod Faults

@@ -4,9 +4,10 @@ use Rattle.std.specs.Borrow.{Bor}
 use Rattle.std.specs.Str.{IsCharBoundary, IsUtf8}
 use Rattle.rustc_lexer.specs.Characters.{size}
 use Rattle.rustc_lexer.specs.Tokens.{first_lexeme}
+use Rattle.parser_input.specs.Input.{Token, input}
 use Rattle.parser_input.specs.Kind.{raw_of}
 use Rattle.parser_input.specs.Kinds.{EOF}
-use Rattle.parser_input.specs.Lexed.{Lexed, content, cut, lexed, next_leaf, preface, quiet, shebang_leaf}
+use Rattle.parser_input.specs.Lexed.{Lexed, content, cut, leaves_of, lexed, next_leaf, preface, quiet, shebang_leaf}
 use Rattle.parser_input.specs.Preface.{Source, behind_shebang, shebang_piece}
 use Rattle.parser_input.specs.declared.frontmatter_error.FrontmatterError.{FrontmatterError}
 use Rattle.parser_input.specs.declared.edition.Edition.{Edition}
@@ -78,6 +79,12 @@ pub record Opened (text : List ℕ) (place : ℕ) (ps : List StoredLeaf) : Type 
   pub placed : Placed text place ps
   pub seen_is : seen_from text 0 ps ≡ preface (chars text)
   pub left_is : chars (drop place text) ≡ content (chars text)
+
+-- The first leaves of a text are recorded, up to a place: what is recorded, with the input of the others, is the text's input.
+pub record Passed (edition : Edition) (text : List ℕ) (ps : List StoredLeaf) (i place : ℕ) (tokens : List Token) : Type 0 where
+  pub spans : AreSpans text place (drop i ps)
+  pub boundary : IsCharBoundary text place
+  pub input_is : input edition (leaves_of (seen_from text 0 ps)) ≡ tokens ++ input edition (leaves_of (seen_from text place (drop i ps)))
 
 -- where the frontmatter ends, if there is one
 abbrev pub frontmatter_end : Result Source FrontmatterError → Option ℕ

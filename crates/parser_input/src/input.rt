@@ -52,31 +52,38 @@ impl Input {
         })
     }
 
+    /// Adds a token with all that is known of it.
+    pub(crate) fn push_token(
+        &mut self,
+        kind: SyntaxKind,
+        contextual_kind: SyntaxKind,
+        joint: bool,
+    ) -> Result<(), AllocError>
+        requires { raw_of kind ≢ kinds.EOF }
+        ensures { self.new ≡ (if is_ok result then self.old ++ record { kind = raw_of kind; contextual = raw_of contextual_kind; joint = joint } ∷ [] else self.old) }
+    {
+        let token = InputToken {
+            kind,
+            contextual_kind,
+            joint,
+        };
+        self.tokens.push(token)?;
+        Ok(())
+    }
+
     /// Adds a token that is no identifier. It does not touch the next one.
     pub fn push(&mut self, kind: SyntaxKind) -> Result<(), AllocError>
         requires { raw_of kind ≢ kinds.EOF }
         ensures { self.new ≡ (if is_ok result then self.old ++ plain (raw_of kind) ∷ [] else self.old) }
     {
-        let token = InputToken {
-            kind,
-            contextual_kind: SyntaxKind::EOF,
-            joint: false,
-        };
-        self.tokens.push(token)?;
-        Ok(())
+        self.push_token(kind, SyntaxKind::EOF, false)
     }
 
     /// Adds an identifier, with the kind that its word has as a contextual keyword. It does not touch the next token.
     pub fn push_ident(&mut self, contextual_kind: SyntaxKind) -> Result<(), AllocError>
         ensures { self.new ≡ (if is_ok result then self.old ++ identifier (raw_of contextual_kind) ∷ [] else self.old) }
     {
-        let token = InputToken {
-            kind: SyntaxKind::IDENT,
-            contextual_kind,
-            joint: false,
-        };
-        self.tokens.push(token)?;
-        Ok(())
+        self.push_token(SyntaxKind::IDENT, contextual_kind, false)
     }
 
     /// Says that the token that was added last touches the next one. There must be one.

@@ -2,6 +2,7 @@
 #![tactic(auto)]
 
 pub mod edition;
+pub mod errors;
 mod escapes;
 pub mod frontmatter;
 pub mod frontmatter_error;
@@ -13,6 +14,7 @@ mod leaves;
 pub mod lexed_str;
 mod literals;
 mod message;
+mod parser_token;
 mod scanner;
 pub mod syntax_kind;
 #[cfg(test)]

@@ -1,5 +1,8 @@
 //! What no clause says: that the tables are the ones that were meant, by values written by hand.
 
+ghost use Rattle.std.specs.Prelude.{◌≡◌, IfOk, chars};
+ghost use Rattle.rustc_lexer.specs.Tokens.{token_list};
+
 use crate::edition::Edition;
 use crate::frontmatter::{ScriptSource, is_rust_whitespace};
 use crate::frontmatter_error::FrontmatterError;
@@ -7,6 +10,7 @@ use crate::input::Input;
 use crate::keywords::{contextual_keyword, keyword};
 use crate::lexed_str::LexedStr;
 use crate::syntax_kind::SyntaxKind;
+use rustc_lexer::{Token, tokenize};
 use std::alloc::{AllocError, Global};
 use std::ops::Range;
 
@@ -431,5 +435,161 @@ fn messages_by_the_table(rt: HostRuntime) -> Result<(), AllocError> {
     ] {
         assert!(rt; reads(alloc, edition, text, &[kind], &[])?, "at {text}");
     }
+    Ok(())
+}
+
+#[test]
+fn where_leaves_stand(rt: HostRuntime) -> Result<(), AllocError> {
+    let lexed = LexedStr::new(rt.alloc(), Edition::Edition2021, "é = 'x';")?;
+    for (i, start, end, text) in [
+        (0, 0, 2, "é"),
+        (1, 2, 3, " "),
+        (2, 3, 4, "="),
+        (4, 5, 8, "'x'"),
+        (5, 8, 9, ";"),
+    ] {
+        if i < lexed.len() {
+            assert_eq!(rt; lexed.text_start(i), start, "at {i}");
+            assert_eq!(rt; lexed.text_len(i), end - start, "at {i}");
+            assert_eq!(rt; lexed.text(i), text, "at {i}");
+        }
+    }
+    Ok(())
+}
+
+#[test]
+fn rows_of_leaves(rt: HostRuntime) -> Result<(), AllocError> {
+    let lexed = LexedStr::new(rt.alloc(), Edition::Edition2021, "é = 'x';")?;
+    assert!(rt; lexed.len() == 6);
+    let count = lexed.len();
+    if count == 6 {
+        let range = lexed.text_range(2);
+        assert_eq!(rt; (range.start, range.end), (3, 4));
+        assert_eq!(rt; lexed.range_text(0..3), "é =");
+        assert_eq!(rt; lexed.range_text(3..6), " 'x';");
+        assert_eq!(rt; lexed.range_text(6..6), "");
+    }
+    Ok(())
+}
+
+// What the parser sees of a text, token by token.
+fn sees(
+    alloc: Global,
+    text: &str,
+    tokens: &[(SyntaxKind, SyntaxKind, bool)],
+) -> Result<bool, AllocError> {
+    let lexed = LexedStr::new(alloc, Edition::Edition2015, text)?;
+    let input = lexed.to_input(alloc)?;
+    let mut same = input.len() == tokens.len();
+    for (i, (kind, contextual, joint)) in tokens.iter().enumerate() {
+        same = same
+            && input.kind(i) == *kind
+            && input.contextual_kind(i) == *contextual
+            && input.is_joint(i) == *joint;
+    }
+    Ok(same)
+}
+
+#[test]
+fn floats_are_joint_by_their_ends(rt: HostRuntime) -> Result<(), AllocError> {
+    let x = (SyntaxKind::IDENT, SyntaxKind::IDENT, true);
+    let dot = (SyntaxKind::DOT, SyntaxKind::EOF, true);
+    let whole = (SyntaxKind::FLOAT_NUMBER, SyntaxKind::EOF, true);
+    let open = (SyntaxKind::FLOAT_NUMBER, SyntaxKind::EOF, false);
+    assert!(rt; sees(rt.alloc(), "x.0.1", &[x, dot, whole])?);
+    assert!(rt; sees(rt.alloc(), "x.0.", &[x, dot, open])?);
+    assert!(rt;
+        sees(
+            rt.alloc(),
+            "0.1 .",
+            &[whole, (SyntaxKind::DOT, SyntaxKind::EOF, false)]
+        )?
+    );
+    Ok(())
+}
+
+#[test]
+fn trivia_part_tokens(rt: HostRuntime) -> Result<(), AllocError> {
+    let a = (SyntaxKind::IDENT, SyntaxKind::IDENT, false);
+    let joint = (SyntaxKind::L_ANGLE, SyntaxKind::EOF, true);
+    let apart = (SyntaxKind::L_ANGLE, SyntaxKind::EOF, false);
+    assert!(rt; sees(rt.alloc(), "a << b", &[a, joint, apart, a])?);
+    assert!(rt; sees(rt.alloc(), "a < </**/ b", &[a, apart, apart, a])?);
+    Ok(())
+}
+
+#[test]
+fn contextual_words(rt: HostRuntime) -> Result<(), AllocError> {
+    let dynamic = (SyntaxKind::IDENT, SyntaxKind::DYN_KW, false);
+    let union = (SyntaxKind::IDENT, SyntaxKind::UNION_KW, true);
+    let text = (SyntaxKind::STRING, SyntaxKind::EOF, false);
+    assert!(rt; sees(rt.alloc(), "dyn union\"a\"", &[dynamic, union, text])?);
+    assert!(rt; sees(rt.alloc(), " // dyn\n", &[])?);
+    Ok(())
+}
+
+#[test]
+fn texts_of_one_token(rt: HostRuntime) {
+    for (text, kind, message) in [
+        ("struct", SyntaxKind::STRUCT_KW, None),
+        ("1e", SyntaxKind::FLOAT_NUMBER, Some("no exponent digits")),
+        (
+            "/* a",
+            SyntaxKind::COMMENT,
+            Some("unterminated block comment"),
+        ),
+        ("#\"", SyntaxKind::ERROR, Some("guarded prefix")),
+    ] {
+        let token = LexedStr::single_token(Edition::Edition2024, text);
+        assert_eq!(rt; token, Some((kind, message)), "at {text}");
+    }
+}
+
+#[test]
+fn texts_of_no_token_or_several(rt: HostRuntime) {
+    for text in ["", "a b", "::", "#!x", "#\"", "##"] {
+        let token = LexedStr::single_token(Edition::Edition2021, text);
+        assert!(rt; token.is_none(), "at {text}");
+    }
+}
+
+#[test]
+fn errors_by_leaf(rt: HostRuntime) -> Result<(), AllocError> {
+    let lexed = LexedStr::new(rt.alloc(), Edition::Edition2021, "1e ok '' b\"é\"")?;
+    let mut errors = lexed.errors();
+    assert_eq!(rt; errors.next(), Some((0, "no exponent digits")));
+    assert_eq!(rt; errors.next(), Some((4, "bad literal length")));
+    assert_eq!(rt; errors.next(), Some((6, "byte literal past ASCII")));
+    assert_eq!(rt; errors.next(), None);
+    assert_eq!(rt; errors.next(), None);
+    Ok(())
+}
+
+// The tokens of a text.
+fn tokens_of(alloc: Global, text: &str) -> Result<Vec<Token>, AllocError>
+    ensures { IfOk result (λ tokens. tokens.items ≡ token_list (chars text.now)) }
+{
+    tokenize(text).collect(alloc)
+}
+
+// Whether a text has the same leaves where its tokens are given.
+fn reads_alike(alloc: Global, text: &str) -> Result<bool, AllocError> {
+    let Ok(source) = ScriptSource::parse(text) else {
+        return Ok(false);
+    };
+    let tokens = tokens_of(alloc, source.content())?;
+    let known = LexedStr::from_tokens(alloc, Edition::Edition2024, text, &tokens)?;
+    for (leaf, own) in [(0, "#!x"), (1, "\n---\n---\n"), (2, "a"), (3, " ")] {
+        if leaf >= known.len() || known.text(leaf) != own {
+            return Ok(false);
+        }
+    }
+    Ok(known.len() == 4)
+}
+
+#[test]
+fn leaves_of_known_tokens(rt: HostRuntime) -> Result<(), AllocError> {
+    assert!(rt; reads_alike(rt.alloc(), "#!x\n---\n---\na ")?);
+    assert!(rt; !reads_alike(rt.alloc(), "#!x\n---\n---\nab ")?);
     Ok(())
 }

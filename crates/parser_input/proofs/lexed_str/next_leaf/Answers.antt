@@ -1,16 +1,12 @@
 -- The next token, as a leaf.
-use Rattle.std.proofs.Common.{◌≡◌, ◌∙◌, ℕ, List, sym, ap, subst, chars, take, get_or}
+use Rattle.std.proofs.Common.{◌∙◌, ℕ, List, sym, ap, chars, get_or}
 use Rattle.std.specs.Char.{len_utf8}
-use Rattle.std.specs.Str.{IsCharBoundary}
 use Rattle.rustc_lexer.specs.Characters.{size}
-use Rattle.rustc_lexer.specs.Lexeme.{lexeme}
 use Rattle.rustc_lexer.specs.Tokens as lexer
 use Rattle.rustc_lexer.specs.declared.token.Token.{Token}
 use Rattle.rustc_lexer.proofs.Cutting.{next-some}
-use Rattle.parser_input.specs.Leaf.{kind_of, leaf_of}
 use Rattle.parser_input.specs.Lexed.{Lexed, is_split}
-use Rattle.parser_input.specs.Messages.{message_of}
-use Rattle.parser_input.proofs.LexedSteps.{at-size, first-size, leaf-split, leaf-whole, slice-front, some-chars}
+use Rattle.parser_input.proofs.LexedSteps.{first-size, leaf-split, some-chars}
 use Rattle.parser_input.proofs.lexed_str.next_leaf.Goals as goal
 
 pub returns-then-is_split-clause-kind : goal.returns-then-is_split-clause-kind
@@ -41,49 +37,11 @@ returns-then-is_split-clause-len c =
     c.len_utf8.ensures.value ∙ ap len_utf8 (c.first.ensures ∙ ap (λ (x : List ℕ). get_or x 0 0) c.new-then-is_split.ensures) ∙ first-size t long
     ∙ sym (ap (λ (x : Lexed). size x.leaf.text) (leaf-split c.args.edition l split))
 
-pub range-text-requires-clause-end_boundary : goal.range-text-requires-clause-end_boundary
-unfolding lexer.first_lexeme
-range-text-requires-clause-end_boundary c =
+pub leaf_of-requires-clause-token : goal.leaf_of-requires-clause-token
+leaf_of-requires-clause-token c =
     let t = chars c.args.rest.now in
     let long = some-chars c.args.rest.now c.utf8.rest c.requires in
-    let is = c.advance_token-token.ensures.is_next ∙ ap (λ (x : List ℕ). lexer.token (lexer.next_lexeme x)) c.new.ensures ∙ ap (λ (x : lexer.Lexeme). lexer.token x) (next-some t long) in
-    let len : c.advance_token-token.result.len ≡ size (take (lexeme t).taken t) = ap (λ (k : Token). k.len) is in
-    subst (λ (n : ℕ). IsCharBoundary c.args.rest.now n) (sym len) (at-size c.args.rest.now (lexeme t).taken c.utf8.rest).boundary
+    c.advance_token-token.ensures.is_next ∙ ap (λ (x : List ℕ). lexer.token (lexer.next_lexeme x)) c.new.ensures ∙ ap (λ (x : lexer.Lexeme). lexer.token x) (next-some t long)
 
-pub returns-clause-kind : goal.returns-clause-kind
-unfolding lexer.first_lexeme leaf_of
-returns-clause-kind c =
-    let t = chars c.args.rest.now in
-    let l = lexer.first_lexeme t in
-    let n = c.advance_token-token.result.len in
-    let long = some-chars c.args.rest.now c.utf8.rest c.requires in
-    let is = c.advance_token-token.ensures.is_next ∙ ap (λ (x : List ℕ). lexer.token (lexer.next_lexeme x)) c.new.ensures ∙ ap (λ (x : lexer.Lexeme). lexer.token x) (next-some t long) in
-    let whole = ap (λ (k : Token). is_split c.args.edition k.kind) (sym is) ∙ sym c.is_split.ensures ∙ c.if-is_split.false in
-    let len : n ≡ size (take (lexeme t).taken t) = ap (λ (k : Token). k.len) is in
-    let text : chars c.range-text.result.now ≡ take (lexeme t).taken t = ap (λ (x : List ℕ). chars x) (c.range-text.ensures.value ∙ slice-front n c.args.rest.now) ∙ ap (λ (k : ℕ). chars (take k c.args.rest.now)) len ∙ (at-size c.args.rest.now (lexeme t).taken c.utf8.rest).front in
-    c.kind_of.ensures ∙ ap (λ (k : Token). kind_of c.args.edition k.kind (chars c.range-text.result.now)) is ∙ ap (λ (x : List ℕ). kind_of c.args.edition l.kind x) text
-    ∙ sym (ap (λ (x : Lexed). x.leaf.kind) (leaf-whole c.args.edition l whole))
-
-pub returns-clause-message : goal.returns-clause-message
-unfolding lexer.first_lexeme
-returns-clause-message c =
-    let t = chars c.args.rest.now in
-    let l = lexer.first_lexeme t in
-    let n = c.advance_token-token.result.len in
-    let long = some-chars c.args.rest.now c.utf8.rest c.requires in
-    let is = c.advance_token-token.ensures.is_next ∙ ap (λ (x : List ℕ). lexer.token (lexer.next_lexeme x)) c.new.ensures ∙ ap (λ (x : lexer.Lexeme). lexer.token x) (next-some t long) in
-    let whole = ap (λ (k : Token). is_split c.args.edition k.kind) (sym is) ∙ sym c.is_split.ensures ∙ c.if-is_split.false in
-    let len : n ≡ size (take (lexeme t).taken t) = ap (λ (k : Token). k.len) is in
-    let text : chars c.range-text.result.now ≡ take (lexeme t).taken t = ap (λ (x : List ℕ). chars x) (c.range-text.ensures.value ∙ slice-front n c.args.rest.now) ∙ ap (λ (k : ℕ). chars (take k c.args.rest.now)) len ∙ (at-size c.args.rest.now (lexeme t).taken c.utf8.rest).front in
-    c.message_of.ensures ∙ ap (λ (k : Token). message_of c.args.edition k.kind (chars c.range-text.result.now)) is ∙ ap (λ (x : List ℕ). message_of c.args.edition l.kind x) text
-    ∙ sym (ap (λ (x : Lexed). x.message) (leaf-whole c.args.edition l whole))
-
-pub returns-clause-len : goal.returns-clause-len
-unfolding leaf_of
-returns-clause-len c =
-    let t = chars c.args.rest.now in
-    let l = lexer.first_lexeme t in
-    let long = some-chars c.args.rest.now c.utf8.rest c.requires in
-    let is = c.advance_token-token.ensures.is_next ∙ ap (λ (x : List ℕ). lexer.token (lexer.next_lexeme x)) c.new.ensures ∙ ap (λ (x : lexer.Lexeme). lexer.token x) (next-some t long) in
-    let whole = ap (λ (k : Token). is_split c.args.edition k.kind) (sym is) ∙ sym c.is_split.ensures ∙ c.if-is_split.false in
-    ap (λ (k : Token). k.len) is ∙ sym (ap (λ (x : Lexed). size x.leaf.text) (leaf-whole c.args.edition l whole))
+pub leaf_of-requires-clause-whole : goal.leaf_of-requires-clause-whole
+leaf_of-requires-clause-whole c = sym c.is_split.ensures ∙ c.if-is_split.false

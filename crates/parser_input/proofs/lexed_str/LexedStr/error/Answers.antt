@@ -1,4 +1,5 @@
-use Rattle.std.proofs.Common.{◌∙◌, ◌<◌, ℕ, List, [], Option, Some, sym, ap, arith, length, option_map}
+-- The message of a stored leaf.
+use Rattle.std.proofs.Common.{◌∙◌, ◌<◌, ℕ, List, [], Option, sym, ap, arith, length, option_map}
 use Rattle.parser_input.specs.Kinds.{EOF}
 use Rattle.parser_input.specs.Lexed.{Lexed, quiet}
 use Rattle.parser_input.specs.Messages.{wording}
@@ -13,26 +14,14 @@ index-requires c =
     let s = c.self.inside in
     omega (arith, c.requires, ap (λ (w : Whole). length w.leaves) c.self.view_is, seen-length s.text.now 0 s.leaves.items)
 
-pub returns-in-Some : goal.returns-in-Some
-returns-in-Some c =
-    let s = c.self.inside in
-    let items = s.leaves.items in
-    let i = c.args.i in
-    let p = c.index.result.now in
-    let long : i < length items = omega (arith, c.requires, ap (λ (w : Whole). length w.leaves) c.self.view_is, seen-length s.text.now 0 items) in
-    let K : List ℕ → Option (List ℕ) = λ b. Some b in
-    let W : Option Message → Option (List ℕ) = λ m. option_map wording m in
-    ap K c.text.ensures
-    ∙ ap W (sym c.in-Some.is ∙ ap (λ (x : StoredLeaf). x.message) c.index.ensures ∙ sym (ap (λ (x : Lexed). x.message) (seen-at s.text.now 0 items i p (quiet EOF []) long)))
-    ∙ ap (λ (w : Whole). W (leaf_at w.leaves i).message) c.self.view_is
-
-pub returns-in-None : goal.returns-in-None
-returns-in-None c =
+pub returns : goal.returns
+returns c =
     let s = c.self.inside in
     let items = s.leaves.items in
     let i = c.args.i in
     let p = c.index.result.now in
     let long : i < length items = omega (arith, c.requires, ap (λ (w : Whole). length w.leaves) c.self.view_is, seen-length s.text.now 0 items) in
     let W : Option Message → Option (List ℕ) = λ m. option_map wording m in
-    ap W (sym c.in-None.is ∙ ap (λ (x : StoredLeaf). x.message) c.index.ensures ∙ sym (ap (λ (x : Lexed). x.message) (seen-at s.text.now 0 items i p (quiet EOF []) long)))
+    c.words.ensures
+    ∙ ap W (ap (λ (x : StoredLeaf). x.message) c.index.ensures ∙ sym (ap (λ (x : Lexed). x.message) (seen-at s.text.now 0 items i p (quiet EOF []) long)))
     ∙ ap (λ (w : Whole). W (leaf_at w.leaves i).message) c.self.view_is
