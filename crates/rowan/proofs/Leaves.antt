@@ -1,16 +1,14 @@
 -- The tokens of a tree, child by child.
-use Rattle.std.proofs.Common.{◌≡◌, ℕ, zero, suc, ◌+◌, ◌<◌, ◌≤◌, List, [], ◌∷◌, ◌++◌, drop, refl, ap, sym, ◌∙◌, arith, length, append_assoc, append-nil, add-one, reverse, IsSome, Option, Some, None, slice_get}
+use Rattle.std.proofs.Common.{◌≡◌, ℕ, zero, suc, ◌+◌, ◌<◌, ◌≤◌, List, [], ◌∷◌, ◌++◌, refl, ap, sym, ◌∙◌, arith, length, append_assoc, append-nil, add-one, reverse, IsSome, Option, Some, None, slice_get}
 use Rattle.std.proofs.lemmas.List.{reverse-append}
 use Rattle.std.proofs.lemmas.Bool.{false≢true}
-use Rattle.std.specs.List.{cons_option, filter_map}
+use Rattle.std.specs.List.{cons_option}
 use Rattle.rowan_green.specs.Forest.{Forest, empty, node, leaf, Tree, forest_count}
-use Rattle.rowan_green.specs.Leaf.{Leaf}
-use Rattle.rowan_green.specs.Either.{token_part}
-use Rattle.rowan_green.specs.Term.{Term, terms, forest_of, forest_of-terms, children_of, term_count}
+use Rattle.rowan_green.specs.Term.{Term, terms, term_count}
 use Rattle.rowan_green.specs.declared.utility_types.NodeOrToken.TheVariants.{Node, Token}
-use Rattle.rowan.specs.Place.{Place, above, below, term_at, terms_below, children_in, start_of, end_of, index_of}
+use Rattle.rowan.specs.Place.{Place, above, below, term_at, terms_below, children_in, index_of}
 use Rattle.rowan.specs.Around.{Cursor, place_in, cursor_in, cursor_at, children_before, tokens, first}
-use Rattle.rowan.specs.Walk.{Event, walk_from, entered, entered_by}
+use Rattle.rowan.specs.Walk.{Event, walk_from, entered}
 use Rattle.rowan.specs.Leaves.{tokens_from, tokens_in, tokens_behind, tokens_back, tokens_back_by, tokens_ahead}
 use Rattle.rowan.specs.declared.utility_types.WalkEvent.TheVariants.{Enter, Leave}
 use Rattle.rowan.proofs.Walks.{walk_here, walk_nothing, events_by, place_of_child}
@@ -18,7 +16,7 @@ use Rattle.rowan.proofs.Lists.{number_within, stands_within, before_here}
 use Rattle.rowan.proofs.Places.{child_of}
 use Rattle.rowan.proofs.Steps.{get_past}
 
-entered-append : (v w : List Event) → tokens (entered (v ++ w)) ≡ tokens (entered v) ++ tokens (entered w)
+pub entered-append : (v w : List Event) → tokens (entered (v ++ w)) ≡ tokens (entered v) ++ tokens (entered w)
 entered-append [] w = refl
 entered-append (Enter (Node p) ∷ v) w = entered-append v w
 entered-append (Enter (Token p) ∷ v) w = ap (λ xs. p ∷ xs) (entered-append v w)

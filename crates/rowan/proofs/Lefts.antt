@@ -1,13 +1,13 @@
 -- What the iterators over children and siblings have left, step by step.
-use Rattle.std.proofs.Common.{◌≡◌, ℕ, zero, suc, ◌+◌, ◌<◌, List, [], ◌∷◌, length, drop, refl, ap, sym, ◌∙◌, arith, add-one, Option, Some, None, Result, Ok, Err, IfOk, IsSome, slice_get, Bool, true, false}
+use Rattle.std.proofs.Common.{◌≡◌, ℕ, zero, suc, ◌+◌, ◌<◌, List, [], ◌∷◌, length, drop, refl, ap, sym, ◌∙◌, arith, add-one, Option, Some, None, Result, Ok, Err, IfOk, IsSome, Bool, false}
 use Rattle.std.proofs.lemmas.Bool.{false≢true}
 use Rattle.std.specs.List.{cons_option}
 use Rattle.std.specs.declared.alloc.AllocError.{AllocError}
 use Rattle.rowan_green.specs.Forest.{Tree}
 use Rattle.rowan_green.specs.Term.{Term}
 use Rattle.rowan_green.specs.declared.utility_types.NodeOrToken.TheVariants.{Node, Token}
-use Rattle.rowan.specs.Place.{Place, above, below, index_of, start_of, end_of, term_at, terms_below}
-use Rattle.rowan.specs.Around.{Cursor, place_in, cursor_in, cursor_at, numbered, children_from, children_before, behind, ahead, nodes, first, siblings, sibling_nodes}
+use Rattle.rowan.specs.Place.{Place, below, index_of, start_of, end_of, terms_below}
+use Rattle.rowan.specs.Around.{Cursor, place_in, cursor_at, numbered, children_from, children_before, behind, ahead, nodes, first, siblings, sibling_nodes}
 use Rattle.rowan.specs.Left.{children_left, siblings_left, sibling_nodes_left}
 use Rattle.rowan.specs.declared.utility_types.Direction.{Direction}
 use Rattle.rowan.specs.declared.utility_types.Direction.TheVariants.{Next, Prev}

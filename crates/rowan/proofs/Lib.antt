@@ -1,3 +1,6 @@
+mod Pointers
+mod Beside
+mod Touching
 pub mod Places
 pub mod Lists
 pub mod Steps

@@ -1,12 +1,10 @@
 -- The lists of children and siblings, step by step.
-use Rattle.std.proofs.Common.{◌≡◌, ℕ, zero, suc, ◌+◌, ◌<◌, ◌≤◌, List, [], ◌∷◌, length, drop, refl, ap, sym, ◌∙◌, arith, add-one, Option, Some, None, slice_get, IsSome}
-use Rattle.std.specs.List.{cons_option, filter_map}
+use Rattle.std.proofs.Common.{◌≡◌, ℕ, zero, suc, ◌+◌, ◌<◌, List, [], ◌∷◌, length, drop, refl, ap, sym, ◌∙◌, arith, add-one, Some, None, slice_get, IsSome}
+use Rattle.std.specs.List.{cons_option}
 use Rattle.rowan_green.specs.Forest.{Tree}
-use Rattle.rowan_green.specs.Leaf.{Leaf}
 use Rattle.rowan_green.specs.Term.{Term}
-use Rattle.rowan_green.specs.declared.utility_types.NodeOrToken.TheVariants.{Node, Token}
-use Rattle.rowan.specs.Place.{Place, above, below, index_of, term_at, terms_below}
-use Rattle.rowan.specs.Around.{Cursor, cursor_in, cursor_at, numbered, children_from, children_before, behind, ahead, nodes, tokens, first}
+use Rattle.rowan.specs.Place.{Place, above, below, term_at, terms_below}
+use Rattle.rowan.specs.Around.{cursor_in, cursor_at, numbered, children_from, children_before, behind, ahead, first}
 
 -- the children from a number on: the child of that number, if there is one, and those from the next one on
 list_from : (p : Place) (es : List Term) (i j : ℕ) → numbered p j (drop i es) ≡ cons_option (cursor_in (below p j) (slice_get es i)) (numbered p (j + 1) (drop (suc i) es))

@@ -1,10 +1,9 @@
 -- Where children start and end.
-use Rattle.std.proofs.Common.{◌≡◌, ℕ, zero, suc, ◌+◌, ◌<◌, ◌≤◌, ◌^◌, List, [], ◌∷◌, length, take, drop, refl, ap, sym, ◌∙◌, arith, length-append, add-one, take_all, Option, Some, None, slice_get}
+use Rattle.std.proofs.Common.{◌≡◌, ℕ, zero, suc, ◌+◌, ◌<◌, ◌≤◌, ◌^◌, List, [], ◌∷◌, length, take, refl, ap, arith, length-append, add-one, take_all, Option, Some, None, slice_get}
 use Rattle.rowan_green.specs.Forest.{Tree, forest_text, tree_text}
-use Rattle.rowan_green.specs.Leaf.{Leaf}
-use Rattle.rowan_green.specs.Term.{Term, forest_of-terms, children_of, texts_of, text_of}
+use Rattle.rowan_green.specs.Term.{Term, forest_of-terms, texts_of}
 use Rattle.rowan_green.specs.declared.utility_types.NodeOrToken.TheVariants.{Node, Token}
-use Rattle.rowan.specs.Place.{Place, above, below, index_of, first_number, term_at, terms_below, children_in, text_in, text_at, start_of, end_of}
+use Rattle.rowan.specs.Place.{Place, above, below, index_of, first_number, term_at, terms_below, children_in, text_in, start_of, end_of}
 use Rattle.rowan.specs.Sound.{Stands}
 
 len_next : (es : List Term) (i : ℕ) → length (texts_of (take (suc i) es)) ≡ length (texts_of (take i es)) + length (text_in (slice_get es i))

@@ -1,12 +1,12 @@
 -- The search for a child by its range.
-use Rattle.std.proofs.Common.{◌≡◌, ℕ, suc, ◌+◌, ◌<◌, ◌≤◌, List, [], ◌∷◌, length, refl, ap, sym, ◌∙◌, arith, Option, Some, None, slice_get, Bool, true, false, ◌&&◌, nat_le, cond}
+use Rattle.std.proofs.Common.{◌≡◌, ℕ, suc, ◌+◌, ◌<◌, List, [], ◌∷◌, refl, ap, sym, ◌∙◌, arith, Option, Some, slice_get, Bool, true, false, ◌&&◌, nat_le, cond}
 use Rattle.std.specs.List.{filter, cons_option}
 use Rattle.rowan_green.specs.Forest.{Tree}
-use Rattle.rowan_green.specs.Term.{Term, children_of, term_len}
+use Rattle.rowan_green.specs.Term.{Term, children_of}
 use Rattle.rowan_green.specs.declared.utility_types.NodeOrToken.TheVariants.{Node, Token}
 use Rattle.rowan.specs.Place.{Place, below, term_at, terms_below, start_of, end_of}
-use Rattle.rowan.specs.Around.{Cursor, place_in, cursor_of, cursor_in, cursor_at, numbered, children, children_from, first}
-use Rattle.rowan.specs.Ranges.{holds, child_at_range, LeadsTo, here, token, down}
+use Rattle.rowan.specs.Around.{Cursor, place_in, cursor_of, cursor_in, cursor_at, numbered, children_from, first}
+use Rattle.rowan.specs.Ranges.{holds, child_at_range}
 use Rattle.rowan.proofs.Lists.{from_here}
 use Rattle.rowan.proofs.Places.{next_start}
 use Rattle.rowan.proofs.Steps.{child_term}

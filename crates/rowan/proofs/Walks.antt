@@ -2,7 +2,7 @@
 use Rattle.std.proofs.Common.{◌≡◌, ℕ, zero, suc, ◌+◌, List, [], ◌∷◌, ◌++◌, drop, refl, ap, sym, ◌∙◌, add-one, append_assoc, Option, Some, None, slice_get, true, false}
 use Rattle.rowan_green.specs.Forest.{Forest, empty, node, leaf, Tree}
 use Rattle.rowan_green.specs.Leaf.{Leaf}
-use Rattle.rowan_green.specs.Term.{Term, forest_of, forest_of-terms, children_of}
+use Rattle.rowan_green.specs.Term.{Term, forest_of, forest_of-terms}
 use Rattle.rowan_green.specs.declared.utility_types.NodeOrToken.TheVariants.{Node, Token}
 use Rattle.rowan.specs.Place.{Place, above, below, term_at, terms_below, children_in}
 use Rattle.rowan.specs.Around.{Cursor, place_in, cursor_in, cursor_at, children, children_from, behind, first}
@@ -16,7 +16,7 @@ abbrev pub events_by : Option Cursor → List Event → List Event
 events_by None w = []
 events_by (Some c) w = Enter c ∷ (walk_from (place_in c) 0 ++ Leave c ∷ w)
 
-walk_inside : (p : Place) (i : ℕ) (t : Tree) → slice_get (terms_below p) i ≡ Some (Node t) → walk_from (below p i) 0 ≡ walk_forest (below p i) 0 t.forest
+pub walk_inside : (p : Place) (i : ℕ) (t : Tree) → slice_get (terms_below p) i ≡ Some (Node t) → walk_from (below p i) 0 ≡ walk_forest (below p i) 0 t.forest
 walk_inside p i t h = ap (λ o. walk_forest (below p i) 0 (forest_of (drop 0 (children_in o)))) h ∙ ap (walk_forest (below p i) 0) (forest_of-terms t.forest)
 
 pub walk_nothing : (p : Place) (i : ℕ) (l : Leaf) → slice_get (terms_below p) i ≡ Some (Token l) → walk_from (below p i) 0 ≡ []

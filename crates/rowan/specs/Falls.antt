@@ -1,5 +1,5 @@
 -- A parent is less deep than its child.
-use Rattle.std.specs.Prelude.{ℕ, ◌≤◌, max, length}
+use Rattle.std.specs.Prelude.{◌≤◌, max, length}
 use Rattle.std.proofs.Common.{arith}
 use Rattle.rowan_green.specs.Forest.{Tree}
 use Rattle.rowan.specs.Sound.{place_from}

@@ -1,7 +1,7 @@
 -- What iterators have left.
 use Rattle.std.specs.Prelude.{ℕ, zero, suc, ◌+◌, List, [], ◌∷◌, ◌++◌, Option, Some, None, Bool, true, false}
 use Rattle.rowan_green.specs.Forest.{Tree}
-use Rattle.rowan_green.specs.declared.utility_types.NodeOrToken.TheVariants.{Node, Token}
+use Rattle.rowan_green.specs.declared.utility_types.NodeOrToken.TheVariants.{Node}
 use Rattle.rowan.specs.Place.{Place}
 use Rattle.rowan.specs.Around.{Cursor, place_in, children_from, siblings, sibling_nodes}
 use Rattle.rowan.specs.declared.utility_types.Direction.{Direction}

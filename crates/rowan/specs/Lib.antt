@@ -2,6 +2,9 @@ pub mod Place
 pub mod Around
 pub mod Walk
 pub mod Leaves
+pub mod Touching
+pub mod Pointer
+pub mod Refusal
 pub mod Yields
 pub mod Cast
 pub mod Replace

@@ -1,5 +1,5 @@
 -- Elements by ranges of the text.
-use Rattle.std.specs.Prelude.{◌≡◌, ℕ, Bool, ◌&&◌, nat_le, List, Option, Some, None}
+use Rattle.std.specs.Prelude.{◌≡◌, ℕ, Bool, ◌&&◌, nat_le, Option, Some, None}
 use Rattle.std.specs.List.{filter}
 use Rattle.rowan_green.specs.declared.utility_types.NodeOrToken.TheVariants.{Node, Token}
 use Rattle.rowan.specs.Place.{Place, start_of, end_of}

@@ -1,9 +1,8 @@
 -- What the fields of a cursor mean.
-use Rattle.std.specs.Prelude.{◌≡◌, ℕ, ◌+◌, ◌<◌, ◌^◌, [], length, Some}
-use Rattle.rowan_green.specs.Leaf.{Leaf}
-use Rattle.rowan_green.specs.Forest.{Tree, tree_text}
+use Rattle.std.specs.Prelude.{◌≡◌, ℕ, ◌<◌, ◌^◌, [], Some}
+use Rattle.rowan_green.specs.Forest.{Tree}
 use Rattle.rowan_green.specs.Term.{Term}
-use Rattle.rowan_green.specs.declared.utility_types.NodeOrToken.TheVariants.{Node, Token}
+use Rattle.rowan_green.specs.declared.utility_types.NodeOrToken.TheVariants.{Node}
 use Rattle.rowan.specs.Place.{Place, below, term_at, start_of, end_of}
 use Rattle.rowan.specs.declared.cursor.NodeData.{NodeData}
 use Rattle.rowan.specs.declared.cursor.Spot.{Spot}

@@ -1,12 +1,11 @@
 -- Walks through a tree, as lists of events: the word of the tree, with the place of each sign.
 use Rattle.std.specs.Prelude.{ℕ, zero, suc, ◌+◌, List, [], ◌∷◌, ◌++◌, drop, Option, Some, None}
 use Rattle.std.specs.List.{filter_map}
-use Rattle.rowan_green.specs.Forest.{Forest, empty, node, leaf, Tree}
+use Rattle.rowan_green.specs.Forest.{Forest, empty, node, leaf}
 use Rattle.rowan_green.specs.Term.{forest_of}
-use Rattle.rowan_green.specs.declared.utility_types.NodeOrToken.{NodeOrToken}
 use Rattle.rowan_green.specs.declared.utility_types.NodeOrToken.TheVariants.{Node, Token}
 use Rattle.rowan.specs.Place.{Place, below, terms_below}
-use Rattle.rowan.specs.Around.{Cursor, place_in, nodes, tokens}
+use Rattle.rowan.specs.Around.{Cursor, place_in, nodes}
 use Rattle.rowan.specs.declared.utility_types.WalkEvent.{WalkEvent}
 use Rattle.rowan.specs.declared.utility_types.WalkEvent.TheVariants.{Enter, Leave}
 
@@ -55,3 +54,8 @@ skipped depth [] = []
 skipped depth (Enter c ∷ w) = skipped (suc depth) w
 skipped zero (Leave c ∷ w) = Leave c ∷ w
 skipped (suc depth) (Leave c ∷ w) = skipped depth w
+
+-- one fact of what is entered, another of what is left
+abbrev pub MatchEvent : {A : Type 0} → WalkEvent A → (A → Type 0) → (A → Type 0) → Type 0
+MatchEvent (Enter x) P Q = P x
+MatchEvent (Leave x) P Q = Q x

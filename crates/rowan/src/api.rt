@@ -16,12 +16,12 @@ use std::marker::{Model, PhantomData};
 
 /// A node where it stands in a tree. A clone takes no memory.
 #[derive(Drop)]
-pub struct SyntaxNode<L: Language> {
+pub struct SyntaxNode<L> {
     cursor: cursor::SyntaxNode,
     language: PhantomData<L>,
 }
 
-impl<L: Language> Model for SyntaxNode<L> {
+impl<L> Model for SyntaxNode<L> {
     ghost use Rattle.rowan.specs.Place.{Place};
     ghost use Rattle.rowan_green.specs.Forest.{tree_code};
     ghost use Rattle.std.specs.Coded.{codes};
@@ -35,12 +35,12 @@ impl<L: Language> Model for SyntaxNode<L> {
 
 /// A token where it stands in a tree. A clone takes no memory.
 #[derive(Drop)]
-pub struct SyntaxToken<L: Language> {
+pub struct SyntaxToken<L> {
     cursor: cursor::SyntaxToken,
     language: PhantomData<L>,
 }
 
-impl<L: Language> Model for SyntaxToken<L> {
+impl<L> Model for SyntaxToken<L> {
     ghost use Rattle.rowan.specs.Place.{Place};
     ghost use Rattle.rowan_green.specs.Forest.{tree_code};
     ghost use Rattle.std.specs.Coded.{codes};

@@ -16,12 +16,12 @@ use std::marker::{Model, PhantomData};
 
 /// A node and those above it, up to the root. A contract sees those that are left.
 #[derive(Drop)]
-pub struct Ancestors<L: Language> {
+pub struct Ancestors<L> {
     next: Option<cursor::SyntaxNode>,
     language: PhantomData<L>,
 }
 
-impl<L: Language> Model for Ancestors<L> {
+impl<L> Model for Ancestors<L> {
     ghost use Rattle.std.specs.Prelude.{List};
     ghost use Rattle.std.specs.Coded.{codes};
     ghost use Rattle.rowan_green.specs.Forest.{tree_code};
@@ -72,14 +72,14 @@ impl<L: Language> Iterator for Ancestors<L> {
 
 /// An element and its siblings on one side, the nearest first. A contract sees those that are left.
 #[derive(Drop)]
-pub struct SiblingsWithTokens<L: Language> {
+pub struct SiblingsWithTokens<L> {
     alloc: Global,
     direction: Direction,
     next: Option<cursor::SyntaxElement>,
     language: PhantomData<L>,
 }
 
-impl<L: Language> Model for SiblingsWithTokens<L> {
+impl<L> Model for SiblingsWithTokens<L> {
     ghost use Rattle.std.specs.Prelude.{List};
     ghost use Rattle.std.specs.Coded.{codes};
     ghost use Rattle.rowan_green.specs.Forest.{tree_code};
@@ -151,14 +151,14 @@ fn beside(
 /// A node and its siblings on one side that are nodes, the nearest first. A contract sees those that
 /// are left.
 #[derive(Drop)]
-pub struct Siblings<L: Language> {
+pub struct Siblings<L> {
     alloc: Global,
     direction: Direction,
     next: Option<cursor::SyntaxNode>,
     language: PhantomData<L>,
 }
 
-impl<L: Language> Model for Siblings<L> {
+impl<L> Model for Siblings<L> {
     ghost use Rattle.std.specs.Prelude.{List};
     ghost use Rattle.std.specs.Coded.{codes};
     ghost use Rattle.rowan_green.specs.Forest.{tree_code};

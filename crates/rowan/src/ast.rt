@@ -5,11 +5,13 @@ ghost use Rattle.rowan_green.specs.declared.utility_types.NodeOrToken.TheVariant
 ghost use Rattle.rowan.specs.Place.{Place, term_at, kind_at};
 ghost use Rattle.rowan.specs.Cast.{can, CastsOrFails};
 
+pub mod ptr;
 pub mod support;
 
 use crate::api::SyntaxNode;
 use crate::language::Language;
 use crate::syntax_children::SyntaxNodeChildren;
+pub use ptr::AstPtr;
 use std::alloc::{AllocError, Global};
 use std::marker::{Model, PhantomData};
 

@@ -17,22 +17,32 @@ pub mod api;
 pub mod around;
 pub mod ast;
 mod cursor;
+mod cursor_pointer;
 mod cursor_ranges;
 mod cursor_step;
 mod cursor_tokens;
 mod display;
 pub mod element;
+pub mod error;
 pub mod language;
 pub mod preorder;
-pub mod replace;
+pub mod ptr;
+mod replace;
 pub mod syntax_children;
+mod token_at_offset;
 pub mod utility_types;
 mod walk;
 
 pub use api::{SyntaxElement, SyntaxNode, SyntaxToken};
 pub use around::{Ancestors, Siblings, SiblingsWithTokens};
+pub use ast::{AstChildren, AstNode, AstPtr, support};
 pub use element::ElementExt;
+pub use error::CursorError;
 pub use language::Language;
 pub use preorder::{Descendants, DescendantsWithTokens, Preorder, PreorderWithTokens};
+pub use ptr::SyntaxNodePtr;
 pub use syntax_children::{SyntaxElementChildren, SyntaxNodeChildren};
-pub use utility_types::{Direction, WalkEvent};
+pub use utility_types::{Direction, TokenAtOffset, WalkEvent};
+
+#[cfg(test)]
+mod tests;

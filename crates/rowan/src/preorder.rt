@@ -16,13 +16,13 @@ use std::marker::{Model, PhantomData};
 /// The events of an element and of all that stands below it, nodes and tokens. A contract sees the
 /// events that are left.
 #[derive(Drop)]
-pub struct PreorderWithTokens<L: Language> {
+pub struct PreorderWithTokens<L> {
     alloc: Global,
     next: Option<Step>,
     language: PhantomData<L>,
 }
 
-impl<L: Language> Model for PreorderWithTokens<L> {
+impl<L> Model for PreorderWithTokens<L> {
     ghost use Rattle.std.specs.Prelude.{List};
     ghost use Rattle.std.specs.Coded.{codes};
     ghost use Rattle.rowan_green.specs.Forest.{tree_code};
@@ -154,11 +154,11 @@ fn next_entered_node<L: Language>(
 
 /// The events of a node and of the nodes below it. A contract sees all events that are left.
 #[derive(Drop)]
-pub struct Preorder<L: Language> {
+pub struct Preorder<L> {
     walk: PreorderWithTokens<L>,
 }
 
-impl<L: Language> Model for Preorder<L> {
+impl<L> Model for Preorder<L> {
     ghost use Rattle.std.specs.Prelude.{List};
     ghost use Rattle.std.specs.Coded.{codes};
     ghost use Rattle.rowan_green.specs.Forest.{tree_code};
@@ -200,11 +200,11 @@ impl<L: Language> Iterator for Preorder<L> {
 
 /// A node and all nodes below it, each before those below it. A contract sees all events that are left.
 #[derive(Drop)]
-pub struct Descendants<L: Language> {
+pub struct Descendants<L> {
     walk: PreorderWithTokens<L>,
 }
 
-impl<L: Language> Model for Descendants<L> {
+impl<L> Model for Descendants<L> {
     ghost use Rattle.std.specs.Prelude.{List};
     ghost use Rattle.std.specs.Coded.{codes};
     ghost use Rattle.rowan_green.specs.Forest.{tree_code};
@@ -236,11 +236,11 @@ impl<L: Language> Iterator for Descendants<L> {
 
 /// A node and all elements below it, each before those below it. A contract sees all events that are left.
 #[derive(Drop)]
-pub struct DescendantsWithTokens<L: Language> {
+pub struct DescendantsWithTokens<L> {
     walk: PreorderWithTokens<L>,
 }
 
-impl<L: Language> Model for DescendantsWithTokens<L> {
+impl<L> Model for DescendantsWithTokens<L> {
     ghost use Rattle.std.specs.Prelude.{List};
     ghost use Rattle.std.specs.Coded.{codes};
     ghost use Rattle.rowan_green.specs.Forest.{tree_code};

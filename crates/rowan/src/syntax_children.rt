@@ -11,7 +11,7 @@ use std::marker::{Model, PhantomData};
 
 /// The children of a node, nodes and tokens. A contract sees those that are left.
 #[derive(Drop)]
-pub struct SyntaxElementChildren<L: Language> {
+pub struct SyntaxElementChildren<L> {
     alloc: Global,
     parent: cursor::SyntaxNode,
     index: usize,
@@ -20,7 +20,7 @@ pub struct SyntaxElementChildren<L: Language> {
     language: PhantomData<L>,
 }
 
-impl<L: Language> Model for SyntaxElementChildren<L> {
+impl<L> Model for SyntaxElementChildren<L> {
     ghost use Rattle.std.specs.Prelude.{◌≡◌, List};
     ghost use Rattle.std.specs.Coded.{codes};
     ghost use Rattle.rowan_green.specs.Forest.{tree_code};
@@ -89,7 +89,7 @@ impl<L: Language> Iterator for SyntaxElementChildren<L> {
 
 /// The children of a node that are nodes. A contract sees those that are left.
 #[derive(Drop)]
-pub struct SyntaxNodeChildren<L: Language> {
+pub struct SyntaxNodeChildren<L> {
     alloc: Global,
     parent: cursor::SyntaxNode,
     index: usize,
@@ -98,7 +98,7 @@ pub struct SyntaxNodeChildren<L: Language> {
     language: PhantomData<L>,
 }
 
-impl<L: Language> Model for SyntaxNodeChildren<L> {
+impl<L> Model for SyntaxNodeChildren<L> {
     ghost use Rattle.std.specs.Prelude.{◌≡◌, List};
     ghost use Rattle.std.specs.Coded.{codes};
     ghost use Rattle.rowan_green.specs.Forest.{tree_code};

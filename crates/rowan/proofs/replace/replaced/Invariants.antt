@@ -1,5 +1,4 @@
 use Rattle.std.proofs.Common.{◌≡◌, length}
-use Rattle.std.specs.Prelude.{◌↔◌}
 use Rattle.rowan.specs.Replace.{put, Fits}
 use Rattle.rowan.proofs.replace.replaced.Given as goal
 

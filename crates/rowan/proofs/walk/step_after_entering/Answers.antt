@@ -1,6 +1,4 @@
-use Rattle.std.proofs.Common.{◌≡◌, ◌+◌, arith, ap, sym, ◌∙◌}
-use Rattle.rowan_green.specs.declared.utility_types.NodeOrToken.TheVariants.{Node}
-use Rattle.rowan.specs.Left.{left_at, event_of}
+use Rattle.std.proofs.Common.{◌≡◌, ◌+◌, arith, sym, ◌∙◌}
 use Rattle.rowan.proofs.Walks.{step_in, step_turn}
 use Rattle.rowan.proofs.walk.step_after_entering.Goals as goal
 

@@ -1,6 +1,4 @@
-use Rattle.std.proofs.Common.{◌≡◌, ◌+◌, arith, ap, ◌∙◌}
-use Rattle.rowan_green.specs.declared.utility_types.NodeOrToken.TheVariants.{Node}
-use Rattle.rowan.specs.Left.{left_at}
+use Rattle.std.proofs.Common.{◌≡◌, ◌+◌, arith}
 use Rattle.rowan.proofs.Walks.{past_up, past_top, past_start}
 use Rattle.rowan.proofs.walk.step_past.Goals as goal
 

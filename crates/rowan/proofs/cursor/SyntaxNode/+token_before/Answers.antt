@@ -1,8 +1,8 @@
-use Rattle.std.proofs.Common.{◌≡◌, ◌<◌, ◌≤◌, ◌∙◌, ap, sym, arith, length, Some, None}
-use Rattle.rowan_green.specs.declared.utility_types.NodeOrToken.TheVariants.{Node, Token}
+use Rattle.std.proofs.Common.{◌≡◌, ◌∙◌, ap, sym, arith, length, Some}
+use Rattle.rowan_green.specs.declared.utility_types.NodeOrToken.TheVariants.{Node}
 use Rattle.rowan_green.specs.Term.{children_of}
-use Rattle.rowan.specs.Place.{below, terms_below, start_of, index_of}
-use Rattle.rowan.specs.Around.{place_in, children_before, cursor_at, first}
+use Rattle.rowan.specs.Place.{below, start_of, index_of}
+use Rattle.rowan.specs.Around.{place_in, children_before, first}
 use Rattle.rowan.specs.Leaves.{tokens_back}
 use Rattle.rowan.proofs.Steps.{start_last, count_is}
 use Rattle.rowan.proofs.Walks.{place_of_child}

@@ -1,4 +1,4 @@
-use Rattle.std.proofs.Common.{◌≡◌, ◌∙◌, sym, arith}
+use Rattle.std.proofs.Common.{◌∙◌, sym, arith}
 use Rattle.rowan.proofs.Steps.{over_child}
 use Rattle.rowan.proofs.Ranges.{holds_here, holds_later}
 use Rattle.rowan.proofs.cursor.SyntaxNode.child_at_range.Goals as goal

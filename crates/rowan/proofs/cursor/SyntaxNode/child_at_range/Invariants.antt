@@ -1,6 +1,6 @@
-use Rattle.std.proofs.Common.{◌≡◌, ◌-◌, ◌≤◌}
+use Rattle.std.proofs.Common.{◌≡◌, ◌-◌}
 use Rattle.std.specs.List.{filter}
-use Rattle.rowan.specs.Place.{start_of, end_of, below}
+use Rattle.rowan.specs.Place.{start_of, below}
 use Rattle.rowan.specs.Around.{children_from, first}
 use Rattle.rowan.specs.Ranges.{holds, child_at_range}
 use Rattle.rowan.proofs.cursor.SyntaxNode.child_at_range.Given as goal

@@ -1,4 +1,4 @@
-use Rattle.std.proofs.Common.{◌≡◌, ◌+◌, arith, sym}
+use Rattle.std.proofs.Common.{◌≡◌, ◌+◌, arith}
 use Rattle.rowan.proofs.Steps.{start_before}
 use Rattle.rowan.proofs.cursor.SyntaxNode.child_before.Goals as goal
 

@@ -1,7 +1,6 @@
-use Rattle.std.proofs.Common.{◌≡◌, ◌∙◌, sym, ap, arith, Some}
+use Rattle.std.proofs.Common.{◌∙◌, sym, ap, Some}
 use Rattle.rowan_green.specs.declared.utility_types.NodeOrToken.TheVariants.{Node, Token}
-use Rattle.rowan.specs.Around.{Cursor}
-use Rattle.rowan.specs.Ranges.{child_at_range, LeadsTo, here, token, down}
+use Rattle.rowan.specs.Ranges.{here, token, down}
 use Rattle.rowan.proofs.Ranges.{range_falls}
 use Rattle.rowan.proofs.cursor.SyntaxNode.covering_element.Goals as goal
 

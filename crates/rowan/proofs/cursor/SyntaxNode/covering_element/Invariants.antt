@@ -1,4 +1,3 @@
-use Rattle.std.proofs.Common.{◌≡◌}
 use Rattle.rowan.specs.Place.{term_at}
 use Rattle.rowan.specs.Around.{Cursor}
 use Rattle.rowan.specs.Ranges.{LeadsTo}

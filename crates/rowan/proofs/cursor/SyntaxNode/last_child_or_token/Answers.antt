@@ -1,4 +1,4 @@
-use Rattle.std.proofs.Common.{◌≡◌, ◌∙◌, length, ap, sym}
+use Rattle.std.proofs.Common.{◌≡◌, ◌∙◌, length, ap}
 use Rattle.rowan_green.specs.Term.{children_of}
 use Rattle.rowan.proofs.Steps.{start_last}
 use Rattle.rowan.proofs.cursor.SyntaxNode.last_child_or_token.Goals as goal

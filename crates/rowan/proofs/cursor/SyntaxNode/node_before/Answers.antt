@@ -1,5 +1,4 @@
-use Rattle.std.proofs.Common.{◌≡◌, ◌+◌, ◌-◌, ◌≤◌, ◌∙◌, ap, sym, arith, Some, length, refl}
-use Rattle.rowan.specs.Place.{below, start_of}
+use Rattle.std.proofs.Common.{◌≡◌, ◌+◌, ◌-◌, ◌∙◌, ap, sym, arith, Some}
 use Rattle.rowan.specs.Around.{children_before, nodes, first}
 use Rattle.rowan.proofs.Steps.{node_ahead, token_ahead, start_before, number_below}
 use Rattle.rowan.proofs.cursor.SyntaxNode.node_before.Goals as goal

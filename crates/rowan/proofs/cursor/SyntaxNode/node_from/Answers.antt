@@ -1,6 +1,4 @@
-use Rattle.std.proofs.Common.{◌≡◌, ◌+◌, ◌∙◌, ap, sym, arith, rules, Some, length, IsSome, refl}
-use Rattle.rowan.specs.Place.{below}
-use Rattle.rowan.specs.Around.{children_from, nodes, first}
+use Rattle.std.proofs.Common.{◌∙◌, ap, sym, arith, rules, Some}
 use Rattle.rowan.proofs.Steps.{node_here, token_here, over_child, token_len}
 use Rattle.rowan.proofs.cursor.SyntaxNode.node_from.Goals as goal
 

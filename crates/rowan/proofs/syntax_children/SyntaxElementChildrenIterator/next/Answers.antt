@@ -1,4 +1,4 @@
-use Rattle.std.proofs.Common.{◌≡◌, ◌∙◌, sym, rules, refl, arith}
+use Rattle.std.proofs.Common.{◌∙◌, sym, rules, refl}
 use Rattle.rowan.proofs.Lefts.{step_some, step_none, step_err, next_offset}
 use Rattle.rowan.proofs.syntax_children.SyntaxElementChildrenIterator.next.Goals as goal
 

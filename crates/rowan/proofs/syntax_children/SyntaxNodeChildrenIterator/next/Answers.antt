@@ -1,4 +1,4 @@
-use Rattle.std.proofs.Common.{◌≡◌, ◌∙◌, sym, rules, refl, arith}
+use Rattle.std.proofs.Common.{◌∙◌, sym, rules}
 use Rattle.rowan.proofs.Lefts.{node_step, node_offset}
 use Rattle.rowan.proofs.syntax_children.SyntaxNodeChildrenIterator.next.Goals as goal
 

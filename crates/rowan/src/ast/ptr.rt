@@ -1,0 +1,82 @@
+//! Pointers to typed nodes.
+ghost use Rattle.std.specs.Prelude.{◌≡◌, ◌↔◌, true, option_map, IsSome, IfOk, IfSome};
+ghost use Rattle.rowan.specs.Place.{kind_at, start_of, end_of};
+ghost use Rattle.rowan.specs.Cast.{can};
+ghost use Rattle.rowan.specs.Pointer.{is_at, found_in, taken};
+ghost use Rattle.rowan.specs.Refusal.{FindsOrRefuses};
+
+use crate::api::SyntaxNode;
+use crate::ast::AstNode;
+use crate::error::CursorError;
+use crate::ptr::SyntaxNodePtr;
+use std::alloc::{AllocError, Global};
+use std::marker::PhantomData;
+
+/// A pointer to a node that is read as an `N`.
+#[derive(Drop)]
+pub struct AstPtr<N: AstNode> {
+    pub raw: SyntaxNodePtr<N::Language>,
+    pub node: PhantomData<N>,
+}
+
+impl<N: AstNode> AstPtr<N> {
+    pub fn new(node: &N) -> AstPtr<N>
+        ensures kind { result.raw.kind ≡ N.Language.from_raw (kind_at (N.place node.now)) }
+        ensures start { result.raw.range.start.0 ≡ start_of (N.place node.now) }
+        ensures end { result.raw.range.end.0 ≡ end_of (N.place node.now) }
+    {
+        AstPtr {
+            raw: SyntaxNodePtr::new(node.syntax()),
+            node: PhantomData,
+        }
+    }
+
+    /// The first node in preorder of the pointer's kind and range, in the tree of this root, where it
+    /// can be cast; `NotFound` otherwise, and where the node given is not a root.
+    pub fn to_node(&self, alloc: Global, root: &SyntaxNode<N::Language>) -> Result<N, CursorError>
+    where
+        N: Drop,
+        ensures { FindsOrRefuses N.place (taken (can N.Language.from_raw N.casts) (found_in (is_at N.Language.Kind.eq N.Language.from_raw self.now.raw.kind self.now.raw.range.start.0 self.now.raw.range.end.0) root.now)) result }
+    {
+        self.try_to_node(alloc, root)?.ok_or(CursorError::NotFound)
+    }
+
+    /// The same, with `None` in place of `NotFound`.
+    pub fn try_to_node(
+        &self,
+        alloc: Global,
+        root: &SyntaxNode<N::Language>,
+    ) -> Result<Option<N>, AllocError>
+        ensures { IfOk result (λ r. option_map N.place r ≡ taken (can N.Language.from_raw N.casts) (found_in (is_at N.Language.Kind.eq N.Language.from_raw self.now.raw.kind self.now.raw.range.start.0 self.now.raw.range.end.0) root.now)) }
+    {
+        match self.raw.try_to_node(alloc, root)? {
+            Some(node) => Ok(N::cast(node)),
+            None => Ok(None),
+        }
+    }
+
+    /// The kind and the range alone.
+    pub fn syntax_node_ptr(&self) -> SyntaxNodePtr<N::Language>
+        ensures { result ≡ self.now.raw }
+    {
+        SyntaxNodePtr {
+            kind: self.raw.kind,
+            range: self.raw.range,
+        }
+    }
+
+    /// The same pointer, read as another type, where its kind can be cast to that.
+    pub fn cast<U: AstNode<Language = N::Language>>(self) -> Option<AstPtr<U>>
+        ensures casts { IsSome result ↔ (U.casts self.raw.kind ≡ true) }
+        ensures same { IfSome result (λ p. p.raw ≡ self.raw) }
+    {
+        let SyntaxNodePtr { kind, range } = self.raw;
+        if U::can_cast(kind) {
+            return Some(AstPtr {
+                raw: SyntaxNodePtr { kind, range },
+                node: PhantomData,
+            });
+        }
+        None
+    }
+}

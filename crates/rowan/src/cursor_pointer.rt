@@ -1,0 +1,60 @@
+//! The search for a node by its range: only below nodes whose ranges contain it.
+ghost use Rattle.std.specs.Prelude.{◌≡◌, ◌&&◌, ◌≤◌, nat_le, None, cond, IfOk, IfSome, Some};
+ghost use Rattle.std.specs.List.{filter};
+ghost use Rattle.std.specs.Option.{option_copied};
+ghost use Rattle.rowan_green.specs.Either.{node_part};
+ghost use Rattle.rowan_green.specs.declared.utility_types.NodeOrToken.TheVariants.{Node};
+ghost use Rattle.rowan.specs.Place.{below, start_of, index_of};
+ghost use Rattle.rowan.specs.Around.{children_from, cursor_at, nodes, first};
+ghost use Rattle.rowan.specs.Pointer.{spans};
+
+use crate::cursor::SyntaxNode;
+use rowan_green::{GreenElement, GreenNode, TextRange};
+use std::alloc::{AllocError, Global};
+
+impl SyntaxNode {
+    /// The first node among the children from a number on, which begin at this offset, whose range
+    /// contains this one.
+    pub fn node_spanning(
+        &self,
+        alloc: Global,
+        from: usize,
+        offset: u32,
+        range: TextRange,
+    ) -> Result<Option<SyntaxNode>, AllocError>
+        requires { offset ≡ start_of (below self.now from) }
+        ensures ok { IfOk result (λ r. r ≡ first (filter (spans range.start.0 range.end.0) (nodes (children_from self.now from)))) }
+        ensures child { IfOk result (λ r. IfSome r (λ q. Some (Node q) ≡ cursor_at (below self.now (index_of q)))) }
+        ensures behind { IfOk result (λ r. IfSome r (λ q. from ≤ index_of q)) }
+    {
+        let green = self.green();
+        let count = green.children().len();
+        prove!(self.start() <= u32::MAX);
+        let mut offset = offset;
+        let mut index = from;
+        while index < count {
+            let Some(child) = green.child(index) else {
+                return Ok(None);
+            };
+            let child_end = offset + child.text_len().0;
+            if let Some(node) = spanning(child, offset, child_end, range) {
+                let child = self.child_node(alloc, index as u32, offset, node.clone()?)?;
+                return Ok(Some(child));
+            }
+            offset = child_end;
+            index += 1;
+        }
+        Ok(None)
+    }
+}
+
+/// The node of an element, if it is one and the bytes from `start` to just before `end` contain the
+/// range.
+fn spanning(element: &GreenElement, start: u32, end: u32, range: TextRange) -> Option<&GreenNode>
+    ensures { option_copied result ≡ cond (nat_le start range.start.0 && nat_le range.end.0 end) (node_part element.now) None }
+{
+    if start <= range.start.0 && range.end.0 <= end {
+        return element.as_node();
+    }
+    None
+}
