@@ -1,2 +1,4 @@
 pub mod Texts
 pub mod Balance
+pub mod Unwound
+pub mod Trees

@@ -1,7 +1,12 @@
 //! What a parser's steps make of a text: forests over the parser's input, and how they are dressed with the text's own
 //! leaves, white space, comments and messages.
-//!
-//! So far the crate holds the definitions and their law; markers, steps and the sink come with the parser.
 #![tactic(auto)]
 
+mod event;
 pub mod laws;
+pub mod message;
+pub mod output;
+pub mod parser;
+mod recorder;
+pub mod step;
+mod unwinding;
