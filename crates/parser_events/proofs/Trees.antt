@@ -3,7 +3,7 @@ use Rattle.std.proofs.Common.{◌≡◌, ℕ, suc, ◌+◌, ◌-◌, Bool, List,
 use Rattle.std.proofs.lemmas.List.{get_or_at, take_at}
 use Rattle.parser_events.specs.Marked.{Marked, End, Leaf, Said, Node, Split, ◌beside◌}
 use Rattle.parser_events.specs.Nodes as nodes
-use Rattle.parser_events.specs.Nodes.{Entry, Kept, entries, size, all_entries, starts, Holds, Adds, Opens, Closes, Leaves, Splits, Wraps, IsAt, Becomes, with_entry, opened_at, opened_here, innermost, left_out, closed_as, split_as}
+use Rattle.parser_events.specs.Nodes.{Entry, Kept, entries, size, all_entries, starts, Holds, Adds, Opens, Closes, Leaves, Splits, Wraps, Child, IsAt, Becomes, with_entry, opened_at, opened_here, innermost, left_out, closed_as, split_as}
 use Rattle.parser_events.proofs.Unwound.{entries-length}
 
 -- entries of the same trees at an equal place
@@ -132,7 +132,12 @@ wraps-by place (Some k) (Some n) h = record {
   );
 }
 
--- the place of a node that was closed is behind the trees that stood before it
-pub place-of : (old : Option Kept) (place : ℕ) → ((kept : Kept) → old ≡ Some kept → place ≡ innermost kept) → IsAt old place
-place-of None place h = record { at = λ f g below holds. tt }
-place-of (Some k) place h = record { at = λ f g below holds. h k refl ∙ last-of k.opened (starts (g ∷ below)) (length (all_entries (g ∷ below))) holds.1 }
+-- a node that is closed begins behind the trees that stood before it, and its own entry is the next one
+pub place-of : (old : Option Kept) (child : Child) → ((kept : Kept) → old ≡ Some kept → child.first ≡ innermost kept) → ((kept : Kept) → old ≡ Some kept → child.last ≡ length kept.entered) → IsAt old child
+place-of None child first last = record { at = λ f g below holds. tt }
+place-of (Some k) child first last = record {
+  at = λ f g below holds. (
+    first k refl ∙ last-of k.opened (starts (g ∷ below)) (length (all_entries (g ∷ below))) holds.1,
+    last k refl ∙ ap (λ (l : List Entry). length l) holds.0,
+  );
+}

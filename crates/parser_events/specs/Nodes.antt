@@ -80,9 +80,31 @@ abbrev pub Unrefused : Option Kept → Type 0 → Type 0
 Unrefused None claim = Unit {0}
 Unrefused (Some kept) claim = claim
 
--- The innermost node begins at this place: behind what the node around it has.
-pub record IsAt (old : Option Kept) (place : ℕ) : Type 0 where
-  pub at : (f before : Marked) (below : List Marked) → Holds old (f ∷ before ∷ below) → Unrefused old (place ≡ length (all_entries (before ∷ below)))
+-- the numbers of the first and the last entry of a node
+pub record Child : Type 0 where
+  pub first : ℕ
+  pub last : ℕ
+
+-- These are the entries of the innermost node, once it is closed: they begin behind what the node around it has.
+pub record IsAt (old : Option Kept) (child : Child) : Type 0 where
+  pub at : (f before : Marked) (below : List Marked) → Holds old (f ∷ before ∷ below) →
+      Unrefused old ((child.first ≡ length (all_entries (before ∷ below))) × (child.last ≡ length (all_entries (f ∷ before ∷ below))))
+
+-- The closed node is one of the trees of the innermost open node, or of those outside of all nodes where none is open: it
+-- has trees of that node in front of it and behind it.
+pub record IsAmong (child : Child) (trees : List Marked) : Type 0 where
+  pub front : Marked
+  pub kind : ℕ
+  pub children : Marked
+  pub after : Marked
+  pub below : List Marked
+  pub are : trees ≡ (front beside Node kind children after) ∷ below
+  pub first : child.first ≡ length (all_entries (front ∷ below))
+  pub last : child.last ≡ length (all_entries (children ∷ front ∷ below))
+
+-- Where a growth was refused nothing is asked.
+abbrev pub IsChild : Child → Option Kept → Type 0
+IsChild child nodes = Unrefused nodes ((trees : List Marked) × (Holds nodes trees × IsAmong child trees))
 
 -- what is kept becomes this, or a growth is refused; what was refused stays refused
 abbrev pub Becomes : (Kept → Kept) → Option Kept → Option Kept → Type 0

@@ -5,7 +5,7 @@ ghost use Rattle.parser_input.specs.Kind.{raw_of};
 ghost use Rattle.parser_input.specs.Kinds as kinds;
 ghost use Rattle.parser_input.specs.Recorded.{token_at};
 ghost use Rattle.parser_events.specs.Marked.{Marked, End, Leaf, Said, walk};
-ghost use Rattle.parser_events.specs.Nodes.{Holds, Adds, Opens, Closes, Leaves, Splits, IsAt};
+ghost use Rattle.parser_events.specs.Nodes.{Holds, Adds, Opens, Closes, Leaves, Splits, Wraps, IsAt, IsChild};
 ghost use Rattle.parser_events.specs.Seen.{message_of};
 ghost use Rattle.parser_events.specs.View.{View, Mark, Parsed, IsInnermost, IsClosed};
 
@@ -208,9 +208,10 @@ impl Marker {
         ensures refused { p.old.nodes ≡ None → p.new.nodes ≡ None }
     {
         let Marker { outside, inside: _ } = self;
-        let place = p.recorder.complete(kind);
+        let last = p.recorder.len();
+        let first = p.recorder.complete(kind);
         p.level = outside;
-        CompletedMarker { place }
+        CompletedMarker { first, last }
     }
 
     /// Leaves the node out, which must be the innermost open one: what it has goes to the node around it.
@@ -227,17 +228,39 @@ impl Marker {
     }
 }
 
-/// A node that was closed.
+/// A node that was closed. It may be dropped.
 #[derive(Drop)]
 pub struct CompletedMarker {
-    /// The number of the entry at which it begins.
-    place: usize,
+    /// The number of the first entry that stands for the node and what it holds.
+    first: usize,
+    /// The number of the last one, the node's own.
+    last: usize,
 }
 
 impl Model for CompletedMarker {
-    ghost use Rattle.std.specs.Prelude.{ℕ};
+    ghost use Rattle.parser_events.specs.Nodes.{Child};
 
-    ghost Value = { ℕ };
+    ghost Value = { Child };
 
-    ghost view = { λ c. c.place };
+    ghost view = { λ c. record { first = c.first; last = c.last } };
+}
+
+impl CompletedMarker {
+    /// Opens a node around this one and all that stands behind it in the innermost open node, of which it must be a child.
+    pub fn precede(self, p: &mut Parser<'_>) -> Marker
+        requires { IsChild self p.old.nodes }
+        ensures wraps { Wraps self.first p.old.nodes p.new.nodes }
+        ensures marker { result ≡ record { outside = p.old.level; inside = p.new.level } }
+        ensures level { p.new.level ≡ min (p.old.level + 1) (2 ^ 64 - 1) }
+        ensures same { p.new ≡ record p.old { nodes = p.new.nodes; level = p.new.level } }
+        ensures refused { p.old.nodes ≡ None → p.new.nodes ≡ None }
+    {
+        let outside = p.level;
+        p.recorder.start_at(self.first);
+        p.level = outside.saturating_add(1);
+        Marker {
+            outside,
+            inside: p.level,
+        }
+    }
 }

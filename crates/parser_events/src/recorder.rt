@@ -88,6 +88,13 @@ impl Recorder {
         self.open_nodes.pop().unwrap_or(0)
     }
 
+    /// How many entries there are.
+    pub(crate) fn len(&self) -> usize
+        ensures { (kept : Kept) → self.now ≡ Some kept → result ≡ length kept.entered }
+    {
+        self.events.len()
+    }
+
     /// Closes the innermost open node, and gives the place where it begins.
     pub(crate) fn complete(&mut self, kind: SyntaxKind) -> usize
         ensures place { (kept : Kept) → self.old ≡ Some kept → result ≡ innermost kept }

@@ -8,4 +8,4 @@ use Rattle.parser_events.proofs.parser.Marker.complete.Goals as goal
 
 pub returns-clause-closes : goal.returns-clause-closes
 returns-clause-closes c =
-    subst (λ (old : Option Kept). Closes (raw_of c.args.kind) old c.complete-place.new.self) (ap (λ (v : View). v.nodes) c.p.view_is) (closes-by _ _ _ c.complete-place.ensures.closed)
+    subst (λ (old : Option Kept). Closes (raw_of c.args.kind) old c.complete-first.new.self) (ap (λ (v : View). v.nodes) c.p.view_is) (closes-by _ _ _ c.complete-first.ensures.closed)
