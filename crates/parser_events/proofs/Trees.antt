@@ -3,7 +3,7 @@ use Rattle.std.proofs.Common.{◌≡◌, ℕ, suc, ◌+◌, ◌-◌, Bool, List,
 use Rattle.std.proofs.lemmas.List.{get_or_at, take_at}
 use Rattle.parser_events.specs.Marked.{Marked, End, Leaf, Said, Node, Split, ◌beside◌}
 use Rattle.parser_events.specs.Nodes as nodes
-use Rattle.parser_events.specs.Nodes.{Entry, Kept, entries, size, all_entries, starts, Holds, Adds, Opens, Closes, Leaves, Splits, Wraps, Child, IsAt, Becomes, with_entry, opened_at, opened_here, innermost, left_out, closed_as, split_as}
+use Rattle.parser_events.specs.Nodes.{Entry, Kept, entries, size, all_entries, starts, Holds, Adds, Opens, Closes, Leaves, Splits, Wraps, Child, IsAt, IsAmong, IsChild, Becomes, with_entry, opened_at, opened_here, innermost, left_out, closed_as, split_as}
 use Rattle.parser_events.proofs.Unwound.{entries-length}
 
 -- entries of the same trees at an equal place
@@ -141,3 +141,25 @@ place-of (Some k) child first last = record {
     last k refl ∙ ap (λ (l : List Entry). length l) holds.0,
   );
 }
+
+-- the node that was closed just now is a child of the innermost one
+pub just-closed : (kind : ℕ) (old new : Option Kept) (child : Child) (f before : Marked) (below : List Marked) →
+    IsAt old child → Closes kind old new → (old ≡ None → new ≡ None) → Holds old (f ∷ before ∷ below) → IsChild child new
+just-closed kind old None child f before below at closed refused holds = tt
+just-closed kind None (Some n) child f before below at closed refused holds = absurd (let e = refused refl in cc)
+just-closed kind (Some o) (Some n) child f before below at closed refused holds = (
+  (before beside Node kind f End) ∷ below,
+  (
+    closed.at f before below holds,
+    record {
+      front = before;
+      kind = kind;
+      children = f;
+      after = End;
+      below = below;
+      are = refl;
+      first = (at.at f before below holds).0;
+      last = (at.at f before below holds).1;
+    },
+  ),
+)

@@ -9,4 +9,6 @@ pub mod output;
 pub mod parser;
 mod recorder;
 pub mod step;
+#[cfg(test)]
+mod tests;
 mod unwinding;
