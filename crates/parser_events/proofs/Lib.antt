@@ -2,3 +2,4 @@ pub mod Texts
 pub mod Balance
 pub mod Unwound
 pub mod Trees
+pub mod Forests

@@ -1,6 +1,6 @@
 //! Laws of the definitions. Each is the contract of a function that makes no call.
 
-ghost use Rattle.parser_events.specs.Laws.{TextIsKept, StepsAreBalanced, WalksAreBalanced, MarksKeepSteps};
+ghost use Rattle.parser_events.specs.Laws.{TextIsKept, StepsAreBalanced, WalksAreBalanced, MarksKeepSteps, MarksStandBeside};
 
 /// The leaves of a dressed tree, joined, are the text that it was dressed with, whatever the forest is.
 pub fn text_is_kept()
@@ -20,4 +20,9 @@ pub fn walks_are_balanced()
 /// A forest and what a parser's calls make of it have the same steps.
 pub fn marks_keep_steps()
     ensures { MarksKeepSteps }
+{}
+
+/// Forests side by side are marked side by side.
+pub fn marks_stand_beside()
+    ensures { MarksStandBeside }
 {}
