@@ -1,1 +1,5 @@
 pub mod Texts
+pub mod Balance
+pub mod Unwound
+pub mod Trees
+pub mod Forests

@@ -2,4 +2,10 @@ pub mod Forest
 pub mod Dressed
 pub mod Trivia
 pub mod Dress
+pub mod Steps
+pub mod Marked
+pub mod Nodes
+pub mod Unwinding
+pub mod Seen
+pub mod View
 pub mod Laws

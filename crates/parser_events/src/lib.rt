@@ -1,7 +1,17 @@
-//! What a parser's steps make of a text: forests over the parser's input, and how they are dressed with the text's own
-//! leaves, white space, comments and messages.
+//! The calls by which a grammar marks its nodes, and the steps of the trees that they make.
 //!
-//! So far the crate holds the definitions and their law; markers, steps and the sink come with the parser.
+//! A [`parser::Parser`] reads an input and records trees; a [`parser::Marker`] is a node that is open and must be spent.
+//! [`parser::Parser::finish`] gives an [`output::Output`], whose steps enter and leave the nodes in order. The definitions
+//! also say how a forest is dressed with a text's own leaves, white space, comments and messages.
 #![tactic(auto)]
 
+mod event;
 pub mod laws;
+pub mod message;
+pub mod output;
+pub mod parser;
+mod recorder;
+pub mod step;
+#[cfg(test)]
+mod tests;
+mod unwinding;

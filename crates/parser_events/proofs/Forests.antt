@@ -1,0 +1,30 @@
+-- A forest by calls: trees side by side stay side by side.
+use Rattle.std.proofs.Common.{◌≡◌, true, false, refl, ap}
+use Rattle.parser_input.specs.Kinds.{ERROR, FIELD_EXPR}
+use Rattle.parser_events.specs.Forest as forest
+use Rattle.parser_events.specs.Forest.{Forest, ◌then◌}
+use Rattle.parser_events.specs.Marked.{Marked, End, Leaf, Said, Node, Split, ◌beside◌, marked}
+
+pub beside-end : (f : Marked) → f beside End ≡ f
+beside-end End = refl
+beside-end (Leaf k n f) = ap (Leaf k n) (beside-end f)
+beside-end (Said m f) = ap (Said m) (beside-end f)
+beside-end (Node k c f) = ap (Node k c) (beside-end f)
+beside-end (Split e c f) = ap (Split e c) (beside-end f)
+
+pub beside_assoc : (f g h : Marked) → (f beside g) beside h ≡ f beside (g beside h)
+beside_assoc End g h = refl
+beside_assoc (Leaf k n f) g h = ap (Leaf k n) (beside_assoc f g h)
+beside_assoc (Said m f) g h = ap (Said m) (beside_assoc f g h)
+beside_assoc (Node k c f) g h = ap (Node k c) (beside_assoc f g h)
+beside_assoc (Split e c f) g h = ap (Split e c) (beside_assoc f g h)
+
+pub marked-then : (f g : Forest) → marked (f then g) ≡ marked f beside marked g
+unfolding marked
+marked-then forest.End g = refl
+marked-then (forest.Leaf k n f) g = ap (Leaf k n) (marked-then f g)
+marked-then (forest.Said m f) g = ap (Said m) (marked-then f g)
+marked-then (forest.ErrorLeaf m k f) g = ap (Node ERROR (Said m (Leaf k 1 End))) (marked-then f g)
+marked-then (forest.Node k c f) g = ap (Node k (marked c)) (marked-then f g)
+marked-then (forest.Float true c f) g = ap (Split true (marked c)) (marked-then f g)
+marked-then (forest.Float false c f) g = ap (Node FIELD_EXPR (Split false (marked c) End)) (marked-then f g)

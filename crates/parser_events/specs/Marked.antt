@@ -1,0 +1,45 @@
+-- What a parser's calls make: trees over the tokens of its input, as they are while nodes are still open.
+use Rattle.std.specs.Prelude.{ℕ, Bool, List, [], ◌∷◌, ◌++◌, if◌then◌else◌}
+use Rattle.parser_input.specs.Kinds.{ERROR, FIELD_EXPR}
+use Rattle.parser_events.specs.Forest as forest
+use Rattle.parser_events.specs.Forest.{Forest, Message}
+use Rattle.parser_events.specs.Steps.{Step, Token, FloatSplit, Enter, Exit, Error}
+
+-- Trees side by side: nothing, or one tree and those behind it. A split is the trees of a field access with the float
+-- that ends it; what the float has behind its first dot stands beside the access, not in it.
+pub data Marked : Type 0 where
+  End : Marked
+  Leaf : (kind count : ℕ) → Marked → Marked
+  Said : (message : Message) → Marked → Marked
+  Node : (kind : ℕ) → (children : Marked) → Marked → Marked
+  Split : (ends_in_dot : Bool) → (receiver : Marked) → Marked → Marked
+
+-- the trees of the first, then those of the second
+infixr 50 ◌beside◌
+abbrev pub ◌beside◌ : Marked → Marked → Marked
+End beside g = g
+(Leaf k n f) beside g = Leaf k n (f beside g)
+(Said m f) beside g = Said m (f beside g)
+(Node k c f) beside g = Node k c (f beside g)
+(Split e c f) beside g = Split e c (f beside g)
+
+-- the steps of marked trees
+unfoldable pub walk : Marked → List Step
+walk End = []
+walk (Leaf kind count f) = Token kind count ∷ walk f
+walk (Said message f) = Error message ∷ walk f
+walk (Node kind children f) = Enter kind ∷ (walk children ++ Exit ∷ walk f)
+walk (Split ends_in_dot receiver f) = Enter FIELD_EXPR ∷ (walk receiver ++ FloatSplit ends_in_dot ∷ walk f)
+
+-- A forest by calls: an error leaf is a node with a message and a leaf, and a float that does not end in a dot is a split
+-- alone in a field access.
+unfoldable pub marked : Forest → Marked
+marked forest.End = End
+marked (forest.Leaf kind count f) = Leaf kind count (marked f)
+marked (forest.Said message f) = Said message (marked f)
+marked (forest.ErrorLeaf message kind f) = Node ERROR (Said message (Leaf kind 1 End)) (marked f)
+marked (forest.Node kind children f) = Node kind (marked children) (marked f)
+marked (forest.Float ends_in_dot receiver f) =
+    let one = Split ends_in_dot (marked receiver) (marked f) in
+    let two = Node FIELD_EXPR (Split ends_in_dot (marked receiver) End) (marked f) in
+    if ends_in_dot then one else two

@@ -1,0 +1,81 @@
+//! What a parser gives: the steps of its trees.
+
+ghost use Rattle.std.specs.Prelude.{◌≡◌, map, reverse};
+ghost use Rattle.std.specs.Iterator.{YieldsFirst, item_count};
+ghost use Rattle.parser_events.specs.Seen.{step_of};
+ghost use Rattle.parser_events.specs.View.{Parsed};
+
+use crate::step::Step;
+use std::marker::Model;
+
+/// The steps of a parser's trees, and how many looks the parser made.
+#[derive(Drop)]
+pub struct Output {
+    /// The last one first.
+    steps: Vec<Step>,
+    looks: u64,
+}
+
+impl Model for Output {
+    ghost use Rattle.std.specs.Prelude.{map, reverse};
+    ghost use Rattle.parser_events.specs.View.{Parsed};
+
+    ghost Value = { Parsed };
+
+    ghost use Rattle.parser_events.specs.Seen.{step_of};
+
+    ghost view = { λ o. record { steps = map step_of (reverse o.steps.items); looks = o.looks } };
+}
+
+impl Output {
+    /// The steps that are given here last one first, after so many looks.
+    pub(crate) fn from_backwards(steps: Vec<Step>, looks: u64) -> Output
+        ensures { result ≡ record { steps = map step_of (reverse steps.items); looks = looks } }
+    {
+        Output { steps, looks }
+    }
+
+    /// The steps of the trees, in order.
+    pub fn iter(&self) -> Steps<'_>
+        ensures { map step_of result ≡ self.now.steps }
+    {
+        Steps { rest: &self.steps }
+    }
+
+    /// How many looks at kinds of the input were made. It stays at 2^64 - 1.
+    pub fn steps(&self) -> u64
+        ensures { result ≡ self.now.looks }
+    {
+        self.looks
+    }
+}
+
+/// The steps of an output that are left. Contracts see it as the list of them.
+#[derive(Drop)]
+pub struct Steps<'a> {
+    /// The last one first.
+    rest: &'a [Step],
+}
+
+impl<'a> Model for Steps<'a> {
+    ghost use Rattle.std.specs.Prelude.{List, reverse};
+    ghost use Rattle.parser_events.specs.declared.step.Step.{Step};
+
+    ghost Value = { List Step };
+
+    ghost view = { λ s. reverse s.rest.now };
+}
+
+impl<'a> Iterator for Steps<'a> {
+    type Item = Step;
+
+    ghost next_gives = { YieldsFirst (λ s. s) };
+
+    ghost remaining = { item_count (λ s. s) };
+
+    fn next(&mut self) -> Option<Step> {
+        let (step, rest) = self.rest.split_last()?;
+        self.rest = rest;
+        Some(*step)
+    }
+}

@@ -1,0 +1,266 @@
+//! The calls by which a grammar reads its input and marks its nodes.
+
+ghost use Rattle.std.specs.Prelude.{◌≡◌, ◌+◌, ◌-◌, ◌^◌, ◌<◌, ◌≤◌, ◌↔◌, ◌∷◌, [], true, length, min, Some, None, IfOk, IsErr};
+ghost use Rattle.parser_input.specs.Kind.{raw_of};
+ghost use Rattle.parser_input.specs.Kinds as kinds;
+ghost use Rattle.parser_input.specs.Recorded.{token_at};
+ghost use Rattle.parser_events.specs.Marked.{Marked, End, Leaf, Said, walk};
+ghost use Rattle.parser_events.specs.Nodes.{Holds, Adds, Opens, Closes, Leaves, Splits, Wraps, IsAt, IsChild};
+ghost use Rattle.parser_events.specs.Seen.{message_of};
+ghost use Rattle.parser_events.specs.View.{View, Mark, Parsed, IsInnermost, IsClosed};
+
+use crate::event::Event;
+use crate::message::Message;
+use crate::output::Output;
+use crate::recorder::Recorder;
+use parser_input::input::Input;
+use parser_input::syntax_kind::SyntaxKind;
+use std::alloc::{AllocError, Global};
+use std::marker::Model;
+
+/// A walk over an input, and the trees that are made of it on the way. Once a growth is refused, nothing more is
+/// recorded, and [`Parser::finish`] answers that; all else goes on as before.
+#[derive(Drop)]
+pub struct Parser<'t> {
+    input: &'t Input,
+    /// How many tokens were not taken.
+    left: usize,
+    looks: u64,
+    /// How many nodes are open.
+    level: usize,
+    recorder: Recorder,
+}
+
+impl<'t> Model for Parser<'t> {
+    ghost use Rattle.std.specs.Prelude.{◌-◌, ◌≤◌, length};
+    ghost use Rattle.parser_events.specs.View.{View};
+
+    ghost Value = { View };
+
+    ghost view = { λ p. record { input = p.input.now; position = length p.input.now - p.left; nodes = p.recorder; level = p.level; looks = p.looks } };
+
+    ghost invariant = { λ p. p.left ≤ length p.input.now };
+}
+
+impl<'t> Parser<'t> {
+    /// A parser at the front of an input.
+    pub fn new(alloc: Global, input: &'t Input) -> Parser<'t>
+        ensures input { result.input ≡ input.now }
+        ensures position { result.position ≡ 0 }
+        ensures nodes { Holds result.nodes (End ∷ []) }
+        ensures level { result.level ≡ 0 }
+        ensures looks { result.looks ≡ 0 }
+    {
+        Parser {
+            input,
+            left: input.len(),
+            looks: 0,
+            level: 0,
+            recorder: Recorder::new(alloc),
+        }
+    }
+
+    /// How many tokens of the input were taken.
+    pub fn position(&self) -> usize
+        ensures { result ≡ self.now.position }
+    {
+        self.input.len() - self.left
+    }
+
+    /// The kind of the token so far ahead; `EOF` past the end. This is one look.
+    pub fn kind_at(&mut self, n: usize) -> SyntaxKind
+        ensures kind { raw_of result ≡ (token_at self.old.input (self.old.position + n)).kind }
+        ensures same { self.new ≡ record self.old { looks = min (self.old.looks + 1) (2 ^ 64 - 1) } }
+    {
+        self.looks = self.looks.saturating_add(1);
+        if n < self.left {
+            return self.input.kind(self.input.len() - self.left + n);
+        }
+        SyntaxKind::EOF
+    }
+
+    /// Adds a leaf over the next tokens.
+    pub fn token(&mut self, kind: SyntaxKind, n: u8)
+        requires some { 1 ≤ n }
+        requires left { self.old.position + n ≤ length self.old.input }
+        ensures adds { Adds (Leaf (raw_of kind) n End) self.old.nodes self.new.nodes }
+        ensures same { self.new ≡ record self.old { position = self.old.position + n; nodes = self.new.nodes } }
+        ensures refused { self.old.nodes ≡ None → self.new.nodes ≡ None }
+    {
+        self.recorder.record(Event::Token {
+            kind,
+            n_input_tokens: n,
+        });
+        self.left -= usize::from(n);
+    }
+
+    /// Adds a message.
+    pub fn error(&mut self, msg: Message)
+        ensures adds { Adds (Said (message_of msg) End) self.old.nodes self.new.nodes }
+        ensures same { self.new ≡ record self.old { nodes = self.new.nodes } }
+        ensures refused { self.old.nodes ≡ None → self.new.nodes ≡ None }
+    {
+        self.recorder.record(Event::Error { msg });
+    }
+
+    /// The kind that the word of the identifier so far ahead has as a contextual keyword, or `IDENT`; `EOF` at any other
+    /// token and past the end. This is no look.
+    pub fn contextual_at(&self, n: usize) -> SyntaxKind
+        ensures { raw_of result ≡ (token_at self.now.input (self.now.position + n)).contextual }
+    {
+        if n < self.left {
+            return self.input.contextual_kind(self.input.len() - self.left + n);
+        }
+        SyntaxKind::EOF
+    }
+
+    /// Whether the token so far ahead touches the next one. No past the end. This is no look.
+    pub fn joint_at(&self, n: usize) -> bool
+        ensures { result ≡ (token_at self.now.input (self.now.position + n)).joint }
+    {
+        if n < self.left {
+            return self.input.is_joint(self.input.len() - self.left + n);
+        }
+        false
+    }
+
+    /// Opens a node in the innermost open one.
+    pub fn start(&mut self) -> Marker
+        ensures opens { Opens self.old.nodes self.new.nodes }
+        ensures marker { result ≡ record { outside = self.old.level; inside = self.new.level } }
+        ensures level { self.new.level ≡ min (self.old.level + 1) (2 ^ 64 - 1) }
+        ensures same { self.new ≡ record self.old { nodes = self.new.nodes; level = self.new.level } }
+        ensures refused { self.old.nodes ≡ None → self.new.nodes ≡ None }
+    {
+        let outside = self.level;
+        self.recorder.start();
+        self.level = outside.saturating_add(1);
+        Marker {
+            outside,
+            inside: self.level,
+        }
+    }
+
+    /// Whether the marker's node is the innermost open one. Yes once a growth was refused.
+    pub fn is_innermost(&self, marker: &Marker) -> bool
+        ensures { (result ≡ true) ↔ IsInnermost marker.now self.now }
+    {
+        self.recorder.is_refused() || self.level == marker.inside
+    }
+
+    /// Closes the marker's node as a field access by the float that is next, and opens a node around it. The marker's node
+    /// must be the innermost open one.
+    pub fn split_float(&mut self, marker: Marker, ends_in_dot: bool) -> Marker
+        requires innermost { IsInnermost marker self.old }
+        requires float { (token_at self.old.input self.old.position).kind ≡ kinds.FLOAT_NUMBER }
+        ensures splits { Splits ends_in_dot self.old.nodes self.new.nodes }
+        ensures marker { result ≡ marker }
+        ensures same { self.new ≡ record self.old { position = self.old.position + 1; nodes = self.new.nodes } }
+        ensures refused { self.old.nodes ≡ None → self.new.nodes ≡ None }
+    {
+        self.recorder.split(ends_in_dot);
+        self.left -= 1;
+        marker
+    }
+
+    /// The steps of the trees. No node may be open. A growth that was refused before is answered here, and so is one that
+    /// is refused now.
+    pub fn finish(self) -> Result<Output, AllocError>
+        requires { IsClosed self }
+        ensures steps { IfOk result (λ output. (trees : Marked) → Holds self.entry.nodes (trees ∷ []) → output.steps ≡ walk trees) }
+        ensures looks { IfOk result (λ output. output.looks ≡ self.entry.looks) }
+        ensures refused { self.entry.nodes ≡ None → IsErr result }
+    {
+        let Parser {
+            input: _,
+            left: _,
+            looks,
+            level: _,
+            recorder,
+        } = self;
+        let steps = recorder.steps_backwards()?;
+        Ok(Output::from_backwards(steps, looks))
+    }
+}
+
+/// A node that is open. It must be spent, by [`Marker::complete`], [`Marker::abandon`] or [`Parser::split_float`].
+pub struct Marker {
+    outside: usize,
+    inside: usize,
+}
+
+impl Model for Marker {
+    ghost use Rattle.parser_events.specs.View.{Mark};
+
+    ghost Value = { Mark };
+
+    ghost view = { λ m. record { outside = m.outside; inside = m.inside } };
+}
+
+impl Marker {
+    /// Closes the node, which must be the innermost open one, as one of this kind.
+    pub fn complete(self, p: &mut Parser<'_>, kind: SyntaxKind) -> CompletedMarker
+        requires { IsInnermost self p.old }
+        ensures closes { Closes (raw_of kind) p.old.nodes p.new.nodes }
+        ensures place { IsAt p.old.nodes result }
+        ensures level { p.new.level ≡ self.outside }
+        ensures same { p.new ≡ record p.old { nodes = p.new.nodes; level = p.new.level } }
+        ensures refused { p.old.nodes ≡ None → p.new.nodes ≡ None }
+    {
+        let Marker { outside, inside: _ } = self;
+        let last = p.recorder.len();
+        let first = p.recorder.complete(kind);
+        p.level = outside;
+        CompletedMarker { first, last }
+    }
+
+    /// Leaves the node out, which must be the innermost open one: what it has goes to the node around it.
+    pub fn abandon(self, p: &mut Parser<'_>)
+        requires { IsInnermost self p.old }
+        ensures leaves { Leaves p.old.nodes p.new.nodes }
+        ensures level { p.new.level ≡ self.outside }
+        ensures same { p.new ≡ record p.old { nodes = p.new.nodes; level = p.new.level } }
+        ensures refused { p.old.nodes ≡ None → p.new.nodes ≡ None }
+    {
+        let Marker { outside, inside: _ } = self;
+        p.recorder.abandon();
+        p.level = outside;
+    }
+}
+
+/// A node that was closed. It may be dropped.
+#[derive(Drop)]
+pub struct CompletedMarker {
+    /// The number of the first entry that stands for the node and what it holds.
+    first: usize,
+    /// The number of the last one, the node's own.
+    last: usize,
+}
+
+impl Model for CompletedMarker {
+    ghost use Rattle.parser_events.specs.Nodes.{Child};
+
+    ghost Value = { Child };
+
+    ghost view = { λ c. record { first = c.first; last = c.last } };
+}
+
+impl CompletedMarker {
+    /// Opens a node around this one and all that stands behind it in the innermost open node, of which it must be a child.
+    pub fn precede(self, p: &mut Parser<'_>) -> Marker
+        requires { IsChild self p.old.nodes }
+        ensures wraps { Wraps self.first p.old.nodes p.new.nodes }
+        ensures marker { result ≡ record { outside = p.old.level; inside = p.new.level } }
+        ensures level { p.new.level ≡ min (p.old.level + 1) (2 ^ 64 - 1) }
+        ensures same { p.new ≡ record p.old { nodes = p.new.nodes; level = p.new.level } }
+        ensures refused { p.old.nodes ≡ None → p.new.nodes ≡ None }
+    {
+        let outside = p.level;
+        p.recorder.start_at(self.first);
+        p.level = outside.saturating_add(1);
+        Marker {
+            outside,
+            inside: p.level,
+        }
+    }
+}

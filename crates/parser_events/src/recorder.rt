@@ -1,0 +1,126 @@
+//! The record of a parser: flat lists, in which nothing is written twice.
+
+ghost use Rattle.std.specs.Prelude.{◌≡◌, ◌↔◌, ◌∷◌, [], true, length, map, reverse, Some, None, IfOk, IsErr};
+ghost use Rattle.parser_events.specs.Marked.{Marked, walk};
+ghost use Rattle.parser_events.specs.Nodes.{Kept, Holds, Becomes, with_entry, opened_at, opened_here, innermost, left_out, closed_as, split_as};
+ghost use Rattle.parser_events.specs.Seen.{event_of, step_of};
+ghost use Rattle.parser_input.specs.Kind.{raw_of};
+
+use crate::event::Event;
+use crate::step::Step;
+use crate::unwinding::steps_backwards;
+use parser_input::syntax_kind::SyntaxKind;
+use std::alloc::{AllocError, Global};
+use std::marker::Model;
+
+/// What a parser recorded, until a growth is refused.
+#[derive(Drop)]
+pub(crate) struct Recorder {
+    alloc: Global,
+    events: Vec<Event>,
+    /// The number of the entry at which each open node begins, the innermost node's last.
+    open_nodes: Vec<usize>,
+    refused: bool,
+}
+
+impl Model for Recorder {
+    ghost use Rattle.std.specs.Prelude.{Option, Some, None, map, if◌then◌else◌};
+    ghost use Rattle.parser_events.specs.Nodes.{Kept};
+
+    ghost Value = { Option Kept };
+
+    ghost use Rattle.parser_events.specs.Seen.{event_of};
+
+    ghost view = { λ r. if r.refused then None else Some (record { entered = map event_of r.events.items; opened = r.open_nodes.items }) };
+}
+
+impl Recorder {
+    /// Nothing is recorded, and no node is open.
+    pub(crate) fn new(alloc: Global) -> Recorder
+        ensures { result ≡ Some (record { entered = []; opened = [] }) }
+    {
+        Recorder {
+            alloc,
+            events: Vec::new(alloc),
+            open_nodes: Vec::new(alloc),
+            refused: false,
+        }
+    }
+
+    /// Whether a growth was refused. From then on nothing is recorded.
+    pub(crate) fn is_refused(&self) -> bool
+        ensures { (result ≡ true) ↔ (self.now ≡ None) }
+    {
+        self.refused
+    }
+
+    /// Adds an entry.
+    pub(crate) fn record(&mut self, event: Event)
+        ensures { Becomes (with_entry (event_of event)) self.old self.new }
+    {
+        if !self.refused {
+            self.refused = self.events.push(event).is_err();
+        }
+    }
+
+    /// Opens a node that begins here.
+    pub(crate) fn start(&mut self)
+        ensures { Becomes opened_here self.old self.new }
+    {
+        let place = self.events.len();
+        self.start_at(place)
+    }
+
+    /// Opens a node that begins at an earlier entry.
+    pub(crate) fn start_at(&mut self, place: usize)
+        ensures { Becomes (opened_at place) self.old self.new }
+    {
+        if !self.refused {
+            self.refused = self.open_nodes.push(place).is_err();
+        }
+    }
+
+    /// Leaves out the innermost open node, and gives the place where it begins.
+    pub(crate) fn abandon(&mut self) -> usize
+        ensures place { (kept : Kept) → self.old ≡ Some kept → result ≡ innermost kept }
+        ensures left { Becomes left_out self.old self.new }
+    {
+        self.open_nodes.pop().unwrap_or(0)
+    }
+
+    /// How many entries there are.
+    pub(crate) fn len(&self) -> usize
+        ensures { (kept : Kept) → self.now ≡ Some kept → result ≡ length kept.entered }
+    {
+        self.events.len()
+    }
+
+    /// Closes the innermost open node, and gives the place where it begins.
+    pub(crate) fn complete(&mut self, kind: SyntaxKind) -> usize
+        ensures place { (kept : Kept) → self.old ≡ Some kept → result ≡ innermost kept }
+        ensures closed { Becomes (closed_as (raw_of kind)) self.old self.new }
+    {
+        let start = self.abandon();
+        self.record(Event::Close { kind, start });
+        start
+    }
+
+    /// Closes the innermost open node by a float, and opens one around it.
+    pub(crate) fn split(&mut self, ends_in_dot: bool)
+        ensures { Becomes (split_as ends_in_dot) self.old self.new }
+    {
+        let start = self.open_nodes.last().copied().unwrap_or(0);
+        self.record(Event::Split { ends_in_dot, start });
+    }
+
+    /// The steps of the recorded trees, the last one first.
+    pub(crate) fn steps_backwards(self) -> Result<Vec<Step>, AllocError>
+        ensures steps { IfOk result (λ steps. (f : Marked) → Holds self (f ∷ []) → map step_of (reverse steps.items) ≡ walk f) }
+        ensures refused { self ≡ None → IsErr result }
+    {
+        if self.refused {
+            return Err(AllocError);
+        }
+        steps_backwards(self.alloc, &self.events)
+    }
+}
