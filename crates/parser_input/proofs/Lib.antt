@@ -6,6 +6,7 @@ pub mod KindTable
 pub mod LeafKinds
 pub mod LeavesLaw
 pub mod LexedSteps
+pub mod LexedTexts
 pub mod Lines
 pub mod LiteralSteps
 pub mod PrefaceSteps

@@ -20,13 +20,13 @@ use Rattle.parser_input.proofs.LexedSteps.{placed-more, seen-leaf, seen-push}
 use Rattle.parser_input.proofs.Prefaces.{by-length, closing-suffix}
 
 -- the end of a text
-abbrev Suffix : List ℕ → List ℕ → Type 0
+abbrev pub Suffix : List ℕ → List ℕ → Type 0
 Suffix xs ys = (n : ℕ) × (xs ≡ drop n ys)
 
-suffix-of : (xs ys zs : List ℕ) → Suffix xs ys → Suffix ys zs → Suffix xs zs
+pub suffix-of : (xs ys zs : List ℕ) → Suffix xs ys → Suffix ys zs → Suffix xs zs
 suffix-of xs ys zs a b = (b.0 + a.0, a.1 ∙ ap (λ (l : List ℕ). drop a.0 l) b.1 ∙ drop-drop a.0 b.0 zs)
 
-behind-suffix : (t : List ℕ) → Suffix (behind_line t) t
+pub behind-suffix : (t : List ℕ) → Suffix (behind_line t) t
 unfolding behind_line
 behind-suffix [] = (0, refl)
 behind-suffix (c ∷ cs) =
@@ -39,7 +39,7 @@ behind-suffix (c ∷ cs) =
     ]
 
 -- a text has no frontmatter, a refused one, or one between two lines
-data Form (t : List ℕ) : Type 0 where
+pub data Form (t : List ℕ) : Type 0 where
   Bare : source t ≡ Ok (bare t) → Form t
   Refused : (e : FrontmatterError) → source t ≡ Err e → Form t
   Closed : (closing : List ℕ) → source t ≡ Ok (fenced t (opening_line t) closing) → Suffix closing (behind_line (opening_line t)) → Form t
@@ -48,7 +48,7 @@ enclosed-form : (t : List ℕ) (n : ℕ) (o : Option (List ℕ)) → closing_lin
 enclosed-form t n None e is = Refused (unclosed t n) is
 enclosed-form t n (Some closing) e is = Closed closing is (closing-suffix n true (behind_line (opening_line t)) closing e)
 
-form : (t : List ℕ) → Form t
+pub form : (t : List ℕ) → Form t
 unfolding source
 form t =
     let n = dashes (opening_line t) in

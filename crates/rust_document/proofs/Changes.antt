@@ -1,5 +1,5 @@
 -- What is put in lies within the new text.
-use Rattle.std.proofs.Common.{◌≡◌, ℕ, ◌+◌, ◌≤◌, [], length, arith, ap, ◌∙◌, subst, refl, length-append, Option, Some}
+use Rattle.std.proofs.Common.{◌≡◌, ◌+◌, ◌≤◌, [], length, arith, ap, ◌∙◌, subst, refl, length-append, Option, Some}
 use Rattle.rowan_green.specs.Forest.{Tree, tree_text}
 use Rattle.rowan_green.specs.Term.{Term, term_len}
 use Rattle.rowan_green.specs.declared.utility_types.NodeOrToken.TheVariants.{Node, Token}

@@ -1,9 +1,10 @@
 -- The leaves of a text, one by one.
-use Rattle.std.proofs.Common.{◌≡◌, ℕ, zero, suc, ◌<◌, ◌≤◌, Bool, true, false, ◌&&◌, ◌||◌, ◌==◌, List, [], ◌∷◌, ◌++◌, length, map, take, drop, refl, sym, ◌∙◌, ap, subst, arith, chars, unwrap_or, append-nil, slice_range, ◌-◌, Option, inl, inr}
+use Rattle.std.proofs.Common.{◌≡◌, ℕ, zero, suc, ◌<◌, ◌≤◌, Bool, true, false, ◌&&◌, ◌==◌, ◌+◌, get_or, List, [], ◌∷◌, ◌++◌, length, map, take, drop, refl, sym, ◌∙◌, ap, subst, arith, chars, unwrap_or, slice_range, ◌-◌, Option}
 use Rattle.std.specs.List.{list_all}
 use Rattle.std.specs.Str.{IsUtf8, bytes_eq}
+use Rattle.std.proofs.Math.Seq.{take-suc}
 use Rattle.std.proofs.Math.Utf8.{encodes}
-use Rattle.std.proofs.lemmas.Bool.{cases_Bool, eqb-true}
+use Rattle.std.proofs.lemmas.Bool.{eqb-true}
 use Rattle.std.proofs.lemmas.Str.{encodes-chars, chars-nil}
 use Rattle.rowan_green.specs.Leaf as green
 use Rattle.rustc_lexer.specs.Lexeme.{lexeme}
@@ -14,44 +15,29 @@ use Rattle.rustc_lexer.specs.declared.token.TokenKind.TheVariants as tokens
 use Rattle.rustc_lexer.proofs.Cutting.{tokens-cons, first-length}
 use Rattle.rustc_lexer.proofs.LexemesLocal.{lexeme-takes}
 use Rattle.rustc_lexer.proofs.Seams.{front-until}
-use Rattle.std.proofs.lemmas.List.{length-drop}
+use Rattle.std.proofs.lemmas.List.{length-drop, map-append}
 use Rattle.rust_document.proofs.Words.{keyword-bytes, underscore-bytes}
-use Rattle.parser_input.specs.Kinds.{UNDERSCORE, WHITESPACE, STRUCT_KW, IDENT, SEMICOLON}
+use Rattle.parser_input.specs.Kinds.{UNDERSCORE, IDENT}
 use Rattle.parser_input.specs.Keywords.{keyword_kind}
 use Rattle.parser_input.specs.Leaf as leaves
 use Rattle.parser_input.specs.Leaf.{word_kind, kind_of}
 use Rattle.parser_input.specs.declared.edition.Edition.{Edition}
 use Rattle.rust_document.specs.Thin.{is_thin_token, is_thin}
+use Rattle.parser_input.specs.Kind.{raw_of}
+use Rattle.parser_input.specs.Kinds.{EOF}
+use Rattle.parser_input.specs.Lexed.{Lexed, leaves_of, quiet}
+use Rattle.parser_input.specs.Stored.{leaf_at}
 use Rattle.rust_document.specs.Puts.{seen, in_bytes}
 use Rattle.rust_document.specs.declared.leaf.Leaf.{Leaf}
 
--- which tokens are thin, and their kinds
-pub thin-white : (edition : Edition) (kind : TokenKind) (t : List ℕ) → kind ≡ tokens.Whitespace → (is_thin_token edition kind t ≡ true) × (WHITESPACE ≡ kind_of edition kind t)
-unfolding is_thin_token kind_of
-thin-white edition kind t e = (ap (λ (k : TokenKind). is_thin_token edition k t) e, sym (ap (λ (k : TokenKind). kind_of edition k t) e))
-
-pub thin-semicolon : (edition : Edition) (kind : TokenKind) (t : List ℕ) → kind ≡ tokens.Semi → (is_thin_token edition kind t ≡ true) × (SEMICOLON ≡ kind_of edition kind t)
-unfolding is_thin_token kind_of
-thin-semicolon edition kind t e = (ap (λ (k : TokenKind). is_thin_token edition k t) e, sym (ap (λ (k : TokenKind). kind_of edition k t) e))
-
-pub thin-struct : (edition : Edition) (t : List ℕ) → word_kind edition t ≡ STRUCT_KW → is_thin_token edition tokens.Ident t ≡ true
+-- which tokens are thin
+pub thin-white : (edition : Edition) (kind : TokenKind) (t : List ℕ) → kind ≡ tokens.Whitespace → is_thin_token edition kind t ≡ true
 unfolding is_thin_token
-thin-struct edition t e = ap (λ (k : ℕ). k == STRUCT_KW || k == IDENT) e
+thin-white edition kind t e = ap (λ (k : TokenKind). is_thin_token edition k t) e
 
-pub thin-name : (edition : Edition) (t : List ℕ) → word_kind edition t ≡ IDENT → is_thin_token edition tokens.Ident t ≡ true
+pub thin-semicolon : (edition : Edition) (kind : TokenKind) (t : List ℕ) → kind ≡ tokens.Semi → is_thin_token edition kind t ≡ true
 unfolding is_thin_token
-thin-name edition t e = ap (λ (k : ℕ). k == STRUCT_KW || k == IDENT) e
-
-differs : (m n : ℕ) → (m ≡ n → ⊥) → (m == n) ≡ false
-differs m n never = elim (cases_Bool (m == n)) [ inl t ↦ absurd (never (eqb-true m n t)) | inr f ↦ f ]
-
-pub thin-neither : (edition : Edition) (t : List ℕ) → (word_kind edition t ≡ STRUCT_KW → ⊥) → (word_kind edition t ≡ IDENT → ⊥) → is_thin_token edition tokens.Ident t ≡ false
-unfolding is_thin_token
-thin-neither edition t a b = rw (differs (word_kind edition t) STRUCT_KW a, differs (word_kind edition t) IDENT b) refl
-
-pub word-is : (edition : Edition) (t : List ℕ) (k : ℕ) → k ≡ word_kind edition t → k ≡ kind_of edition tokens.Ident t
-unfolding kind_of
-word-is edition t k e = e
+thin-semicolon edition kind t e = ap (λ (k : TokenKind). is_thin_token edition k t) e
 
 pub not-thin : (edition : Edition) (kind : TokenKind) (t : List ℕ) → (kind ≡ tokens.Whitespace → ⊥) → (kind ≡ tokens.Semi → ⊥) → (kind ≡ tokens.Ident → ⊥) → is_thin_token edition kind t ≡ false
 unfolding is_thin_token
@@ -107,16 +93,6 @@ unfolding next_lexeme first_lexeme
 own-text [] = refl
 own-text (x ∷ xs) = take-taken (lexeme (x ∷ xs)).taken (x ∷ xs)
 
--- a leaf of code is the leaf of its lexeme
-pub leaf-seen :
-    (edition : Edition) (l : lexer.Lexeme) (kind : TokenKind) (bs : List ℕ) (k : ℕ) → kind ≡ l.kind → chars bs ≡ l.text → IsUtf8 bs → k ≡ kind_of edition kind (chars bs) → (let g : green.Leaf = record { kind = k; text = bs } in g) ≡ in_bytes (leaves.leaf_of edition l)
-unfolding leaves.leaf_of
-leaf-seen edition l kind bs k e f u g =
-    λ i. record {
-      kind = (g ∙ ap (λ (j : TokenKind). kind_of edition j (chars bs)) e ∙ ap (λ (t : List ℕ). kind_of edition l.kind t) f) i;
-      text = (sym (encodes-chars bs u) ∙ ap (λ (t : List ℕ). encodes t) f) i;
-    }
-
 -- the first lexeme, and the rest
 pub thin-cons : (edition : Edition) (x : ℕ) (xs : List ℕ) → is_thin edition (x ∷ xs) ≡ (is_thin_token edition (next_lexeme (x ∷ xs)).kind (next_lexeme (x ∷ xs)).text && is_thin edition (drop (length (next_lexeme (x ∷ xs)).text) (x ∷ xs)))
 unfolding is_thin next_lexeme
@@ -124,56 +100,48 @@ thin-cons edition x xs =
     ap (λ (ls : List lexer.Lexeme). list_all (λ l. is_thin_token edition l.kind l.text) ls)
     (tokens-cons x xs ∙ ap (λ (n : ℕ). first_lexeme (x ∷ xs) ∷ lexer.tokens (drop n (x ∷ xs))) (sym (first-length (x ∷ xs))))
 
-pub leaves-cons : (edition : Edition) (x : ℕ) (xs : List ℕ) → leaves.leaves edition (x ∷ xs) ≡ leaves.leaf_of edition (next_lexeme (x ∷ xs)) ∷ leaves.leaves edition (drop (length (next_lexeme (x ∷ xs)).text) (x ∷ xs))
-unfolding leaves.leaves next_lexeme
-leaves-cons edition x xs =
-    ap (λ (ls : List lexer.Lexeme). map (leaves.leaf_of edition) ls)
-    (tokens-cons x xs ∙ ap (λ (n : ℕ). first_lexeme (x ∷ xs) ∷ lexer.tokens (drop n (x ∷ xs))) (sym (first-length (x ∷ xs))))
-
 pub next-takes : (x : ℕ) (xs : List ℕ) → 1 ≤ length (next_lexeme (x ∷ xs)).text
 unfolding next_lexeme
 next-takes x xs = let P : ℕ → Type 0 = λ n. 1 ≤ n in subst P (sym (first-length (x ∷ xs))) (lexeme-takes.at (x ∷ xs) (omega arith))
 
--- what was found so far, and what is left, are the leaves of the whole
-pub record Found (edition : Edition) (whole rest : List ℕ) (found : List Leaf) : Type 0 where
-  pub thin : is_thin edition whole ≡ is_thin edition rest
-  pub found_are : map in_bytes (leaves.leaves edition whole) ≡ map seen found ++ map in_bytes (leaves.leaves edition rest)
+-- a token that is thin is passed
+pub thin-step : (edition : Edition) (rest new : List ℕ) → (rest ≡ [] → ⊥) → new ≡ drop (length (next_lexeme rest).text) rest → true ≡ is_thin_token edition (next_lexeme rest).kind (next_lexeme rest).text → is_thin edition rest ≡ is_thin edition new
+thin-step edition [] new some is thin = absurd (some refl)
+thin-step edition (x ∷ xs) new some is thin =
+    thin-cons edition x xs
+    ∙ ap (λ (b : Bool). b && is_thin edition (drop (length (next_lexeme (x ∷ xs)).text) (x ∷ xs))) (sym thin)
+    ∙ ap (λ (r : List ℕ). is_thin edition r) (sym is)
 
-pub found-none : (edition : Edition) (whole : List ℕ) → Found edition whole whole []
-found-none edition whole = record { thin = refl; found_are = refl }
+-- one that is not decides
+pub thin-not : (edition : Edition) (rest : List ℕ) → (rest ≡ [] → ⊥) → false ≡ is_thin_token edition (next_lexeme rest).kind (next_lexeme rest).text → is_thin edition rest ≡ false
+thin-not edition [] some not = absurd (some refl)
+thin-not edition (x ∷ xs) some not =
+    thin-cons edition x xs ∙ ap (λ (b : Bool). b && is_thin edition (drop (length (next_lexeme (x ∷ xs)).text) (x ∷ xs))) (sym not)
 
-map-more : (found : List Leaf) (l : Leaf) (g : green.Leaf) (gs : List green.Leaf) → seen l ≡ g → map seen found ++ g ∷ gs ≡ map seen (found ++ l ∷ []) ++ gs
-map-more [] l g gs e = ap (λ (h : green.Leaf). h ∷ gs) (sym e)
-map-more (f ∷ found) l g gs e = ap (λ (hs : List green.Leaf). seen f ∷ hs) (map-more found l g gs e)
+-- where no token is left
+pub thin-end : (edition : Edition) (rest : List ℕ) → rest ≡ [] → is_thin edition rest ≡ true
+unfolding is_thin lexer.tokens lexer.cut
+thin-end edition rest e = ap (λ (r : List ℕ). is_thin edition r) e
 
-pub found-more :
-    (edition : Edition) (whole rest new : List ℕ) (found more : List Leaf) (l : Leaf) → Found edition whole rest found → (rest ≡ [] → ⊥) → new ≡ drop (length (next_lexeme rest).text) rest → is_thin_token edition (next_lexeme rest).kind (next_lexeme rest).text ≡ true → seen l ≡ in_bytes (leaves.leaf_of edition (next_lexeme rest)) → more ≡ found ++ l ∷ [] → Found edition whole new more
-found-more edition whole [] new found more l f some is thin e added = absurd (some refl)
-found-more edition whole (x ∷ xs) new found more l f some is thin e added = record {
-  thin =
-      f.thin ∙ thin-cons edition x xs
-      ∙ ap (λ (b : Bool). b && is_thin edition (drop (length (next_lexeme (x ∷ xs)).text) (x ∷ xs))) thin
-      ∙ ap (λ (r : List ℕ). is_thin edition r) (sym is);
-  found_are =
-      f.found_are
-      ∙ ap (λ (ls : List leaves.Leaf). map seen found ++ map in_bytes ls) (leaves-cons edition x xs)
-      ∙ map-more found l (in_bytes (leaves.leaf_of edition (next_lexeme (x ∷ xs)))) (map in_bytes (leaves.leaves edition (drop (length (next_lexeme (x ∷ xs)).text) (x ∷ xs)))) e
-      ∙ ap (λ (ls : List Leaf). map seen ls ++ map in_bytes (leaves.leaves edition (drop (length (next_lexeme (x ∷ xs)).text) (x ∷ xs)))) (sym added)
-      ∙ ap (λ (r : List ℕ). map seen more ++ map in_bytes (leaves.leaves edition r)) (sym is);
-}
+-- a leaf of code is the leaf of its text
+pub piece-seen : (found : Leaf) (l : leaves.Leaf) → IsUtf8 found.text.now → raw_of found.kind ≡ l.kind → chars found.text.now ≡ l.text → seen found ≡ in_bytes l
+piece-seen found l u k t = λ i. record { kind = k i; text = (sym (encodes-chars found.text.now u) ∙ ap (λ (cs : List ℕ). encodes cs) t) i }
 
-pub found-not : (edition : Edition) (whole rest : List ℕ) (found : List Leaf) → Found edition whole rest found → (rest ≡ [] → ⊥) → is_thin_token edition (next_lexeme rest).kind (next_lexeme rest).text ≡ false → is_thin edition whole ≡ false
-found-not edition whole [] found f some not = absurd (some refl)
-found-not edition whole (x ∷ xs) found f some not =
-    f.thin ∙ thin-cons edition x xs ∙ ap (λ (b : Bool). b && is_thin edition (drop (length (next_lexeme (x ∷ xs)).text) (x ∷ xs))) not
+next-taken : (ls : List Lexed) (i : ℕ) (d : Lexed) → i < length ls → take (i + 1) ls ≡ take i ls ++ get_or ls i d ∷ []
+next-taken ls i d h = ap (λ (k : ℕ). take k ls) (let z : i + 1 ≡ suc i = omega arith in z) ∙ take-suc ls i d h
 
--- where no lexeme is left
-pub found-all : (edition : Edition) (whole rest : List ℕ) (found : List Leaf) → Found edition whole rest found → rest ≡ [] → (is_thin edition whole ≡ true) × (map seen found ≡ map in_bytes (leaves.leaves edition whole))
-unfolding is_thin leaves.leaves lexer.tokens lexer.cut
-found-all edition whole rest found f e = (
-  f.thin ∙ ap (λ (r : List ℕ). is_thin edition r) e,
-  sym (f.found_are ∙ ap (λ (r : List ℕ). map seen found ++ map in_bytes (leaves.leaves edition r)) e ∙ append-nil (map seen found)),
-)
+-- one more leaf, and its piece
+pub pieces-more :
+    (ls : List Lexed) (found more : List Leaf) (i : ℕ) (p : Leaf) → i < length ls → map seen found ≡ map in_bytes (leaves_of (take i ls)) → seen p ≡ in_bytes (leaf_at ls i).leaf → more ≡ found ++ p ∷ [] → map seen more ≡ map in_bytes (leaves_of (take (i + 1) ls))
+pieces-more ls found more i p h e is added =
+    let l = leaf_at ls i in
+    ap (λ (fs : List Leaf). map seen fs) added
+    ∙ map-append seen found (p ∷ [])
+    ∙ ap (λ (gs : List green.Leaf). gs ++ seen p ∷ []) e
+    ∙ ap (λ (g : green.Leaf). map in_bytes (leaves_of (take i ls)) ++ g ∷ []) is
+    ∙ sym (map-append in_bytes (leaves_of (take i ls)) (l.leaf ∷ []))
+    ∙ ap (λ (ks : List leaves.Leaf). map in_bytes ks) (sym (map-append (λ (k : Lexed). k.leaf) (take i ls) (l ∷ [])))
+    ∙ ap (λ (ks : List Lexed). map in_bytes (leaves_of ks)) (sym (next-taken ls i (quiet EOF []) h))
 
 pub falls : (xs new : List ℕ) → (xs ≡ [] → ⊥) → new ≡ drop (length (next_lexeme xs).text) xs → length new < length xs
 falls [] new some is = absurd (some refl)

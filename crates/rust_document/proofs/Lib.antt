@@ -16,3 +16,4 @@ pub mod Recordings
 pub mod Payloads
 pub mod Changes
 pub mod TreeTexts
+pub mod Prefaces

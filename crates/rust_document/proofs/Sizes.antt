@@ -16,9 +16,11 @@ use Rattle.parser_input.specs.Kinds.{WHITESPACE, STRUCT_KW, IDENT, SEMICOLON}
 use Rattle.parser_input.specs.Leaf as leaves
 use Rattle.parser_input.specs.Leaf.{word_kind, kind_of}
 use Rattle.parser_input.specs.declared.edition.Edition.{Edition}
+use Rattle.rust_document.specs.Reading.{leaves_in}
 use Rattle.rust_document.specs.Thin.{is_thin_token, is_thin}
 use Rattle.rust_document.specs.Puts.{seen, in_bytes, bytes_in, is_thin_kind}
 use Rattle.rust_document.specs.declared.leaf.Leaf.{Leaf}
+use Rattle.rust_document.proofs.Prefaces.{thin-leaves}
 
 abbrev total : List green.Leaf → ℕ
 total [] = 0
@@ -36,13 +38,17 @@ total-joined edition (l ∷ ls) =
     ∙ sym (length-append (encodes l.text) (encodes (joined ls)))
     ∙ ap (λ (bs : List ℕ). length bs) (sym (encodes-append l.text (joined ls)))
 
+-- a thin text's leaves are its tokens
+as-tokens : (edition : Edition) (text : List ℕ) (found : List Leaf) → (is_thin edition text ≡ true) × (map seen found ≡ map in_bytes (leaves_in edition text)) → map seen found ≡ map in_bytes (leaves.leaves edition text)
+as-tokens edition text found are = are.1 ∙ ap (λ (ls : List leaves.Leaf). map in_bytes ls) (thin-leaves edition text are.0)
+
 -- the leaves of a text have as many bytes as the text
 pub bytes-all :
-    (edition : Edition) (bs : List ℕ) (found : List Leaf) → IsUtf8 bs → map seen found ≡ map in_bytes (leaves.leaves edition (chars bs)) → bytes_in found ≡ length bs
+    (edition : Edition) (bs : List ℕ) (found : List Leaf) → IsUtf8 bs → (is_thin edition (chars bs) ≡ true) × (map seen found ≡ map in_bytes (leaves_in edition (chars bs))) → bytes_in found ≡ length bs
 unfolding leaves.leaves
-bytes-all edition bs found u e =
+bytes-all edition bs found u are =
     bytes-total found
-    ∙ ap total e
+    ∙ ap total (as-tokens edition (chars bs) found are)
     ∙ total-joined edition (lexer.tokens (chars bs))
     ∙ ap (λ (t : List ℕ). length (encodes t)) (tokens-joined (chars bs))
     ∙ ap (λ (t : List ℕ). length t) (encodes-chars bs u)
@@ -53,12 +59,12 @@ long-enough (l ∷ ls) each = omega (arith, each 0 l (omega arith), long-enough 
 
 -- and no more leaves than bytes
 pub count-all :
-    (edition : Edition) (bs : List ℕ) (found : List Leaf) → IsUtf8 bs → map seen found ≡ map in_bytes (leaves.leaves edition (chars bs)) → length found ≤ length bs
+    (edition : Edition) (bs : List ℕ) (found : List Leaf) → IsUtf8 bs → (is_thin edition (chars bs) ≡ true) × (map seen found ≡ map in_bytes (leaves_in edition (chars bs))) → length found ≤ length bs
 unfolding leaves.leaves
-count-all edition bs found u e =
+count-all edition bs found u are =
     let ts = lexer.tokens (chars bs) in
     let same : length found ≡ length ts =
-    sym (length-map found seen) ∙ ap (λ (gs : List green.Leaf). length gs) e ∙ length-map (map (leaves.leaf_of edition) ts) in_bytes ∙ length-map ts (leaves.leaf_of edition) in
+    sym (length-map found seen) ∙ ap (λ (gs : List green.Leaf). length gs) (as-tokens edition (chars bs) found are) ∙ length-map (map (leaves.leaf_of edition) ts) in_bytes ∙ length-map ts (leaves.leaf_of edition) in
     let few : length ts ≤ length (joined ts) = long-enough ts (each-takes (chars bs)) in
     let whole : length (joined ts) ≡ length (chars bs) = ap (λ (t : List ℕ). length t) (tokens-joined (chars bs)) in
     let wide : length (chars bs) ≤ length (encodes (chars bs)) = length-le-encodes (chars bs) in
@@ -125,6 +131,7 @@ kinds-thin edition (l ∷ ls) e =
     and_from (is_thin_kind (kind_of edition l.kind l.text)) (list_all (λ (l : leaves.Leaf). is_thin_kind l.kind) (map (leaves.leaf_of edition) ls)) (kind-thin edition l.kind l.text both.0) (kinds-thin edition ls both.1)
 
 -- the leaves of a thin text are of the kinds that are read
-pub thin-kinds : (edition : Edition) (text : List ℕ) → is_thin edition text ≡ true → list_all (λ (l : leaves.Leaf). is_thin_kind l.kind) (leaves.leaves edition text) ≡ true
+pub thin-kinds : (edition : Edition) (text : List ℕ) → is_thin edition text ≡ true → list_all (λ (l : leaves.Leaf). is_thin_kind l.kind) (leaves_in edition text) ≡ true
 unfolding is_thin leaves.leaves
-thin-kinds edition text e = kinds-thin edition (lexer.tokens text) e
+thin-kinds edition text e =
+    ap (λ (ls : List leaves.Leaf). list_all (λ (l : leaves.Leaf). is_thin_kind l.kind) ls) (thin-leaves edition text e) ∙ kinds-thin edition (lexer.tokens text) e

@@ -1,15 +1,16 @@
 -- The leaves of a text's tree are the text.
-use Rattle.std.proofs.Common.{◌≡◌, ℕ, ◌==◌, Bool, true, false, not, ◌||◌, nat_lt, List, [], ◌∷◌, ◌++◌, length, map, take, drop, chars, refl, sym, ◌∙◌, ap, append-nil, eq-eqb}
-use Rattle.std.specs.Prelude.{Some, None, encode_utf8_all}
+use Rattle.std.proofs.Common.{◌≡◌, ℕ, Bool, true, false, not, ◌||◌, nat_lt, List, [], ◌∷◌, ◌++◌, length, take, drop, chars, refl, sym, ◌∙◌, ap, append-nil, eq-eqb}
+use Rattle.std.specs.Prelude.{Some}
 use Rattle.std.specs.Str.{IsUtf8}
 use Rattle.std.proofs.Math.Utf8.{encodes}
 use Rattle.std.proofs.lemmas.Str.{encodes-chars, encodes-append}
 use Rattle.std.proofs.lemmas.Bool.{le-ltb}
-use Rattle.rustc_lexer.specs.Tokens as lexer
 use Rattle.rustc_lexer.specs.Rows.{row, first_fit}
-use Rattle.rustc_lexer.proofs.Cutting.{tokens-joined}
+use Rattle.parser_input.specs.Lexed.{Lexed, lexed, leaves_of}
+use Rattle.parser_input.proofs.LexedTexts.{leaves-joined}
+use Rattle.std.specs.List.{flat_map}
 use Rattle.rowan_green.specs.Leaf as green
-use Rattle.rowan_green.specs.Forest.{Forest, empty, node, leaf, Tree, forest_text, tree_text, same_tree}
+use Rattle.rowan_green.specs.Forest.{Forest, empty, node, Tree, forest_text, tree_text, same_tree}
 use Rattle.rowan_green.specs.Same.{same_tree-Decides}
 use Rattle.rowan_green.specs.declared.utility_types.NodeOrToken.TheVariants.{Node, Token}
 use Rattle.parser_input.specs.Leaf as leaves
@@ -24,11 +25,10 @@ use Rattle.syntax_tree.specs.Path.{Path, at}
 use Rattle.syntax_tree.specs.Replacement.{start_of}
 use Rattle.syntax_tree.proofs.Slices.{text_from}
 use Rattle.rust_document.specs.Open.{IsOpened}
-use Rattle.rust_document.specs.Reading.{terms_of, root_of, dressed_file, tree}
-use Rattle.rust_document.specs.Rewrite.{Editing, rewritten}
-use Rattle.rust_document.specs.Step.{State, MAX_TEXT, present, bare_tree, is_faithful, verdict, Accepted, Foreign, TooLong, Later, Unfaithful}
+use Rattle.rust_document.specs.Reading.{terms_of, root_of, dressed_file, tree, leaves_in}
+use Rattle.rust_document.specs.Step.{State, MAX_TEXT, present, bare_tree, is_faithful, Accepted, Foreign, TooLong, Later, Unfaithful}
 use Rattle.rust_document.specs.Thin.{is_thin}
-use Rattle.rust_document.specs.Laws.{untouched, IsKept}
+use Rattle.rust_document.specs.Laws.{IsKept}
 
 -- the text of terms is the text of what was dressed, in bytes
 terms-text : (d : Dressed) → forest_text (terms_of d) ≡ encodes (text_of d)
@@ -64,18 +64,18 @@ root-text (forest.ErrorLeaf m k f) ls = leaves-root (take (length ls) ls)
 root-text (forest.Node k c f) ls = root-single k (dress c (at_start ls))
 root-text (forest.Float e c f) ls = root-single FIELD_EXPR (access (put_pending (at_start ls)) (put_pending (dress c (open_node (put_pending (at_start ls))))))
 
-leaves-joined : (edition : Edition) (ts : List lexer.Lexeme) → joined (map (leaves.leaf_of edition) ts) ≡ lexer.joined ts
-unfolding joined leaves.leaf_of
-leaves-joined edition [] = refl
-leaves-joined edition (l ∷ ls) = ap (λ (cs : List ℕ). l.text ++ cs) (leaves-joined edition ls)
+joined-leaves : (ls : List Lexed) → joined (leaves_of ls) ≡ flat_map (λ l. l.leaf.text) ls
+unfolding joined
+joined-leaves [] = refl
+joined-leaves (l ∷ ls) = ap (λ (cs : List ℕ). l.leaf.text ++ cs) (joined-leaves ls)
 
 -- the leaves of the tree, joined, are the text
 pub tree-text : (edition : Edition) (text : List ℕ) → tree_text (tree edition text) ≡ encodes text
-unfolding tree dressed_file leaves.leaves
+unfolding tree dressed_file
 tree-text edition text =
-    root-text _ (leaves.leaves edition text)
-    ∙ terms-text (dress_root _ (leaves.leaves edition text))
-    ∙ ap encodes (text-is-text _ (leaves.leaves edition text) ∙ leaves-joined edition (lexer.tokens text) ∙ tokens-joined text)
+    root-text _ (leaves_in edition text)
+    ∙ terms-text (dress_root _ (leaves_in edition text))
+    ∙ ap encodes (text-is-text _ (leaves_in edition text) ∙ joined-leaves (lexed edition text) ∙ leaves-joined edition text)
 
 -- the present tree has the document's text
 pub present-text : (d : State) → IsUtf8 d.text → tree_text (present d) ≡ d.text

@@ -1,11 +1,12 @@
 -- What a text is as a payload: one token.
-use Rattle.std.specs.Prelude.{◌≡◌, ℕ, ◌^◌, not, nat_lt, map, List, [], ◌∷◌, length, chars, codes}
+use Rattle.std.specs.Prelude.{◌≡◌, ℕ, ◌^◌, not, nat_lt, List, [], ◌∷◌, length, chars, codes, Option, Some, None}
 use Rattle.rustc_lexer.specs.Rows.{row, first_fit}
 use Rattle.rowan_green.specs.Leaf as green
 use Rattle.rowan_green.specs.Term.{tree_of}
 use Rattle.rowan_green.specs.declared.utility_types.NodeOrToken.TheVariants.{Token}
 use Rattle.parser_input.specs.Kinds.{TOMBSTONE}
-use Rattle.parser_input.specs.Leaf.{leaves}
+use Rattle.parser_input.specs.Lexed.{Lexed}
+use Rattle.parser_input.specs.Single.{single}
 use Rattle.parser_input.specs.declared.edition.Edition.{Edition}
 use Rattle.syntax_tree.specs.Handle.{Handle}
 use Rattle.syntax_tree.specs.declared.error.TreeError.{TreeError}
@@ -23,15 +24,15 @@ pub data Payload : Type 0 where
   NotOneToken : Payload
   One : green.Leaf → Payload
 
-abbrev pub only : List green.Leaf → Payload
-only [] = NotOneToken
-only (l ∷ []) = One l
-only (l ∷ m ∷ ls) = NotOneToken
+-- the leaf that the text is
+abbrev pub only : Option Lexed → Payload
+only None = NotOneToken
+only (Some l) = One (in_bytes l.leaf)
 
--- the first case that fits
+-- the first case that fits; no preface is read
 abbrev pub token_payload : Edition → List ℕ → Payload
 token_payload edition text =
-    first_fit (row (nat_lt MAX_TEXT (length text)) TooLong ∷ row (not (is_thin edition (chars text))) Later ∷ []) (only (map in_bytes (leaves edition (chars text))))
+    first_fit (row (nat_lt MAX_TEXT (length text)) TooLong ∷ row (not (is_thin edition (chars text))) Later ∷ []) (only (single edition (chars text)))
 
 -- the token in a tree of its own: the only child of the root
 abbrev pub IsDetached : ℕ → Payload → Handle → Type 0

@@ -2,7 +2,8 @@
 use Rattle.std.specs.Prelude.{ℕ, List, false, encode_utf8_all}
 use Rattle.rowan_green.specs.Forest.{Forest, empty, node, leaf, Tree}
 use Rattle.parser_input.specs.Kinds.{ERROR}
-use Rattle.parser_input.specs.Leaf.{Leaf, leaves}
+use Rattle.parser_input.specs.Leaf.{Leaf}
+use Rattle.parser_input.specs.Lexed.{lexed, leaves_of}
 use Rattle.parser_input.specs.Input.{input}
 use Rattle.parser_input.specs.declared.edition.Edition.{Edition}
 use Rattle.parser_events.specs.Forest as forest
@@ -12,6 +13,10 @@ use Rattle.parser_events.specs.Dress.{dress_root}
 use Rattle.ra_parser.specs.Rule.{source_file}
 use Rattle.ra_parser.specs.Meaning.{meaning}
 use Rattle.ra_parser.specs.Grammar.{grammar}
+
+-- the leaves of a text, preface and all
+abbrev pub leaves_in : Edition → List ℕ → List Leaf
+leaves_in edition text = leaves_of (lexed edition text)
 
 -- dressed elements as terms: texts in bytes, and no messages
 abbrev pub terms_of : Dressed → Forest
@@ -32,9 +37,9 @@ dressed_file edition ls =
 
 -- the tree of a text
 unfoldable pub tree : Edition → List ℕ → Tree
-tree edition text = root_of (terms_of (dressed_file edition (leaves edition text)))
+tree edition text = root_of (terms_of (dressed_file edition (leaves_in edition text)))
 
 -- The messages of a text, with their places, as the parser gives them. The lexer's come behind them; no leaf of the kinds
 -- that are read so far has one.
 unfoldable pub messages : Edition → List ℕ → List Saying
-messages edition text = sayings_of (dressed_file edition (leaves edition text))
+messages edition text = sayings_of (dressed_file edition (leaves_in edition text))

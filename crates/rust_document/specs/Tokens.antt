@@ -2,9 +2,9 @@
 use Rattle.std.specs.Prelude.{ℕ, ◌+◌, List, [], ◌∷◌, map, length}
 use Rattle.rowan_green.specs.Leaf as green
 use Rattle.parser_input.specs.Kind.{raw_of}
-use Rattle.parser_input.specs.Leaf.{leaves}
 use Rattle.parser_input.specs.declared.edition.Edition.{Edition}
 use Rattle.rust_document.specs.Puts.{in_bytes}
+use Rattle.rust_document.specs.Reading.{leaves_in}
 use Rattle.rust_document.specs.declared.tokens.LexedToken.{LexedToken}
 
 -- a kind, and the bytes from `start` to just before `end`
@@ -20,7 +20,7 @@ spans_from start (l ∷ ls) =
     record { kind = l.kind; start = start; end = start + length l.text } ∷ spans_from (start + length l.text) ls
 
 abbrev pub tokens_of : Edition → List ℕ → List Span
-tokens_of edition text = spans_from 0 (map in_bytes (leaves edition text))
+tokens_of edition text = spans_from 0 (map in_bytes (leaves_in edition text))
 
 -- a token as code has it
 abbrev pub shown : LexedToken → Span

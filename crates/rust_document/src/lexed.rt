@@ -1,13 +1,17 @@
 //! The leaves of a text.
-ghost use Rattle.std.specs.Prelude.{◌≡◌, ◌≢◌, ℕ, [], drop, length, chars, IfOk, option_map};
+ghost use Rattle.std.specs.Prelude.{◌≡◌, drop, length, map, chars, IfOk, option_map};
 ghost use Rattle.parser_input.specs.Kind.{raw_of};
 ghost use Rattle.parser_input.specs.Leaf.{word_kind};
+ghost use Rattle.parser_input.specs.Lexed.{leaves_of};
 ghost use Rattle.rustc_lexer.specs.Tokens.{next_lexeme};
-ghost use Rattle.rust_document.specs.Lexed.{IsThinKind, IsThinLeaf, AreThinLeaves};
+ghost use Rattle.rust_document.specs.Lexed.{AreThinLeaves};
+ghost use Rattle.rust_document.specs.Puts.{seen, in_bytes};
+ghost use Rattle.rust_document.specs.Thin.{is_thin_token, is_thin};
 
 use crate::leaf::Leaf;
 use parser_input::edition::Edition;
 use parser_input::keywords::keyword;
+use parser_input::lexed_str::LexedStr;
 use parser_input::syntax_kind::SyntaxKind;
 use rustc_lexer::{Cursor, TokenKind};
 use std::alloc::{AllocError, Global};
@@ -25,44 +29,64 @@ fn word(edition: Edition, text: &str) -> SyntaxKind
     }
 }
 
-/// The kind of a word, where it is `struct` or a name.
-fn thin_word(edition: Edition, text: &str) -> Option<SyntaxKind>
-    ensures { IsThinKind edition TokenKind.Ident (chars text.now) result }
+/// Whether a word is `struct` or a name.
+#[tactic(auto, unfolding(crate::specs::Thin::is_thin_token))]
+fn is_thin_word(edition: Edition, text: &str) -> bool
+    ensures { result ≡ is_thin_token edition TokenKind.Ident (chars text.now) }
 {
-    let kind = word(edition, text);
-    if kind.to_raw() == SyntaxKind::STRUCT_KW.to_raw() {
-        return Some(kind);
-    }
-    if kind.to_raw() == SyntaxKind::IDENT.to_raw() {
-        return Some(kind);
-    }
-    None
+    let kind = word(edition, text).to_raw();
+    kind == SyntaxKind::STRUCT_KW.to_raw() || kind == SyntaxKind::IDENT.to_raw()
 }
 
-/// The kind of a token of this text, where it is thin.
-fn thin_kind(edition: Edition, kind: TokenKind, text: &str) -> Option<SyntaxKind>
-    ensures { IsThinKind edition kind (chars text.now) result }
+/// Whether a token of this text is thin.
+fn is_thin_token(edition: Edition, kind: TokenKind, text: &str) -> bool
+    ensures { result ≡ is_thin_token edition kind (chars text.now) }
 {
     match kind {
-        TokenKind::Whitespace => Some(SyntaxKind::WHITESPACE),
-        TokenKind::Semi => Some(SyntaxKind::SEMICOLON),
-        TokenKind::Ident => thin_word(edition, text),
-        _ => None,
+        TokenKind::Whitespace => true,
+        TokenKind::Semi => true,
+        TokenKind::Ident => is_thin_word(edition, text),
+        _ => false,
     }
 }
 
-/// Takes the next leaf; None where its token is not thin.
-fn next_leaf<'a>(edition: Edition, cursor: &mut Cursor<'a>) -> Option<Leaf<'a>>
-    ensures leaf { IsThinLeaf edition (next_lexeme cursor.old) result }
+/// Passes the next token. Whether it is thin.
+fn next_is_thin(edition: Edition, cursor: &mut Cursor<'_>) -> bool
+    ensures thin { result ≡ is_thin_token edition (next_lexeme cursor.old).kind (next_lexeme cursor.old).text }
     ensures rest { cursor.new ≡ drop (length (next_lexeme cursor.old).text) cursor.old }
 {
     let before = cursor.as_str();
     let token = cursor.advance_token();
     let text = &before[..before.len() - cursor.as_str().len()];
-    match thin_kind(edition, token.kind, text) {
-        Some(kind) => Some(Leaf { kind, text }),
-        None => None,
+    is_thin_token(edition, token.kind, text)
+}
+
+/// Whether each token of a text is thin.
+pub fn is_thin(edition: Edition, text: &str) -> bool
+    ensures { result ≡ is_thin edition (chars text.now) }
+{
+    let mut cursor = Cursor::new(text);
+    'tokens: while !cursor.as_str().is_empty() {
+        if !next_is_thin(edition, &mut cursor) {
+            return false;
+        }
     }
+    true
+}
+
+/// The leaves that a text was cut into, with their pieces of the text.
+fn pieces<'a>(alloc: Global, lexed: &LexedStr<'a>) -> Result<Vec<Leaf<'a>>, AllocError>
+    ensures { IfOk result (λ v. map seen v.items ≡ map in_bytes (leaves_of lexed.now.leaves)) }
+{
+    let mut pieces = Vec::with_capacity(alloc, lexed.len())?;
+    for i in 0..lexed.len() {
+        let piece = Leaf {
+            kind: lexed.kind(i),
+            text: lexed.text(i),
+        };
+        pieces.push(piece)?;
+    }
+    Ok(pieces)
 }
 
 /// The leaves of a text in order; None where a token of it is not thin.
@@ -73,13 +97,9 @@ pub fn thin_leaves<'a>(
 ) -> Result<Option<Vec<Leaf<'a>>>, AllocError>
     ensures { IfOk result (λ o. AreThinLeaves edition (chars text.now) (option_map (λ v. v.items) o)) }
 {
-    let mut found = Vec::new(alloc);
-    let mut cursor = Cursor::new(text);
-    'leaves: while !cursor.as_str().is_empty() {
-        match next_leaf(edition, &mut cursor) {
-            Some(leaf) => found.push(leaf)?,
-            None => return Ok(None),
-        }
+    if !is_thin(edition, text) {
+        return Ok(None);
     }
-    Ok(Some(found))
+    let lexed = LexedStr::new(alloc, edition, text)?;
+    Ok(Some(pieces(alloc, &lexed)?))
 }

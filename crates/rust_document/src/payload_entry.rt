@@ -7,8 +7,9 @@ ghost use Rattle.rust_document.specs.Puts.{seen};
 use crate::document::MAX_TEXT;
 use crate::error::PayloadError;
 use crate::leaf::Leaf;
-use crate::lexed::thin_leaves;
+use crate::lexed::is_thin;
 use parser_input::edition::Edition;
+use parser_input::lexed_str::LexedStr;
 use std::alloc::Global;
 use syntax_tree::elements::token;
 use syntax_tree::{SyntaxElement, SyntaxToken, TreeIds};
@@ -37,7 +38,7 @@ pub fn payload(
     ensures kept { IfErr result (λ _. ids.new ≡ ids.old) }
 {
     let leaf = match entry {
-        PayloadEntry::Token => only_leaf(alloc, edition, text)?,
+        PayloadEntry::Token => only_leaf(edition, text)?,
     };
     let green = token(alloc, leaf.kind, leaf.text)?;
     let token = SyntaxToken::detached(alloc, green, ids)?;
@@ -45,7 +46,7 @@ pub fn payload(
 }
 
 /// The leaf that a text is.
-fn only_leaf<'a>(alloc: Global, edition: Edition, text: &'a str) -> Result<Leaf<'a>, PayloadError>
+fn only_leaf<'a>(edition: Edition, text: &'a str) -> Result<Leaf<'a>, PayloadError>
     ensures given { IfOk result (λ l. token_payload edition text.now ≡ One (seen l)) }
     ensures fits { IfOk result (λ l. length l.text.now < 2 ^ 32) }
     ensures refused { IfErr result (λ e. (number : ℕ) → RefusesPayload number (token_payload edition text.now) e) }
@@ -53,11 +54,11 @@ fn only_leaf<'a>(alloc: Global, edition: Edition, text: &'a str) -> Result<Leaf<
     if text.len() > MAX_TEXT {
         return Err(PayloadError::TooLong);
     }
-    let Some(leaves) = thin_leaves(alloc, edition, text)? else {
+    if !is_thin(edition, text) {
         return Err(PayloadError::Later);
-    };
-    if leaves.len() != 1 {
-        return Err(PayloadError::NotOneToken);
     }
-    Ok(leaves[0])
+    match LexedStr::single_token(edition, text) {
+        Some((kind, _)) => Ok(Leaf { kind, text }),
+        None => Err(PayloadError::NotOneToken),
+    }
 }

@@ -11,19 +11,19 @@ pub new-reader-requires-clause-bytes : goal.new-reader-requires-clause-bytes
 new-reader-requires-clause-bytes c =
     let P : List Leaf → Type 0 = λ ls. bytes_in ls ≤ 16777216 in
     let are = these-leaves _ _ _ _ c.in-Some.is c.in_ok-leaves.ensures in
-    subst P (sym c.deref.ensures.value) (omega (arith, bytes-all _ _ _ c.utf8.text are.1, c.requires))
+    subst P (sym c.deref.ensures.value) (omega (arith, bytes-all _ _ _ c.utf8.text are, c.requires))
 
 pub new-reader-requires-clause-count : goal.new-reader-requires-clause-count
 new-reader-requires-clause-count c =
     let P : List Leaf → Type 0 = λ ls. length ls ≤ 16777216 in
     let are = these-leaves _ _ _ _ c.in-Some.is c.in_ok-leaves.ensures in
-    subst P (sym c.deref.ensures.value) (omega (arith, count-all _ _ _ c.utf8.text are.1, c.requires))
+    subst P (sym c.deref.ensures.value) (omega (arith, count-all _ _ _ c.utf8.text are, c.requires))
 
 pub lexed_tokens-requires : goal.lexed_tokens-requires
 lexed_tokens-requires c =
     let P : List Leaf → Type 0 = λ ls. bytes_in ls ≤ 16777216 in
     let are = these-leaves _ _ _ _ c.in-Some.is c.in_ok-leaves.ensures in
-    subst P (sym c.deref-2.ensures.value) (omega (arith, bytes-all _ _ _ c.utf8.text are.1, c.requires))
+    subst P (sym c.deref-2.ensures.value) (omega (arith, bytes-all _ _ _ c.utf8.text are, c.requires))
 
 pub returns : goal.returns
 returns c =

@@ -1,10 +1,10 @@
 -- What is put in lies within the new text.
-use Rattle.std.proofs.Common.{◌≡◌, ℕ, ap, arith, length, ◌∙◌}
+use Rattle.std.proofs.Common.{ap, arith, length, ◌∙◌}
 use Rattle.std.specs.Prelude.{option_map}
 use Rattle.rowan_green.specs.Forest.{Tree, tree_text}
 use Rattle.rowan_green.specs.declared.utility_types.NodeOrToken.TheVariants.{Node}
 use Rattle.syntax_tree.specs.Path.{Path}
-use Rattle.syntax_tree.specs.Replacement.{Replacement, start_of}
+use Rattle.syntax_tree.specs.Replacement.{start_of}
 use Rattle.rust_document.specs.Rewrite.{Editing, rewritten}
 use Rattle.rust_document.proofs.Changes.{whole_tree, changed_fits}
 use Rattle.rust_document.proofs.syntax_editor.SyntaxEditor.changed.Goals as goal
