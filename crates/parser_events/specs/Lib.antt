@@ -9,3 +9,7 @@ pub mod Unwinding
 pub mod Seen
 pub mod View
 pub mod Laws
+pub mod TextSteps
+pub mod Sinks
+pub mod Laying
+pub mod Fits

@@ -1,6 +1,6 @@
 //! Laws of the definitions. Each is the contract of a function that makes no call.
 
-ghost use Rattle.parser_events.specs.Laws.{TextIsKept, StepsAreBalanced, WalksAreBalanced, MarksKeepSteps, MarksStandBeside};
+ghost use Rattle.parser_events.specs.Laws.{TextIsKept, StepsAreBalanced, WalksAreBalanced, MarksKeepSteps, MarksStandBeside, DressedIsPut};
 
 /// The leaves of a dressed tree, joined, are the text that it was dressed with, whatever the forest is.
 pub fn text_is_kept()
@@ -25,4 +25,9 @@ pub fn marks_keep_steps()
 /// Forests side by side are marked side by side.
 pub fn marks_stand_beside()
     ensures { MarksStandBeside }
+{}
+
+/// What the steps of one node put of a text that they fit are the steps of the tree dressed with the text.
+pub fn dressed_is_put()
+    ensures { DressedIsPut }
 {}

@@ -12,6 +12,8 @@ pub mod output;
 pub mod parser;
 mod recorder;
 pub mod step;
+pub mod str_sink;
+pub mod str_step;
 #[cfg(test)]
 mod tests;
 mod unwinding;
