@@ -5,3 +5,6 @@ pub mod Trees
 pub mod Forests
 pub mod Dressings
 pub mod Coverings
+pub mod Places
+pub mod Putting
+pub mod Sinks

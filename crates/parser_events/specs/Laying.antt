@@ -3,7 +3,6 @@ use Rattle.std.specs.Prelude.{◌≡◌, ◌≤◌, ℕ, ◌+◌, ◌-◌, Bool,
 use Rattle.parser_input.specs.Kinds.{ERROR, NAME_REF, INT_NUMBER, FLOAT_NUMBER, DOT}
 use Rattle.parser_input.specs.Leaf as leaves
 use Rattle.parser_input.specs.Lexed.{Lexed, leaves_of}
-use Rattle.parser_input.specs.Stored.{offset}
 use Rattle.parser_events.specs.Forest as forest
 use Rattle.parser_events.specs.Dress.{before_dot, from_dot, is_empty, joined, next_text, reach}
 use Rattle.parser_events.specs.Sinks.{TakesAll}
@@ -18,7 +17,8 @@ pub record Place : Type 0 where
 
 -- before the leaf of this number; behind the last one, the end
 abbrev pub place_at : List Lexed → ℕ → Place
-place_at ls n = record { bytes = offset ls n; left = drop n (leaves_of ls) }
+place_at ls n =
+    record { bytes = length (encode_utf8_all (joined (take n (leaves_of ls)))); left = drop n (leaves_of ls) }
 
 -- behind the next leaves
 abbrev pub behind : ℕ → Place → Place

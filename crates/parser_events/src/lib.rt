@@ -11,6 +11,7 @@ pub mod message;
 pub mod output;
 pub mod parser;
 mod recorder;
+mod shortcuts;
 pub mod step;
 pub mod str_sink;
 pub mod str_step;
