@@ -7,8 +7,9 @@ slow reader of the rules that shares no code with this project.
 
 usage: leaves_from_cases.py CASES CRATE
 """
-import json
 import sys
+
+import stored_run
 
 
 def answer(case):
@@ -19,18 +20,12 @@ def answer(case):
     return "".join(leaves + ["\n"] + errors + ["\n"] + tokens + ["\n"])
 
 
-def main(cases, crate):
+def main(path, crate):
     records, answers = [], []
-    with open(cases, encoding="utf-8") as lines:
-        for line in lines:
-            case = json.loads(line)
-            assert "\x1e" not in case["text"]
-            records.append(case["edition"][-1] + case["text"] + "\x1e")
-            answers.append(answer(case))
-    with open(f"{crate}/stdin", "w", encoding="utf-8", newline="") as out:
-        out.write("".join(records))
-    with open(f"{crate}/stdout", "w", encoding="utf-8", newline="") as out:
-        out.write("".join(answers))
+    for case in stored_run.cases(path):
+        records.append(case["edition"][-1] + case["text"])
+        answers.append(answer(case))
+    stored_run.write(crate, records, answers)
 
 
 if __name__ == "__main__":

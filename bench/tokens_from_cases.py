@@ -6,8 +6,9 @@ kind stands under "literal". The cases were computed by a slow reader of the gra
 
 usage: tokens_from_cases.py CASES CRATE
 """
-import json
 import sys
+
+import stored_run
 
 
 def show(value):
@@ -47,19 +48,13 @@ def kind(name, found):
     return name + fields(pairs)
 
 
-def main(cases, crate):
-    texts, answers = [], []
-    with open(cases, encoding="utf-8") as lines:
-        for line in lines:
-            case = json.loads(line)
-            assert "\x1e" not in case["text"]
-            texts.append(case["text"] + "\x1e")
-            answers.extend(f"{kind(name, found)} {length}\n" for name, found, length in case["tokens"])
-            answers.append("\n")
-    with open(f"{crate}/stdin", "w", encoding="utf-8", newline="") as out:
-        out.write("".join(texts))
-    with open(f"{crate}/stdout", "w", encoding="utf-8", newline="") as out:
-        out.write("".join(answers))
+def main(path, crate):
+    records, answers = [], []
+    for case in stored_run.cases(path):
+        records.append(case["text"])
+        answers.extend(f"{kind(name, found)} {length}\n" for name, found, length in case["tokens"])
+        answers.append("\n")
+    stored_run.write(crate, records, answers)
 
 
 if __name__ == "__main__":

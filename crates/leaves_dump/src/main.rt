@@ -12,6 +12,9 @@ use std::alloc::Global;
 use std::io;
 use std::io::{BufWriter, Write};
 
+#[cfg(test)]
+mod tests;
+
 fn dump_leaves<W: Write>(out: &mut W, lexed: &LexedStr<'_>) -> io::Result<()> {
     for i in 0..lexed.len() {
         let range = lexed.text_range(i);

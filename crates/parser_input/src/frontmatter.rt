@@ -240,6 +240,7 @@ impl<'s> ScriptSource<'s> {
             content: Piece::remainder(text, &behind_shebang(text)),
         }
     }
+
     // A text with a frontmatter between the lines that start at these places.
     fn fenced(text: &Scanner<'s>, opening: &Scanner<'s>, closing: &Scanner<'s>) -> ScriptSource<'s>
         requires inside { size opening.now ≤ size text.now }
@@ -358,6 +359,7 @@ impl<'s> ScriptSource<'s> {
     {
         self.content.span()
     }
+
     // Where the frontmatter ends, if there is one.
     pub(crate) fn frontmatter_end(&self) -> Option<usize>
         ensures { result ≡ frontmatter_end (Ok self.now) }

@@ -336,6 +336,7 @@ impl<'a> LexedStr<'a> {
     {
         self.leaves.is_empty()
     }
+
     /// The kind of a leaf.
     pub fn kind(&self, i: usize) -> SyntaxKind
         requires { i < length self.now.leaves }
@@ -391,7 +392,7 @@ impl<'a> LexedStr<'a> {
         requires { i < length self.now.leaves }
         ensures { result ≡ size (leaf_at self.now.leaves i).leaf.text }
     {
-        self.end(i) - self.offset(i)
+        self.end(i) - self.text_start(i)
     }
 
     /// Where a leaf stands, in bytes.
@@ -400,7 +401,7 @@ impl<'a> LexedStr<'a> {
         ensures start { result.start ≡ offset self.now.leaves i }
         ensures end { result.end ≡ offset self.now.leaves i + size (leaf_at self.now.leaves i).leaf.text }
     {
-        self.offset(i)..self.end(i)
+        self.text_start(i)..self.end(i)
     }
 
     /// The text of a leaf.

@@ -17,6 +17,4 @@ mod message;
 mod parser_token;
 mod scanner;
 pub mod syntax_kind;
-#[cfg(test)]
-mod tests;
 mod word_table;

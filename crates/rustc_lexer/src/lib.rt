@@ -11,8 +11,6 @@ mod literals;
 mod names;
 mod numbers;
 mod shebang;
-#[cfg(test)]
-mod tests;
 mod token;
 mod tokens;
 

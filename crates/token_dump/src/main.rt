@@ -8,6 +8,9 @@ use rustc_lexer::tokenize;
 use std::io::{BufWriter, Write};
 use std::{env, io};
 
+#[cfg(test)]
+mod tests;
+
 fn dump<W: Write>(out: &mut W, text: &str) -> io::Result<()> {
     for token in tokenize(text) {
         writeln!(out, "{:?} {}", token.kind, token.len)?;

@@ -1,6 +1,6 @@
 //! What no clause says: that the definitions mean Rust's tokens, by worked examples.
 
-use crate::{
+use rustc_lexer::{
     Base, Cursor, DocStyle, LiteralKind, Token, TokenKind, is_horizontal_whitespace,
     is_id_continue, is_id_start, is_ident, is_whitespace, laws, strip_shebang, tokenize,
 };

@@ -3,13 +3,13 @@
 ghost use Rattle.std.specs.Prelude.{◌≡◌, IfOk, chars};
 ghost use Rattle.rustc_lexer.specs.Tokens.{token_list};
 
-use crate::edition::Edition;
-use crate::frontmatter::{ScriptSource, is_rust_whitespace};
-use crate::frontmatter_error::FrontmatterError;
-use crate::input::Input;
-use crate::keywords::{contextual_keyword, keyword};
-use crate::lexed_str::LexedStr;
-use crate::syntax_kind::SyntaxKind;
+use parser_input::edition::Edition;
+use parser_input::frontmatter::{ScriptSource, is_rust_whitespace};
+use parser_input::frontmatter_error::FrontmatterError;
+use parser_input::input::Input;
+use parser_input::keywords::{contextual_keyword, keyword};
+use parser_input::lexed_str::LexedStr;
+use parser_input::syntax_kind::SyntaxKind;
 use rustc_lexer::{Token, tokenize};
 use std::alloc::{AllocError, Global};
 use std::ops::Range;
