@@ -2,4 +2,6 @@ pub mod Texts
 pub mod Balance
 pub mod Unwound
 pub mod Trees
+pub mod Stacks
+pub mod Calls
 pub mod Forests

@@ -5,7 +5,9 @@ pub mod Dress
 pub mod Steps
 pub mod Marked
 pub mod Nodes
+pub mod Stack
 pub mod Unwinding
 pub mod Seen
 pub mod View
+pub mod Codes
 pub mod Laws

@@ -2,7 +2,8 @@
 
 ghost use Rattle.std.specs.Prelude.{◌≡◌, ◌↔◌, ◌∷◌, [], true, length, map, reverse, Some, None, IfOk, IsErr};
 ghost use Rattle.parser_events.specs.Marked.{Marked, walk};
-ghost use Rattle.parser_events.specs.Nodes.{Kept, Holds, Becomes, with_entry, opened_at, opened_here, innermost, left_out, closed_as, split_as};
+ghost use Rattle.parser_events.specs.Nodes.{Kept, record_of, with_entry, opened_at, opened_here, innermost, left_out, closed_as, split_as};
+ghost use Rattle.parser_events.specs.Stack.{Becomes};
 ghost use Rattle.parser_events.specs.Seen.{event_of, step_of};
 ghost use Rattle.parser_input.specs.Kind.{raw_of};
 
@@ -95,6 +96,13 @@ impl Recorder {
         self.events.len()
     }
 
+    /// How many nodes are open.
+    pub(crate) fn level(&self) -> usize
+        ensures { (kept : Kept) → self.now ≡ Some kept → result ≡ length kept.opened }
+    {
+        self.open_nodes.len()
+    }
+
     /// Closes the innermost open node, and gives the place where it begins.
     pub(crate) fn complete(&mut self, kind: SyntaxKind) -> usize
         ensures place { (kept : Kept) → self.old ≡ Some kept → result ≡ innermost kept }
@@ -115,7 +123,7 @@ impl Recorder {
 
     /// The steps of the recorded trees, the last one first.
     pub(crate) fn steps_backwards(self) -> Result<Vec<Step>, AllocError>
-        ensures steps { IfOk result (λ steps. (f : Marked) → Holds self (f ∷ []) → map step_of (reverse steps.items) ≡ walk f) }
+        ensures steps { IfOk result (λ steps. (f : Marked) → self ≡ Some (record_of (f ∷ [])) → map step_of (reverse steps.items) ≡ walk f) }
         ensures refused { self ≡ None → IsErr result }
     {
         if self.refused {
