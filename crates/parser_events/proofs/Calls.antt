@@ -1,11 +1,11 @@
 -- What a call makes of the record, and of the open nodes that are read from it.
-use Rattle.std.proofs.Common.{◌≡◌, ℕ, zero, suc, ◌+◌, ◌-◌, Bool, List, [], ◌∷◌, ◌++◌, Option, Some, None, IfSome, length, reverse, refl, ap, sym, subst, ◌∙◌, arith}
+use Rattle.std.proofs.Common.{◌≡◌, ℕ, suc, ◌-◌, Bool, List, [], ◌∷◌, Option, Some, None, IfSome, length, reverse, refl, ap, sym, subst, ◌∙◌, arith}
 use Rattle.parser_events.specs.Marked.{Marked, End, Node, Split, ◌beside◌, size, front, behind, walk}
 use Rattle.parser_events.specs.Nodes.{Entry, Kept, entries, all_entries, starts, record_of, read_from, read_back, nodes_of, IsRecord, with_entry, opened_at, opened_here, innermost, left_out, closed_as, split_as}
 use Rattle.parser_events.specs.Stack as stack
 use Rattle.parser_events.specs.Stack.{level, total_size, Becomes, with_tree, with_node, closed, split, wrapped, place_of, Place, IsAmong, IsInnermost, IsClosed, IsChild, AreStepsOf}
 use Rattle.parser_events.specs.Steps.{Step}
-use Rattle.parser_events.proofs.Trees.{all-length, total-length, starts-length, last-of, records-tree, records-start, records-close, records-leave, records-split, records-wrap}
+use Rattle.parser_events.proofs.Trees.{total-length, starts-length, last-of, records-tree, records-start, records-close, records-leave, records-split, records-wrap}
 use Rattle.parser_events.proofs.Stacks.{reads, front-beside, behind-beside}
 
 -- There are always the trees outside of all nodes.

@@ -1,13 +1,10 @@
 -- Reading a record back gives the open nodes whose record it is.
-use Rattle.std.proofs.Common.{◌≡◌, ℕ, zero, suc, ◌+◌, ◌-◌, ◌≤◌, Bool, List, [], ◌∷◌, ◌++◌, Option, Some, None, IfSome, length, take, drop, reverse, refl, ap, sym, subst, ◌∙◌, append_assoc, append-nil, arith}
+use Rattle.std.proofs.Common.{◌≡◌, ℕ, suc, ◌+◌, ◌-◌, List, [], ◌∷◌, ◌++◌, length, take, reverse, refl, ap, sym, ◌∙◌, append_assoc, append-nil, arith}
 use Rattle.std.proofs.lemmas.List.{take_at, drop_at, reverse-append}
 use Rattle.parser_events.specs.Marked.{Marked, End, Leaf, Said, Node, Split, ◌beside◌, size, front, behind}
 use Rattle.parser_events.specs.Nodes as nodes
 use Rattle.parser_events.specs.Nodes.{Entry, Kept, entries, all_entries, starts, record_of, grown, read_from, read_back, nodes_of, IsRecord, with_entry, opened_at, opened_here, innermost, left_out, closed_as, split_as}
-use Rattle.parser_events.specs.Stack as stack
-use Rattle.parser_events.specs.Stack.{level, total_size, Becomes, with_tree, with_node, closed, split, wrapped, place_of, Place, IsAmong, IsInnermost, IsClosed, IsChild}
 use Rattle.parser_events.proofs.Forests.{beside-end, beside_assoc}
-use Rattle.parser_events.proofs.Trees.{all-length, total-length, starts-length, last-of, records-tree, records-start, records-close, records-leave, records-split, records-wrap}
 
 pub size-beside : (f g : Marked) → size (f beside g) ≡ size f + size g
 size-beside End g = omega arith

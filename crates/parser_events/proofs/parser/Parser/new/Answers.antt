@@ -1,6 +1,6 @@
 -- Nothing is recorded.
-use Rattle.std.proofs.Common.{Option, Some, sym, subst, ap, ◌∙◌, arith}
-use Rattle.parser_events.specs.Nodes.{Kept, IsRecord, nodes_of}
+use Rattle.std.proofs.Common.{Some, sym, subst, ap, ◌∙◌, arith}
+use Rattle.parser_events.specs.Nodes.{IsRecord, nodes_of}
 use Rattle.parser_events.proofs.Calls.{nothing-read, nothing-recorded}
 use Rattle.parser_events.proofs.parser.Parser.new.Goals as goal
 
