@@ -1,5 +1,5 @@
 -- What a call makes of the record, and of the open nodes that are read from it.
-use Rattle.std.proofs.Common.{◌≡◌, ℕ, suc, ◌-◌, Bool, List, [], ◌∷◌, Option, Some, None, IfSome, length, reverse, refl, ap, sym, subst, ◌∙◌, arith}
+use Rattle.std.proofs.Common.{◌≡◌, ℕ, suc, ◌-◌, Bool, List, [], ◌∷◌, Option, Some, None, IfSome, length, reverse, refl, ap, sym, subst, ◌∙◌, arith, ◌↔◌, true}
 use Rattle.parser_events.specs.Marked.{Marked, End, Node, Split, ◌beside◌, size, front, behind, walk}
 use Rattle.parser_events.specs.Nodes.{Entry, Kept, entries, all_entries, starts, record_of, read_from, read_back, nodes_of, IsRecord, with_entry, opened_at, opened_here, innermost, left_out, closed_as, split_as}
 use Rattle.parser_events.specs.Stack as stack
@@ -213,3 +213,21 @@ stays-innermost around to (Some o) (Some n) same h inner = ap level h ∙ same o
 pub level-with_tree : (tree : Marked) (trees : List Marked) → level (with_tree tree trees) ≡ level trees
 level-with_tree tree [] = refl
 level-with_tree tree (f ∷ below) = refl
+
+-- where the innermost node begins
+innermost-size : (f : Marked) (below : List Marked) → innermost (record_of (f ∷ below)) ≡ total_size below
+innermost-size f [] = refl
+innermost-size f (g ∷ below) = last-of (starts (g ∷ below)) (length (all_entries (g ∷ below))) ∙ total-length (g ∷ below)
+
+-- whether a closed node is a tree of the innermost one, by the record
+pub child-tells :
+    (old : Option Kept) (first inside : ℕ) (b : Bool) → IsRecord old
+    → ((kept : Kept) → old ≡ Some kept → (f : Marked) (below : List Marked) → kept.entered ≡ all_entries (f ∷ below) → innermost kept ≡ total_size below
+    → (b ≡ true) ↔ IsAmong (record { before = first; inside = inside }) (f ∷ below))
+    → (old ≡ None → b ≡ true) → (b ≡ true) ↔ IsChild (record { before = first; inside = inside }) (nodes_of old)
+child-tells None first inside b is tells refused = (λ t. tt, λ u. refused refl)
+child-tells (Some k) first inside b is tells refused =
+    let some = trees-of k in
+    let e : k ≡ record_of (some.first ∷ some.below) = is ∙ ap record_of some.are in
+    let here = tells k refl some.first some.below (ap (λ (x : Kept). x.entered) e) (ap innermost e ∙ innermost-size some.first some.below) in
+    subst (λ (trees : List Marked). (b ≡ true) ↔ IsAmong (record { before = first; inside = inside }) trees) (sym some.are) here

@@ -4,4 +4,5 @@ pub mod Unwound
 pub mod Trees
 pub mod Stacks
 pub mod Calls
+pub mod Children
 pub mod Forests

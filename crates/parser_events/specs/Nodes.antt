@@ -12,6 +12,20 @@ pub data Entry : Type 0 where
   Closed : (kind start : ℕ) → Entry
   Ended : (ends_in_dot : Bool) → (start : ℕ) → Entry
 
+-- where the tree begins that has its last entry, this one, at a place
+abbrev pub begins : Entry → ℕ → ℕ
+begins (Token kind count) place = place
+begins (Said message) place = place
+begins (Closed kind start) place = start
+begins (Ended ends_in_dot start) place = start
+
+-- this is the entry of a closed node that begins at a place
+abbrev pub IsClosing : ℕ → Entry → Type 0
+IsClosing place (Closed kind start) = start ≡ place
+IsClosing place (Ended ends_in_dot start) = ⊥
+IsClosing place (Token kind count) = ⊥
+IsClosing place (Said message) = ⊥
+
 -- the entries of trees, the first at this place
 abbrev pub entries : ℕ → Marked → List Entry
 entries place marked.End = []

@@ -149,6 +149,15 @@ impl<'t> Parser<'t> {
         above == 1
     }
 
+    /// Whether the closed node is one of the trees of the innermost open node, or stands outside of all nodes where none is
+    /// open. Yes once a growth was refused. This passes over the trees behind it, each in one step.
+    pub fn can_precede(&self, completed: &CompletedMarker) -> bool
+        ensures { (result ≡ true) ↔ IsChild completed.now self.now.nodes }
+    {
+        let inside = completed.last.saturating_sub(completed.first);
+        self.recorder.is_child(completed.first, inside)
+    }
+
     /// Closes the marker's node as a field access by the float that is next, and opens a node around it. The marker's node
     /// must be the innermost open one.
     pub fn split_float(&mut self, marker: Marker, ends_in_dot: bool) -> Marker
