@@ -3,9 +3,9 @@ use Rattle.std.proofs.Common.{◌≡◌, ℕ, zero, suc, ◌+◌, ◌≤◌, ◌
 use Rattle.std.proofs.lemmas.Bool.{cases_Bool, eqb-true, eq-eqb}
 use Rattle.std.proofs.lemmas.List.{reverse-append, length-reverse, length-map, length-take-le, map-append, take_more}
 use Rattle.parser_input.specs.Kinds.{FIELD_EXPR}
-use Rattle.parser_events.specs.Marked.{Marked, End, Leaf, Said, Node, Split, walk}
+use Rattle.parser_events.specs.Marked.{Marked, End, Leaf, Said, Node, Split, size, walk}
 use Rattle.parser_events.specs.Nodes as nodes
-use Rattle.parser_events.specs.Nodes.{Entry, entries, size}
+use Rattle.parser_events.specs.Nodes.{Entry, entries}
 use Rattle.parser_events.specs.Steps.{Step, FloatSplit, Enter, Exit}
 use Rattle.parser_events.specs.Unwinding.{Pending, Unwound, begun, passed, unwind}
 use Rattle.parser_events.specs.Seen.{event_of}

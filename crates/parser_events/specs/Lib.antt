@@ -5,9 +5,11 @@ pub mod Dress
 pub mod Steps
 pub mod Marked
 pub mod Nodes
+pub mod Stack
 pub mod Unwinding
 pub mod Seen
 pub mod View
+pub mod Codes
 pub mod Laws
 pub mod TextSteps
 pub mod Sinks

@@ -1,5 +1,5 @@
 -- What a parser's calls make: trees over the tokens of its input, as they are while nodes are still open.
-use Rattle.std.specs.Prelude.{ℕ, Bool, List, [], ◌∷◌, ◌++◌, if◌then◌else◌}
+use Rattle.std.specs.Prelude.{ℕ, zero, suc, ◌+◌, ◌-◌, Bool, List, [], ◌∷◌, ◌++◌, if◌then◌else◌}
 use Rattle.parser_input.specs.Kinds.{ERROR, FIELD_EXPR}
 use Rattle.parser_events.specs.Forest as forest
 use Rattle.parser_events.specs.Forest.{Forest, Message}
@@ -22,6 +22,32 @@ End beside g = g
 (Said m f) beside g = Said m (f beside g)
 (Node k c f) beside g = Node k c (f beside g)
 (Split e c f) beside g = Split e c (f beside g)
+
+-- how many leaves, messages and nodes there are
+abbrev pub size : Marked → ℕ
+size End = 0
+size (Leaf k n f) = suc (size f)
+size (Said m f) = suc (size f)
+size (Node k c f) = suc (size c + size f)
+size (Split e c f) = suc (size c + size f)
+
+-- the first trees, which have so many leaves, messages and nodes
+abbrev pub front : ℕ → Marked → Marked
+front zero f = End
+front (suc n) End = End
+front (suc n) (Leaf k c f) = Leaf k c (front n f)
+front (suc n) (Said m f) = Said m (front n f)
+front (suc n) (Node k c f) = Node k c (front (n - size c) f)
+front (suc n) (Split e c f) = Split e c (front (n - size c) f)
+
+-- the trees behind those
+abbrev pub behind : ℕ → Marked → Marked
+behind zero f = f
+behind (suc n) End = End
+behind (suc n) (Leaf k c f) = behind n f
+behind (suc n) (Said m f) = behind n f
+behind (suc n) (Node k c f) = behind (n - size c) f
+behind (suc n) (Split e c f) = behind (n - size c) f
 
 -- the steps of marked trees
 unfoldable pub walk : Marked → List Step

@@ -1,8 +1,8 @@
--- The open nodes of a parser with the trees that each has so far, and the record from which they are read.
-use Rattle.std.specs.Prelude.{ℕ, suc, ◌+◌, ◌-◌, ◌≡◌, Bool, List, [], ◌∷◌, ◌++◌, Option, Some, None, length, take, slice_index_or as get_or}
+-- The record from which a parser's open nodes are read.
+use Rattle.std.specs.Prelude.{ℕ, suc, ◌+◌, ◌-◌, ◌≡◌, Bool, List, [], ◌∷◌, ◌++◌, Option, Some, None, length, reverse, take, drop, slice_index_or as get_or}
 use Rattle.parser_events.specs.Forest.{Message}
 use Rattle.parser_events.specs.Marked as marked
-use Rattle.parser_events.specs.Marked.{Marked, End, Leaf, Node, Split, ◌beside◌}
+use Rattle.parser_events.specs.Marked.{Marked, End, ◌beside◌, size, front, behind}
 
 -- One entry of the record. A node's entry stands behind those of what it holds, and has the place of the first of them, or
 -- its own where it holds nothing.
@@ -12,13 +12,19 @@ pub data Entry : Type 0 where
   Closed : (kind start : ℕ) → Entry
   Ended : (ends_in_dot : Bool) → (start : ℕ) → Entry
 
--- how many entries stand for trees
-abbrev pub size : Marked → ℕ
-size marked.End = 0
-size (marked.Leaf k n f) = suc (size f)
-size (marked.Said m f) = suc (size f)
-size (marked.Node k c f) = suc (size c + size f)
-size (marked.Split e c f) = suc (size c + size f)
+-- where the tree begins that has its last entry, this one, at a place
+abbrev pub begins : Entry → ℕ → ℕ
+begins (Token kind count) place = place
+begins (Said message) place = place
+begins (Closed kind start) place = start
+begins (Ended ends_in_dot start) place = start
+
+-- this is the entry of a closed node that begins at a place
+abbrev pub IsClosing : ℕ → Entry → Type 0
+IsClosing place (Closed kind start) = start ≡ place
+IsClosing place (Ended ends_in_dot start) = ⊥
+IsClosing place (Token kind count) = ⊥
+IsClosing place (Said message) = ⊥
 
 -- the entries of trees, the first at this place
 abbrev pub entries : ℕ → Marked → List Entry
@@ -45,73 +51,36 @@ pub record Kept : Type 0 where
   pub entered : List Entry
   pub opened : List ℕ
 
--- The open nodes have these trees so far, the innermost node first; the last list belongs to no node. Where a growth was
--- refused nothing is said.
-abbrev pub Holds : Option Kept → List Marked → Type 0
-Holds None trees = Unit {0}
-Holds (Some kept) trees = (kept.entered ≡ all_entries trees) × (kept.opened ≡ starts trees)
+-- the record of open nodes
+abbrev pub record_of : List Marked → Kept
+record_of nodes = record { entered = all_entries nodes; opened = starts nodes }
 
--- a tree stands behind what the innermost open node has
-pub record Adds (tree : Marked) (old new : Option Kept) : Type 0 where
-  pub at : (f : Marked) (below : List Marked) → Holds old (f ∷ below) → Holds new ((f beside tree) ∷ below)
+-- What entries make of a node's trees so far; the first of these has its entries from this place on. A node's entry stands
+-- for a node around the trees from its own place on.
+abbrev pub grown : ℕ → Marked → List Entry → Marked
+grown place f [] = f
+grown place f (Token k n ∷ es) = grown place (f beside marked.Leaf k n End) es
+grown place f (Said m ∷ es) = grown place (f beside marked.Said m End) es
+grown place f (Closed k s ∷ es) = grown place (front (s - place) f beside marked.Node k (behind (s - place) f) End) es
+grown place f (Ended e s ∷ es) = grown place (front (s - place) f beside marked.Split e (behind (s - place) f) End) es
 
--- a node was opened
-pub record Opens (old new : Option Kept) : Type 0 where
-  pub at : (f : Marked) (below : List Marked) → Holds old (f ∷ below) → Holds new (End ∷ f ∷ below)
+-- the trees of the open nodes, which begin at these places, the innermost first
+abbrev pub read_from : List Entry → List ℕ → List Marked
+read_from es [] = grown 0 End es ∷ []
+read_from es (place ∷ around) = grown place End (drop place es) ∷ read_from (take place es) around
 
--- the innermost node was closed as one of this kind
-pub record Closes (kind : ℕ) (old new : Option Kept) : Type 0 where
-  pub at : (f before : Marked) (below : List Marked) → Holds old (f ∷ before ∷ below) → Holds new ((before beside Node kind f End) ∷ below)
+-- the open nodes of a record
+unfoldable pub read_back : Kept → List Marked
+read_back kept = read_from kept.entered (reverse kept.opened)
 
--- the innermost node was left out, and what it had stands in the one around it
-pub record Leaves (old new : Option Kept) : Type 0 where
-  pub at : (f before : Marked) (below : List Marked) → Holds old (f ∷ before ∷ below) → Holds new ((before beside f) ∷ below)
+abbrev pub nodes_of : Option Kept → Option (List Marked)
+nodes_of None = None
+nodes_of (Some kept) = Some (read_back kept)
 
--- the innermost node was closed as a field access by a float, and one around it was opened
-pub record Splits (ends_in_dot : Bool) (old new : Option Kept) : Type 0 where
-  pub at : (f before : Marked) (below : List Marked) → Holds old (f ∷ before ∷ below) → Holds new (Split ends_in_dot f End ∷ before ∷ below)
-
--- A node was opened around the trees of the innermost one from a place on.
-pub record Wraps (place : ℕ) (old new : Option Kept) : Type 0 where
-  pub at : (front tree : Marked) (below : List Marked) → place ≡ length (all_entries (front ∷ below)) → Holds old ((front beside tree) ∷ below) → Holds new (tree ∷ front ∷ below)
-
--- unless a growth was refused
-abbrev pub Unrefused : Option Kept → Type 0 → Type 0
-Unrefused None claim = Unit {0}
-Unrefused (Some kept) claim = claim
-
--- the numbers of the first and the last entry of a node
-pub record Child : Type 0 where
-  pub first : ℕ
-  pub last : ℕ
-
--- These are the entries of the innermost node, once it is closed: they begin behind what the node around it has.
-pub record IsAt (old : Option Kept) (child : Child) : Type 0 where
-  pub at : (f before : Marked) (below : List Marked) → Holds old (f ∷ before ∷ below) →
-      Unrefused old ((child.first ≡ length (all_entries (before ∷ below))) × (child.last ≡ length (all_entries (f ∷ before ∷ below))))
-
--- The closed node is one of the trees of the innermost open node, or of those outside of all nodes where none is open: it
--- has trees of that node in front of it and behind it.
-pub record IsAmong (child : Child) (trees : List Marked) : Type 0 where
-  pub front : Marked
-  pub kind : ℕ
-  pub children : Marked
-  pub after : Marked
-  pub below : List Marked
-  pub are : trees ≡ (front beside Node kind children after) ∷ below
-  pub first : child.first ≡ length (all_entries (front ∷ below))
-  pub last : child.last ≡ length (all_entries (children ∷ front ∷ below))
-
--- Where a growth was refused nothing is asked.
-abbrev pub IsChild : Child → Option Kept → Type 0
-IsChild child nodes = Unrefused nodes ((trees : List Marked) × (Holds nodes trees × IsAmong child trees))
-
--- what is kept becomes this, or a growth is refused; what was refused stays refused
-abbrev pub Becomes : (Kept → Kept) → Option Kept → Option Kept → Type 0
-Becomes change None None = Unit {0}
-Becomes change None (Some new) = ⊥
-Becomes change (Some old) None = Unit {0}
-Becomes change (Some old) (Some new) = new ≡ change old
+-- what is kept is the record of the open nodes that are read from it
+abbrev pub IsRecord : Option Kept → Type 0
+IsRecord None = Unit {0}
+IsRecord (Some kept) = kept ≡ record_of (read_back kept)
 
 abbrev pub with_entry : Entry → Kept → Kept
 with_entry e kept = record { entered = kept.entered ++ e ∷ []; opened = kept.opened }

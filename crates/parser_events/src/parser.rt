@@ -1,13 +1,16 @@
 //! The calls by which a grammar reads its input and marks its nodes.
+//!
+//! Contracts see a parser's nodes as the stack of those that are open, with the trees that each has so far. A call changes
+//! that stack or is refused a growth; then there is no stack from there on. So a body that records nothing and says that a
+//! growth was refused meets every clause on nodes: that nothing is refused while there is memory is what the tests show.
 
-ghost use Rattle.std.specs.Prelude.{◌≡◌, ◌+◌, ◌-◌, ◌^◌, ◌<◌, ◌≤◌, ◌↔◌, ◌∷◌, [], true, length, min, Some, None, IfOk, IsErr};
+ghost use Rattle.std.specs.Prelude.{◌≡◌, ◌+◌, ◌-◌, ◌^◌, ◌≤◌, ◌↔◌, ◌∷◌, [], true, length, min, Some, IfSome, IfOk};
 ghost use Rattle.parser_input.specs.Kind.{raw_of};
 ghost use Rattle.parser_input.specs.Kinds as kinds;
 ghost use Rattle.parser_input.specs.Recorded.{token_at};
-ghost use Rattle.parser_events.specs.Marked.{Marked, End, Leaf, Said, walk};
-ghost use Rattle.parser_events.specs.Nodes.{Holds, Adds, Opens, Closes, Leaves, Splits, Wraps, IsAt, IsChild};
+ghost use Rattle.parser_events.specs.Marked.{End, Leaf, Said};
 ghost use Rattle.parser_events.specs.Seen.{message_of};
-ghost use Rattle.parser_events.specs.View.{View, Mark, Parsed, IsInnermost, IsClosed};
+ghost use Rattle.parser_events.specs.Stack.{Becomes, with_tree, with_node, closed, left_out, split, wrapped, place_of, IsInnermost, IsClosed, IsChild, AreStepsOf};
 
 use crate::event::Event;
 use crate::message::Message;
@@ -26,20 +29,23 @@ pub struct Parser<'t> {
     /// How many tokens were not taken.
     left: usize,
     looks: u64,
-    /// How many nodes are open.
-    level: usize,
     recorder: Recorder,
 }
 
 impl<'t> Model for Parser<'t> {
     ghost use Rattle.std.specs.Prelude.{◌-◌, ◌≤◌, length};
     ghost use Rattle.parser_events.specs.View.{View};
+    ghost use Rattle.parser_events.specs.Codes.{view_code};
 
     ghost Value = { View };
 
-    ghost view = { λ p. record { input = p.input.now; position = length p.input.now - p.left; nodes = p.recorder; level = p.level; looks = p.looks } };
+    ghost coded = { view_code };
 
-    ghost invariant = { λ p. p.left ≤ length p.input.now };
+    ghost use Rattle.parser_events.specs.Nodes.{nodes_of, IsRecord};
+
+    ghost view = { λ p. record { input = p.input.now; position = length p.input.now - p.left; nodes = nodes_of p.recorder; looks = p.looks } };
+
+    ghost invariant = { λ p. (p.left ≤ length p.input.now) × IsRecord p.recorder };
 }
 
 impl<'t> Parser<'t> {
@@ -47,15 +53,13 @@ impl<'t> Parser<'t> {
     pub fn new(alloc: Global, input: &'t Input) -> Parser<'t>
         ensures input { result.input ≡ input.now }
         ensures position { result.position ≡ 0 }
-        ensures nodes { Holds result.nodes (End ∷ []) }
-        ensures level { result.level ≡ 0 }
+        ensures nodes { result.nodes ≡ Some (End ∷ []) }
         ensures looks { result.looks ≡ 0 }
     {
         Parser {
             input,
             left: input.len(),
             looks: 0,
-            level: 0,
             recorder: Recorder::new(alloc),
         }
     }
@@ -83,9 +87,8 @@ impl<'t> Parser<'t> {
     pub fn token(&mut self, kind: SyntaxKind, n: u8)
         requires some { 1 ≤ n }
         requires left { self.old.position + n ≤ length self.old.input }
-        ensures adds { Adds (Leaf (raw_of kind) n End) self.old.nodes self.new.nodes }
+        ensures nodes { Becomes (with_tree (Leaf (raw_of kind) n End)) self.old.nodes self.new.nodes }
         ensures same { self.new ≡ record self.old { position = self.old.position + n; nodes = self.new.nodes } }
-        ensures refused { self.old.nodes ≡ None → self.new.nodes ≡ None }
     {
         self.recorder.record(Event::Token {
             kind,
@@ -96,9 +99,8 @@ impl<'t> Parser<'t> {
 
     /// Adds a message.
     pub fn error(&mut self, msg: Message)
-        ensures adds { Adds (Said (message_of msg) End) self.old.nodes self.new.nodes }
+        ensures nodes { Becomes (with_tree (Said (message_of msg) End)) self.old.nodes self.new.nodes }
         ensures same { self.new ≡ record self.old { nodes = self.new.nodes } }
-        ensures refused { self.old.nodes ≡ None → self.new.nodes ≡ None }
     {
         self.recorder.record(Event::Error { msg });
     }
@@ -126,37 +128,44 @@ impl<'t> Parser<'t> {
 
     /// Opens a node in the innermost open one.
     pub fn start(&mut self) -> Marker
-        ensures opens { Opens self.old.nodes self.new.nodes }
-        ensures marker { result ≡ record { outside = self.old.level; inside = self.new.level } }
-        ensures level { self.new.level ≡ min (self.old.level + 1) (2 ^ 64 - 1) }
-        ensures same { self.new ≡ record self.old { nodes = self.new.nodes; level = self.new.level } }
-        ensures refused { self.old.nodes ≡ None → self.new.nodes ≡ None }
+        ensures nodes { Becomes with_node self.old.nodes self.new.nodes }
+        ensures marker { IsInnermost result self.new.nodes }
+        ensures same { self.new ≡ record self.old { nodes = self.new.nodes } }
     {
-        let outside = self.level;
+        let around = self.recorder.level();
         self.recorder.start();
-        self.level = outside.saturating_add(1);
-        Marker {
-            outside,
-            inside: self.level,
-        }
+        Marker { around }
     }
 
     /// Whether the marker's node is the innermost open one. Yes once a growth was refused.
     pub fn is_innermost(&self, marker: &Marker) -> bool
-        ensures { (result ≡ true) ↔ IsInnermost marker.now self.now }
+        ensures { (result ≡ true) ↔ IsInnermost marker.now self.now.nodes }
     {
-        self.recorder.is_refused() || self.level == marker.inside
+        if self.recorder.is_refused() {
+            return true;
+        }
+        let level = self.recorder.level();
+        let above = level.saturating_sub(marker.around);
+        above == 1
+    }
+
+    /// Whether the closed node is one of the trees of the innermost open node, or stands outside of all nodes where none is
+    /// open. Yes once a growth was refused. This passes over the trees behind it, each in one step.
+    pub fn can_precede(&self, completed: &CompletedMarker) -> bool
+        ensures { (result ≡ true) ↔ IsChild completed.now self.now.nodes }
+    {
+        let inside = completed.last.saturating_sub(completed.first);
+        self.recorder.is_child(completed.first, inside)
     }
 
     /// Closes the marker's node as a field access by the float that is next, and opens a node around it. The marker's node
     /// must be the innermost open one.
     pub fn split_float(&mut self, marker: Marker, ends_in_dot: bool) -> Marker
-        requires innermost { IsInnermost marker self.old }
+        requires innermost { IsInnermost marker self.old.nodes }
         requires float { (token_at self.old.input self.old.position).kind ≡ kinds.FLOAT_NUMBER }
-        ensures splits { Splits ends_in_dot self.old.nodes self.new.nodes }
+        ensures nodes { Becomes (split ends_in_dot) self.old.nodes self.new.nodes }
         ensures marker { result ≡ marker }
         ensures same { self.new ≡ record self.old { position = self.old.position + 1; nodes = self.new.nodes } }
-        ensures refused { self.old.nodes ≡ None → self.new.nodes ≡ None }
     {
         self.recorder.split(ends_in_dot);
         self.left -= 1;
@@ -166,16 +175,14 @@ impl<'t> Parser<'t> {
     /// The steps of the trees. No node may be open. A growth that was refused before is answered here, and so is one that
     /// is refused now.
     pub fn finish(self) -> Result<Output, AllocError>
-        requires { IsClosed self }
-        ensures steps { IfOk result (λ output. (trees : Marked) → Holds self.entry.nodes (trees ∷ []) → output.steps ≡ walk trees) }
+        requires { IsClosed self.nodes }
+        ensures steps { IfOk result (λ output. AreStepsOf self.entry.nodes output.steps) }
         ensures looks { IfOk result (λ output. output.looks ≡ self.entry.looks) }
-        ensures refused { self.entry.nodes ≡ None → IsErr result }
     {
         let Parser {
             input: _,
             left: _,
             looks,
-            level: _,
             recorder,
         } = self;
         let steps = recorder.steps_backwards()?;
@@ -184,51 +191,46 @@ impl<'t> Parser<'t> {
 }
 
 /// A node that is open. It must be spent, by [`Marker::complete`], [`Marker::abandon`] or [`Parser::split_float`].
+/// Contracts see how many nodes are open around it.
 pub struct Marker {
-    outside: usize,
-    inside: usize,
+    /// How many nodes are open around it.
+    around: usize,
 }
 
 impl Model for Marker {
-    ghost use Rattle.parser_events.specs.View.{Mark};
+    ghost use Rattle.std.specs.Prelude.{ℕ};
 
-    ghost Value = { Mark };
+    ghost Value = { ℕ };
 
-    ghost view = { λ m. record { outside = m.outside; inside = m.inside } };
+    ghost view = { λ m. m.around };
 }
 
 impl Marker {
     /// Closes the node, which must be the innermost open one, as one of this kind.
     pub fn complete(self, p: &mut Parser<'_>, kind: SyntaxKind) -> CompletedMarker
-        requires { IsInnermost self p.old }
-        ensures closes { Closes (raw_of kind) p.old.nodes p.new.nodes }
-        ensures place { IsAt p.old.nodes result }
-        ensures level { p.new.level ≡ self.outside }
-        ensures same { p.new ≡ record p.old { nodes = p.new.nodes; level = p.new.level } }
-        ensures refused { p.old.nodes ≡ None → p.new.nodes ≡ None }
+        requires { IsInnermost self p.old.nodes }
+        ensures nodes { Becomes (closed (raw_of kind)) p.old.nodes p.new.nodes }
+        ensures place { IfSome p.old.nodes (λ nodes. result ≡ place_of nodes) }
+        ensures same { p.new ≡ record p.old { nodes = p.new.nodes } }
     {
-        let Marker { outside, inside: _ } = self;
+        let Marker { around: _ } = self;
         let last = p.recorder.len();
         let first = p.recorder.complete(kind);
-        p.level = outside;
         CompletedMarker { first, last }
     }
 
     /// Leaves the node out, which must be the innermost open one: what it has goes to the node around it.
     pub fn abandon(self, p: &mut Parser<'_>)
-        requires { IsInnermost self p.old }
-        ensures leaves { Leaves p.old.nodes p.new.nodes }
-        ensures level { p.new.level ≡ self.outside }
-        ensures same { p.new ≡ record p.old { nodes = p.new.nodes; level = p.new.level } }
-        ensures refused { p.old.nodes ≡ None → p.new.nodes ≡ None }
+        requires { IsInnermost self p.old.nodes }
+        ensures nodes { Becomes left_out p.old.nodes p.new.nodes }
+        ensures same { p.new ≡ record p.old { nodes = p.new.nodes } }
     {
-        let Marker { outside, inside: _ } = self;
+        let Marker { around: _ } = self;
         p.recorder.abandon();
-        p.level = outside;
     }
 }
 
-/// A node that was closed. It may be dropped.
+/// A node that was closed. It may be dropped. Contracts see where it stands, in leaves, messages and nodes.
 #[derive(Drop)]
 pub struct CompletedMarker {
     /// The number of the first entry that stands for the node and what it holds.
@@ -238,29 +240,24 @@ pub struct CompletedMarker {
 }
 
 impl Model for CompletedMarker {
-    ghost use Rattle.parser_events.specs.Nodes.{Child};
+    ghost use Rattle.std.specs.Prelude.{◌-◌};
+    ghost use Rattle.parser_events.specs.Stack.{Place};
 
-    ghost Value = { Child };
+    ghost Value = { Place };
 
-    ghost view = { λ c. record { first = c.first; last = c.last } };
+    ghost view = { λ c. record { before = c.first; inside = c.last - c.first } };
 }
 
 impl CompletedMarker {
     /// Opens a node around this one and all that stands behind it in the innermost open node, of which it must be a child.
     pub fn precede(self, p: &mut Parser<'_>) -> Marker
         requires { IsChild self p.old.nodes }
-        ensures wraps { Wraps self.first p.old.nodes p.new.nodes }
-        ensures marker { result ≡ record { outside = p.old.level; inside = p.new.level } }
-        ensures level { p.new.level ≡ min (p.old.level + 1) (2 ^ 64 - 1) }
-        ensures same { p.new ≡ record p.old { nodes = p.new.nodes; level = p.new.level } }
-        ensures refused { p.old.nodes ≡ None → p.new.nodes ≡ None }
+        ensures nodes { Becomes (wrapped self.before) p.old.nodes p.new.nodes }
+        ensures marker { IsInnermost result p.new.nodes }
+        ensures same { p.new ≡ record p.old { nodes = p.new.nodes } }
     {
-        let outside = p.level;
+        let around = p.recorder.level();
         p.recorder.start_at(self.first);
-        p.level = outside.saturating_add(1);
-        Marker {
-            outside,
-            inside: p.level,
-        }
+        Marker { around }
     }
 }

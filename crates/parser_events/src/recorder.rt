@@ -1,8 +1,9 @@
 //! The record of a parser: flat lists, in which nothing is written twice.
 
-ghost use Rattle.std.specs.Prelude.{◌≡◌, ◌↔◌, ◌∷◌, [], true, length, map, reverse, Some, None, IfOk, IsErr};
+ghost use Rattle.std.specs.Prelude.{◌≡◌, ◌-◌, ◌≤◌, ◌↔◌, List, ◌∷◌, [], true, length, map, reverse, Some, None, IfOk, IsErr};
 ghost use Rattle.parser_events.specs.Marked.{Marked, walk};
-ghost use Rattle.parser_events.specs.Nodes.{Kept, Holds, Becomes, with_entry, opened_at, opened_here, innermost, left_out, closed_as, split_as};
+ghost use Rattle.parser_events.specs.Nodes.{Kept, record_of, all_entries, begins, IsClosing, with_entry, opened_at, opened_here, innermost, left_out, closed_as, split_as};
+ghost use Rattle.parser_events.specs.Stack.{Becomes, IsAmong, total_size};
 ghost use Rattle.parser_events.specs.Seen.{event_of, step_of};
 ghost use Rattle.parser_input.specs.Kind.{raw_of};
 
@@ -95,6 +96,13 @@ impl Recorder {
         self.events.len()
     }
 
+    /// How many nodes are open.
+    pub(crate) fn level(&self) -> usize
+        ensures { (kept : Kept) → self.now ≡ Some kept → result ≡ length kept.opened }
+    {
+        self.open_nodes.len()
+    }
+
     /// Closes the innermost open node, and gives the place where it begins.
     pub(crate) fn complete(&mut self, kind: SyntaxKind) -> usize
         ensures place { (kept : Kept) → self.old ≡ Some kept → result ≡ innermost kept }
@@ -115,12 +123,79 @@ impl Recorder {
 
     /// The steps of the recorded trees, the last one first.
     pub(crate) fn steps_backwards(self) -> Result<Vec<Step>, AllocError>
-        ensures steps { IfOk result (λ steps. (f : Marked) → Holds self (f ∷ []) → map step_of (reverse steps.items) ≡ walk f) }
+        ensures steps { IfOk result (λ steps. (f : Marked) → self ≡ Some (record_of (f ∷ [])) → map step_of (reverse steps.items) ≡ walk f) }
         ensures refused { self ≡ None → IsErr result }
     {
         if self.refused {
             return Err(AllocError);
         }
         steps_backwards(self.alloc, &self.events)
+    }
+
+    /// Whether a node that was closed is one of the trees of the innermost open node: by the number of the first entry that
+    /// stands for it, and how many it holds. Yes once a growth was refused. This passes over the trees behind it.
+    pub(crate) fn is_child(&self, first: usize, inside: usize) -> bool
+        ensures tells { (kept : Kept) → self.now ≡ Some kept → (f : Marked) (below : List Marked) → kept.entered ≡ all_entries (f ∷ below) → innermost kept ≡ total_size below → ((result ≡ true) ↔ IsAmong (record { before = first; inside = inside }) (f ∷ below)) }
+        ensures refused { self.now ≡ None → result ≡ true }
+    {
+        if self.refused {
+            return true;
+        }
+        let floor = self.innermost_start();
+        is_tree(&self.events, floor, first, inside)
+    }
+
+    fn innermost_start(&self) -> usize
+        ensures { (kept : Kept) → self.now ≡ Some kept → result ≡ innermost kept }
+    {
+        self.open_nodes.last().copied().unwrap_or(0)
+    }
+}
+
+// Whether a node that begins at the entry `first` and holds so many is one of the trees from an entry on.
+fn is_tree(events: &[Event], floor: usize, first: usize, inside: usize) -> bool
+    ensures { (f : Marked) (below : List Marked) → map event_of events.now ≡ all_entries (f ∷ below) → floor ≡ total_size below → ((result ≡ true) ↔ IsAmong (record { before = first; inside = inside }) (f ∷ below)) }
+{
+    let mut end = events.len();
+    'trees: while floor < end {
+        let event = events[end - 1];
+        let start = start_of(event, end - 1);
+        if start <= first {
+            return is_node(event, first, end - 1, inside);
+        }
+        end = start;
+    }
+    false
+}
+
+// Where the tree begins that has its last entry at a place.
+fn start_of(event: Event, place: usize) -> usize
+    ensures within { result ≤ place }
+    ensures start { begins (event_of event) place ≤ place → result ≡ begins (event_of event) place }
+{
+    let start = match event {
+        Event::Token { .. } => place,
+        Event::Error { .. } => place,
+        Event::Close { start, .. } => start,
+        Event::Split { start, .. } => start,
+    };
+    if start <= place { start } else { place }
+}
+
+// Whether this entry, at a place, is that of a closed node that begins at the entry `first` and holds so many.
+fn is_node(event: Event, first: usize, place: usize, inside: usize) -> bool
+    ensures { (result ≡ true) ↔ (IsClosing first (event_of event) × (place - first ≡ inside)) }
+{
+    match event {
+        Event::Token { .. } => false,
+        Event::Error { .. } => false,
+        Event::Close { start, .. } => {
+            if start == first {
+                place.saturating_sub(first) == inside
+            } else {
+                false
+            }
+        }
+        Event::Split { .. } => false,
     }
 }

@@ -1,10 +1,17 @@
 -- One entry closes the node, and the node around it begins at the same place.
-use Rattle.std.proofs.Common.{Option, ap, subst}
-use Rattle.parser_events.specs.Nodes.{Kept, Splits}
+use Rattle.std.proofs.Common.{Option, List, ap, sym, subst, arith}
+use Rattle.parser_events.specs.Marked.{Marked}
+use Rattle.parser_events.specs.Nodes.{nodes_of}
+use Rattle.parser_events.specs.Stack.{Becomes, split, IsInnermost}
 use Rattle.parser_events.specs.View.{View}
-use Rattle.parser_events.proofs.Trees.{splits-by}
+use Rattle.parser_events.proofs.Calls.{splits}
 use Rattle.parser_events.proofs.parser.Parser.split_float.Goals as goal
 
-pub returns-clause-splits : goal.returns-clause-splits
-returns-clause-splits c =
-    subst (λ (old : Option Kept). Splits c.args.ends_in_dot old c.split.new.self) (ap (λ (v : View). v.nodes) c.self.view_is) (splits-by _ _ _ c.split.ensures)
+pub invariant_of-self : goal.invariant_of-self
+invariant_of-self c =
+    (omega arith, (splits _ _ _ _ c.split.ensures c.self.invariant.1 (subst (IsInnermost c.args.marker) (sym (ap (λ (v : View). v.nodes) c.self.view_is)) c.requires.innermost)).is_record)
+
+pub returns-clause-nodes : goal.returns-clause-nodes
+returns-clause-nodes c =
+    subst (λ (old : Option (List Marked)). Becomes (split c.args.ends_in_dot) old (nodes_of c.split.new.self)) (ap (λ (v : View). v.nodes) c.self.view_is)
+    (splits _ _ _ _ c.split.ensures c.self.invariant.1 (subst (IsInnermost c.args.marker) (sym (ap (λ (v : View). v.nodes) c.self.view_is)) c.requires.innermost)).becomes

@@ -1,13 +1,18 @@
 -- One entry is a leaf.
-use Rattle.std.proofs.Common.{Option, refl, ap, subst}
+use Rattle.std.proofs.Common.{Option, List, refl, ap, subst, arith}
 use Rattle.parser_input.specs.Kind.{raw_of}
-use Rattle.parser_events.specs.Marked.{End, Leaf}
-use Rattle.parser_events.specs.Nodes.{Kept, Adds}
+use Rattle.parser_events.specs.Marked.{Marked, End, Leaf}
+use Rattle.parser_events.specs.Nodes.{nodes_of}
+use Rattle.parser_events.specs.Stack.{Becomes, with_tree}
 use Rattle.parser_events.specs.View.{View}
-use Rattle.parser_events.proofs.Trees.{adds-by}
+use Rattle.parser_events.proofs.Calls.{adds}
 use Rattle.parser_events.proofs.parser.Parser.token.Goals as goal
 
-pub returns-clause-adds : goal.returns-clause-adds
-returns-clause-adds c =
+pub invariant_of-self : goal.invariant_of-self
+invariant_of-self c = (omega arith, (adds _ (Leaf (raw_of c.args.kind) c.args.n End) _ _ (λ b. refl) c.record.ensures c.self.invariant.1).is_record)
+
+pub returns-clause-nodes : goal.returns-clause-nodes
+returns-clause-nodes c =
     let tree = Leaf (raw_of c.args.kind) c.args.n End in
-    subst (λ (old : Option Kept). Adds tree old c.record.new.self) (ap (λ (v : View). v.nodes) c.self.view_is) (adds-by _ tree _ _ (λ b. refl) c.record.ensures)
+    subst (λ (old : Option (List Marked)). Becomes (with_tree tree) old (nodes_of c.record.new.self)) (ap (λ (v : View). v.nodes) c.self.view_is)
+    (adds _ tree _ _ (λ b. refl) c.record.ensures c.self.invariant.1).becomes

@@ -1,0 +1,11 @@
+-- Nothing is recorded.
+use Rattle.std.proofs.Common.{Some, sym, subst, ap, ◌∙◌, arith}
+use Rattle.parser_events.specs.Nodes.{IsRecord, nodes_of}
+use Rattle.parser_events.proofs.Calls.{nothing-read, nothing-recorded}
+use Rattle.parser_events.proofs.parser.Parser.new.Goals as goal
+
+pub invariant_of-result : goal.invariant_of-result
+invariant_of-result c = (omega arith, subst IsRecord (sym c.new.ensures) nothing-recorded)
+
+pub returns-clause-nodes : goal.returns-clause-nodes
+returns-clause-nodes c = ap nodes_of c.new.ensures ∙ ap Some nothing-read
