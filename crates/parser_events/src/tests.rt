@@ -195,3 +195,23 @@ fn a_float_ends_a_field_access(rt: HostRuntime) -> Result<(), AllocError> {
     );
     Ok(())
 }
+
+#[test]
+fn nodes_that_may_be_preceded(rt: HostRuntime) -> Result<(), AllocError> {
+    let input = three_words(rt.alloc())?;
+    let mut parser = Parser::new(rt.alloc(), &input);
+    let first = parser.start();
+    parser.token(SyntaxKind::IDENT, 1);
+    let first = first.complete(&mut parser, SyntaxKind::PATH);
+    let second = parser.start();
+    assert!(rt; !parser.can_precede(&first));
+    let second = second.complete(&mut parser, SyntaxKind::NAME);
+    assert!(rt; parser.can_precede(&first));
+    assert!(rt; parser.can_precede(&second));
+    let pair = first.precede(&mut parser);
+    assert!(rt; parser.can_precede(&second));
+    let pair = pair.complete(&mut parser, SyntaxKind::TUPLE_EXPR);
+    assert!(rt; !parser.can_precede(&second));
+    assert!(rt; parser.can_precede(&pair));
+    Ok(())
+}
