@@ -43,6 +43,3 @@ pub use preorder::{Descendants, DescendantsWithTokens, Preorder, PreorderWithTok
 pub use ptr::SyntaxNodePtr;
 pub use syntax_children::{SyntaxElementChildren, SyntaxNodeChildren};
 pub use utility_types::{Direction, TokenAtOffset, WalkEvent};
-
-#[cfg(test)]
-mod tests;
