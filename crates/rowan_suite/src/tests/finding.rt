@@ -1,9 +1,9 @@
 //! Nodes and tokens that are found by offset, range and kind, and trees with one of them replaced.
-use super::{Node, SAMPLE, Shown, Token, comma, first_list, green, show_item, tree};
+use super::{Node, SAMPLE, Shown, Token, comma, first_list, green, hash_of, show_item, tree};
 use crate::{Kind, ListNode, Lists};
 use rowan::{AstNode, AstPtr, SyntaxNodePtr, TokenAtOffset, WalkEvent, support};
 use rowan_green::{GreenToken, SyntaxKind, TextRange, TextSize};
-use std::alloc::Global;
+use std::alloc::{AllocError, Global};
 use std::test::Fail;
 
 #[test]
@@ -206,12 +206,24 @@ fn finding(rt: HostRuntime) -> Result<(), Fail> {
     Ok(())
 }
 
-/// Whether a pointer to a list is cast to one, and a root is none.
+/// Whether a pointer to the first list reads its node, and equals the plain pointer that is cast to one.
+fn pointers_agree(list: &ListNode) -> bool {
+    let pointer = AstPtr::new(list);
+    let reads = (pointer.kind() == Kind(2)) & (pointer.text_range().start().0 == 2);
+    let alike = hash_of(&pointer) == hash_of(&AstPtr::new(list));
+    let plain = pointer.syntax_node_ptr().cast::<ListNode>();
+    reads & alike & (plain == Some(pointer))
+}
+
+/// Whether pointers to a list are cast to one, and a root is none.
 fn casts_by_kind(list: Node, root: Node) -> bool {
     let can = ListNode::can_cast(Kind(2)) & !ListNode::can_cast(Kind(1));
     let none = ListNode::cast(root).is_none();
     match ListNode::cast(list) {
-        Some(list) => can & none & AstPtr::new(&list).cast::<ListNode>().is_some(),
+        Some(list) => {
+            let again = AstPtr::new(&list).cast::<ListNode>().is_some();
+            can & none & again & pointers_agree(&list)
+        }
         None => false,
     }
 }
@@ -220,5 +232,19 @@ fn casts_by_kind(list: Node, root: Node) -> bool {
 fn kinds_are_told_apart(rt: HostRuntime) -> Result<(), Fail> {
     let alloc = rt.alloc();
     assert!(rt; casts_by_kind(first_list(alloc)?, tree(alloc, SAMPLE)?));
+    Ok(())
+}
+
+/// The length of a node's text, and of the part of it that stands at its end and is empty.
+fn text_lengths(node: &Node) -> Result<(u32, u32), AllocError> {
+    let text = node.text()?;
+    let end = text.slice(TextRange::empty(text.len()))?;
+    Ok((text.len().0, end.len().0))
+}
+
+#[test]
+fn texts(rt: HostRuntime) -> Result<(), Fail> {
+    let alloc = rt.alloc();
+    assert!(rt; text_lengths(&first_list(alloc)?)? == (3, 0));
     Ok(())
 }
