@@ -8,3 +8,4 @@ pub mod Walks
 pub mod Lefts
 pub mod Leaves
 pub mod Ranges
+pub mod Texts

@@ -13,3 +13,4 @@ pub mod Same
 pub mod Sound
 pub mod Falls
 pub mod Left
+pub mod Text

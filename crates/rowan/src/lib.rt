@@ -29,6 +29,7 @@ pub mod preorder;
 pub mod ptr;
 mod replace;
 pub mod syntax_children;
+pub mod syntax_text;
 mod token_at_offset;
 pub mod utility_types;
 mod walk;
@@ -42,7 +43,5 @@ pub use language::Language;
 pub use preorder::{Descendants, DescendantsWithTokens, Preorder, PreorderWithTokens};
 pub use ptr::SyntaxNodePtr;
 pub use syntax_children::{SyntaxElementChildren, SyntaxNodeChildren};
+pub use syntax_text::SyntaxText;
 pub use utility_types::{Direction, TokenAtOffset, WalkEvent};
-
-#[cfg(test)]
-mod tests;

@@ -8,12 +8,15 @@ ghost use Rattle.rowan.specs.Refusal.{FindsOrRefuses};
 use crate::api::SyntaxNode;
 use crate::ast::AstNode;
 use crate::error::CursorError;
+use crate::language::Language;
 use crate::ptr::SyntaxNodePtr;
+use rowan_green::TextRange;
 use std::alloc::{AllocError, Global};
 use std::marker::PhantomData;
 
-/// A pointer to a node that is read as an `N`.
+/// A pointer to a node that is read as an `N`. A clone takes no memory.
 #[derive(Drop)]
+#[derive_where(Clone, PartialEq, Eq, Hash)]
 pub struct AstPtr<N: AstNode> {
     pub raw: SyntaxNodePtr<N::Language>,
     pub node: PhantomData<N>,
@@ -29,6 +32,18 @@ impl<N: AstNode> AstPtr<N> {
             raw: SyntaxNodePtr::new(node.syntax()),
             node: PhantomData,
         }
+    }
+
+    pub fn kind(&self) -> <N::Language as Language>::Kind
+        ensures { result ≡ self.now.raw.kind }
+    {
+        self.raw.kind
+    }
+
+    pub fn text_range(&self) -> TextRange
+        ensures { result ≡ self.now.raw.range }
+    {
+        self.raw.range
     }
 
     /// The first node in preorder of the pointer's kind and range, in the tree of this root, where it
@@ -72,6 +87,23 @@ impl<N: AstNode> AstPtr<N> {
     {
         let SyntaxNodePtr { kind, range } = self.raw;
         if U::can_cast(kind) {
+            return Some(AstPtr {
+                raw: SyntaxNodePtr { kind, range },
+                node: PhantomData,
+            });
+        }
+        None
+    }
+}
+
+impl<L: Language> SyntaxNodePtr<L> {
+    /// The same pointer, read as a typed one, where its kind can be cast to that type.
+    pub fn cast<N: AstNode<Language = L>>(self) -> Option<AstPtr<N>>
+        ensures casts { IsSome result ↔ (N.casts self.kind ≡ true) }
+        ensures same { IfSome result (λ p. p.raw ≡ self) }
+    {
+        let SyntaxNodePtr { kind, range } = self;
+        if N::can_cast(kind) {
             return Some(AstPtr {
                 raw: SyntaxNodePtr { kind, range },
                 node: PhantomData,

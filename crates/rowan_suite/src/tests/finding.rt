@@ -1,0 +1,250 @@
+//! Nodes and tokens that are found by offset, range and kind, and trees with one of them replaced.
+use super::{Node, SAMPLE, Shown, Token, comma, first_list, green, hash_of, show_item, tree};
+use crate::{Kind, ListNode, Lists};
+use rowan::{AstNode, AstPtr, SyntaxNodePtr, TokenAtOffset, WalkEvent, support};
+use rowan_green::{GreenToken, SyntaxKind, TextRange, TextSize};
+use std::alloc::{AllocError, Global};
+use std::test::Fail;
+
+#[test]
+fn what_is_found_is_mapped(rt: HostRuntime) {
+    let both = TokenAtOffset::Between(6u8, 8u8);
+    let left = both.map(|n| n / 2).left_biased();
+    let both = TokenAtOffset::Between(6u8, 8u8);
+    let right = both.map(|n| n / 2).right_biased();
+    let leave = WalkEvent::Leave(6u8).map(|n| n / 2);
+    assert!(rt; (leave == WalkEvent::Leave(3)) & (left == Some(3)) & (right == Some(4)));
+}
+
+/// What is asked.
+#[derive(Clone, Copy)]
+enum Ask {
+    TokensAt(u32),
+    ChildAt(u32, u32),
+    Covering(u32, u32),
+    FirstList,
+    NotFromRoot,
+    LastList,
+    TypedPointer,
+    TypedChild,
+    ReplacedNode,
+    ReplacedToken,
+    WordBeforeAll,
+    NotFound,
+}
+
+#[derive(Clone, Copy)]
+struct Row {
+    ask: Ask,
+    answer: &'static str,
+}
+
+fn asked(ask: Ask, answer: &'static str) -> Row {
+    Row { ask, answer }
+}
+
+/// The tokens that touch an offset.
+fn tokens_at(alloc: Global, out: &mut String, root: &Node, offset: u32) -> Result<(), Fail> {
+    let range = root.text_range();
+    if (offset < range.start().0) | (range.end().0 < offset) {
+        return Ok(out.push_str("outside ")?);
+    }
+    for token in root.token_at_offset(alloc, TextSize(offset))? {
+        token.show(alloc, out)?;
+    }
+    Ok(())
+}
+
+fn covering(alloc: Global, out: &mut String, root: &Node, range: TextRange) -> Result<(), Fail> {
+    let whole = root.text_range();
+    if (range.start().0 < whole.start().0) | (whole.end().0 < range.end().0) {
+        return Ok(out.push_str("outside ")?);
+    }
+    show_item(alloc, out, root.covering_element(alloc, range))
+}
+
+/// The first range that two numbers tell.
+fn range(start: u32, end: u32) -> TextRange {
+    if end < start {
+        return TextRange::empty(TextSize(start));
+    }
+    TextRange::new(TextSize(start), TextSize(end))
+}
+
+fn of_words(alloc: Global, out: &mut String, ask: Ask, root: &Node) -> Result<(), Fail> {
+    match ask {
+        Ask::TokensAt(offset) => tokens_at(alloc, out, root, offset),
+        Ask::Covering(start, end) => covering(alloc, out, root, range(start, end)),
+        Ask::ChildAt(start, end) => show_item(
+            alloc,
+            out,
+            root.child_or_token_at_range(alloc, range(start, end)),
+        ),
+        _ => Ok(()),
+    }
+}
+
+fn found(alloc: Global, out: &mut String, node: &Node, root: &Node) -> Result<(), Fail> {
+    let pointer = SyntaxNodePtr::new(node);
+    show_item(alloc, out, pointer.try_to_node(alloc, root))
+}
+
+fn last_found(alloc: Global, out: &mut String, root: &Node) -> Result<(), Fail> {
+    match root.last_child(alloc)? {
+        Some(last) => found(alloc, out, &last, root),
+        None => Ok(out.push_str("none ")?),
+    }
+}
+
+fn typed_found(alloc: Global, out: &mut String, node: Node, root: &Node) -> Result<(), Fail> {
+    match ListNode::cast(node) {
+        Some(list) => show_list(alloc, out, AstPtr::new(&list).try_to_node(alloc, root)?),
+        None => Ok(out.push_str("no list ")?),
+    }
+}
+
+fn show_list(alloc: Global, out: &mut String, list: Option<ListNode>) -> Result<(), Fail> {
+    match list {
+        Some(list) => {
+            list.syntax().show(alloc, out)?;
+            list.clone_subtree(alloc)?.syntax().show(alloc, out)
+        }
+        None => Ok(out.push_str("none ")?),
+    }
+}
+
+/// The tree with a list emptied, and the list as it was.
+fn replaced_node(alloc: Global, out: &mut String, node: &Node) -> Result<(), Fail> {
+    let empty = green(alloc, "( )")?;
+    if node.green().kind().0 != empty.kind().0 {
+        return Ok(());
+    }
+    let changed = node.replace_with(alloc, empty)?;
+    let texts = format!(in alloc; "{changed}{node}")?;
+    Ok(out.push_str(texts.as_str())?)
+}
+
+fn replaced_token(alloc: Global, out: &mut String, token: &Token) -> Result<(), Fail> {
+    let dot = GreenToken::new(alloc, SyntaxKind(4), ".")?;
+    if token.green().kind().0 != dot.kind().0 {
+        return Ok(());
+    }
+    let changed = token.replace_with(alloc, dot)?;
+    let texts = format!(in alloc; "{changed}{token}")?;
+    Ok(out.push_str(texts.as_str())?)
+}
+
+fn not_found(alloc: Global, out: &mut String, root: &Node) -> Result<(), Fail> {
+    let pointer = SyntaxNodePtr::<Lists> {
+        kind: Kind(3),
+        range: TextRange::new(TextSize(2), TextSize(5)),
+    };
+    match pointer.to_node(alloc, root) {
+        Ok(node) => node.show(alloc, out),
+        Err(e) => Ok(out.push_str(format!(in alloc; "{e}")?.as_str())?),
+    }
+}
+
+fn of_sample(alloc: Global, out: &mut String, ask: Ask, root: &Node) -> Result<(), Fail> {
+    match ask {
+        Ask::FirstList => found(alloc, out, &first_list(alloc)?, root),
+        Ask::LastList => last_found(alloc, out, root),
+        Ask::TypedPointer => typed_found(alloc, out, first_list(alloc)?, root),
+        Ask::TypedChild => show_list(alloc, out, support::child::<ListNode>(alloc, root)?),
+        Ask::WordBeforeAll => show_item(alloc, out, support::token(alloc, root, Kind(3))),
+        Ask::NotFound => not_found(alloc, out, root),
+        _ => Ok(()),
+    }
+}
+
+fn of_list(alloc: Global, out: &mut String, ask: Ask, list: &Node) -> Result<(), Fail> {
+    match ask {
+        Ask::NotFromRoot => found(alloc, out, list, list),
+        _ => replaced_node(alloc, out, list),
+    }
+}
+
+fn answer(alloc: Global, out: &mut String, ask: Ask) -> Result<(), Fail> {
+    match ask {
+        Ask::TokensAt(_) | Ask::ChildAt(_, _) | Ask::Covering(_, _) => {
+            of_words(alloc, out, ask, &tree(alloc, "{ ab cd }")?)
+        }
+        Ask::NotFromRoot | Ask::ReplacedNode => of_list(alloc, out, ask, &first_list(alloc)?),
+        Ask::ReplacedToken => replaced_token(alloc, out, &comma(alloc)?),
+        _ => of_sample(alloc, out, ask, &tree(alloc, SAMPLE)?),
+    }
+}
+
+fn is_met(alloc: Global, row: Row) -> Result<bool, Fail> {
+    let mut out = String::new(alloc);
+    answer(alloc, &mut out, row.ask)?;
+    Ok(out.as_str() == row.answer)
+}
+
+#[test]
+fn finding(rt: HostRuntime) -> Result<(), Fail> {
+    let alloc = rt.alloc();
+    for row in [
+        asked(Ask::TokensAt(2), "WORD@0..2 WORD@2..4 "),
+        asked(Ask::TokensAt(3), "WORD@2..4 "),
+        asked(Ask::ChildAt(2, 2), "WORD@0..2 "),
+        asked(Ask::ChildAt(1, 3), "none "),
+        asked(Ask::Covering(2, 2), "WORD@0..2 "),
+        asked(Ask::Covering(1, 3), "ROOT@0..4 "),
+        asked(Ask::FirstList, "LIST@2..5 "),
+        asked(Ask::NotFromRoot, "none "),
+        asked(Ask::LastList, "LIST@7..7 "),
+        asked(Ask::TypedPointer, "LIST@2..5 LIST@0..3 "),
+        asked(Ask::TypedChild, "LIST@2..5 LIST@0..3 "),
+        asked(Ask::ReplacedNode, "ab;e,cd"),
+        asked(Ask::ReplacedToken, "ab.cd;e,"),
+        asked(Ask::WordBeforeAll, "WORD@0..2 "),
+        asked(Ask::NotFound, "not found"),
+    ] {
+        assert!(rt; is_met(alloc, row)?, "{}", row.answer);
+    }
+    Ok(())
+}
+
+/// Whether a pointer to the first list reads its node, and equals the plain pointer that is cast to one.
+fn pointers_agree(list: &ListNode) -> bool {
+    let pointer = AstPtr::new(list);
+    let reads = (pointer.kind() == Kind(2)) & (pointer.text_range().start().0 == 2);
+    let alike = hash_of(&pointer) == hash_of(&AstPtr::new(list));
+    let plain = pointer.syntax_node_ptr().cast::<ListNode>();
+    reads & alike & (plain == Some(pointer))
+}
+
+/// Whether pointers to a list are cast to one, and a root is none.
+fn casts_by_kind(list: Node, root: Node) -> bool {
+    let can = ListNode::can_cast(Kind(2)) & !ListNode::can_cast(Kind(1));
+    let none = ListNode::cast(root).is_none();
+    match ListNode::cast(list) {
+        Some(list) => {
+            let again = AstPtr::new(&list).cast::<ListNode>().is_some();
+            can & none & again & pointers_agree(&list)
+        }
+        None => false,
+    }
+}
+
+#[test]
+fn kinds_are_told_apart(rt: HostRuntime) -> Result<(), Fail> {
+    let alloc = rt.alloc();
+    assert!(rt; casts_by_kind(first_list(alloc)?, tree(alloc, SAMPLE)?));
+    Ok(())
+}
+
+/// The length of a node's text, and of the part of it that stands at its end and is empty.
+fn text_lengths(node: &Node) -> Result<(u32, u32), AllocError> {
+    let text = node.text()?;
+    let end = text.slice(TextRange::empty(text.len()))?;
+    Ok((text.len().0, end.len().0))
+}
+
+#[test]
+fn texts(rt: HostRuntime) -> Result<(), Fail> {
+    let alloc = rt.alloc();
+    assert!(rt; text_lengths(&first_list(alloc)?)? == (3, 0));
+    Ok(())
+}
