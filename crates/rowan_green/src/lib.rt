@@ -34,6 +34,3 @@ pub use text_range::TextRange;
 pub use text_size::TextSize;
 pub use token::GreenToken;
 pub use utility_types::NodeOrToken;
-
-#[cfg(test)]
-mod tests;

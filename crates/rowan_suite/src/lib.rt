@@ -1,9 +1,11 @@
-//! A small language of lists of words, in whose trees the calls on cursors are tried.
+//! Green trees and cursors are tried here: cursors in the trees of a small language of lists of words.
 #![tactic(auto)]
 
 pub mod lists;
 
 pub use lists::{Kind, ListNode, Lists};
 
+#[cfg(test)]
+mod green;
 #[cfg(test)]
 mod tests;

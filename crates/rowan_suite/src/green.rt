@@ -1,6 +1,6 @@
 //! What no contract says: that calls succeed where memory is ample, the worked cases, and that a
 //! refused growth is answered with `NoMemory` and changes nothing.
-use crate::{
+use rowan_green::{
     GreenElement, GreenError, GreenNode, GreenNodeBuilder, GreenToken, NodeCache, NodeOrToken,
     SyntaxKind, TextRange, TextSize,
 };
