@@ -7,8 +7,8 @@ use Rattle.parser_input.proofs.lexed_str.LexedStr.text_len.Goals as goal
 
 pub overflow_sub-result : goal.overflow_sub-result
 overflow_sub-result c =
-    omega (arith, c.end.ensures, c.offset.ensures, offset-more c.args.self.now.leaves c.args.i (quiet EOF []) c.requires)
+    omega (arith, c.end.ensures, c.text_start.ensures, offset-more c.args.self.now.leaves c.args.i (quiet EOF []) c.requires)
 
 pub returns : goal.returns
 returns c =
-    omega (arith, c.end.ensures, c.offset.ensures, offset-more c.args.self.now.leaves c.args.i (quiet EOF []) c.requires)
+    omega (arith, c.end.ensures, c.text_start.ensures, offset-more c.args.self.now.leaves c.args.i (quiet EOF []) c.requires)
