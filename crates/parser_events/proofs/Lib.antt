@@ -11,3 +11,7 @@ pub mod Coverings
 pub mod Places
 pub mod Putting
 pub mod Sinks
+pub mod Comments
+pub mod Walks
+pub mod Dots
+pub mod Insides

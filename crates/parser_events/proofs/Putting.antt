@@ -1,12 +1,12 @@
 -- What the pieces of a step put make of a sink.
-use Rattle.std.proofs.Common.{◌≡◌, ◌≤◌, ◌<◌, ℕ, ◌+◌, ◌-◌, zero, suc, List, [], ◌∷◌, ◌++◌, length, take, drop, slice_range, flat_map, refl, ap, sym, ◌∙◌, append_assoc, arith}
+use Rattle.std.proofs.Common.{◌≡◌, ◌≤◌, ◌<◌, ℕ, ◌+◌, ◌-◌, zero, suc, Bool, List, [], ◌∷◌, ◌++◌, length, take, drop, slice_range, flat_map, encode_utf8_all, refl, ap, sym, ◌∙◌, append_assoc, arith}
 use Rattle.std.proofs.Math.Seq.{take-add}
-use Rattle.std.proofs.lemmas.List.{drop-drop, drop-map}
+use Rattle.std.proofs.lemmas.List.{drop-drop, drop-map, drop_all, length-drop, length-map, take_all}
 use Rattle.parser_input.specs.Leaf as leaves
 use Rattle.parser_input.specs.Lexed.{Lexed, leaves_of}
 use Rattle.parser_input.specs.Stored.{leaf_at}
-use Rattle.parser_events.specs.Dress.{joined, reach}
-use Rattle.parser_events.specs.Laying.{Place, behind, behind_pending, behind_step, outside, place_at, put_by}
+use Rattle.parser_events.specs.Dress.{joined, next_text, reach}
+use Rattle.parser_events.specs.Laying.{Place, behind, behind_pending, behind_step, outside, place_at, put_by, split_steps}
 use Rattle.parser_events.specs.Steps as walk
 use Rattle.parser_events.specs.TextSteps.{TextStep, Token, Enter, leaf_steps}
 use Rattle.parser_events.specs.Trivia.{pending, attached}
@@ -18,7 +18,7 @@ leaf-steps-then [] ys = refl
 leaf-steps-then (l ∷ xs) ys = ap (λ (r : List TextStep). Token l.kind l.text ∷ r) (leaf-steps-then xs ys)
 
 -- one leaf more
-slice-more : (ls : List Lexed) (a b : ℕ) → a ≤ b → b < length ls →
+pub slice-more : (ls : List Lexed) (a b : ℕ) → a ≤ b → b < length ls →
     slice_range (leaves_of ls) a (b + 1) ≡ slice_range (leaves_of ls) a b ++ (leaf_at ls b).leaf ∷ []
 slice-more ls a b order within =
     let own = leaves_of ls in
@@ -129,3 +129,45 @@ enter-at ls kind start first end p inside after before =
     ∙ ap (behind (end - first)) (sym (behind-at ls start (first - start)))
     ∙ ap (λ (o : ℕ). shape o (end - first)) out
     ∙ ap (shape (outside kind (place_at ls start))) held
+
+-- What a split puts.
+pub split-steps : (ls : List Lexed) (e : Bool) (start first place : ℕ) (text : List ℕ) →
+    first ≡ start + pending_at ls start → place ≡ (place_at ls first).bytes → text ≡ next_text (drop first (leaves_of ls)) →
+    leaf_steps (slice_range (leaves_of ls) start first) ++ split_steps e place text ≡ put_by (walk.FloatSplit e) (place_at ls start)
+split-steps ls e start first place text p at_place t =
+    let own = leaves_of ls in
+    let at : place_at ls first ≡ behind_pending (place_at ls start) = ap (place_at ls) p ∙ sym (behind-at ls start (pending_at ls start)) in
+    ap (λ (l : List leaves.Leaf). leaf_steps l ++ split_steps e place text) (pending-slice ls start first p)
+    ∙ ap (λ (n : ℕ). leaf_steps (pending (drop start own)) ++ split_steps e n text) at_place
+    ∙ ap (λ (x : List ℕ). leaf_steps (pending (drop start own)) ++ split_steps e (place_at ls first).bytes x) t
+    ∙ ap (λ (q : Place). leaf_steps (pending (drop start own)) ++ split_steps e q.bytes (next_text q.left)) at
+
+pub split-at : (ls : List Lexed) (e : Bool) (start first end : ℕ) → first ≡ start + pending_at ls start → place_at ls end ≡ behind 1 (place_at ls first) →
+    place_at ls end ≡ behind_step (walk.FloatSplit e) (place_at ls start)
+split-at ls e start first end p h = h ∙ ap (behind 1) (ap (place_at ls) p ∙ sym (behind-at ls start (pending_at ls start)))
+
+-- Behind the last leaf.
+
+own-length : (ls : List Lexed) → length (leaves_of ls) ≡ length ls
+own-length ls = length-map ls (λ (x : Lexed). x.leaf)
+
+pub place-end : (ls : List Lexed) (i : ℕ) → length ls ≤ i → place_at ls i ≡ behind 1 (place_at ls i)
+place-end ls i h =
+    let own = leaves_of ls in
+    let e = own-length ls in
+    ap (λ (l : List leaves.Leaf). let p : Place = record { bytes = length (encode_utf8_all (joined l)); left = drop i own } in p)
+    (take_all i own (omega (arith, h, e)) ∙ sym (take_all (i + 1) own (omega (arith, h, e))))
+    ∙ ap (λ (l : List leaves.Leaf). let p : Place = record { bytes = length (encode_utf8_all (joined (take (i + 1) own))); left = l } in p)
+    (drop_all i own (omega (arith, h, e)) ∙ sym (drop_all (i + 1) own (omega (arith, h, e))))
+    ∙ sym (behind-at ls i 1)
+
+pub text-next : (ls : List Lexed) (i : ℕ) → i < length ls → (leaf_at ls i).leaf.text ≡ next_text (drop i (leaves_of ls))
+unfolding next_text
+text-next ls i h = ap next_text (sym (leaf-next ls i h))
+
+pub text-end : (ls : List Lexed) (i : ℕ) → length ls ≤ i → [] ≡ next_text (drop i (leaves_of ls))
+unfolding next_text
+text-end ls i h = ap next_text (sym (drop_all i (leaves_of ls) (omega (arith, h, own-length ls))))
+
+pub slice-rest : (ls : List Lexed) (a n : ℕ) → n ≡ length ls → slice_range (leaves_of ls) a n ≡ drop a (leaves_of ls)
+slice-rest ls a n e = take_all (n - a) (drop a (leaves_of ls)) (omega (arith, e, own-length ls, length-drop a (leaves_of ls)))

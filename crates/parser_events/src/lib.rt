@@ -6,15 +6,17 @@
 #![tactic(auto)]
 
 mod event;
+mod float_parts;
 pub mod laws;
 pub mod message;
 pub mod output;
 pub mod parser;
 mod recorder;
-mod shortcuts;
+pub mod shortcuts;
 pub mod step;
 pub mod str_sink;
 pub mod str_step;
 #[cfg(test)]
 mod tests;
+mod trivia;
 mod unwinding;

@@ -35,6 +35,13 @@ impl Output {
         Output { steps, looks }
     }
 
+    /// The steps of the trees, the last one first.
+    pub(crate) fn backwards(&self) -> &[Step]
+        ensures { map step_of (reverse result.now) ≡ self.now.steps }
+    {
+        &self.steps
+    }
+
     /// The steps of the trees, in order.
     pub fn iter(&self) -> Steps<'_>
         ensures { map step_of result ≡ self.now.steps }

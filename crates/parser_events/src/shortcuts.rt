@@ -1,14 +1,28 @@
 //! A parser's trees with their text: what a sink is given of it.
 
-ghost use Rattle.std.specs.Prelude.{◌≡◌, ◌≤◌, length, map, slice_range, OnOk, IfErr};
+ghost use Rattle.std.specs.Prelude.{◌≡◌, ◌≤◌, ◌+◌, ◌++◌, List, [], ◌∷◌, MatchOption, true, chars, length, drop, map, reverse, slice_range, OnOk, IfOk, IfErr};
+ghost use Rattle.parser_input.specs.Kind.{raw_of};
+ghost use Rattle.parser_input.specs.Leaf.{Leaf};
 ghost use Rattle.parser_input.specs.Lexed.{leaves_of};
-ghost use Rattle.parser_events.specs.Laying.{place_at};
+ghost use Rattle.parser_events.specs.Dress.{dress_root, next_text, reach};
+ghost use Rattle.parser_events.specs.Fits.{fits, IsRooted};
+ghost use Rattle.parser_events.specs.Forest.{Forest};
+ghost use Rattle.parser_events.specs.Laying.{Lays, behind, place_at, put_around, put_by, put_inside};
+ghost use Rattle.parser_events.specs.Seen.{message_of, step_of};
 ghost use Rattle.parser_events.specs.Sinks.{TakesAll, RefusesOne};
+ghost use Rattle.parser_events.specs.Steps as steps;
 ghost use Rattle.parser_events.specs.TextSteps.{leaf_steps, text_step_of};
+ghost use Rattle.parser_events.specs.TextSteps as text_steps;
 
+use crate::float_parts::put_float;
+use crate::message::Message;
+use crate::output::Output;
+use crate::step::Step;
 use crate::str_sink::StrSink;
 use crate::str_step::StrStep;
+use crate::trivia::{attached_from, pending_end};
 use parser_input::lexed_str::LexedStr;
+use parser_input::syntax_kind::SyntaxKind;
 
 /// Gives a sink these steps.
 pub(crate) fn put_all<S: StrSink>(steps: &[StrStep<'_>], sink: &mut S) -> Result<(), S::Error>
@@ -55,4 +69,285 @@ pub(crate) fn start_of(lexed: &LexedStr<'_>, i: usize) -> usize
     ensures { result ≡ (place_at lexed.now.leaves i).bytes }
 {
     lexed.range_text(0..i).len()
+}
+
+/// The number of the leaf behind so many tokens of the input, from a leaf on.
+pub(crate) fn token_end(lexed: &LexedStr<'_>, start: usize, n: u8) -> usize
+    requires { start ≤ length lexed.now.leaves }
+    ensures end { result ≡ start + reach n (drop start (leaves_of lexed.now.leaves)) }
+    ensures within { result ≤ length lexed.now.leaves }
+{
+    let mut end = start;
+    let mut left = n;
+    'tokens: while 0 < left {
+        if end == lexed.len() {
+            return end;
+        }
+        if !lexed.kind(end).is_trivia() {
+            left -= 1;
+        }
+        end += 1;
+    }
+    end
+}
+
+/// Puts a leaf over the next tokens.
+pub(crate) fn put_token<S: StrSink>(
+    lexed: &LexedStr<'_>,
+    kind: SyntaxKind,
+    n: u8,
+    start: usize,
+    sink: &mut S,
+) -> Result<usize, S::Error>
+    requires { start ≤ length lexed.now.leaves }
+    ensures taken { IfOk result (λ next. Lays S.takes lexed.now.leaves (steps.Token (raw_of kind) n) start sink.old next sink.new) }
+    ensures refused { IfErr result (λ error. RefusesOne S.takes S.refuses sink.old (put_by (steps.Token (raw_of kind) n) (place_at lexed.now.leaves start)) error sink.new) }
+{
+    let first = pending_end(lexed, start);
+    let end = token_end(lexed, first, n);
+    let text = lexed.range_text(first..end);
+    match put_leaves(lexed, start, first, sink) {
+        Ok(()) => {}
+        Err(error) => return Err(error),
+    }
+    match put_all(&[StrStep::Token { kind, text }], sink) {
+        Ok(()) => Ok(end),
+        Err(error) => Err(error),
+    }
+}
+
+/// Enters a node.
+pub(crate) fn put_enter<S: StrSink>(
+    lexed: &LexedStr<'_>,
+    kind: SyntaxKind,
+    start: usize,
+    sink: &mut S,
+) -> Result<usize, S::Error>
+    requires { start ≤ length lexed.now.leaves }
+    ensures taken { IfOk result (λ next. Lays S.takes lexed.now.leaves (steps.Enter (raw_of kind)) start sink.old next sink.new) }
+    ensures refused { IfErr result (λ error. RefusesOne S.takes S.refuses sink.old (put_by (steps.Enter (raw_of kind)) (place_at lexed.now.leaves start)) error sink.new) }
+{
+    let end = pending_end(lexed, start);
+    let first = attached_from(lexed, kind, start, end);
+    match put_leaves(lexed, start, first, sink) {
+        Ok(()) => {}
+        Err(error) => return Err(error),
+    }
+    match put_all(&[StrStep::Enter { kind }], sink) {
+        Ok(()) => {}
+        Err(error) => return Err(error),
+    }
+    match put_leaves(lexed, first, end, sink) {
+        Ok(()) => Ok(end),
+        Err(error) => Err(error),
+    }
+}
+
+/// The text of a leaf; none behind the last one.
+fn text_at<'a>(lexed: &LexedStr<'a>, i: usize) -> &'a str
+    ensures { chars result.now ≡ next_text (drop i (leaves_of lexed.now.leaves)) }
+{
+    if i < lexed.len() {
+        return lexed.text(i);
+    }
+    ""
+}
+
+/// The number of the leaf behind one; behind the last one, the same.
+fn behind_one(lexed: &LexedStr<'_>, i: usize) -> usize
+    requires { i ≤ length lexed.now.leaves }
+    ensures place { place_at lexed.now.leaves result ≡ behind 1 (place_at lexed.now.leaves i) }
+    ensures within { result ≤ length lexed.now.leaves }
+{
+    if i < lexed.len() {
+        return i + 1;
+    }
+    i
+}
+
+/// Puts the float that ends the field access entered last.
+fn put_split<S: StrSink>(
+    lexed: &LexedStr<'_>,
+    ends_in_dot: bool,
+    start: usize,
+    sink: &mut S,
+) -> Result<usize, S::Error>
+    requires { start ≤ length lexed.now.leaves }
+    ensures taken { IfOk result (λ next. Lays S.takes lexed.now.leaves (steps.FloatSplit ends_in_dot) start sink.old next sink.new) }
+    ensures refused { IfErr result (λ error. RefusesOne S.takes S.refuses sink.old (put_by (steps.FloatSplit ends_in_dot) (place_at lexed.now.leaves start)) error sink.new) }
+{
+    let first = pending_end(lexed, start);
+    let text = text_at(lexed, first);
+    let pos = start_of(lexed, first);
+    let end = behind_one(lexed, first);
+    match put_leaves(lexed, start, first, sink) {
+        Ok(()) => {}
+        Err(error) => return Err(error),
+    }
+    match put_float(text, ends_in_dot, pos, sink) {
+        Ok(()) => Ok(end),
+        Err(error) => Err(error),
+    }
+}
+
+/// Leaves the node entered last.
+fn put_exit<S: StrSink>(lexed: &LexedStr<'_>, start: usize, sink: &mut S) -> Result<usize, S::Error>
+    requires { start ≤ length lexed.now.leaves }
+    ensures taken { IfOk result (λ next. Lays S.takes lexed.now.leaves steps.Exit start sink.old next sink.new) }
+    ensures refused { IfErr result (λ error. RefusesOne S.takes S.refuses sink.old (put_by steps.Exit (place_at lexed.now.leaves start)) error sink.new) }
+{
+    match put_all(&[StrStep::Exit], sink) {
+        Ok(()) => Ok(start),
+        Err(error) => Err(error),
+    }
+}
+
+/// Says something of the place behind the last leaf put.
+fn put_message<S: StrSink>(
+    lexed: &LexedStr<'_>,
+    msg: Message,
+    start: usize,
+    sink: &mut S,
+) -> Result<usize, S::Error>
+    requires { start ≤ length lexed.now.leaves }
+    ensures taken { IfOk result (λ next. Lays S.takes lexed.now.leaves (steps.Error (message_of msg)) start sink.old next sink.new) }
+    ensures refused { IfErr result (λ error. RefusesOne S.takes S.refuses sink.old (put_by (steps.Error (message_of msg)) (place_at lexed.now.leaves start)) error sink.new) }
+{
+    let pos = start_of(lexed, start);
+    match put_all(&[StrStep::Error { msg, pos }], sink) {
+        Ok(()) => Ok(start),
+        Err(error) => Err(error),
+    }
+}
+
+/// Puts what a step puts, from a leaf on, and gives the number of the leaf that it leads to.
+fn put_step<S: StrSink>(
+    lexed: &LexedStr<'_>,
+    step: Step,
+    start: usize,
+    sink: &mut S,
+) -> Result<usize, S::Error>
+    requires { start ≤ length lexed.now.leaves }
+    ensures taken { IfOk result (λ next. Lays S.takes lexed.now.leaves (step_of step) start sink.old next sink.new) }
+    ensures refused { IfErr result (λ error. RefusesOne S.takes S.refuses sink.old (put_by (step_of step) (place_at lexed.now.leaves start)) error sink.new) }
+{
+    match step {
+        Step::Token {
+            kind,
+            n_input_tokens,
+        } => put_token(lexed, kind, n_input_tokens, start, sink),
+        Step::FloatSplit { ends_in_dot } => put_split(lexed, ends_in_dot, start, sink),
+        Step::Enter { kind } => put_enter(lexed, kind, start, sink),
+        Step::Exit => put_exit(lexed, start, sink),
+        Step::Error { msg } => put_message(lexed, msg, start, sink),
+    }
+}
+
+/// Puts all leaves that are left, and leaves the root.
+fn put_end<S: StrSink>(lexed: &LexedStr<'_>, start: usize, sink: &mut S) -> Result<(), S::Error>
+    requires { start ≤ length lexed.now.leaves }
+    ensures taken { OnOk result (TakesAll S.takes sink.old (leaf_steps (drop start (leaves_of lexed.now.leaves)) ++ text_steps.Exit ∷ []) sink.new) }
+    ensures refused { IfErr result (λ error. RefusesOne S.takes S.refuses sink.old (leaf_steps (drop start (leaves_of lexed.now.leaves)) ++ text_steps.Exit ∷ []) error sink.new) }
+{
+    match put_leaves(lexed, start, lexed.len(), sink) {
+        Ok(()) => {}
+        Err(error) => return Err(error),
+    }
+    match put_all(&[StrStep::Exit], sink) {
+        Ok(()) => Ok(()),
+        Err(error) => Err(error),
+    }
+}
+
+/// Puts what the steps behind the root's first one put, which are given last one first.
+fn put_inside<S: StrSink>(
+    lexed: &LexedStr<'_>,
+    backwards: &[Step],
+    sink: &mut S,
+) -> Result<(), S::Error>
+    ensures taken { OnOk result (TakesAll S.takes sink.old (put_inside (map step_of (reverse backwards.now)) (place_at lexed.now.leaves 0)) sink.new) }
+    ensures refused { IfErr result (λ error. RefusesOne S.takes S.refuses sink.old (put_inside (map step_of (reverse backwards.now)) (place_at lexed.now.leaves 0)) error sink.new) }
+{
+    let mut left = backwards.len();
+    if left == 0 {
+        return Ok(());
+    }
+    let mut next = 0;
+    'steps: while 1 < left {
+        match put_step(lexed, backwards[left - 1], next, sink) {
+            Ok(place) => next = place,
+            Err(error) => return Err(error),
+        }
+        left -= 1;
+    }
+    match put_end(lexed, next, sink) {
+        Ok(()) => Ok(()),
+        Err(error) => Err(error),
+    }
+}
+
+/// The kind of the node that a step enters.
+fn entered(step: Step) -> Option<SyntaxKind>
+    ensures { MatchOption result ((rest : List steps.Step) → (own : List Leaf) → put_around (step_of step ∷ rest) own ≡ []) (λ kind. step_of step ≡ steps.Enter (raw_of kind)) }
+{
+    match step {
+        Step::Enter { kind } => Some(kind),
+        Step::Token {
+            kind: _,
+            n_input_tokens: _,
+        } => None,
+        Step::FloatSplit { ends_in_dot: _ } => None,
+        Step::Exit => None,
+        Step::Error { msg: _ } => None,
+    }
+}
+
+/// Gives a sink what the steps of an output put of a text.
+fn put_output<S: StrSink>(
+    lexed: &LexedStr<'_>,
+    output: &Output,
+    sink: &mut S,
+) -> Result<(), S::Error>
+    ensures taken { OnOk result (TakesAll S.takes sink.old (put_around output.now.steps (leaves_of lexed.now.leaves)) sink.new) }
+    ensures refused { IfErr result (λ error. RefusesOne S.takes S.refuses sink.old (put_around output.now.steps (leaves_of lexed.now.leaves)) error sink.new) }
+{
+    let backwards = output.backwards();
+    let last = backwards.len();
+    if last == 0 {
+        return Ok(());
+    }
+    let kind = match entered(backwards[last - 1]) {
+        Some(kind) => kind,
+        None => return Ok(()),
+    };
+    match put_all(&[StrStep::Enter { kind }], sink) {
+        Ok(()) => {}
+        Err(error) => return Err(error),
+    }
+    match put_inside(lexed, &backwards[..last - 1], sink) {
+        Ok(()) => Ok(()),
+        Err(error) => Err(error),
+    }
+}
+
+/// Gives a sink the steps of a parser's trees with a text: white space, comments and the places of messages are put where
+/// the trees' steps and the text's leaves say. Where the steps fit the text and are those of one node, these are the steps
+/// of the node dressed with the text.
+///
+/// # Errors
+///
+/// The sink's reason to refuse a step. It took the steps before that, in order.
+pub fn intersperse_trivia<S: StrSink>(
+    lexed: &LexedStr<'_>,
+    output: &Output,
+    sink: &mut S,
+) -> Result<(), S::Error>
+    ensures taken { OnOk result (TakesAll S.takes sink.old (put_around output.now.steps (leaves_of lexed.now.leaves)) sink.new) }
+    ensures tree { OnOk result ((f : Forest) → IsRooted f → output.now.steps ≡ steps.steps f → fits output.now.steps (leaves_of lexed.now.leaves) ≡ true → TakesAll S.takes sink.old (text_steps.text_steps (dress_root f (leaves_of lexed.now.leaves))) sink.new) }
+    ensures refused { IfErr result (λ error. RefusesOne S.takes S.refuses sink.old (put_around output.now.steps (leaves_of lexed.now.leaves)) error sink.new) }
+{
+    match put_output(lexed, output, sink) {
+        Ok(()) => Ok(()),
+        Err(error) => Err(error),
+    }
 }
