@@ -4,7 +4,7 @@
 //! that stack or is refused a growth; then there is no stack from there on. So a body that records nothing and says that a
 //! growth was refused meets every clause on nodes: that nothing is refused while there is memory is what the tests show.
 
-ghost use Rattle.std.specs.Prelude.{◌≡◌, ◌+◌, ◌-◌, ◌^◌, ◌≤◌, ◌↔◌, ◌∷◌, [], true, length, min, Some, IfSome, IfOk};
+ghost use Rattle.std.specs.Prelude.{◌≡◌, ◌≢◌, ◌+◌, ◌-◌, ◌^◌, ◌<◌, ◌≤◌, ◌↔◌, ◌∷◌, [], true, length, min, Some, IfSome, IfOk};
 ghost use Rattle.parser_input.specs.Kind.{raw_of};
 ghost use Rattle.parser_input.specs.Kinds as kinds;
 ghost use Rattle.parser_input.specs.Recorded.{token_at};
@@ -71,9 +71,10 @@ impl<'t> Parser<'t> {
         self.input.len() - self.left
     }
 
-    /// The kind of the token so far ahead; `EOF` past the end. This is one look.
+    /// The kind of the token so far ahead; `EOF` past the end, and there alone. This is one look.
     pub fn kind_at(&mut self, n: usize) -> SyntaxKind
         ensures kind { raw_of result ≡ (token_at self.old.input (self.old.position + n)).kind }
+        ensures token { self.old.position + n < length self.old.input → raw_of result ≢ kinds.EOF }
         ensures same { self.new ≡ record self.old { looks = min (self.old.looks + 1) (2 ^ 64 - 1) } }
     {
         self.looks = self.looks.saturating_add(1);

@@ -1,51 +1,17 @@
 -- What the items of a source file mean, token by token.
-use Rattle.std.proofs.Common.{◌≡◌, ℕ, zero, suc, pred, ◌<◌, ◌≤◌, Bool, true, false, ◌==◌, List, [], ◌∷◌, length, drop, nat_lt, refl, sym, ◌∙◌, ap, subst, arith, inl, inr, if◌then◌else◌}
-use Rattle.std.proofs.lemmas.Bool.{cases_Bool, lt-ltb}
+use Rattle.std.proofs.Common.{◌≡◌, ℕ, zero, suc, pred, ◌+◌, ◌<◌, ◌≤◌, Bool, true, false, List, [], ◌∷◌, length, drop, nat_lt, refl, sym, ◌∙◌, ap, subst, arith, inl, inr, if◌then◌else◌}
+use Rattle.std.proofs.lemmas.Bool.{cases_Bool, lt-ltb, eqb-true}
 use Rattle.std.proofs.lemmas.List.{length-drop}
-use Rattle.parser_input.specs.Kinds.{SOURCE_FILE, STRUCT, STRUCT_KW, NAME, NAME_REF, PATH, PATH_SEGMENT, ERROR, IDENT, SEMICOLON}
+use Rattle.parser_input.specs.Kinds.{EOF, SOURCE_FILE, STRUCT_KW, NAME, NAME_REF, PATH, PATH_SEGMENT, IDENT, SEMICOLON}
 use Rattle.parser_input.specs.Input.{Token}
-use Rattle.parser_events.specs.Forest.{Forest, End, Leaf, Said, ErrorLeaf, Node, Float, Expected, ExpectedItem, ◌then◌}
+use Rattle.parser_events.specs.Forest.{Forest, End, Leaf, Said, ErrorLeaf, Node, Float, ◌then◌}
 use Rattle.ra_parser.specs.Rule.{Unless, Call, source_file, item, body, name, name_ref, path, begins, passes, is_silent, there_at}
 use Rattle.ra_parser.specs.Notation.{expected, wanted, at_end}
 use Rattle.ra_parser.specs.Meaning.{Reading, meaning, look_of, begins_below, read, turns, leaf, say, skip, fresh, node, wrapped, behind, sees, ahead}
 use Rattle.ra_parser.specs.Grammar.{rule, grammar}
+use Rattle.ra_parser.specs.Left.{is_next}
+use Rattle.ra_parser.specs.Pieces.{Piece, struct_piece, struct_at, word_piece, error_piece, piece_by, piece, items}
 use Rattle.ra_parser.proofs.Table.{grammar-means}
-
--- a tree, and the number of tokens that it takes
-pub record Piece : Type 0 where
-  pub tree : Forest
-  pub count : ℕ
-
--- a struct, told whether its name is there and whether the `;` is there
-abbrev pub struct_piece : (has_name has_semicolon : Bool) → Piece
-struct_piece true true = record { tree = Node STRUCT (Leaf STRUCT_KW 1 (Node NAME (Leaf IDENT 1 End) (Leaf SEMICOLON 1 End))) End; count = 3 }
-struct_piece true false = record { tree = Node STRUCT (Leaf STRUCT_KW 1 (Node NAME (Leaf IDENT 1 End) (Said (Expected SEMICOLON) End))) End; count = 2 }
-struct_piece false true = record { tree = Node STRUCT (Leaf STRUCT_KW 1 (Said (Expected NAME) (Leaf SEMICOLON 1 End))) End; count = 2 }
-struct_piece false false = record { tree = Node STRUCT (Leaf STRUCT_KW 1 (Said (Expected NAME) (Said (Expected SEMICOLON) End))) End; count = 1 }
-
--- a word that begins no item
-abbrev pub word_piece : Piece
-word_piece = record { tree = Node ERROR (Node PATH (Node PATH_SEGMENT (Node NAME_REF (Leaf IDENT 1 End) End) End) (Said ExpectedItem End)) End; count = 1 }
-
-abbrev pub error_piece : ℕ → Piece
-error_piece kind = record { tree = ErrorLeaf ExpectedItem kind End; count = 1 }
-
-abbrev pub is_next : ℕ → List Token → Bool
-is_next kind ts = (ahead 0 ts).kind == kind
-
--- of what stands behind `struct`
-abbrev pub struct_at : Bool → List Token → Piece
-struct_at true ts = struct_piece true (is_next SEMICOLON (drop 1 ts))
-struct_at false ts = struct_piece false (is_next SEMICOLON ts)
-
-abbrev pub piece_by : (is_struct is_word : Bool) → List Token → Piece
-piece_by true is_word ts = struct_at (is_next IDENT (drop 1 ts)) (drop 1 ts)
-piece_by false true ts = word_piece
-piece_by false false ts = error_piece (ahead 0 ts).kind
-
--- the next item
-abbrev pub piece : List Token → Piece
-piece ts = piece_by (is_next STRUCT_KW ts) (is_next IDENT ts) ts
 
 name-means : (s : Reading) → meaning grammar name false s ≡ node NAME s (leaf IDENT 1 (fresh s))
 unfolding rule read fresh
@@ -130,12 +96,6 @@ then-assoc (ErrorLeaf m k f) g h = ap (λ (x : Forest). ErrorLeaf m k x) (then-a
 then-assoc (Node k c f) g h = ap (λ (x : Forest). Node k c x) (then-assoc f g h)
 then-assoc (Float e c f) g h = ap (λ (x : Forest). Float e c x) (then-assoc f g h)
 
--- the items of a source file; `held` tokens more belong to the item before
-unfoldable pub items : ℕ → List Token → Forest
-items held [] = End
-items zero (t ∷ ts) = (piece (t ∷ ts)).tree then items (pred (piece (t ∷ ts)).count) ts
-items (suc held) (t ∷ ts) = items held ts
-
 items-past : (n : ℕ) (ts : List Token) → items n ts ≡ items 0 (drop n ts)
 unfolding items
 items-past zero ts = refl
@@ -159,6 +119,32 @@ piece_by-takes false false ts = omega arith
 
 pub piece-takes : (ts : List Token) → 1 ≤ (piece ts).count
 piece-takes ts = piece_by-takes (is_next STRUCT_KW ts) (is_next IDENT ts) ts
+
+has-one : (k : ℕ) (ts : List Token) → is_next k ts ≡ true → (k ≡ EOF → ⊥) → 1 ≤ length ts
+unfolding ahead
+has-one k [] e some = absurd (some (sym (eqb-true EOF k e)))
+has-one k (t ∷ ts) e some = omega arith
+
+struct_at-fits : (ts : List Token) → (struct_at (is_next IDENT ts) ts).count ≤ 1 + length ts
+struct_at-fits ts = elim (cases_Bool (is_next IDENT ts)) [
+  | inl n ↦
+      let one = has-one IDENT ts n (λ e. absurd (let z : IDENT ≡ EOF = e in cc)) in
+      elim (cases_Bool (is_next SEMICOLON (drop 1 ts))) [
+        | inl m ↦ rw (n, m) (omega (arith, one, length-drop 1 ts, has-one SEMICOLON (drop 1 ts) m (λ e. absurd (let z : SEMICOLON ≡ EOF = e in cc))))
+        | inr m ↦ rw (n, m) (omega (arith, one))
+      ]
+  | inr n ↦ elim (cases_Bool (is_next SEMICOLON ts)) [
+    | inl m ↦ rw (n, m) (omega (arith, has-one SEMICOLON ts m (λ e. absurd (let z : SEMICOLON ≡ EOF = e in cc))))
+    | inr m ↦ rw (n, m) (omega arith)
+  ]
+]
+
+-- a piece takes no more tokens than there are
+pub piece-fits : (ts : List Token) → 1 ≤ length ts → (piece ts).count ≤ length ts
+piece-fits ts some = elim (cases_Bool (is_next STRUCT_KW ts)) [
+  | inl h ↦ rw h (omega (arith, some, struct_at-fits (drop 1 ts), length-drop 1 ts))
+  | inr h ↦ elim (cases_Bool (is_next IDENT ts)) [ inl n ↦ rw (h, n) some | inr n ↦ rw (h, n) some ]
+]
 
 drop_pred : (n : ℕ) (t : Token) (ts : List Token) → 1 ≤ n → drop (pred n) ts ≡ drop n (t ∷ ts)
 drop_pred zero t ts h = absurd (omega arith)

@@ -3,3 +3,4 @@ pub mod Followed
 pub mod Plain
 pub mod Table
 pub mod Items
+pub mod Adding

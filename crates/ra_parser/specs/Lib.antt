@@ -4,4 +4,7 @@ pub mod Notation
 pub mod Words
 pub mod Grammar
 pub mod Fine
+pub mod Left
+pub mod Adds
+pub mod Pieces
 pub mod Laws

@@ -1,7 +1,8 @@
-//! The grammar: rules, what a rule means on an input, and the table of productions.
+//! The grammar: rules, what a rule means on an input, the table of productions, and the functions that read by it.
 //!
-//! So far the crate holds the definitions, for the kinds of the first path, and their law; the productions by hand come with
-//! the whole grammar.
+//! So far it reaches the kinds `struct`, identifier and `;`. [`parse::source_file`] reads an input.
 #![tactic(auto)]
 
+mod grammar;
 pub mod laws;
+pub mod parse;
