@@ -4,3 +4,5 @@ pub mod Plain
 pub mod Table
 pub mod Items
 pub mod Adding
+pub mod Fitting
+pub mod Lengths
