@@ -17,3 +17,5 @@ pub mod Payloads
 pub mod Changes
 pub mod TreeTexts
 pub mod Prefaces
+pub mod TreeSinks
+pub mod TreeRefusals

@@ -19,3 +19,5 @@ pub mod Payload
 pub mod Tokens
 pub mod Committed
 pub mod Laws
+pub mod TreeSinks
+pub mod TreeBuilt

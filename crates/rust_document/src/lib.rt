@@ -10,6 +10,7 @@ pub mod error;
 pub mod laws;
 mod leaf;
 mod lexed;
+mod message_text;
 pub mod payload_entry;
 mod read;
 mod reader;
@@ -17,6 +18,7 @@ mod rewrite;
 pub mod syntax_editor;
 pub mod syntax_error;
 pub mod tokens;
+mod tree_sink;
 
 pub use document::{Committed, Document, MAX_TEXT};
 pub use error::{CommitError, OpenError, PayloadError, RecordError};
