@@ -6,6 +6,7 @@
 #![tactic(auto)]
 
 mod event;
+mod fits;
 mod float_parts;
 pub mod laws;
 pub mod message;
