@@ -20,4 +20,6 @@ pub mod str_step;
 #[cfg(test)]
 mod tests;
 mod trivia;
+#[cfg(test)]
+mod trivia_tests;
 mod unwinding;
