@@ -19,7 +19,7 @@ use Rattle.parser_events.specs.Trivia.{pending, attached, is_inner, has_empty_li
 use Rattle.parser_events.specs.Dress.{dress_root}
 use Rattle.parser_events.proofs.Dressings.{Told, settled, node-root, float-root, from_front}
 
-both : (a b : Bool) → (a && b) ≡ true → (a ≡ true) × (b ≡ true)
+pub both : (a b : Bool) → (a && b) ≡ true → (a ≡ true) × (b ≡ true)
 both true b h = (refl, h)
 both false b h = absurd (cc)
 

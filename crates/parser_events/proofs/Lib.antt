@@ -8,6 +8,7 @@ pub mod Children
 pub mod Forests
 pub mod Dressings
 pub mod Coverings
+pub mod Fittings
 pub mod Places
 pub mod Putting
 pub mod Sinks
@@ -15,3 +16,4 @@ pub mod Comments
 pub mod Walks
 pub mod Dots
 pub mod Insides
+pub mod Roots

@@ -64,7 +64,7 @@ pub pending-end : (ls : List Lexed) (i : ℕ) → length ls ≤ i → pending_at
 unfolding pending
 pending-end ls i h = ap (λ (r : List leaves.Leaf). length (pending r)) (drop_all i (leaves_of ls) (omega (arith, h, length-map ls (λ (x : Lexed). x.leaf))))
 
-is-trivia : (k : ℕ) (l : leaves.Leaf) (b : Bool) → k ≡ l.kind → kind.is_trivia k ≡ b → is_trivia l ≡ b
+pub is-trivia : (k : ℕ) (l : leaves.Leaf) (b : Bool) → k ≡ l.kind → kind.is_trivia k ≡ b → is_trivia l ≡ b
 unfolding is_trivia
 is-trivia k l b e h = ap kind.is_trivia (sym e) ∙ h
 

@@ -15,3 +15,5 @@ pub mod TextSteps
 pub mod Sinks
 pub mod Laying
 pub mod Fits
+pub mod Fitting
+pub mod MessageTexts

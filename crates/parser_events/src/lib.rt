@@ -6,6 +6,7 @@
 #![tactic(auto)]
 
 mod event;
+mod fits;
 mod float_parts;
 pub mod laws;
 pub mod message;
@@ -19,4 +20,6 @@ pub mod str_step;
 #[cfg(test)]
 mod tests;
 mod trivia;
+#[cfg(test)]
+mod trivia_tests;
 mod unwinding;

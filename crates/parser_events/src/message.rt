@@ -1,6 +1,7 @@
 //! What a parser says of a place in its input.
 
 use parser_input::syntax_kind::SyntaxKind;
+use std::fmt;
 
 /// What a parser says of a place.
 #[derive(Clone, Copy, Debug, PartialEq, Eq)]
@@ -20,4 +21,27 @@ pub enum Message {
     UnexpectedTokens,
     /// A float behind a dot that has no dot of its own.
     IllegalFloat,
+}
+
+impl fmt::Display for Message {
+    ghost use Rattle.std.specs.Prelude.{Some};
+    ghost use Rattle.parser_events.specs.MessageTexts.{message_text};
+
+    ghost output = { λ m. Some (message_text m) };
+
+    fn fmt<W: fmt::Write>(&self, f: &mut fmt::Formatter<W>) -> fmt::Result {
+        match self {
+            Message::Expected(kind) => write!(f, "expected {}", kind.name()),
+            Message::UnexpectedIn(list) => write!(f, "unexpected token in {}", list.name()),
+            Message::ExpectedType => write!(f, "expected a type"),
+            Message::ExpectedExpression => write!(f, "expected an expression"),
+            Message::ExpectedPattern => write!(f, "expected a pattern"),
+            Message::ExpectedItem => write!(f, "expected an item"),
+            Message::ExpectedStatement => write!(f, "expected a statement"),
+            Message::ExpectedMatchArm => write!(f, "expected a match arm"),
+            Message::ExpectedField => write!(f, "expected field name or number"),
+            Message::UnexpectedTokens => write!(f, "unexpected tokens"),
+            Message::IllegalFloat => write!(f, "illegal float literal"),
+        }
+    }
 }

@@ -2,10 +2,14 @@
 
 ghost use Rattle.std.specs.Prelude.{◌≡◌, map, reverse};
 ghost use Rattle.std.specs.Iterator.{YieldsFirst, item_count};
+ghost use Rattle.parser_input.specs.Lexed.{leaves_of};
+ghost use Rattle.parser_events.specs.Fits.{fits};
 ghost use Rattle.parser_events.specs.Seen.{step_of};
 ghost use Rattle.parser_events.specs.View.{Parsed};
 
+use crate::fits::{covers, has_one_root};
 use crate::step::Step;
+use parser_input::lexed_str::LexedStr;
 use std::marker::Model;
 
 /// The steps of a parser's trees, and how many looks the parser made.
@@ -54,6 +58,15 @@ impl Output {
         ensures { result ≡ self.now.looks }
     {
         self.looks
+    }
+
+    /// Whether the steps are those of one tree over the leaves of a text: one node stands around all, the steps take as
+    /// many tokens as the text has, no white space or comment stands inside a leaf of several tokens, and each split is
+    /// on a float that ends in a dot just where the split says so.
+    pub fn fits(&self, lexed: &LexedStr<'_>) -> bool
+        ensures { result ≡ fits self.now.steps (leaves_of lexed.now.leaves) }
+    {
+        has_one_root(&self.steps) && covers(&self.steps, lexed)
     }
 }
 

@@ -1,0 +1,9 @@
+use Rattle.parser_events.proofs.Roots.{Rooted}
+use Rattle.parser_events.proofs.fits.leaves_root.Given as goal
+
+-- the root is left from here on just as from the front
+abbrev pub invariant-steps : goal.invariant-steps
+invariant-steps l = Rooted l.backwards l.left l.level
+
+abbrev pub decreases-steps : goal.decreases-steps
+decreases-steps l = l.left
