@@ -10,6 +10,7 @@ use Rattle.rowan_green.specs.Leaf as green
 use Rattle.rustc_lexer.specs.Lexeme.{lexeme}
 use Rattle.rustc_lexer.specs.Tokens as lexer
 use Rattle.rustc_lexer.specs.Tokens.{next_lexeme, first_lexeme}
+use Rattle.rustc_lexer.specs.declared.token.DocStyle.{DocStyle}
 use Rattle.rustc_lexer.specs.declared.token.TokenKind.{TokenKind}
 use Rattle.rustc_lexer.specs.declared.token.TokenKind.TheVariants as tokens
 use Rattle.rustc_lexer.proofs.Cutting.{tokens-cons, first-length}
@@ -27,7 +28,7 @@ use Rattle.parser_input.specs.Kind.{raw_of}
 use Rattle.parser_input.specs.Kinds.{EOF}
 use Rattle.parser_input.specs.Lexed.{Lexed, leaves_of, quiet}
 use Rattle.parser_input.specs.Stored.{leaf_at}
-use Rattle.rust_document.specs.Puts.{seen, in_bytes}
+use Rattle.rust_document.specs.Seen.{seen, in_bytes}
 use Rattle.rust_document.specs.declared.leaf.Leaf.{Leaf}
 
 -- which tokens are thin
@@ -39,48 +40,56 @@ pub thin-semicolon : (edition : Edition) (kind : TokenKind) (t : List ℕ) → k
 unfolding is_thin_token
 thin-semicolon edition kind t e = ap (λ (k : TokenKind). is_thin_token edition k t) e
 
-pub not-thin : (edition : Edition) (kind : TokenKind) (t : List ℕ) → (kind ≡ tokens.Whitespace → ⊥) → (kind ≡ tokens.Semi → ⊥) → (kind ≡ tokens.Ident → ⊥) → is_thin_token edition kind t ≡ false
+pub thin-line : (edition : Edition) (kind : TokenKind) (y : Option DocStyle) (t : List ℕ) → kind ≡ tokens.LineComment y → is_thin_token edition kind t ≡ true
 unfolding is_thin_token
-not-thin edition (tokens.LineComment y) t w s i = refl
-not-thin edition (tokens.BlockComment y z) t w s i = refl
-not-thin edition tokens.Whitespace t w s i = absurd (w refl)
-not-thin edition tokens.Ident t w s i = absurd (i refl)
-not-thin edition tokens.RawIdent t w s i = refl
-not-thin edition tokens.UnknownPrefix t w s i = refl
-not-thin edition tokens.UnknownPrefixLifetime t w s i = refl
-not-thin edition tokens.RawLifetime t w s i = refl
-not-thin edition tokens.GuardedStrPrefix t w s i = refl
-not-thin edition (tokens.Literal y z) t w s i = refl
-not-thin edition (tokens.Lifetime y) t w s i = refl
-not-thin edition tokens.Semi t w s i = absurd (s refl)
-not-thin edition tokens.Comma t w s i = refl
-not-thin edition tokens.Dot t w s i = refl
-not-thin edition tokens.OpenParen t w s i = refl
-not-thin edition tokens.CloseParen t w s i = refl
-not-thin edition tokens.OpenBrace t w s i = refl
-not-thin edition tokens.CloseBrace t w s i = refl
-not-thin edition tokens.OpenBracket t w s i = refl
-not-thin edition tokens.CloseBracket t w s i = refl
-not-thin edition tokens.At t w s i = refl
-not-thin edition tokens.Pound t w s i = refl
-not-thin edition tokens.Tilde t w s i = refl
-not-thin edition tokens.Question t w s i = refl
-not-thin edition tokens.Colon t w s i = refl
-not-thin edition tokens.Dollar t w s i = refl
-not-thin edition tokens.Eq t w s i = refl
-not-thin edition tokens.Bang t w s i = refl
-not-thin edition tokens.Lt t w s i = refl
-not-thin edition tokens.Gt t w s i = refl
-not-thin edition tokens.Minus t w s i = refl
-not-thin edition tokens.And t w s i = refl
-not-thin edition tokens.Or t w s i = refl
-not-thin edition tokens.Plus t w s i = refl
-not-thin edition tokens.Star t w s i = refl
-not-thin edition tokens.Slash t w s i = refl
-not-thin edition tokens.Caret t w s i = refl
-not-thin edition tokens.Percent t w s i = refl
-not-thin edition tokens.Unknown t w s i = refl
-not-thin edition tokens.Eof t w s i = refl
+thin-line edition kind y t e = ap (λ (k : TokenKind). is_thin_token edition k t) e
+
+pub thin-block : (edition : Edition) (kind : TokenKind) (y : Option DocStyle) (z : Bool) (t : List ℕ) → kind ≡ tokens.BlockComment y z → is_thin_token edition kind t ≡ z
+unfolding is_thin_token
+thin-block edition kind y z t e = ap (λ (k : TokenKind). is_thin_token edition k t) e
+
+pub not-thin : (edition : Edition) (kind : TokenKind) (t : List ℕ) → (kind ≡ tokens.Whitespace → ⊥) → ((y : Option DocStyle) → kind ≡ tokens.LineComment y → ⊥) → ((y : Option DocStyle) (z : Bool) → kind ≡ tokens.BlockComment y z → ⊥) → (kind ≡ tokens.Semi → ⊥) → (kind ≡ tokens.Ident → ⊥) → is_thin_token edition kind t ≡ false
+unfolding is_thin_token
+not-thin edition (tokens.LineComment y) t w l b s i = absurd (l y refl)
+not-thin edition (tokens.BlockComment y z) t w l b s i = absurd (b y z refl)
+not-thin edition tokens.Whitespace t w l b s i = absurd (w refl)
+not-thin edition tokens.Ident t w l b s i = absurd (i refl)
+not-thin edition tokens.RawIdent t w l b s i = refl
+not-thin edition tokens.UnknownPrefix t w l b s i = refl
+not-thin edition tokens.UnknownPrefixLifetime t w l b s i = refl
+not-thin edition tokens.RawLifetime t w l b s i = refl
+not-thin edition tokens.GuardedStrPrefix t w l b s i = refl
+not-thin edition (tokens.Literal y z) t w l b s i = refl
+not-thin edition (tokens.Lifetime y) t w l b s i = refl
+not-thin edition tokens.Semi t w l b s i = absurd (s refl)
+not-thin edition tokens.Comma t w l b s i = refl
+not-thin edition tokens.Dot t w l b s i = refl
+not-thin edition tokens.OpenParen t w l b s i = refl
+not-thin edition tokens.CloseParen t w l b s i = refl
+not-thin edition tokens.OpenBrace t w l b s i = refl
+not-thin edition tokens.CloseBrace t w l b s i = refl
+not-thin edition tokens.OpenBracket t w l b s i = refl
+not-thin edition tokens.CloseBracket t w l b s i = refl
+not-thin edition tokens.At t w l b s i = refl
+not-thin edition tokens.Pound t w l b s i = refl
+not-thin edition tokens.Tilde t w l b s i = refl
+not-thin edition tokens.Question t w l b s i = refl
+not-thin edition tokens.Colon t w l b s i = refl
+not-thin edition tokens.Dollar t w l b s i = refl
+not-thin edition tokens.Eq t w l b s i = refl
+not-thin edition tokens.Bang t w l b s i = refl
+not-thin edition tokens.Lt t w l b s i = refl
+not-thin edition tokens.Gt t w l b s i = refl
+not-thin edition tokens.Minus t w l b s i = refl
+not-thin edition tokens.And t w l b s i = refl
+not-thin edition tokens.Or t w l b s i = refl
+not-thin edition tokens.Plus t w l b s i = refl
+not-thin edition tokens.Star t w l b s i = refl
+not-thin edition tokens.Slash t w l b s i = refl
+not-thin edition tokens.Caret t w l b s i = refl
+not-thin edition tokens.Percent t w l b s i = refl
+not-thin edition tokens.Unknown t w l b s i = refl
+not-thin edition tokens.Eof t w l b s i = refl
 
 -- a lexeme's own characters
 take-taken : (n : ℕ) (xs : List ℕ) → take (length (take n xs)) xs ≡ take n xs
@@ -126,22 +135,6 @@ thin-end edition rest e = ap (λ (r : List ℕ). is_thin edition r) e
 -- a leaf of code is the leaf of its text
 pub piece-seen : (found : Leaf) (l : leaves.Leaf) → IsUtf8 found.text.now → raw_of found.kind ≡ l.kind → chars found.text.now ≡ l.text → seen found ≡ in_bytes l
 piece-seen found l u k t = λ i. record { kind = k i; text = (sym (encodes-chars found.text.now u) ∙ ap (λ (cs : List ℕ). encodes cs) t) i }
-
-next-taken : (ls : List Lexed) (i : ℕ) (d : Lexed) → i < length ls → take (i + 1) ls ≡ take i ls ++ get_or ls i d ∷ []
-next-taken ls i d h = ap (λ (k : ℕ). take k ls) (let z : i + 1 ≡ suc i = omega arith in z) ∙ take-suc ls i d h
-
--- one more leaf, and its piece
-pub pieces-more :
-    (ls : List Lexed) (found more : List Leaf) (i : ℕ) (p : Leaf) → i < length ls → map seen found ≡ map in_bytes (leaves_of (take i ls)) → seen p ≡ in_bytes (leaf_at ls i).leaf → more ≡ found ++ p ∷ [] → map seen more ≡ map in_bytes (leaves_of (take (i + 1) ls))
-pieces-more ls found more i p h e is added =
-    let l = leaf_at ls i in
-    ap (λ (fs : List Leaf). map seen fs) added
-    ∙ map-append seen found (p ∷ [])
-    ∙ ap (λ (gs : List green.Leaf). gs ++ seen p ∷ []) e
-    ∙ ap (λ (g : green.Leaf). map in_bytes (leaves_of (take i ls)) ++ g ∷ []) is
-    ∙ sym (map-append in_bytes (leaves_of (take i ls)) (l.leaf ∷ []))
-    ∙ ap (λ (ks : List leaves.Leaf). map in_bytes ks) (sym (map-append (λ (k : Lexed). k.leaf) (take i ls) (l ∷ [])))
-    ∙ ap (λ (ks : List Lexed). map in_bytes (leaves_of ks)) (sym (next-taken ls i (quiet EOF []) h))
 
 pub falls : (xs new : List ℕ) → (xs ≡ [] → ⊥) → new ≡ drop (length (next_lexeme xs).text) xs → length new < length xs
 falls [] new some is = absurd (some refl)

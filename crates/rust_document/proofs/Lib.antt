@@ -1,10 +1,3 @@
-pub mod Emitted
-pub mod Pending
-pub mod Passing
-pub mod Nodes
-pub mod Inputs
-pub mod Structs
-pub mod Going
 pub mod Words
 pub mod Lexing
 pub mod Sizes

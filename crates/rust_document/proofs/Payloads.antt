@@ -10,7 +10,7 @@ use Rattle.parser_input.specs.declared.edition.Edition.{Edition}
 use Rattle.parser_input.proofs.LexedTexts.{single-text}
 use Rattle.rust_document.specs.Step.{MAX_TEXT}
 use Rattle.rust_document.specs.Thin.{is_thin}
-use Rattle.rust_document.specs.Puts.{seen}
+use Rattle.rust_document.specs.Seen.{seen}
 use Rattle.rust_document.specs.Payload.{TooLong, Later, NotOneToken, One, only, token_payload}
 use Rattle.rust_document.specs.declared.leaf.Leaf.{Leaf}
 use Rattle.rust_document.proofs.Lexing.{piece-seen}

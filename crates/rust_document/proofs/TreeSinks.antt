@@ -15,7 +15,7 @@ use Rattle.parser_events.specs.Sinks.{TakesAll}
 use Rattle.parser_events.specs.Steps.{Step, steps}
 use Rattle.parser_events.specs.TextSteps as texts
 use Rattle.parser_events.specs.TextSteps.{TextStep, text_steps}
-use Rattle.rust_document.specs.Puts.{told, says}
+use Rattle.rust_document.specs.Seen.{told, says}
 use Rattle.rust_document.specs.Reading.{terms_of, root_of}
 use Rattle.rust_document.specs.TreeBuilt.{AreStepsOf, IsBuilt, IsTreeOf}
 use Rattle.rust_document.specs.TreeSinks.{built, heard, IsTaken}

@@ -1,39 +1,66 @@
 -- What was read of a text's leaves is the reading of the text.
-use Rattle.std.proofs.Common.{◌≡◌, ℕ, true, false, List, map, Option, Some, None, option_map, ◌∙◌, ap, subst, Vec, Global}
+use Rattle.std.proofs.Common.{◌≡◌, ◌≤◌, ◌<◌, ◌+◌, ◌*◌, ◌^◌, ℕ, suc, true, false, List, [], ◌∷◌, map, length, refl, ◌∙◌, ap, sym, subst, arith, inl, inr, if◌then◌else◌}
+use Rattle.std.proofs.Math.Utf8.{encodes}
+use Rattle.std.proofs.lemmas.Bool.{cases_Bool}
+use Rattle.std.proofs.lemmas.List.{length-map}
 use Rattle.rowan_green.specs.Forest.{Tree}
+use Rattle.parser_input.specs.Input.{input}
+use Rattle.parser_input.specs.Leaf.{Leaf, is_trivia}
+use Rattle.parser_input.specs.Lexed.{Lexed, lexed, leaves_of}
 use Rattle.parser_input.specs.declared.edition.Edition.{Edition}
-use Rattle.rust_document.specs.Reading.{tree, messages, leaves_in}
+use Rattle.parser_events.specs.Dress.{dress_root, joined}
+use Rattle.parser_events.specs.Steps.{Step, steps}
+use Rattle.parser_events.proofs.Coverings.{dressed-is-put}
+use Rattle.ra_parser.specs.Laws.{file_of}
+use Rattle.ra_parser.proofs.Fitting.{token_count, file-rooted, file-fits, file-short}
+use Rattle.ra_parser.proofs.Lengths.{dressed-most}
+use Rattle.rust_document.specs.Reading.{tree, messages, leaves_in, dressed_file}
 use Rattle.rust_document.specs.Thin.{is_thin}
-use Rattle.rust_document.specs.Puts.{seen, in_bytes}
-use Rattle.rust_document.specs.Lexed.{AreThinLeaves}
-use Rattle.rust_document.specs.Read.{IsRead}
+use Rattle.rust_document.specs.Seen.{in_bytes}
 use Rattle.rust_document.specs.IsReading.{IsReading}
 use Rattle.rust_document.specs.Tokens.{spans_from, shown}
-use Rattle.rust_document.specs.declared.leaf.Leaf.{Leaf}
+use Rattle.rust_document.specs.TreeBuilt.{AreStepsOf, IsTreeOf, IsBuilt}
 use Rattle.rust_document.specs.declared.tokens.LexedToken.{LexedToken}
 use Rattle.rust_document.specs.declared.syntax_error.SyntaxError.{SyntaxError}
-use Rattle.rust_document.proofs.Sizes.{thin-kinds}
 
-pub these-leaves :
-    (edition : Edition) (text : List ℕ) (o : Option (Vec Leaf Global)) (v : Vec Leaf Global) → o ≡ Some v → AreThinLeaves edition text (option_map (λ w. w.items) o) → (is_thin edition text ≡ true) × (map seen v.items ≡ map in_bytes (leaves_in edition text))
-these-leaves edition text o v e are =
-    let P : Option (Vec Leaf Global) → Type 0 = λ p. AreThinLeaves edition text (option_map (λ w. w.items) p) in
-    subst P e are
+few-tokens : (ls : List Leaf) → token_count ls ≤ length ls
+few-tokens [] = omega arith
+few-tokens (l ∷ ls) = elim (cases_Bool (is_trivia l)) [
+  | inl t ↦ rw t (omega (arith, few-tokens ls))
+  | inr t ↦ rw t (omega (arith, few-tokens ls))
+]
 
-pub no-leaves :
-    (edition : Edition) (text : List ℕ) (o : Option (Vec Leaf Global)) → o ≡ None → AreThinLeaves edition text (option_map (λ w. w.items) o) → is_thin edition text ≡ false
-no-leaves edition text o e are =
-    let P : Option (Vec Leaf Global) → Type 0 = λ p. AreThinLeaves edition text (option_map (λ w. w.items) p) in
-    subst P e are
+-- the steps of a source file are those of one node over the leaves
+pub file-steps : (edition : Edition) (ls : List Leaf) → AreStepsOf (steps (file_of edition ls)) ls (file_of edition ls)
+file-steps edition ls = record { are = refl; rooted = file-rooted edition ls; fit = file-fits edition ls }
 
-pub whole :
-    (edition : Edition) (text : List ℕ) (code found part : List Leaf) (tokens : List LexedToken) (root : Tree) (errors : List SyntaxError) → (is_thin edition text ≡ true) × (map seen found ≡ map in_bytes (leaves_in edition text)) → code ≡ found → part ≡ found → IsRead code root errors → map shown tokens ≡ spans_from 0 (map seen part) → IsReading edition text tokens root errors
-unfolding tree messages
-whole edition text code found part tokens root errors are same likewise read placed =
-    let seen_so = ap (λ (ls : List Leaf). map seen ls) same ∙ are.1 in
+-- and not too many
+pub file-tree :
+    (edition : Edition) (ls : List Lexed) (ss : List Step) → ss ≡ steps (file_of edition (leaves_of ls)) → length (encodes (joined (leaves_of ls))) ≤ 16777216 → length ls ≤ 16777216 → IsTreeOf ss (leaves_of ls)
+file-tree edition ls ss are bytes count =
+    let own = leaves_of ls in
+    let f = file_of edition own in
+    let most = dressed-most dressed-is-put f own (file-rooted edition own) (file-fits edition own) in
     record {
-      thin = are.0;
-      tokens_are = placed ∙ ap (λ (ls : List Leaf). spans_from 0 (map seen ls)) likewise ∙ ap (spans_from 0) are.1;
-      root_is = read.tree_is edition (leaves_in edition text) seen_so (thin-kinds edition text are.0);
-      errors_are = read.errors_are edition (leaves_in edition text) seen_so (thin-kinds edition text are.0);
+      forest = f;
+      steps_of = record { are = are; rooted = file-rooted edition own; fit = file-fits edition own };
+      bytes = bytes;
+      few = omega (arith, most, file-short edition own, few-tokens own, length-map ls (λ (l : Lexed). l.leaf), count);
+    }
+
+-- what was built of a text's leaves
+pub whole :
+    (edition : Edition) (text : List ℕ) (tokens : List LexedToken) (root : Tree) (errors : List SyntaxError)
+    → is_thin edition text ≡ true
+    → IsBuilt (steps (file_of edition (leaves_in edition text))) (leaves_in edition text) root errors
+    → map shown tokens ≡ spans_from 0 (map in_bytes (leaves_in edition text))
+    → IsReading edition text tokens root errors
+unfolding tree messages dressed_file
+whole edition text tokens root errors thin built placed =
+    let f = file_of edition (leaves_in edition text) in
+    record {
+      thin = thin;
+      tokens_are = placed;
+      root_is = built.root_is f (file-steps edition (leaves_in edition text));
+      errors_are = built.errors_are f (file-steps edition (leaves_in edition text));
     }

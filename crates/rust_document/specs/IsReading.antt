@@ -4,7 +4,7 @@ use Rattle.rowan_green.specs.Forest.{Tree}
 use Rattle.parser_input.specs.declared.edition.Edition.{Edition}
 use Rattle.rust_document.specs.Reading.{tree, messages}
 use Rattle.rust_document.specs.Thin.{is_thin}
-use Rattle.rust_document.specs.Puts.{told, says}
+use Rattle.rust_document.specs.Seen.{told, says}
 use Rattle.rust_document.specs.declared.syntax_error.SyntaxError.{SyntaxError}
 use Rattle.rust_document.specs.Tokens.{tokens_of, shown}
 use Rattle.rust_document.specs.declared.tokens.LexedToken.{LexedToken}

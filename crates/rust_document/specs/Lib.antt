@@ -3,11 +3,6 @@ pub mod Thin
 pub mod Rewrite
 pub mod Step
 pub mod Messages
-pub mod Puts
-pub mod ReaderView
-pub mod Parts
-pub mod Read
-pub mod Lexed
 pub mod IsReading
 pub mod Open
 pub mod Bare
@@ -21,3 +16,4 @@ pub mod Committed
 pub mod Laws
 pub mod TreeSinks
 pub mod TreeBuilt
+pub mod Seen

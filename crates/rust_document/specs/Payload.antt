@@ -11,7 +11,7 @@ use Rattle.parser_input.specs.declared.edition.Edition.{Edition}
 use Rattle.syntax_tree.specs.Handle.{Handle}
 use Rattle.syntax_tree.specs.declared.error.TreeError.{TreeError}
 use Rattle.syntax_tree.specs.declared.error.TreeError.TheVariants as trees
-use Rattle.rust_document.specs.Puts.{in_bytes}
+use Rattle.rust_document.specs.Seen.{in_bytes}
 use Rattle.rust_document.specs.Step.{MAX_TEXT}
 use Rattle.rust_document.specs.Thin.{is_thin}
 use Rattle.rust_document.specs.declared.error.PayloadError.{PayloadError}

@@ -3,7 +3,7 @@ use Rattle.std.specs.Prelude.{ℕ, ◌+◌, List, [], ◌∷◌, map, length}
 use Rattle.rowan_green.specs.Leaf as green
 use Rattle.parser_input.specs.Kind.{raw_of}
 use Rattle.parser_input.specs.declared.edition.Edition.{Edition}
-use Rattle.rust_document.specs.Puts.{in_bytes}
+use Rattle.rust_document.specs.Seen.{in_bytes}
 use Rattle.rust_document.specs.Reading.{leaves_in}
 use Rattle.rust_document.specs.declared.tokens.LexedToken.{LexedToken}
 

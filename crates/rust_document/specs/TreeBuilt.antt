@@ -8,7 +8,7 @@ use Rattle.parser_events.specs.Fits.{fits, IsRooted}
 use Rattle.parser_events.specs.Forest.{Forest}
 use Rattle.parser_events.specs.Steps.{Step, steps}
 use Rattle.parser_events.specs.TextSteps.{text_steps}
-use Rattle.rust_document.specs.Puts.{told, says}
+use Rattle.rust_document.specs.Seen.{told, says}
 use Rattle.rust_document.specs.Reading.{root_of, terms_of}
 use Rattle.rust_document.specs.declared.syntax_error.SyntaxError.{SyntaxError}
 

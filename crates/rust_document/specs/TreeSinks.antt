@@ -8,7 +8,7 @@ use Rattle.rowan_green.specs.declared.error.GreenError.{GreenError}
 use Rattle.rowan_green.specs.declared.error.GreenError.TheVariants.{TooLong, Unbalanced, NoMemory}
 use Rattle.parser_events.specs.TextSteps.{TextStep, Token, Enter, Exit, Error}
 use Rattle.rust_document.specs.Messages.{message_text}
-use Rattle.rust_document.specs.Puts.{told}
+use Rattle.rust_document.specs.Seen.{told}
 use Rattle.rust_document.specs.declared.tree_sink.TreeSink.{TreeSink}
 
 -- the builder behind a step: a leaf is added, a node is opened, the innermost one is closed

@@ -8,7 +8,7 @@ ghost use Rattle.syntax_tree.specs.Path.{first_of};
 ghost use Rattle.rust_document.specs.Commit.{RefusesCommit};
 ghost use Rattle.rust_document.specs.Committed.{ends_of};
 ghost use Rattle.rust_document.specs.Open.{IsOpened, RefusesOpen};
-ghost use Rattle.rust_document.specs.Puts.{told, says};
+ghost use Rattle.rust_document.specs.Seen.{told, says};
 ghost use Rattle.rust_document.specs.Reading.{messages};
 ghost use Rattle.rust_document.specs.Rewrite.{rewritten, changed};
 ghost use Rattle.rust_document.specs.Step.{present, root_handle, verdict, Accepted};
@@ -63,8 +63,8 @@ impl Model for Document {
 impl Document {
     /// Reads a text, and gives its tree the next number of `ids`.
     ///
-    /// Refuses a text of more than 16,777,216 bytes as too long, then a text with a token other than white space, `struct`,
-    /// names and `;` as one for later, then for want of a tree number. A refusal takes no number.
+    /// Refuses a text of more than 16,777,216 bytes as too long, then a text with a token other than white space, ended
+    /// comments, `struct`, names and `;` as one for later, then for want of a tree number. A refusal takes no number.
     pub fn open(
         alloc: Global,
         edition: Edition,

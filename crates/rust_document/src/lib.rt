@@ -1,22 +1,20 @@
 //! A text with its reading: its messages and its tree, and nothing that an earlier text left.
 //!
-//! So far a document reads texts of white space, the word `struct`, names and `;`.
+//! So far a document reads texts of white space, comments, the word `struct`, names and `;`.
 #![tactic(auto)]
 
 mod bare;
 pub mod document;
-mod elements;
 pub mod error;
 pub mod laws;
 mod leaf;
-mod lexed;
 mod message_text;
 pub mod payload_entry;
 mod read;
-mod reader;
 mod rewrite;
 pub mod syntax_editor;
 pub mod syntax_error;
+mod thin;
 pub mod tokens;
 mod tree_sink;
 

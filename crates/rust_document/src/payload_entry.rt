@@ -2,12 +2,12 @@
 ghost use Rattle.std.specs.Prelude.{◌≡◌, ◌+◌, ◌<◌, ◌^◌, ℕ, length, IfOk, IfErr, OnOk};
 ghost use Rattle.syntax_tree.specs.Element.{handle_of};
 ghost use Rattle.rust_document.specs.Payload.{token_payload, One, IsDetached, RefusesPayload};
-ghost use Rattle.rust_document.specs.Puts.{seen};
+ghost use Rattle.rust_document.specs.Seen.{seen};
 
 use crate::document::MAX_TEXT;
 use crate::error::PayloadError;
 use crate::leaf::Leaf;
-use crate::lexed::is_thin;
+use crate::thin::is_thin;
 use parser_input::edition::Edition;
 use parser_input::lexed_str::LexedStr;
 use std::alloc::Global;
@@ -23,8 +23,8 @@ pub enum PayloadEntry {
 
 /// Reads a text to be put in the place of an element: a token, in a tree of its own with the next number of `ids`.
 ///
-/// Refuses a text of more than 16,777,216 bytes as too long, then a text with a token other than white space, `struct`, names and
-/// `;` as one for later, then a text that is not one token, then for want of a tree number. A refusal takes no number.
+/// Refuses a text of more than 16,777,216 bytes as too long, then a text with a token other than white space, ended
+/// comments, `struct`, names and `;` as one for later, then a text that is not one token, then for want of a tree number. A refusal takes no number.
 pub fn payload(
     alloc: Global,
     entry: PayloadEntry,

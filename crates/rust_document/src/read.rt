@@ -1,12 +1,19 @@
 //! Reads a text.
-ghost use Rattle.std.specs.Prelude.{◌≤◌, length, chars, IfOk};
+ghost use Rattle.std.specs.Prelude.{◌≡◌, ◌≤◌, length, chars, encode_utf8_all, IfOk};
+ghost use Rattle.parser_input.specs.Lexed.{leaves_of};
+ghost use Rattle.parser_events.specs.Dress.{joined};
+ghost use Rattle.parser_events.specs.Steps.{steps};
+ghost use Rattle.ra_parser.specs.Laws.{file_of};
 ghost use Rattle.rust_document.specs.IsReading.{IsReadingIfThin};
+ghost use Rattle.rust_document.specs.TreeBuilt.{IsBuilt};
 
-use crate::lexed::thin_leaves;
-use crate::reader::Reader;
 use crate::syntax_error::SyntaxError;
+use crate::thin::is_thin;
 use crate::tokens::{LexedToken, lexed_tokens};
+use crate::tree_sink::{Built, build};
 use parser_input::edition::Edition;
+use parser_input::lexed_str::LexedStr;
+use ra_parser::parse;
 use rowan_green::GreenNode;
 use std::alloc::{AllocError, Global};
 
@@ -18,19 +25,29 @@ pub struct Reading {
     pub errors: Vec<SyntaxError>,
 }
 
+/// The tree and the messages of a text whose leaves are known.
+fn parsed(alloc: Global, lexed: &LexedStr<'_>) -> Result<Built, AllocError>
+    requires bytes { length (encode_utf8_all (joined (leaves_of lexed.now.leaves))) ≤ 16777216 }
+    requires count { length lexed.now.leaves ≤ 16777216 }
+    ensures { IfOk result (λ b. IsBuilt (steps (file_of lexed.now.edition (leaves_of lexed.now.leaves))) (leaves_of lexed.now.leaves) b.root b.errors.items) }
+{
+    let input = lexed.to_input(alloc)?;
+    let output = parse::source_file(alloc, &input)?;
+    let built = build(alloc, lexed, &output)?;
+    Ok(built)
+}
+
 /// Reads a text of at most 16,777,216 bytes; None where a token of it is not thin.
 pub fn read(alloc: Global, edition: Edition, text: &str) -> Result<Option<Reading>, AllocError>
     requires { length text.now ≤ 16777216 }
     ensures { IfOk result (λ o. IsReadingIfThin edition (chars text.now) o) }
 {
-    let leaves = match thin_leaves(alloc, edition, text)? {
-        Some(leaves) => leaves,
-        None => return Ok(None),
-    };
-    let mut reader = Reader::new(alloc, &leaves);
-    let root = reader.source_file()?;
-    let errors = reader.into_errors();
-    let tokens = lexed_tokens(alloc, &leaves)?;
+    if !is_thin(edition, text) {
+        return Ok(None);
+    }
+    let lexed = LexedStr::new(alloc, edition, text)?;
+    let Built { root, errors } = parsed(alloc, &lexed)?;
+    let tokens = lexed_tokens(alloc, &lexed)?;
     Ok(Some(Reading {
         tokens,
         root,

@@ -1,9 +1,11 @@
 //! The tokens of a text with their places.
-ghost use Rattle.std.specs.Prelude.{◌≡◌, ◌≤◌, map, IfOk};
-ghost use Rattle.rust_document.specs.Puts.{seen, bytes_in};
+ghost use Rattle.std.specs.Prelude.{◌≡◌, ◌≤◌, length, map, encode_utf8_all, IfOk};
+ghost use Rattle.parser_input.specs.Lexed.{leaves_of};
+ghost use Rattle.parser_events.specs.Dress.{joined};
+ghost use Rattle.rust_document.specs.Seen.{in_bytes};
 ghost use Rattle.rust_document.specs.Tokens.{shown, spans_from};
 
-use crate::leaf::Leaf;
+use parser_input::lexed_str::LexedStr;
 use parser_input::syntax_kind::SyntaxKind;
 use rowan_green::{TextRange, TextSize};
 use std::alloc::{AllocError, Global};
@@ -57,16 +59,19 @@ impl<'a> Iterator for Tokens<'a> {
 }
 
 /// Where the leaves of a text stand.
-pub(crate) fn lexed_tokens(alloc: Global, leaves: &[Leaf]) -> Result<Vec<LexedToken>, AllocError>
-    requires { bytes_in leaves.now ≤ 16777216 }
-    ensures { IfOk result (λ v. map shown v.items ≡ spans_from 0 (map seen leaves.now)) }
+pub(crate) fn lexed_tokens(
+    alloc: Global,
+    lexed: &LexedStr<'_>,
+) -> Result<Vec<LexedToken>, AllocError>
+    requires { length (encode_utf8_all (joined (leaves_of lexed.now.leaves))) ≤ 16777216 }
+    ensures { IfOk result (λ v. map shown v.items ≡ spans_from 0 (map in_bytes (leaves_of lexed.now.leaves))) }
 {
-    let mut tokens = Vec::with_capacity(alloc, leaves.len())?;
+    let mut tokens = Vec::with_capacity(alloc, lexed.len())?;
     let mut place = TextSize::new(0);
-    for leaf in leaves {
-        let range = TextRange::at(place, TextSize::new(leaf.text.len() as u32));
+    for i in 0..lexed.len() {
+        let range = TextRange::at(place, TextSize::new(lexed.text_len(i) as u32));
         tokens.push(LexedToken {
-            kind: leaf.kind,
+            kind: lexed.kind(i),
             range,
         })?;
         place = range.end();

@@ -6,7 +6,7 @@ ghost use Rattle.parser_input.specs.Lexed.{leaves_of};
 ghost use Rattle.parser_events.specs.Seen.{message_of};
 ghost use Rattle.parser_events.specs.TextSteps as texts;
 ghost use Rattle.rust_document.specs.Messages.{message_text};
-ghost use Rattle.rust_document.specs.Puts.{told};
+ghost use Rattle.rust_document.specs.Seen.{told};
 ghost use Rattle.rust_document.specs.TreeBuilt.{IsBuilt, IsTreeOf};
 ghost use Rattle.rust_document.specs.TreeSinks.{built, MayRefuse};
 

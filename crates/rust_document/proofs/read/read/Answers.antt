@@ -1,37 +1,32 @@
 -- The leaves of a text are its bytes, and are read as the grammar says.
-use Rattle.std.proofs.Common.{◌≤◌, length, map, ap, subst, sym, ◌∙◌, List, arith}
-use Rattle.rust_document.specs.declared.leaf.Leaf.{Leaf}
-use Rattle.rust_document.specs.Puts.{bytes_in, told}
-use Rattle.rust_document.specs.declared.syntax_error.SyntaxError.{SyntaxError}
+use Rattle.std.proofs.Common.{◌≤◌, true, chars, map, length, ap, sym, subst, ◌∙◌, List, arith}
+use Rattle.std.proofs.Math.Utf8.{encodes}
+use Rattle.parser_input.specs.Lexed.{leaves_of}
+use Rattle.parser_input.specs.Stored.{Whole}
+use Rattle.parser_events.specs.Dress.{joined}
+use Rattle.parser_events.specs.Steps.{steps}
+use Rattle.ra_parser.specs.Laws.{file_of}
+use Rattle.rust_document.specs.Seen.{in_bytes}
+use Rattle.rust_document.specs.Tokens.{shown, spans_from}
+use Rattle.rust_document.specs.TreeBuilt.{IsBuilt}
 use Rattle.rust_document.proofs.Sizes.{bytes-all, count-all}
-use Rattle.rust_document.proofs.Whole.{these-leaves, whole}
+use Rattle.rust_document.proofs.Whole.{whole}
 use Rattle.rust_document.proofs.read.read.Goals as goal
 
-pub new-reader-requires-clause-bytes : goal.new-reader-requires-clause-bytes
-new-reader-requires-clause-bytes c =
-    let P : List Leaf → Type 0 = λ ls. bytes_in ls ≤ 16777216 in
-    let are = these-leaves _ _ _ _ c.in-Some.is c.in_ok-leaves.ensures in
-    subst P (sym c.deref.ensures.value) (omega (arith, bytes-all _ _ _ c.utf8.text are, c.requires))
+pub parsed-requires-clause-bytes : goal.parsed-requires-clause-bytes
+parsed-requires-clause-bytes c =
+    omega (arith, ap (λ (w : Whole). length (encodes (joined (leaves_of w.leaves)))) c.in_ok-lexed.ensures, bytes-all c.args.edition c.args.text.now c.utf8.text, c.requires)
 
-pub new-reader-requires-clause-count : goal.new-reader-requires-clause-count
-new-reader-requires-clause-count c =
-    let P : List Leaf → Type 0 = λ ls. length ls ≤ 16777216 in
-    let are = these-leaves _ _ _ _ c.in-Some.is c.in_ok-leaves.ensures in
-    subst P (sym c.deref.ensures.value) (omega (arith, count-all _ _ _ c.utf8.text are, c.requires))
+pub parsed-requires-clause-count : goal.parsed-requires-clause-count
+parsed-requires-clause-count c =
+    omega (arith, ap (λ (w : Whole). length w.leaves) c.in_ok-lexed.ensures, count-all c.args.edition c.args.text.now c.utf8.text (sym c.if-not-is_thin.ensures), c.requires)
 
 pub lexed_tokens-requires : goal.lexed_tokens-requires
 lexed_tokens-requires c =
-    let P : List Leaf → Type 0 = λ ls. bytes_in ls ≤ 16777216 in
-    let are = these-leaves _ _ _ _ c.in-Some.is c.in_ok-leaves.ensures in
-    subst P (sym c.deref-2.ensures.value) (omega (arith, bytes-all _ _ _ c.utf8.text are, c.requires))
+    omega (arith, ap (λ (w : Whole). length (encodes (joined (leaves_of w.leaves)))) c.in_ok-lexed.ensures, bytes-all c.args.edition c.args.text.now c.utf8.text, c.requires)
 
 pub returns : goal.returns
 returns c =
-    let are = these-leaves _ _ _ _ c.in-Some.is c.in_ok-leaves.ensures in
-    let read = whole _ _ _ _ _ _ _ _ are (c.new-reader.ensures.rest ∙ c.deref.ensures.value) c.deref-2.ensures.value c.in_ok-root.ensures c.in_ok-tokens.ensures in
-    record {
-      thin = read.thin;
-      tokens_are = read.tokens_are;
-      root_is = read.root_is;
-      errors_are = ap (λ (es : List SyntaxError). map told es) c.into_errors-errors.ensures ∙ read.errors_are;
-    }
+    whole c.args.edition (chars c.args.text.now) _ _ _ (sym c.if-not-is_thin.ensures)
+    (subst (λ (w : Whole). IsBuilt (steps (file_of w.edition (leaves_of w.leaves))) (leaves_of w.leaves) c.in_ok-Built.Built.root c.in_ok-Built.Built.errors.items) c.in_ok-lexed.ensures c.in_ok-Built.ensures)
+    (c.in_ok-tokens.ensures ∙ ap (λ (w : Whole). spans_from 0 (map in_bytes (leaves_of w.leaves))) c.in_ok-lexed.ensures)

@@ -1,20 +1,14 @@
-//! The leaves of a text.
-ghost use Rattle.std.specs.Prelude.{◌≡◌, drop, length, map, chars, IfOk, option_map};
+//! Which texts are read so far.
+ghost use Rattle.std.specs.Prelude.{◌≡◌, drop, length, chars};
 ghost use Rattle.parser_input.specs.Kind.{raw_of};
 ghost use Rattle.parser_input.specs.Leaf.{word_kind};
-ghost use Rattle.parser_input.specs.Lexed.{leaves_of};
 ghost use Rattle.rustc_lexer.specs.Tokens.{next_lexeme};
-ghost use Rattle.rust_document.specs.Lexed.{AreThinLeaves};
-ghost use Rattle.rust_document.specs.Puts.{seen, in_bytes};
 ghost use Rattle.rust_document.specs.Thin.{is_thin_token, is_thin};
 
-use crate::leaf::Leaf;
 use parser_input::edition::Edition;
 use parser_input::keywords::keyword;
-use parser_input::lexed_str::LexedStr;
 use parser_input::syntax_kind::SyntaxKind;
 use rustc_lexer::{Cursor, TokenKind};
-use std::alloc::{AllocError, Global};
 
 /// The kind of a word: `_`, a keyword of the edition, or a name.
 fn word(edition: Edition, text: &str) -> SyntaxKind
@@ -44,6 +38,11 @@ fn is_thin_token(edition: Edition, kind: TokenKind, text: &str) -> bool
 {
     match kind {
         TokenKind::Whitespace => true,
+        TokenKind::LineComment { doc_style: _ } => true,
+        TokenKind::BlockComment {
+            doc_style: _,
+            terminated,
+        } => terminated,
         TokenKind::Semi => true,
         TokenKind::Ident => is_thin_word(edition, text),
         _ => false,
@@ -72,34 +71,4 @@ pub fn is_thin(edition: Edition, text: &str) -> bool
         }
     }
     true
-}
-
-/// The leaves that a text was cut into, with their pieces of the text.
-fn pieces<'a>(alloc: Global, lexed: &LexedStr<'a>) -> Result<Vec<Leaf<'a>>, AllocError>
-    ensures { IfOk result (λ v. map seen v.items ≡ map in_bytes (leaves_of lexed.now.leaves)) }
-{
-    let mut pieces = Vec::with_capacity(alloc, lexed.len())?;
-    for i in 0..lexed.len() {
-        let piece = Leaf {
-            kind: lexed.kind(i),
-            text: lexed.text(i),
-        };
-        pieces.push(piece)?;
-    }
-    Ok(pieces)
-}
-
-/// The leaves of a text in order; None where a token of it is not thin.
-pub fn thin_leaves<'a>(
-    alloc: Global,
-    edition: Edition,
-    text: &'a str,
-) -> Result<Option<Vec<Leaf<'a>>>, AllocError>
-    ensures { IfOk result (λ o. AreThinLeaves edition (chars text.now) (option_map (λ v. v.items) o)) }
-{
-    if !is_thin(edition, text) {
-        return Ok(None);
-    }
-    let lexed = LexedStr::new(alloc, edition, text)?;
-    Ok(Some(pieces(alloc, &lexed)?))
 }

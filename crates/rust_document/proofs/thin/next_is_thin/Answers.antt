@@ -6,7 +6,7 @@ use Rattle.rustc_lexer.specs.declared.token.TokenKind.{TokenKind}
 use Rattle.rust_document.specs.Thin.{is_thin_token}
 use Rattle.rustc_lexer.proofs.Seams.{front-until}
 use Rattle.rust_document.proofs.Lexing.{piece-is}
-use Rattle.rust_document.proofs.lexed.next_is_thin.Goals as goal
+use Rattle.rust_document.proofs.thin.next_is_thin.Goals as goal
 
 pub overflow_sub-before : goal.overflow_sub-before
 overflow_sub-before c =

@@ -1,7 +1,7 @@
 -- Token by token.
 use Rattle.std.proofs.Common.{sym, ◌∙◌}
 use Rattle.rust_document.proofs.Lexing.{thin-step, thin-not, thin-end, falls, some-chars, no-chars}
-use Rattle.rust_document.proofs.lexed.is_thin.Goals as goal
+use Rattle.rust_document.proofs.thin.is_thin.Goals as goal
 
 pub returns-then-not-next_is_thin : goal.returns-then-not-next_is_thin
 returns-then-not-next_is_thin c =

@@ -1,7 +1,7 @@
 -- The bytes tell what the characters are.
 use Rattle.std.proofs.Common.{Some, None}
 use Rattle.rust_document.proofs.Lexing.{word-underscore, word-other}
-use Rattle.rust_document.proofs.lexed.word.Goals as goal
+use Rattle.rust_document.proofs.thin.word.Goals as goal
 
 pub returns-then-eq : goal.returns-then-eq
 returns-then-eq c = word-underscore _ _ c.utf8.text c.if-eq.ensures
