@@ -19,3 +19,4 @@ pub mod TreeTexts
 pub mod Prefaces
 pub mod TreeSinks
 pub mod TreeRefusals
+pub mod TreeCounts
