@@ -12,4 +12,3 @@ pub mod TreeTexts
 pub mod Prefaces
 pub mod TreeSinks
 pub mod TreeRefusals
-pub mod TreeCounts

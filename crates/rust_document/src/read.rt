@@ -46,8 +46,9 @@ pub fn read(alloc: Global, edition: Edition, text: &str) -> Result<Option<Readin
         return Ok(None);
     }
     let lexed = LexedStr::new(alloc, edition, text)?;
-    let Built { root, errors } = parsed(alloc, &lexed)?;
+    let built = parsed(alloc, &lexed)?;
     let tokens = lexed_tokens(alloc, &lexed)?;
+    let Built { root, errors } = built;
     Ok(Some(Reading {
         tokens,
         root,

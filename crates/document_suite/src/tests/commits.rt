@@ -121,6 +121,24 @@ fn nothing_recorded(rt: HostRuntime) -> Result<(), Fail> {
     Ok(())
 }
 
+/// What becomes of `struct S; // t` where an element is put for its space in front of the name.
+fn commented(alloc: Global, token: &'static str) -> Result<(Option<CommitError>, bool), Fail> {
+    let mut ids = TreeIds::starting_at(2);
+    let mut document = open(alloc, "struct S; // t")?;
+    let new = (Edition::Edition2021, token);
+    let editor = put(alloc, &document, SPACE, new, &mut ids)?;
+    let answer = commit(alloc, &mut document, editor, &mut ids);
+    Ok((answer.err(), document.text() == "struct/* s */S; // t"))
+}
+
+/// A comment may stand where a space did, and what it would swallow is no longer there.
+#[test]
+fn comments_for_a_space(rt: HostRuntime) -> Result<(), Fail> {
+    assert!(rt; commented(rt.alloc(), "/* s */")? == (None, true));
+    assert!(rt; commented(rt.alloc(), "// s")? == (Some(CommitError::Unfaithful), false));
+    Ok(())
+}
+
 /// What a document answers to an editor, and then to an older one.
 fn older(alloc: Global) -> Result<(Option<CommitError>, Option<CommitError>, u32), Fail> {
     let mut ids = TreeIds::starting_at(2);

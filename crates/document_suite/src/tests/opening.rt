@@ -58,11 +58,11 @@ fn has_errors(document: &Document, expected: &[(usize, &str)]) -> bool {
 
 /// A text with what is read of it: its elements with the paths that lead to them, its tokens, and its messages with their places.
 #[derive(Clone, Copy)]
-struct Row {
-    text: &'static str,
-    tree: &'static [(Place, &'static [usize])],
-    tokens: &'static [Place],
-    errors: &'static [(usize, &'static str)],
+pub(super) struct Row {
+    pub(super) text: &'static str,
+    pub(super) tree: &'static [(Place, &'static [usize])],
+    pub(super) tokens: &'static [Place],
+    pub(super) errors: &'static [(usize, &'static str)],
 }
 
 const EMPTY: Row = Row {
@@ -128,7 +128,7 @@ const MISSING: Row = Row {
 };
 
 /// Whether a text is read as its row says.
-fn is_read(alloc: Global, row: Row) -> Result<bool, Fail> {
+pub(super) fn is_read(alloc: Global, row: Row) -> Result<bool, Fail> {
     let document = open(alloc, row.text)?;
     let tree = has_tree(alloc, &document, row.tree)?;
     let tokens = has_tokens(&document, row.tokens);
@@ -165,7 +165,7 @@ fn refusal(alloc: Global, text: &str, ids: &mut TreeIds) -> Option<OpenError> {
 #[test]
 fn other_texts(rt: HostRuntime) {
     let mut ids = TreeIds::new();
-    for text in ["struct S {}", "struct _;", "fn", "struct S; // s"] {
+    for text in ["struct S {}", "struct _;", "fn", "struct S; /* s"] {
         assert!(rt; refusal(rt.alloc(), text, &mut ids) == Some(OpenError::Later));
     }
     assert!(rt; ids.next() == Ok(1));

@@ -28,5 +28,5 @@ lexed_tokens-requires c =
 pub returns : goal.returns
 returns c =
     whole c.args.edition (chars c.args.text.now) _ _ _ (sym c.if-not-is_thin.ensures)
-    (subst (λ (w : Whole). IsBuilt (steps (file_of w.edition (leaves_of w.leaves))) (leaves_of w.leaves) c.in_ok-Built.Built.root c.in_ok-Built.Built.errors.items) c.in_ok-lexed.ensures c.in_ok-Built.ensures)
+    (subst (λ (w : Whole). IsBuilt (steps (file_of w.edition (leaves_of w.leaves))) (leaves_of w.leaves) c.in_ok-built.built.root c.in_ok-built.built.errors.items) c.in_ok-lexed.ensures c.in_ok-built.ensures)
     (c.in_ok-tokens.ensures ∙ ap (λ (w : Whole). spans_from 0 (map in_bytes (leaves_of w.leaves))) c.in_ok-lexed.ensures)
