@@ -1,12 +1,10 @@
 -- The leaves of a text, one by one.
-use Rattle.std.proofs.Common.{◌≡◌, ℕ, zero, suc, ◌<◌, ◌≤◌, Bool, true, false, ◌&&◌, ◌==◌, ◌+◌, get_or, List, [], ◌∷◌, ◌++◌, length, map, take, drop, refl, sym, ◌∙◌, ap, subst, arith, chars, unwrap_or, slice_range, ◌-◌, Option}
+use Rattle.std.proofs.Common.{◌≡◌, ℕ, zero, suc, ◌<◌, ◌≤◌, Bool, true, false, ◌&&◌, ◌==◌, List, [], ◌∷◌, length, take, drop, refl, sym, ◌∙◌, ap, subst, arith, chars, unwrap_or, slice_range, ◌-◌, Option}
 use Rattle.std.specs.List.{list_all}
 use Rattle.std.specs.Str.{IsUtf8, bytes_eq}
-use Rattle.std.proofs.Math.Seq.{take-suc}
 use Rattle.std.proofs.Math.Utf8.{encodes}
 use Rattle.std.proofs.lemmas.Bool.{eqb-true}
 use Rattle.std.proofs.lemmas.Str.{encodes-chars, chars-nil}
-use Rattle.rowan_green.specs.Leaf as green
 use Rattle.rustc_lexer.specs.Lexeme.{lexeme}
 use Rattle.rustc_lexer.specs.Tokens as lexer
 use Rattle.rustc_lexer.specs.Tokens.{next_lexeme, first_lexeme}
@@ -16,7 +14,7 @@ use Rattle.rustc_lexer.specs.declared.token.TokenKind.TheVariants as tokens
 use Rattle.rustc_lexer.proofs.Cutting.{tokens-cons, first-length}
 use Rattle.rustc_lexer.proofs.LexemesLocal.{lexeme-takes}
 use Rattle.rustc_lexer.proofs.Seams.{front-until}
-use Rattle.std.proofs.lemmas.List.{length-drop, map-append}
+use Rattle.std.proofs.lemmas.List.{length-drop}
 use Rattle.rust_document.proofs.Words.{keyword-bytes, underscore-bytes}
 use Rattle.parser_input.specs.Kinds.{UNDERSCORE, IDENT}
 use Rattle.parser_input.specs.Keywords.{keyword_kind}
@@ -25,9 +23,6 @@ use Rattle.parser_input.specs.Leaf.{word_kind, kind_of}
 use Rattle.parser_input.specs.declared.edition.Edition.{Edition}
 use Rattle.rust_document.specs.Thin.{is_thin_token, is_thin}
 use Rattle.parser_input.specs.Kind.{raw_of}
-use Rattle.parser_input.specs.Kinds.{EOF}
-use Rattle.parser_input.specs.Lexed.{Lexed, leaves_of, quiet}
-use Rattle.parser_input.specs.Stored.{leaf_at}
 use Rattle.rust_document.specs.Seen.{seen, in_bytes}
 use Rattle.rust_document.specs.declared.leaf.Leaf.{Leaf}
 

@@ -1,5 +1,5 @@
 -- How many leaves a text has, and how many bytes these have.
-use Rattle.std.proofs.Common.{◌≡◌, ℕ, suc, ◌+◌, ◌*◌, ◌≤◌, ◌<◌, ◌^◌, true, List, [], ◌∷◌, length, map, refl, sym, ◌∙◌, ap, arith, chars, length-append, get_or, flat_map, ◌++◌}
+use Rattle.std.proofs.Common.{◌≡◌, ℕ, suc, ◌≤◌, ◌<◌, true, List, [], ◌∷◌, length, refl, sym, ◌∙◌, ap, arith, chars, length-append, get_or, flat_map, ◌++◌}
 use Rattle.std.specs.Str.{IsUtf8}
 use Rattle.std.proofs.Math.Utf8.{encodes}
 use Rattle.std.proofs.lemmas.List.{length-map}

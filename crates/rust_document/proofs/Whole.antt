@@ -1,14 +1,13 @@
 -- What was read of a text's leaves is the reading of the text.
-use Rattle.std.proofs.Common.{◌≡◌, ◌≤◌, ◌<◌, ◌+◌, ◌*◌, ◌^◌, ℕ, suc, true, false, List, [], ◌∷◌, map, length, refl, ◌∙◌, ap, sym, subst, arith, inl, inr, if◌then◌else◌}
+use Rattle.std.proofs.Common.{◌≡◌, ◌≤◌, ℕ, true, List, [], ◌∷◌, map, length, refl, arith, inl, inr}
 use Rattle.std.proofs.Math.Utf8.{encodes}
 use Rattle.std.proofs.lemmas.Bool.{cases_Bool}
 use Rattle.std.proofs.lemmas.List.{length-map}
 use Rattle.rowan_green.specs.Forest.{Tree}
-use Rattle.parser_input.specs.Input.{input}
 use Rattle.parser_input.specs.Leaf.{Leaf, is_trivia}
-use Rattle.parser_input.specs.Lexed.{Lexed, lexed, leaves_of}
+use Rattle.parser_input.specs.Lexed.{Lexed, leaves_of}
 use Rattle.parser_input.specs.declared.edition.Edition.{Edition}
-use Rattle.parser_events.specs.Dress.{dress_root, joined}
+use Rattle.parser_events.specs.Dress.{joined}
 use Rattle.parser_events.specs.Steps.{Step, steps}
 use Rattle.parser_events.proofs.Coverings.{dressed-is-put}
 use Rattle.ra_parser.specs.Laws.{file_of}

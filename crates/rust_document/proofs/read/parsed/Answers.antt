@@ -1,5 +1,5 @@
 -- The steps are those of a source file over the leaves.
-use Rattle.std.proofs.Common.{false, List, ap, sym, subst, ◌∙◌}
+use Rattle.std.proofs.Common.{false, List, ap, subst, ◌∙◌}
 use Rattle.parser_input.specs.Input.{Token}
 use Rattle.parser_input.specs.Lexed.{leaves_of}
 use Rattle.parser_events.specs.Forest.{End}

@@ -1,5 +1,5 @@
 -- The leaves of a text are its bytes, and are read as the grammar says.
-use Rattle.std.proofs.Common.{◌≤◌, true, chars, map, length, ap, sym, subst, ◌∙◌, List, arith}
+use Rattle.std.proofs.Common.{chars, map, length, ap, sym, subst, ◌∙◌, arith}
 use Rattle.std.proofs.Math.Utf8.{encodes}
 use Rattle.parser_input.specs.Lexed.{leaves_of}
 use Rattle.parser_input.specs.Stored.{Whole}
@@ -7,7 +7,7 @@ use Rattle.parser_events.specs.Dress.{joined}
 use Rattle.parser_events.specs.Steps.{steps}
 use Rattle.ra_parser.specs.Laws.{file_of}
 use Rattle.rust_document.specs.Seen.{in_bytes}
-use Rattle.rust_document.specs.Tokens.{shown, spans_from}
+use Rattle.rust_document.specs.Tokens.{spans_from}
 use Rattle.rust_document.specs.TreeBuilt.{IsBuilt}
 use Rattle.rust_document.proofs.Sizes.{bytes-all, count-all}
 use Rattle.rust_document.proofs.Whole.{whole}
