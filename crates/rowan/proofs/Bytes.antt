@@ -1,5 +1,5 @@
 -- The comparison of bytes with a text that is made of terms.
-use Rattle.std.proofs.Common.{◌≡◌, ℕ, zero, suc, ◌+◌, ◌-◌, ◌<◌, ◌≤◌, min, List, [], ◌∷◌, ◌++◌, length, take, drop, length-take, length-drop, refl, sym, ◌∙◌, ap, subst, arith, Bool, true, false, ◌&&◌, Decides, cond}
+use Rattle.std.proofs.Common.{◌≡◌, ℕ, ◌-◌, ◌<◌, ◌≤◌, min, List, [], ◌∷◌, ◌++◌, length, take, drop, length-take, length-drop, refl, sym, ◌∙◌, ap, arith, Bool, true, false, ◌&&◌, Decides}
 use Rattle.std.specs.Prelude.{nat_eq}
 use Rattle.std.specs.Str.{bytes_eq}
 use Rattle.std.specs.Cmp.{unsigned_Decides}

@@ -1,5 +1,5 @@
 -- The character at a byte of a text that is made of terms.
-use Rattle.std.proofs.Common.{◌≡◌, ℕ, ◌+◌, ◌-◌, ◌<◌, ◌≤◌, min, List, [], ◌∷◌, ◌++◌, length, take, drop, slice_range, length-append, length-take, take_all, refl, sym, ◌∙◌, ap, subst, arith, inl, inr, Option, Some, None, zero, suc, length-drop}
+use Rattle.std.proofs.Common.{◌≡◌, ℕ, ◌+◌, ◌-◌, ◌<◌, ◌≤◌, min, List, ◌∷◌, ◌++◌, length, take, drop, length-append, length-take, sym, ◌∙◌, ap, subst, arith, inl, inr, Option, Some, None, zero, suc, length-drop}
 use Rattle.std.proofs.lemmas.List.{take_min, take-append-drop, drop-append-le}
 use Rattle.std.proofs.Math.Seq.{take-append-add, drop-append_seam}
 use Rattle.std.proofs.lemmas.Str.{IsCharBoundary-start}
@@ -7,7 +7,6 @@ use Rattle.std.specs.Char.{encode_utf8}
 use Rattle.std.specs.Str.{IsUtf8, IsCharBoundary}
 use Rattle.std.specs.Str.Pattern.{HasCharAt}
 use Rattle.std.specs.Prelude.{MatchOption}
-use Rattle.rowan_green.specs.Forest.{Tree}
 use Rattle.rowan_green.specs.Term.{Term, texts_of, text_of}
 use Rattle.rowan.specs.Text.{IsCut, IsPart, StandsAt, FirstAt, Lacks, IsCharAt}
 use Rattle.rowan.specs.Reading.{stands_behind, stands_before}

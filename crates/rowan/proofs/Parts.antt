@@ -1,7 +1,7 @@
 -- The texts of a list of terms, the first one's first.
 use Rattle.std.proofs.Common.{◌≡◌, ℕ, ◌+◌, ◌-◌, ◌<◌, ◌≤◌, min, List, ◌∷◌, ◌++◌, length, take, drop, length-take, length-drop, refl, sym, ◌∙◌, ap, subst, arith}
 use Rattle.rowan_green.specs.Forest.{Tree, forest_text, tree_text, forest_count, tree_count}
-use Rattle.rowan_green.specs.Term.{Term, terms, children_of, forest_of, texts_of, text_of, term_count, forest_of-terms}
+use Rattle.rowan_green.specs.Term.{Term, children_of, forest_of, texts_of, text_of, term_count, forest_of-terms}
 use Rattle.rowan_green.specs.declared.utility_types.NodeOrToken.TheVariants.{Node, Token}
 use Rattle.rowan.specs.Text.{IsPart}
 use Rattle.rowan.proofs.Texts.{skip_first, split_first, part_behind, part_within, part_rest}

@@ -1,9 +1,9 @@
 //! Texts of trees are compared without a copy.
-ghost use Rattle.std.specs.Prelude.{◌≡◌, take, drop, length};
+ghost use Rattle.std.specs.Prelude.{◌≡◌, true, take, drop, length};
 ghost use Rattle.std.specs.Str.{bytes_eq};
 ghost use Rattle.rowan_green.specs.Forest.{tree_text};
 
-use crate::chunks::{ChunkReader, read_part};
+use crate::chunks::{ChunkReader, Part, read_part};
 use crate::syntax_text::SyntaxText;
 use rowan_green::{GreenNode, NodeOrToken};
 
@@ -87,6 +87,14 @@ impl SyntaxText {
     }
 }
 
+/// Whether two texts of one length stand in the same place of equal trees, which the trees tell
+/// without a look at their texts.
+fn stands_alike(a: Part<'_>, b: Part<'_>) -> bool
+    ensures { result ≡ true → take a.entry.len (drop a.entry.start (tree_text a.entry.node.now)) ≡ take a.entry.len (drop b.entry.start (tree_text b.entry.node.now)) }
+{
+    a.start == b.start && *a.node == *b.node
+}
+
 impl PartialEq for SyntaxText {
     ghost use Rattle.std.specs.Str.{bytes_eq};
     ghost use Rattle.std.specs.Cmp.{partial_equiv_from_equiv};
@@ -96,10 +104,17 @@ impl PartialEq for SyntaxText {
 
     ghost laws = { partial_equiv_from_equiv nat_list_eq_equiv };
 
-    /// Whether the two are the same text, however their trees cut it.
+    /// Whether the two are the same text, however their trees cut it. In trees that differ, each piece
+    /// of the one is looked up from the top of the other.
     fn eq(&self, other: &SyntaxText) -> bool {
         let part = self.part();
         let there = other.part();
+        if part.len != there.len {
+            return false;
+        }
+        if stands_alike(part, there) {
+            return true;
+        }
         let comparison = Comparison {
             node: there.node,
             start: there.start,

@@ -1,7 +1,6 @@
-use Rattle.std.proofs.Common.{rules, arith, ◌≡◌, ◌+◌, ◌-◌, ◌<◌, ℕ, List, [], ◌∷◌, ◌++◌, length, take, drop, Result, Ok, Err, IfOk, sym, ◌∙◌, ap, subst, refl}
+use Rattle.std.proofs.Common.{arith, ◌≡◌, ◌+◌, ◌-◌, length, take, drop, Ok, Err, IfOk, sym, ◌∙◌, ap, subst, refl}
 use Rattle.rowan_green.specs.Forest.{tree_text, forest_count}
-use Rattle.rowan_green.specs.Term.{Term, text_of, texts_of, term_count, forest_of, children_of}
-use Rattle.rowan_green.specs.declared.utility_types.NodeOrToken.TheVariants.{Node, Token}
+use Rattle.rowan_green.specs.Term.{text_of, texts_of, term_count, forest_of, children_of}
 use Rattle.rowan.specs.Text.{IsPart}
 use Rattle.rowan.proofs.Parts.{whole_text, whole_count, count_falls, passed_part, passed_text, read_within, read_behind, read_split, taken_len}
 use Rattle.rowan.proofs.chunks.+read_part.Goals as goal

@@ -1,4 +1,4 @@
-use Rattle.std.proofs.Common.{◌≡◌, ℕ, Result, ◌+◌, ◌≤◌, take, drop}
+use Rattle.std.proofs.Common.{◌≡◌, ◌+◌, ◌≤◌, take, drop}
 use Rattle.rowan_green.specs.Forest.{tree_count, tree_text, forest_count}
 use Rattle.rowan_green.specs.Term.{texts_of, forest_of}
 use Rattle.rowan.specs.Text.{IsPart}

@@ -1,9 +1,9 @@
-use Rattle.std.proofs.Common.{rules, arith, ◌≡◌, ◌+◌, ◌-◌, ◌<◌, ℕ, List, [], ◌∷◌, ◌++◌, append_assoc, append-nil, length, take, drop, sym, ◌∙◌, ap, subst, refl}
+use Rattle.std.proofs.Common.{rules, arith, ◌≡◌, ◌+◌, ◌-◌, [], ◌++◌, append_assoc, take, drop, sym, ◌∙◌, ap, subst}
 use Rattle.std.proofs.Output.{has_written_append, has_written_of_eq}
 use Rattle.rowan_green.specs.Forest.{tree_text, forest_count}
-use Rattle.rowan_green.specs.Term.{Term, text_of, texts_of, term_count, forest_of, children_of}
+use Rattle.rowan_green.specs.Term.{text_of, texts_of, forest_of, children_of}
 use Rattle.rowan.specs.Text.{IsPart}
-use Rattle.rowan.proofs.Parts.{whole_text, whole_count, count_falls, passed_part, passed_text, read_within, read_behind, read_split}
+use Rattle.rowan.proofs.Parts.{whole_text, whole_count, count_falls, passed_part, passed_text, read_behind, read_split}
 use Rattle.rowan.proofs.display.+write_part.Goals as goal
 use Rattle.rowan.proofs.display.+write_part.Goals.{in-Node+in_ok-write_part-in-Node, in-Token+in_ok-write_str-in-Token}
 

@@ -1,7 +1,7 @@
-use Rattle.std.proofs.Common.{arith, ◌≡◌, ◌+◌, ◌-◌, ◌<◌, ℕ, List, length, take, drop, sym, ◌∙◌, ap, subst, refl, true, false, ◌&&◌}
+use Rattle.std.proofs.Common.{arith, ◌≡◌, ◌+◌, ◌-◌, length, take, drop, sym, ◌∙◌, ap, ◌&&◌}
 use Rattle.std.specs.Str.{bytes_eq}
 use Rattle.rowan_green.specs.Forest.{tree_text, forest_count}
-use Rattle.rowan_green.specs.Term.{text_of, texts_of, term_count, forest_of, children_of}
+use Rattle.rowan_green.specs.Term.{text_of, texts_of, forest_of, children_of}
 use Rattle.rowan.proofs.Parts.{whole_text, whole_count, count_falls}
 use Rattle.rowan.proofs.Bytes.{passed_bytes, split_bytes}
 use Rattle.rowan.proofs.text_compare.+has_bytes.Goals as goal

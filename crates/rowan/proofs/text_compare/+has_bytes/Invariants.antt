@@ -2,7 +2,6 @@ use Rattle.std.proofs.Common.{◌≡◌, ◌+◌, ◌≤◌, take, drop, length}
 use Rattle.std.specs.Str.{bytes_eq}
 use Rattle.rowan_green.specs.Forest.{tree_count, tree_text, forest_count}
 use Rattle.rowan_green.specs.Term.{texts_of, forest_of}
-use Rattle.rowan.proofs.Bytes.{split_bytes}
 use Rattle.rowan.proofs.text_compare.+has_bytes.Given as goal
 
 abbrev pub decreases-has_bytes : goal.decreases-has_bytes

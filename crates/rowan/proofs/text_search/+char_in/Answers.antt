@@ -1,9 +1,9 @@
-use Rattle.std.proofs.Common.{arith, ◌≡◌, ◌+◌, ◌-◌, ◌<◌, ℕ, List, take, drop, sym, ◌∙◌, ap, subst, refl, min}
+use Rattle.std.proofs.Common.{arith, ◌≡◌, ◌-◌, take, sym, ◌∙◌, ap, subst}
 use Rattle.rowan_green.specs.Forest.{tree_text, forest_count}
-use Rattle.rowan_green.specs.Term.{text_of, texts_of, term_count, forest_of, children_of}
+use Rattle.rowan_green.specs.Term.{text_of, texts_of, forest_of, children_of}
 use Rattle.rowan.specs.Text.{IsCut, IsCharAt}
 use Rattle.rowan.proofs.Parts.{whole_text, whole_count, count_falls}
-use Rattle.rowan.proofs.Characters.{passed_cut, within_cut, passed_char, within_char}
+use Rattle.rowan.proofs.Characters.{passed_cut, passed_char, within_char}
 use Rattle.rowan.proofs.text_search.+char_in.Goals as goal
 
 pub loop-child-init : goal.loop-child-init

@@ -1,8 +1,7 @@
-use Rattle.std.proofs.Common.{◌≡◌, ℕ, ◌+◌, ◌≤◌, ◌<◌, take, drop}
+use Rattle.std.proofs.Common.{◌+◌, ◌≤◌, ◌<◌, take}
 use Rattle.rowan_green.specs.Forest.{tree_count, tree_text, forest_count}
 use Rattle.rowan_green.specs.Term.{texts_of, forest_of}
 use Rattle.rowan.specs.Text.{IsCut, IsCharAt}
-use Rattle.rowan.proofs.Characters.{within_char}
 use Rattle.rowan.proofs.text_search.+char_in.Given as goal
 
 abbrev pub decreases-char_in : goal.decreases-char_in

@@ -1,4 +1,4 @@
-use Rattle.std.proofs.Common.{arith, ◌≡◌, ◌≤◌, ◌∙◌, length, rules, true, false, sym}
+use Rattle.std.proofs.Common.{◌≡◌, ◌∙◌}
 use Rattle.std.specs.Str.Iter.{chars_rest}
 use Rattle.rowan.specs.Text.{Begins}
 use Rattle.rowan.proofs.Characters.{boundary_of_cut, first_char}

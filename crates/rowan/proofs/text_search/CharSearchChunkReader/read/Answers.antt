@@ -1,4 +1,4 @@
-use Rattle.std.proofs.Common.{arith, refl}
+use Rattle.std.proofs.Common.{refl}
 use Rattle.rowan.proofs.Characters.{first_found}
 use Rattle.rowan.proofs.text_search.CharSearchChunkReader.read.Goals as goal
 
