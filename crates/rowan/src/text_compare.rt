@@ -119,7 +119,7 @@ impl PartialEq for SyntaxText {
             node: there.node,
             start: there.start,
         };
-        part.len == there.len && read_part(part.node, part.start, part.len, 0, comparison).is_ok()
+        read_part(part.node, part.start, part.len, 0, comparison).is_ok()
     }
 }
 
