@@ -9,3 +9,6 @@ pub mod Lefts
 pub mod Leaves
 pub mod Ranges
 pub mod Texts
+pub mod Parts
+pub mod Characters
+pub mod Bytes

@@ -14,3 +14,6 @@ pub mod Sound
 pub mod Falls
 pub mod Left
 pub mod Text
+pub mod Pieces
+pub mod Reading
+pub mod Comparing

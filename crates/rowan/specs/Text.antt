@@ -1,5 +1,7 @@
--- Parts of texts, by bytes of UTF-8.
-use Rattle.std.specs.Prelude.{ℕ, ◌<◌, ◌≤◌, List, length, slice_index}
+-- Parts of texts, and characters in them, by bytes of UTF-8.
+use Rattle.std.specs.Prelude.{◌≡◌, ℕ, ◌<◌, ◌≤◌, ◌==◌, List, ◌++◌, length, slice_index, Option, MatchOption}
+use Rattle.std.specs.Char.{encode_utf8}
+use Rattle.std.specs.Str.{NoCharPasses}
 
 -- a text may be cut before this byte: it is the first, or the end, or a character begins there
 abbrev pub IsCut : List ℕ → ℕ → Type 0
@@ -10,3 +12,27 @@ pub record IsPart (bs : List ℕ) (from to : ℕ) : Type 0 where
   pub ordered : from ≤ to
   pub begins : IsCut bs from
   pub ends : IsCut bs to
+
+-- this character stands behind so many bytes
+pub record StandsAt (c : ℕ) (text : List ℕ) (n : ℕ) : Type 0 where
+  pub before : List ℕ
+  pub after : List ℕ
+  pub splits : text ≡ before ++ (encode_utf8 c ++ after)
+  pub place : length before ≡ n
+
+-- no character of the text is this one
+abbrev pub Lacks : ℕ → List ℕ → Type 0
+Lacks c text = NoCharPasses (λ d. d == c) text
+
+-- this character stands behind so many bytes, and not among them
+pub record FirstAt (c : ℕ) (text : List ℕ) (n : ℕ) : Type 0 where
+  pub stands : StandsAt c text n
+  pub first : Lacks c stands.before
+
+-- some character begins behind so many bytes
+abbrev pub Begins : List ℕ → ℕ → Type 0
+Begins text n = (n < length text) × IsCut text n
+
+-- the character behind so many bytes, if one begins there
+abbrev pub IsCharAt : List ℕ → ℕ → Option ℕ → Type 0
+IsCharAt text n r = MatchOption r (Begins text n → ⊥) (λ c. StandsAt c text n)

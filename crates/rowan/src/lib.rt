@@ -16,6 +16,7 @@
 pub mod api;
 pub mod around;
 pub mod ast;
+mod chunks;
 mod cursor;
 mod cursor_pointer;
 mod cursor_ranges;
@@ -30,6 +31,9 @@ pub mod ptr;
 mod replace;
 pub mod syntax_children;
 pub mod syntax_text;
+mod text_chunks;
+mod text_compare;
+mod text_search;
 mod token_at_offset;
 pub mod utility_types;
 mod walk;

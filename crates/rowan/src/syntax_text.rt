@@ -1,10 +1,11 @@
 //! Texts of trees, read without a copy.
-ghost use Rattle.std.specs.Prelude.{◌≡◌, ◌==◌, length, slice_range, IfOk};
+ghost use Rattle.std.specs.Prelude.{◌≡◌, ◌==◌, ◌+◌, ◌<◌, ◌^◌, length, take, drop, slice_range, IfOk};
 ghost use Rattle.rowan_green.specs.Forest.{tree_text};
 ghost use Rattle.rowan.specs.Place.{text_at};
-ghost use Rattle.rowan.specs.Text.{IsCut};
+ghost use Rattle.rowan.specs.Text.{IsCut, IsPart};
 
 use crate::api::SyntaxNode;
+use crate::chunks::Part;
 use crate::language::Language;
 use rowan_green::{GreenNode, TextRange, TextSize};
 use std::alloc::AllocError;
@@ -40,6 +41,20 @@ impl SyntaxText {
             green,
             start: 0,
             end,
+        }
+    }
+
+    /// Where the text stands.
+    pub(crate) fn part(&self) -> Part<'_>
+        ensures within { IsPart (tree_text result.node.now) result.start (result.start + result.len) }
+        ensures text { take result.len (drop result.start (tree_text result.node.now)) ≡ self.now }
+        ensures len { result.len ≡ length self.now }
+        ensures fits { result.start + result.len < 2 ^ 32 }
+    {
+        Part {
+            node: &self.green,
+            start: self.start,
+            len: self.end - self.start,
         }
     }
 

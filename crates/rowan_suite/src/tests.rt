@@ -7,6 +7,7 @@ ghost use Rattle.std.specs.Iterator.{IsFinite};
 
 mod finding;
 mod steps;
+mod texts;
 mod walks;
 
 use crate::{Kind, Lists};

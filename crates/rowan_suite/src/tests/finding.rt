@@ -234,17 +234,3 @@ fn kinds_are_told_apart(rt: HostRuntime) -> Result<(), Fail> {
     assert!(rt; casts_by_kind(first_list(alloc)?, tree(alloc, SAMPLE)?));
     Ok(())
 }
-
-/// The length of a node's text, and of the part of it that stands at its end and is empty.
-fn text_lengths(node: &Node) -> Result<(u32, u32), AllocError> {
-    let text = node.text()?;
-    let end = text.slice(TextRange::empty(text.len()))?;
-    Ok((text.len().0, end.len().0))
-}
-
-#[test]
-fn texts(rt: HostRuntime) -> Result<(), Fail> {
-    let alloc = rt.alloc();
-    assert!(rt; text_lengths(&first_list(alloc)?)? == (3, 0));
-    Ok(())
-}

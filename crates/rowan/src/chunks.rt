@@ -1,0 +1,92 @@
+//! Texts of trees, read piece by piece without a copy.
+ghost use Rattle.std.specs.Prelude.{◌≡◌, ◌+◌, ◌^◌, ◌<◌, ℕ, List, [], ◌++◌, length, take, drop, IfOk, Result, Ok, Err};
+ghost use Rattle.rowan_green.specs.Forest.{tree_text};
+ghost use Rattle.rowan.specs.Text.{IsPart};
+
+use rowan_green::{GreenNode, NodeOrToken};
+
+/// What reads a text in pieces, in order. A piece has text, and is told the byte at which it begins.
+pub(crate) trait ChunkReader: Sized {
+    /// What a reader has when it stops before the end.
+    type Found;
+
+    /// Whether a reader may be given a piece.
+    ghost can_read: { Self → Type 0 };
+
+    /// What may come of a text that begins at this byte, in whatever pieces it is given: the reader
+    /// behind it, or what it stopped with.
+    ghost reads: { Self → ℕ → List ℕ → Result Self Self.Found → Type 0 };
+
+    fn read(self, at: u32, chunk: &str) -> Result<Self, Self::Found>
+        requires can { can_read self }
+        requires some { 0 < length chunk.now }
+        requires fits { at + length chunk.now < 2 ^ 32 }
+        ensures read { reads self at chunk.now result }
+        ensures goes_on { IfOk result can_read };
+
+    /// No text changes nothing.
+    ghost nothing: { (r : Self) (at : ℕ) → reads r at [] (Ok r) };
+
+    /// What is read in two texts is read in both together.
+    ghost further: { (r s : Self) (at : ℕ) (a b : List ℕ) (x : Result Self Self.Found) → reads r at a (Ok s) → reads s (at + length a) b x → reads r at (a ++ b) x };
+
+    /// Where a reader stops, what follows does not matter.
+    ghost stopped: { (r : Self) (e : Self.Found) (at : ℕ) (a b : List ℕ) → reads r at a (Err e) → reads r at (a ++ b) (Err e) };
+}
+
+/// Where a text stands: `len` bytes of a node's text, behind the first `start`.
+#[derive(Clone, Copy)]
+pub(crate) struct Part<'a> {
+    pub(crate) node: &'a GreenNode,
+    pub(crate) start: u32,
+    pub(crate) len: u32,
+}
+
+/// Has a reader read `len` bytes of a node's text, those behind the first `skip`, the first of which
+/// is told as `at`. Goes down only where these bytes are.
+pub(crate) fn read_part<R: ChunkReader>(
+    node: &GreenNode,
+    skip: u32,
+    len: u32,
+    at: u32,
+    reader: R,
+) -> Result<R, R::Found>
+    requires can { R.can_read reader }
+    requires part { IsPart (tree_text node.now) skip (skip + len) }
+    requires fits { at + len < 2 ^ 32 }
+    ensures read { R.reads reader at (take len (drop skip (tree_text node.now))) result }
+    ensures goes_on { IfOk result R.can_read }
+{
+    let mut reader = reader;
+    let mut ahead = skip;
+    let mut left = len;
+    let mut place = at;
+    for child in node.children() {
+        if left == 0 {
+            return Ok(reader);
+        }
+        let size = child.text_len().0;
+        if size <= ahead {
+            ahead -= size;
+            continue;
+        }
+        let taken = left.min(size - ahead);
+        let read = match child {
+            NodeOrToken::Node(node) => read_part(node, ahead, taken, place, reader),
+            NodeOrToken::Token(token) => {
+                reader.read(
+                    place,
+                    &token.text()[ahead as usize..(ahead + taken) as usize],
+                )
+            }
+        };
+        match read {
+            Ok(next) => reader = next,
+            Err(found) => return Err(found),
+        }
+        ahead = 0;
+        left -= taken;
+        place += taken;
+    }
+    Ok(reader)
+}

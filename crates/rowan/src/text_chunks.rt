@@ -1,0 +1,163 @@
+//! The pieces of a text, one after another.
+ghost use Rattle.std.specs.Prelude.{Ok};
+ghost use Rattle.rowan.specs.Pieces.{FoldsText, FoldCall, VisitCall, EachCall};
+
+use crate::chunks::{ChunkReader, read_part};
+use crate::syntax_text::SyntaxText;
+use std::marker::PhantomData;
+
+/// A fold on its way: what it has so far, and what it calls.
+#[derive(Drop)]
+struct Folding<T, E, F> {
+    total: T,
+    call: F,
+    refusal: PhantomData<E>,
+}
+
+impl<T: Drop, E, F: FnMut(T, &str) -> Result<T, E> + Drop> ChunkReader for Folding<T, E, F> {
+    type Found = E;
+
+    ghost use Rattle.rowan.specs.Pieces.{FoldCall};
+    ghost use Rattle.rowan.specs.Reading.{ReadsFold, text_nothing, fold_further, fold_stopped};
+
+    ghost can_read = { λ s. F.IsAlwaysCallable s.call };
+
+    ghost reads = { λ r _ text x. ReadsFold (FoldCall F.FnMut) (λ s. s.call) (λ s. s.total) r text x };
+
+    ghost nothing = { λ r _. text_nothing (FoldCall F.FnMut) r.call r.total };
+
+    ghost further = { λ r s _. fold_further (FoldCall F.FnMut) (λ s. s.call) (λ s. s.total) r s };
+
+    ghost stopped = { λ r e _. fold_stopped (FoldCall F.FnMut) (λ s. s.call) (λ s. s.total) r e };
+
+    fn read(self, _at: u32, chunk: &str) -> Result<Folding<T, E, F>, E> {
+        let Folding {
+            total,
+            mut call,
+            refusal,
+        } = self;
+        match call(total, chunk) {
+            Ok(total) => Ok(Folding {
+                total,
+                call,
+                refusal,
+            }),
+            Err(error) => Err(error),
+        }
+    }
+}
+
+/// What is called at each piece, and may refuse.
+#[derive(Drop)]
+struct Visiting<E, F> {
+    call: F,
+    refusal: PhantomData<E>,
+}
+
+impl<E, F: FnMut(&str) -> Result<(), E> + Drop> ChunkReader for Visiting<E, F> {
+    type Found = E;
+
+    ghost use Rattle.rowan.specs.Pieces.{VisitCall};
+    ghost use Rattle.rowan.specs.Reading.{ReadsFold, text_nothing, fold_further, fold_stopped};
+
+    ghost can_read = { λ s. F.IsAlwaysCallable s.call };
+
+    ghost reads = { λ r _ text x. ReadsFold (VisitCall F.FnMut) (λ s. s.call) (λ _. tt) r text x };
+
+    ghost nothing = { λ r _. text_nothing (VisitCall F.FnMut) r.call tt };
+
+    ghost further = { λ r s _. fold_further (VisitCall F.FnMut) (λ s. s.call) (λ _. tt) r s };
+
+    ghost stopped = { λ r e _. fold_stopped (VisitCall F.FnMut) (λ s. s.call) (λ _. tt) r e };
+
+    fn read(self, _at: u32, chunk: &str) -> Result<Visiting<E, F>, E> {
+        let Visiting { mut call, refusal } = self;
+        match call(chunk) {
+            Ok(()) => Ok(Visiting { call, refusal }),
+            Err(error) => Err(error),
+        }
+    }
+}
+
+/// What is called at each piece.
+#[derive(Drop)]
+struct Calling<F> {
+    call: F,
+}
+
+impl<F: FnMut(&str) + Drop> ChunkReader for Calling<F> {
+    type Found = ();
+
+    ghost use Rattle.rowan.specs.Pieces.{EachCall};
+    ghost use Rattle.rowan.specs.Reading.{ReadsEach, text_nothing, each_further};
+
+    ghost can_read = { λ s. F.IsAlwaysCallable s.call };
+
+    ghost reads = { λ r _ text x. ReadsEach (EachCall F.FnMut) (λ s. s.call) r text x };
+
+    ghost nothing = { λ r _. text_nothing (EachCall F.FnMut) r.call tt };
+
+    ghost further = { λ r s _. each_further (EachCall F.FnMut) (λ s. s.call) r s };
+
+    ghost stopped = { λ r e _ a b h. h };
+
+    fn read(self, _at: u32, chunk: &str) -> Result<Calling<F>, ()> {
+        let Calling { mut call } = self;
+        call(chunk);
+        Ok(Calling { call })
+    }
+}
+
+impl SyntaxText {
+    /// Calls `f` on the pieces of the text in order, each time with what the call before made of its
+    /// piece, the first time with `init`. The pieces have text, and together they are the text. The
+    /// first refusal ends it, and is the answer. Copies no text.
+    pub fn try_fold_chunks<T: Drop, E, F: FnMut(T, &str) -> Result<T, E> + Drop>(
+        &self,
+        init: T,
+        f: F,
+    ) -> Result<T, E>
+        requires { F.IsAlwaysCallable f }
+        ensures { (last : F) × FoldsText (FoldCall F.FnMut) f init self.now result last }
+    {
+        let part = self.part();
+        let folding = Folding {
+            total: init,
+            call: f,
+            refusal: PhantomData,
+        };
+        match read_part(part.node, part.start, part.len, 0, folding) {
+            Ok(folding) => Ok(folding.total),
+            Err(error) => Err(error),
+        }
+    }
+
+    /// Calls `f` on the pieces of the text in order, as [`SyntaxText::try_fold_chunks`] does, until
+    /// one call refuses.
+    pub fn try_for_each_chunk<E, F: FnMut(&str) -> Result<(), E> + Drop>(
+        &self,
+        f: F,
+    ) -> Result<(), E>
+        requires { F.IsAlwaysCallable f }
+        ensures { (last : F) × FoldsText (VisitCall F.FnMut) f tt self.now result last }
+    {
+        let part = self.part();
+        let visiting = Visiting {
+            call: f,
+            refusal: PhantomData,
+        };
+        match read_part(part.node, part.start, part.len, 0, visiting) {
+            Ok(_) => Ok(()),
+            Err(error) => Err(error),
+        }
+    }
+
+    /// Calls `f` on all pieces of the text in order, as [`SyntaxText::try_fold_chunks`] does.
+    pub fn for_each_chunk<F: FnMut(&str) + Drop>(&self, f: F)
+        requires { F.IsAlwaysCallable f }
+        ensures { (last : F) × FoldsText (EachCall F.FnMut) f tt self.now (Ok tt) last }
+    {
+        let part = self.part();
+        let _ = read_part(part.node, part.start, part.len, 0, Calling { call: f });
+    }
+}

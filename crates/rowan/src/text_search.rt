@@ -1,0 +1,105 @@
+//! Characters in texts of trees.
+ghost use Rattle.std.specs.Prelude.{ℕ, ◌<◌, take, MatchOption};
+ghost use Rattle.std.specs.Bool.{MatchBool};
+ghost use Rattle.rowan_green.specs.Forest.{tree_text};
+ghost use Rattle.rowan.specs.Text.{IsCut, Lacks, FirstAt, IsCharAt};
+
+use crate::chunks::{ChunkReader, read_part};
+use crate::syntax_text::SyntaxText;
+use rowan_green::{GreenNode, NodeOrToken, TextSize};
+
+/// Looks for a character, and stops at the byte where it stands.
+#[derive(Drop)]
+struct CharSearch {
+    wanted: char,
+}
+
+impl ChunkReader for CharSearch {
+    type Found = u32;
+
+    ghost use Rattle.std.specs.Prelude.{⊤};
+    ghost use Rattle.rowan.specs.Reading.{Finds, finds_nothing, finds_further, finds_stopped};
+
+    ghost can_read = { λ _. ⊤ };
+
+    ghost reads = { Finds (λ s. s.wanted) };
+
+    ghost nothing = { finds_nothing _ };
+
+    ghost further = { finds_further _ };
+
+    ghost stopped = { finds_stopped _ };
+
+    fn read(self, at: u32, chunk: &str) -> Result<CharSearch, u32> {
+        match chunk.find(self.wanted) {
+            Some(index) => Err(at + index as u32),
+            None => Ok(self),
+        }
+    }
+}
+
+impl SyntaxText {
+    /// The byte at which the character first stands. Goes down only where the text is.
+    pub fn find_char(&self, wanted: char) -> Option<TextSize>
+        ensures { MatchOption result (Lacks wanted self.now) (λ n. FirstAt wanted self.now n.0) }
+    {
+        let part = self.part();
+        match read_part(part.node, part.start, part.len, 0, CharSearch { wanted }) {
+            Ok(_) => None,
+            Err(byte) => Some(TextSize(byte)),
+        }
+    }
+
+    /// Whether the character stands anywhere in the text.
+    pub fn contains_char(&self, wanted: char) -> bool
+        ensures { MatchBool result ((n : ℕ) × FirstAt wanted self.now n) (Lacks wanted self.now) }
+    {
+        self.find_char(wanted).is_some()
+    }
+
+    /// The character that begins at this byte of the text, if one does: none begins at the text's
+    /// end, behind it, or inside another. Goes down one path.
+    pub fn char_at(&self, offset: TextSize) -> Option<char>
+        ensures { IsCharAt self.now offset.0 result }
+    {
+        let part = self.part();
+        if offset.0 >= part.len {
+            return None;
+        }
+        char_in(part.node, part.start + offset.0, part.start + part.len)
+    }
+}
+
+/// The character that begins at this byte of a node's text, of which only what stands before `end`
+/// counts.
+fn char_in(node: &GreenNode, byte: u32, end: u32) -> Option<char>
+    requires cut { IsCut (tree_text node.now) end }
+    requires before { byte < end }
+    ensures { IsCharAt (take end (tree_text node.now)) byte result }
+{
+    let mut ahead = byte;
+    let mut left = end;
+    for child in node.children() {
+        let size = child.text_len().0;
+        if ahead < size {
+            let within = left.min(size);
+            return match child {
+                NodeOrToken::Node(node) => char_in(node, ahead, within),
+                NodeOrToken::Token(token) => char_of(&token.text()[..within as usize], ahead),
+            };
+        }
+        ahead -= size;
+        left -= size;
+    }
+    None
+}
+
+/// The character that begins at this byte.
+fn char_of(text: &str, byte: u32) -> Option<char>
+    ensures { IsCharAt text.now byte result }
+{
+    if !text.is_char_boundary(byte as usize) {
+        return None;
+    }
+    text[byte as usize..].chars().next()
+}
