@@ -35,7 +35,7 @@ abbrev all_signs : List TextStep → List Sign
 all_signs [] = []
 all_signs (s ∷ ss) = signs s ++ all_signs ss
 
-abbrev all_heard : List TextStep → List (ℕ × List ℕ)
+abbrev all_heard : List TextStep → List (ℕ × forest.Message)
 all_heard [] = []
 all_heard (s ∷ ss) = heard s ++ all_heard ss
 
@@ -60,7 +60,7 @@ taken-told old new [] h = ap (λ (t : TreeSink). map told t.errors.items) h ∙ 
 taken-told old new (s ∷ ss) h =
     let next = h.0 in
     taken-told next new ss h.1.1
-    ∙ ap (λ (w : List (ℕ × List ℕ)). w ++ all_heard ss) h.1.0.errors
+    ∙ ap (λ (w : List (ℕ × forest.Message)). w ++ all_heard ss) h.1.0.errors
     ∙ append_assoc (map told old.errors.items) (heard s) (all_heard ss)
 
 -- ---- the steps of a dressed tree
@@ -71,7 +71,7 @@ signs-append (x ∷ xs) ys = ap (λ (w : List Sign). signs x ++ w) (signs-append
 
 heard-append : (xs ys : List TextStep) → all_heard (xs ++ ys) ≡ all_heard xs ++ all_heard ys
 heard-append [] ys = refl
-heard-append (x ∷ xs) ys = ap (λ (w : List (ℕ × List ℕ)). heard x ++ w) (heard-append xs ys) ∙ sym (append_assoc (heard x) (all_heard xs) (all_heard ys))
+heard-append (x ∷ xs) ys = ap (λ (w : List (ℕ × forest.Message)). heard x ++ w) (heard-append xs ys) ∙ sym (append_assoc (heard x) (all_heard xs) (all_heard ys))
 
 -- their word is the word of the tree's terms
 signs-tree : (d : Dressed) → all_signs (text_steps d) ≡ word (terms_of d)
@@ -88,11 +88,11 @@ signs-tree (dressed.Node k c d) =
 heard-tree : (d : Dressed) → all_heard (text_steps d) ≡ map says (sayings_of d)
 heard-tree dressed.End = refl
 heard-tree (dressed.Leaf k t d) = heard-tree d
-heard-tree (dressed.Said m p d) = ap (λ (w : List (ℕ × List ℕ)). says (record { message = m; place = p }) ∷ w) (heard-tree d)
+heard-tree (dressed.Said m p d) = ap (λ (w : List (ℕ × forest.Message)). says (record { message = m; place = p }) ∷ w) (heard-tree d)
 heard-tree (dressed.Node k c d) =
     heard-append (text_steps c) (texts.Exit ∷ text_steps d)
-    ∙ ap (λ (w : List (ℕ × List ℕ)). w ++ all_heard (text_steps d)) (heard-tree c)
-    ∙ ap (λ (w : List (ℕ × List ℕ)). map says (sayings_of c) ++ w) (heard-tree d)
+    ∙ ap (λ (w : List (ℕ × forest.Message)). w ++ all_heard (text_steps d)) (heard-tree c)
+    ∙ ap (λ (w : List (ℕ × forest.Message)). map says (sayings_of c) ++ w) (heard-tree d)
     ∙ sym (map-append says (sayings_of c) (sayings_of d))
 
 -- a node dressed with a text is one node

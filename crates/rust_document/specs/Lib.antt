@@ -2,7 +2,6 @@ pub mod Reading
 pub mod Thin
 pub mod Rewrite
 pub mod Step
-pub mod Messages
 pub mod IsReading
 pub mod Open
 pub mod Bare

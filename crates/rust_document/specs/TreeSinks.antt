@@ -6,8 +6,8 @@ use Rattle.rowan_green.specs.Term.{FitsToken, FitsNode}
 use Rattle.rowan_green.specs.Word.{opens, token}
 use Rattle.rowan_green.specs.declared.error.GreenError.{GreenError}
 use Rattle.rowan_green.specs.declared.error.GreenError.TheVariants.{TooLong, Unbalanced, NoMemory}
+use Rattle.parser_events.specs.Forest as forest
 use Rattle.parser_events.specs.TextSteps.{TextStep, Token, Enter, Exit, Error}
-use Rattle.rust_document.specs.Messages.{message_text}
 use Rattle.rust_document.specs.Seen.{told}
 use Rattle.rust_document.specs.declared.tree_sink.TreeSink.{TreeSink}
 
@@ -18,12 +18,12 @@ built b (Enter kind) = with_opened b (b.word ++ opens kind ∷ [])
 built b Exit = with_closed b
 built b (Error message place) = b
 
--- the place and the text of the message that a step is
-abbrev pub heard : TextStep → List (ℕ × List ℕ)
+-- the message that a step is, with its place
+abbrev pub heard : TextStep → List (ℕ × forest.Message)
 heard (Token kind text) = []
 heard (Enter kind) = []
 heard Exit = []
-heard (Error message place) = (place, message_text message) ∷ []
+heard (Error message place) = (place, message) ∷ []
 
 -- a step is taken
 pub record IsTaken (old : TreeSink) (step : TextStep) (new : TreeSink) : Type 0 where

@@ -8,7 +8,6 @@ pub mod document;
 pub mod error;
 pub mod laws;
 mod leaf;
-mod message_text;
 pub mod payload_entry;
 mod read;
 mod rewrite;

@@ -5,12 +5,10 @@ ghost use Rattle.parser_input.specs.Kind.{raw_of};
 ghost use Rattle.parser_input.specs.Lexed.{leaves_of};
 ghost use Rattle.parser_events.specs.Seen.{message_of};
 ghost use Rattle.parser_events.specs.TextSteps as texts;
-ghost use Rattle.rust_document.specs.Messages.{message_text};
 ghost use Rattle.rust_document.specs.Seen.{told};
 ghost use Rattle.rust_document.specs.TreeBuilt.{IsBuilt, IsTreeOf};
 ghost use Rattle.rust_document.specs.TreeSinks.{built, MayRefuse};
 
-use crate::message_text::message_text;
 use crate::syntax_error::SyntaxError;
 use parser_events::message::Message;
 use parser_events::output::Output;
@@ -63,12 +61,15 @@ fn put_exit(builder: &mut GreenNodeBuilder<'_>) -> Result<(), GreenError>
 }
 
 /// Lists a message, with the place where it stands.
-fn put_message(errors: &mut Vec<SyntaxError>, msg: Message, offset: usize) -> Result<(), GreenError>
-    ensures ok { OnOk result (map told errors.new.items ≡ map told errors.old.items ++ (offset, message_text (message_of msg)) ∷ []) }
+fn put_message(
+    errors: &mut Vec<SyntaxError>,
+    message: Message,
+    offset: usize,
+) -> Result<(), GreenError>
+    ensures ok { OnOk result (map told errors.new.items ≡ map told errors.old.items ++ (offset, message_of message) ∷ []) }
     ensures refused { IfErr result (λ error. error ≡ NoMemory) }
     ensures err { OnErr result (errors.new.items ≡ errors.old.items) }
 {
-    let message = message_text(msg);
     errors.push(SyntaxError { offset, message })?;
     Ok(())
 }

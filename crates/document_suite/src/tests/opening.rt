@@ -48,12 +48,18 @@ fn has_tokens(document: &Document, expected: &[Place]) -> bool {
 }
 
 /// Whether these are the messages, each with its place.
-fn has_errors(document: &Document, expected: &[(usize, &str)]) -> bool {
+fn has_errors(
+    alloc: Global,
+    document: &Document,
+    expected: &[(usize, &str)],
+) -> Result<bool, AllocError> {
     let errors = document.errors();
-    errors.len() == expected.len()
-        && errors.iter().zip(expected.iter()).all(|(error, (offset, message))| error.offset
-            == *offset
-            && error.message == *message)
+    let mut equal = errors.len() == expected.len();
+    for (error, (offset, message)) in errors.iter().zip(expected.iter()) {
+        let shown = error.to_string(alloc)?;
+        equal &= (error.offset == *offset) & (shown.as_str() == *message);
+    }
+    Ok(equal)
 }
 
 /// A text with what is read of it: its elements with the paths that lead to them, its tokens, and its messages with their places.
@@ -132,7 +138,7 @@ pub(super) fn is_read(alloc: Global, row: Row) -> Result<bool, Fail> {
     let document = open(alloc, row.text)?;
     let tree = has_tree(alloc, &document, row.tree)?;
     let tokens = has_tokens(&document, row.tokens);
-    let errors = has_errors(&document, row.errors);
+    let errors = has_errors(alloc, &document, row.errors)?;
     let number = document.root().tree() == 1;
     Ok(tree & tokens & errors & number & (document.text() == row.text))
 }
