@@ -12,3 +12,6 @@ returns-clause-steps c =
     subst (λ (old : Option (List Marked)). AreStepsOf old c.from_backwards.result.steps) nodes
     (steps-are c.self.inside.recorder c.from_backwards.result.steps (λ none. let e = c.in_ok-steps.ensures.refused none in cc) c.self.invariant.1 (subst IsClosed (sym nodes) c.requires)
     (λ f at. ap (λ (p : Parsed). p.steps) c.from_backwards.ensures ∙ c.in_ok-steps.ensures.steps f at))
+
+pub returns-clause-looks : goal.returns-clause-looks
+returns-clause-looks c = ap (λ (p : Parsed). p.looks) c.from_backwards.ensures ∙ ap (λ (v : View). v.looks) c.self.view_is

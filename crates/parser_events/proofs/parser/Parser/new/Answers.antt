@@ -9,3 +9,6 @@ invariant_of-result c = (omega arith, subst IsRecord (sym c.new.ensures) nothing
 
 pub returns-clause-nodes : goal.returns-clause-nodes
 returns-clause-nodes c = ap nodes_of c.new.ensures ∙ ap Some nothing-read
+
+pub returns-clause-position : goal.returns-clause-position
+returns-clause-position c = omega (arith, c.len.ensures)
