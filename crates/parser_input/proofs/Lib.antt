@@ -3,6 +3,7 @@ pub mod Faults
 pub mod InputSteps
 pub mod KeywordKinds
 pub mod KindTable
+pub mod KindTests
 pub mod LeafKinds
 pub mod LeavesLaw
 pub mod LexedSteps
