@@ -1,5 +1,6 @@
 pub mod EscapeSteps
 pub mod Faults
+pub mod InputReads
 pub mod InputSteps
 pub mod KeywordKinds
 pub mod KindTable
