@@ -144,5 +144,6 @@ find-kinds kind =
     ((bytes_eq-Decides (name_of kind) (name_of kind)).1 refl)
     (λ other e. name_of-one other kind ((bytes_eq-Decides (name_of other) (name_of kind)).0 e))
 
-pub found-kind : (kind : SyntaxKind) (name : List ℕ) (kinds : List SyntaxKind) (found : Option SyntaxKind) → kinds ≡ all_kinds → found ≡ find (λ other. bytes_eq (name_of other) name) kinds → name_of kind ≡ name → found ≡ Some kind
-found-kind kind name kinds found whole is named = is ∙ rw (whole, ← named) (find-kinds kind)
+-- what is looked for by name in all kinds is found
+pub found-kind : (kind : SyntaxKind) (name : List ℕ) (found : Option SyntaxKind) (kinds : List SyntaxKind) → found ≡ find (λ other. bytes_eq (name_of other) name) kinds → kinds ≡ all_kinds → name_of kind ≡ name → found ≡ Some kind
+found-kind kind name found kinds is whole named = is ∙ rw (whole, ← named) (find-kinds kind)
