@@ -30,11 +30,19 @@ pub tag_of-below : (kind : SyntaxKind) → tag_of the_type kind < kind_count
 tag_of-below TOMBSTONE = lit< tt
 tag_of-below _ = lit< tt
 
+-- and a cast is the raw number
+pub tag_of-raw : (kind : SyntaxKind) → tag_of the_type kind ≡ raw_of kind
+tag_of-raw TOMBSTONE = refl
+tag_of-raw _ = refl
+
 -- the names of all kinds in a row have each kind's name at its raw number
-pub get_or-names : (kind : SyntaxKind) (d : List ℕ) → get_or (map name_of all_kinds) (raw_of kind) d ≡ name_of kind
+get_or-names : (kind : SyntaxKind) (d : List ℕ) → get_or (map name_of all_kinds) (raw_of kind) d ≡ name_of kind
 get_or-names kind d =
     let at : slice_get (map name_of all_kinds) (raw_of kind) ≡ Some (name_of kind) = slice_get-map name_of all_kinds (raw_of kind) ∙ ap (option_map name_of) (slice_get-kinds kind) in
     get_or_from_slice_get (map name_of all_kinds) (raw_of kind) (name_of kind) d at
+
+pub name-at : (kind : SyntaxKind) (n : ℕ) → n ≡ raw_of kind → get_or (map name_of all_kinds) n [] ≡ name_of kind
+name-at kind n is = rw is (get_or-names kind [])
 
 -- what a look-up by index lends, copied
 pub copied_item : {X : Type 0} (xs : List X) (i : ℕ) (r : Option (Bor X)) → IsItemAt xs i r → option_copied r ≡ slice_get xs i
@@ -130,8 +138,12 @@ find-one p (y ∷ ys) zero x at pass one =
 find-one p (y ∷ ys) (suc i) x at pass one = find-cons p y ys x (p y) refl (one y) (λ no. find-one p ys i x at pass one)
 
 -- each kind is the one of its name
-pub find-kinds : (kind : SyntaxKind) → find (λ other. bytes_eq (name_of other) (name_of kind)) all_kinds ≡ Some kind
+find-kinds : (kind : SyntaxKind) → find (λ other. bytes_eq (name_of other) (name_of kind)) all_kinds ≡ Some kind
 find-kinds kind =
     find-one (λ other. bytes_eq (name_of other) (name_of kind)) all_kinds (raw_of kind) kind (slice_get-kinds kind)
     ((bytes_eq-Decides (name_of kind) (name_of kind)).1 refl)
     (λ other e. name_of-one other kind ((bytes_eq-Decides (name_of other) (name_of kind)).0 e))
+
+-- what is looked for by name in all kinds is found
+pub found-kind : (kind : SyntaxKind) (name : List ℕ) (found : Option SyntaxKind) (kinds : List SyntaxKind) → found ≡ find (λ other. bytes_eq (name_of other) name) kinds → kinds ≡ all_kinds → name_of kind ≡ name → found ≡ Some kind
+found-kind kind name found kinds is whole named = is ∙ rw (whole, ← named) (find-kinds kind)

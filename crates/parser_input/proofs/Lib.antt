@@ -1,8 +1,10 @@
 pub mod EscapeSteps
 pub mod Faults
+pub mod InputReads
 pub mod InputSteps
 pub mod KeywordKinds
 pub mod KindTable
+pub mod KindTests
 pub mod LeafKinds
 pub mod LeavesLaw
 pub mod LexedSteps

@@ -33,6 +33,9 @@ pub fn is_rust_whitespace(c: char) -> bool
     rustc_lexer::is_whitespace(c)
 }
 
+// A frontmatter opens with as many dashes or more.
+const FEWEST_DASHES: usize = 3;
+
 /// A piece of a text, and where it stands.
 #[derive(Drop)]
 struct Piece<'s> {
@@ -278,7 +281,7 @@ impl<'s> ScriptSource<'s> {
         }
         let start = text.remaining() - opening.remaining();
         let end = start + count;
-        if count < 3 {
+        if count < FEWEST_DASHES {
             return Err(FrontmatterError::TooFewDashes { start, end });
         }
         let mut inside = opening.here();

@@ -47,9 +47,8 @@ impl Input {
     pub fn with_capacity(alloc: Global, capacity: usize) -> Result<Input, AllocError>
         ensures { IfOk result (λ input. input ≡ []) }
     {
-        Ok(Input {
-            tokens: Vec::with_capacity(alloc, capacity)?,
-        })
+        let tokens = Vec::with_capacity(alloc, capacity)?;
+        Ok(Input { tokens })
     }
 
     /// Adds a token with all that is known of it.

@@ -20,15 +20,15 @@ overflow_add-end c =
     let count = c.eat_dashes-count.ensures.count ∙ ap (λ (t : List ℕ). dashes t) c.here.ensures in
     omega (arith, count, dashes-size c.opening_line-opening.result, c.opening_line-opening.ensures.inside, c.remaining.ensures, c.remaining-2.ensures)
 
-pub returns-then-count-lt3 : goal.returns-then-count-lt3
-returns-then-count-lt3 c =
+pub returns-then-count-lt-FEWEST_DASHES : goal.returns-then-count-lt-FEWEST_DASHES
+returns-then-count-lt-FEWEST_DASHES c =
     let text = chars c.args.raw.now in
     let n = c.eat_dashes-count.result in
     let opening = c.opening_line-opening.ensures.line ∙ ap (λ (t : List ℕ). opening_line t) c.new-text.ensures in
     let count = c.eat_dashes-count.ensures.count ∙ ap (λ (t : List ℕ). dashes t) (c.here.ensures ∙ opening) in
     let start : c.remaining.result - c.remaining-2.result ≡ place text (opening_line text) = rw (c.remaining.ensures, c.remaining-2.ensures, opening, c.new-text.ensures) refl in
     let K : ℕ → Result Source FrontmatterError = λ k. Err (TooFewDashes k (k + n)) in
-    ap K start ∙ source-few text n count c.if-count-eq0.false c.if-count-lt3.true
+    ap K start ∙ source-few text n count c.if-count-eq0.false c.if-count-lt-FEWEST_DASHES.true
 
 pub returns-in-Some : goal.returns-in-Some
 returns-in-Some c =
@@ -42,7 +42,7 @@ returns-in-Some c =
     let E : Option (List ℕ) → Result Source FrontmatterError = λ o. enclosed text n o in
     let J : Source → Result Source FrontmatterError = λ s. Ok s in
     ap J c.fenced.ensures ∙ ap (λ t. K t c.opening_line-opening.result) c.new-text.ensures ∙ ap (λ o. K text o) opening ∙ ap E found
-    ∙ source-long text n count c.if-count-lt3.false
+    ∙ source-long text n count c.if-count-lt-FEWEST_DASHES.false
 
 pub returns-in-None : goal.returns-in-None
 returns-in-None c =
@@ -55,4 +55,4 @@ returns-in-None c =
     let start : c.remaining.result - c.remaining-2.result ≡ place text (opening_line text) = rw (c.remaining.ensures, c.remaining-2.ensures, opening, c.new-text.ensures) refl in
     let K : ℕ → Result Source FrontmatterError = λ k. Err (Unclosed k (k + n)) in
     let E : Option (List ℕ) → Result Source FrontmatterError = λ o. enclosed text n o in
-    ap K start ∙ ap E found ∙ source-long text n count c.if-count-lt3.false
+    ap K start ∙ ap E found ∙ source-long text n count c.if-count-lt-FEWEST_DASHES.false

@@ -1,11 +1,27 @@
--- A token that is there is none of the end.
-use Rattle.std.proofs.Common.{◌<◌, List, get_or, sym, ◌∙◌, ap, arith, length}
+-- A token that is there is the stored one, and none of the end; past the end it is that of the end.
+use Rattle.std.proofs.Common.{◌≤◌, ◌<◌, List, get_or, sym, ◌∙◌, ap, arith, length}
 use Rattle.std.proofs.lemmas.List.{length-map}
 use Rattle.parser_input.specs.Input.{Token}
 use Rattle.parser_input.specs.Kind.{raw_of}
 use Rattle.parser_input.specs.Packed.{seen}
 use Rattle.parser_input.specs.declared.input.InputToken.{InputToken}
+use Rattle.parser_input.proofs.InputReads.{token-there, token-past}
 use Rattle.parser_input.proofs.input.Input.kind.Goals as goal
+
+pub returns-in-Some-clause-kind : goal.returns-in-Some-clause-kind
+returns-in-Some-clause-kind c =
+    let items = c.self.inside.tokens.items in
+    let token = c.in-Some.token.now in
+    let whole = c.deref.ensures.value in
+    let long : c.args.n < length items = omega (arith, c.in-Some.ensures.lookup.3.0, ap (λ (l : List InputToken). length l) whole) in
+    let found = c.in-Some.ensures.lookup.1 ∙ ap (λ (l : List InputToken). get_or l c.args.n token) whole in
+    ap (λ (t : Token). t.kind) (token-there items c.args.self.now c.args.n token c.self.view_is long found)
+
+pub returns-in-None-clause-kind : goal.returns-in-None-clause-kind
+returns-in-None-clause-kind c =
+    let items = c.self.inside.tokens.items in
+    let past : length items ≤ c.args.n = omega (arith, c.in-None.ensures.lookup.3, ap (λ (l : List InputToken). length l) c.deref.ensures.value) in
+    ap (λ (t : Token). t.kind) (token-past items c.args.self.now c.args.n c.self.view_is past)
 
 pub returns-in-Some-clause-token : goal.returns-in-Some-clause-token
 returns-in-Some-clause-token c n e =
