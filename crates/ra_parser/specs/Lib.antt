@@ -2,7 +2,16 @@ pub mod Rule
 pub mod Meaning
 pub mod Notation
 pub mod Words
+pub mod Calls
 pub mod Grammar
+pub mod Shared
+pub mod Paths
+pub mod Types
+pub mod Patterns
+pub mod Expressions
+pub mod Statements
+pub mod Items
+pub mod Whole
 pub mod Fine
 pub mod Left
 pub mod Adds
