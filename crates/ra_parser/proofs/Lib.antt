@@ -2,6 +2,7 @@ pub mod Unfolds
 pub mod Followed
 pub mod Plain
 pub mod Table
+pub mod WholeTable
 pub mod Items
 pub mod Adding
 pub mod Fitting

@@ -12,6 +12,7 @@ pub mod Expressions
 pub mod Statements
 pub mod Items
 pub mod Whole
+pub mod Entry
 pub mod Fine
 pub mod Left
 pub mod Adds
