@@ -7,3 +7,4 @@ pub mod Items
 pub mod Adding
 pub mod Fitting
 pub mod Lengths
+pub mod Examples

@@ -13,6 +13,7 @@ pub mod Statements
 pub mod Items
 pub mod Whole
 pub mod Entry
+pub mod Examples
 pub mod Fine
 pub mod Left
 pub mod Adds

@@ -1,5 +1,6 @@
 //! Laws of the definitions. Each is the contract of a function that makes no call.
 
+ghost use Rattle.ra_parser.specs.Examples.{ExamplesAreRight};
 ghost use Rattle.ra_parser.specs.Laws.{EachProductionHasARule, ProductionsMeanTheirRules, SourceFilesFit, WholeProductionsMeanTheirRules};
 
 /// A production gives what its rule gives, where each production that the rule calls gives what it means.
@@ -11,6 +12,11 @@ pub fn productions_mean_their_rules()
 pub fn whole_productions_mean_their_rules()
     ensures means { WholeProductionsMeanTheirRules }
     ensures all { EachProductionHasARule }
+{}
+
+/// Some inputs, with the trees that the whole grammar gives them.
+pub fn examples_are_right()
+    ensures { ExamplesAreRight }
 {}
 
 /// A source file is one node over all leaves of its text, whatever they are: its steps fit the text.
