@@ -6,7 +6,7 @@ use Rattle.parser_input.specs.declared.edition.Edition.{Edition}
 use Rattle.parser_events.specs.Fits.{fits, IsRooted}
 use Rattle.parser_events.specs.Forest.{Forest, End}
 use Rattle.parser_events.specs.Steps.{steps}
-use Rattle.ra_parser.specs.Rule.{Production, source_file, Rule, Nothing}
+use Rattle.ra_parser.specs.Rule.{Production, source_file, Rule, Nothing, begins}
 use Rattle.ra_parser.specs.Meaning.{Reading, read, look_of, meaning}
 use Rattle.ra_parser.specs.Grammar.{rule, grammar}
 use Rattle.ra_parser.specs.Whole as all
@@ -29,6 +29,10 @@ is_nothing a = false
 -- No production of the whole grammar is without a row.
 abbrev pub EachProductionHasARule : Type 0
 EachProductionHasARule = (x : Production) → is_nothing (all.rule x) ≡ false
+
+-- A production of the whole grammar begins where its rule does.
+abbrev pub WholeProductionsBeginAsTheirRules : Type 0
+WholeProductionsBeginAsTheirRules = (x : Production) → look_of all.whole x ≡ begins (look_of all.whole) (all.rule x)
 
 -- the trees of a source file with these leaves
 abbrev pub file_of : Edition → List Leaf → Forest

@@ -1,16 +1,17 @@
 //! Laws of the definitions. Each is the contract of a function that makes no call.
 
 ghost use Rattle.ra_parser.specs.Examples.{ExamplesAreRight};
-ghost use Rattle.ra_parser.specs.Laws.{EachProductionHasARule, ProductionsMeanTheirRules, SourceFilesFit, WholeProductionsMeanTheirRules};
+ghost use Rattle.ra_parser.specs.Laws.{EachProductionHasARule, ProductionsMeanTheirRules, SourceFilesFit, WholeProductionsBeginAsTheirRules, WholeProductionsMeanTheirRules};
 
 /// A production gives what its rule gives, where each production that the rule calls gives what it means.
 pub fn productions_mean_their_rules()
     ensures { ProductionsMeanTheirRules }
 {}
 
-/// The same of the whole grammar, in which each production has a rule.
+/// The same of the whole grammar, in which each production has a rule, and begins where its rule does.
 pub fn whole_productions_mean_their_rules()
     ensures means { WholeProductionsMeanTheirRules }
+    ensures begin { WholeProductionsBeginAsTheirRules }
     ensures all { EachProductionHasARule }
 {}
 
