@@ -2,7 +2,9 @@ pub mod Unfolds
 pub mod Followed
 pub mod Plain
 pub mod Table
+pub mod WholeTable
 pub mod Items
 pub mod Adding
 pub mod Fitting
 pub mod Lengths
+pub mod Examples

@@ -1,10 +1,11 @@
--- The grammar, as far as the kinds `struct`, identifier and `;` reach. Productions and alternatives join as the kinds do.
+-- The grammar, as far as the kinds `struct`, identifier and `;` reach: what `parse` reads by today. The whole grammar is `Whole`.
 use Rattle.std.specs.Prelude.{ℕ, Bool, true, false}
 use Rattle.parser_input.specs.Kinds.{SOURCE_FILE, STRUCT, NAME, NAME_REF, PATH, PATH_SEGMENT, ERROR}
 use Rattle.parser_events.specs.Forest.{ExpectedItem}
-use Rattle.ra_parser.specs.Rule.{Rule, Skip, Say, Unless, Production, source_file, item, body, name, name_ref, path}
+use Rattle.ra_parser.specs.Rule.{Rule, Nothing, Skip, Say, Unless, Production, source_file, item, body, name, name_ref, path}
 use Rattle.ra_parser.specs.Notation.{◌or◌, ◌▸◌, ◌*, ◌⟨◌⟩, ◌<⟨◌⟩, ◌!, more, at_end}
-use Rattle.ra_parser.specs.Words.{'struct', 'ident', 'semi', Item, Body, Name, Ref, Path}
+use Rattle.ra_parser.specs.Words.{'struct', 'ident', 'semi'}
+use Rattle.ra_parser.specs.Calls.{Item, Body, Name, Ref, Path}
 use Rattle.ra_parser.specs.Meaning.{Table}
 
 -- The table. A word that begins no item is read as a path, and stands in an error with the message behind it.
@@ -18,6 +19,7 @@ rule body =
 rule name = NAME ⟨ 'ident' ⟩
 rule name_ref = NAME_REF ⟨ 'ident' ⟩
 rule path = PATH ⟨ PATH_SEGMENT ⟨ Ref ! ⟩ ⟩
+rule x = Nothing
 
 -- A production calls, before it takes a token, only those of lower rank.
 unfoldable pub rank : Production → ℕ
@@ -25,8 +27,7 @@ rank source_file = 4
 rank item = 3
 rank body = 2
 rank path = 1
-rank name = 0
-rank name_ref = 0
+rank x = 0
 
 -- the productions that surely take a token where one is left
 unfoldable pub claim : Production → Bool

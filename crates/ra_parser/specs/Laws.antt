@@ -6,15 +6,33 @@ use Rattle.parser_input.specs.declared.edition.Edition.{Edition}
 use Rattle.parser_events.specs.Fits.{fits, IsRooted}
 use Rattle.parser_events.specs.Forest.{Forest, End}
 use Rattle.parser_events.specs.Steps.{steps}
-use Rattle.ra_parser.specs.Rule.{Production, source_file}
+use Rattle.ra_parser.specs.Rule.{Production, source_file, Rule, Nothing, begins}
 use Rattle.ra_parser.specs.Meaning.{Reading, read, look_of, meaning}
 use Rattle.ra_parser.specs.Grammar.{rule, grammar}
+use Rattle.ra_parser.specs.Whole as all
 
 -- A production gives what its rule gives, where each production that the rule calls gives what it means. The bounds by which
 -- `meaning` recurs can be forgotten.
 abbrev pub ProductionsMeanTheirRules : Type 0
 ProductionsMeanTheirRules =
     (x : Production) (in_condition : Bool) (s : Reading) → meaning grammar x in_condition s ≡ read (look_of grammar) (meaning grammar) in_condition (rule x) s
+
+-- The same of the whole grammar.
+abbrev pub WholeProductionsMeanTheirRules : Type 0
+WholeProductionsMeanTheirRules =
+    (x : Production) (in_condition : Bool) (s : Reading) → meaning all.whole x in_condition s ≡ read (look_of all.whole) (meaning all.whole) in_condition (all.rule x) s
+
+unfoldable pub is_nothing : Rule → Bool
+is_nothing Nothing = true
+is_nothing a = false
+
+-- No production of the whole grammar is without a row.
+abbrev pub EachProductionHasARule : Type 0
+EachProductionHasARule = (x : Production) → is_nothing (all.rule x) ≡ false
+
+-- A production of the whole grammar begins where its rule does.
+abbrev pub WholeProductionsBeginAsTheirRules : Type 0
+WholeProductionsBeginAsTheirRules = (x : Production) → look_of all.whole x ≡ begins (look_of all.whole) (all.rule x)
 
 -- the trees of a source file with these leaves
 abbrev pub file_of : Edition → List Leaf → Forest

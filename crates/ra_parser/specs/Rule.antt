@@ -2,14 +2,76 @@
 use Rattle.std.specs.Prelude.{ℕ, ◌+◌, Bool, true, false, List, [], ◌∷◌, length, if◌then◌else◌}
 use Rattle.parser_events.specs.Forest.{Message}
 
--- the productions
+-- The productions: items, names and paths, types, patterns, statements, expressions.
 pub data Production : Type 0 where
   source_file : Production
+  macro_items : Production
+  macro_statements : Production
   item : Production
   body : Production
+  assoc_items : Production
+  variants : Production
+  record_fields : Production
+  tuple_fields : Production
+  visibility : Production
+  attribute : Production
+  meta : Production
+  token_tree : Production
+  use_tree : Production
+  use_list : Production
+  params : Production
+  param : Production
   name : Production
+  lifetime : Production
   name_ref : Production
   path : Production
+  type_path : Production
+  expr_path : Production
+  generic_args : Production
+  generic_arg : Production
+  generic_params : Production
+  generic_param : Production
+  bounds : Production
+  bound : Production
+  where_clause : Production
+  where_pred : Production
+  any_type : Production
+  ret_type : Production
+  pattern : Production
+  single_pattern : Production
+  pattern_fields : Production
+  pattern_field : Production
+  literal : Production
+  statement_list : Production
+  block : Production
+  statement : Production
+  macro_statement : Production
+  statement_end : Production
+  macro_statement_end : Production
+  expression : Production
+  operation : Production
+  operation_tail : Production
+  disjunction : Production
+  conjunction : Production
+  comparison : Production
+  bit_or : Production
+  bit_xor : Production
+  bit_and : Production
+  bit_shift : Production
+  sum : Production
+  product : Production
+  cast : Production
+  prefixed : Production
+  postfix : Production
+  after_dot : Production
+  arguments : Production
+  atom : Production
+  field_values : Production
+  field_value : Production
+  block_like : Production
+  if_expr : Production
+  match_arms : Production
+  match_arm : Production
 
 -- What a choice asks of the place: the n-th token ahead is of a kind, of a contextual kind, touches the next; a token is
 -- left; condition mode is on; the present production has given something.

@@ -1,10 +1,23 @@
 //! Laws of the definitions. Each is the contract of a function that makes no call.
 
-ghost use Rattle.ra_parser.specs.Laws.{ProductionsMeanTheirRules, SourceFilesFit};
+ghost use Rattle.ra_parser.specs.Examples.{ExamplesAreRight};
+ghost use Rattle.ra_parser.specs.Laws.{EachProductionHasARule, ProductionsMeanTheirRules, SourceFilesFit, WholeProductionsBeginAsTheirRules, WholeProductionsMeanTheirRules};
 
 /// A production gives what its rule gives, where each production that the rule calls gives what it means.
 pub fn productions_mean_their_rules()
     ensures { ProductionsMeanTheirRules }
+{}
+
+/// The same of the whole grammar, in which each production has a rule, and begins where its rule does.
+pub fn whole_productions_mean_their_rules()
+    ensures means { WholeProductionsMeanTheirRules }
+    ensures begin { WholeProductionsBeginAsTheirRules }
+    ensures all { EachProductionHasARule }
+{}
+
+/// Some inputs, with the trees that the whole grammar gives them.
+pub fn examples_are_right()
+    ensures { ExamplesAreRight }
 {}
 
 /// A source file is one node over all leaves of its text, whatever they are: its steps fit the text.
