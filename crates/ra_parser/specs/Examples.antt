@@ -1,5 +1,5 @@
 -- Inputs, and the trees that the whole grammar gives them.
-use Rattle.std.specs.Prelude.{if◌then◌else◌, ℕ, ◌+◌, ◌==◌, true, false, List, [], ◌∷◌, ◌≡◌}
+use Rattle.std.specs.Prelude.{if◌then◌else◌, ℕ, ◌==◌, true, false, List, [], ◌∷◌, ◌≡◌}
 use Rattle.parser_input.specs.Kinds.{EOF, ERROR, SEMICOLON, COMMA, DOT, L_PAREN, R_PAREN, L_CURLY, R_CURLY, L_BRACK, R_BRACK, AT, POUND, QUESTION, COLON, EQ, L_ANGLE, R_ANGLE, MINUS, AMP, PIPE, PLUS, STAR, DOT2, DOT2EQ, COLON2, EQ2, FAT_ARROW, INT_NUMBER, FLOAT_NUMBER, IDENT, UNDERSCORE, AS_KW, FN_KW, IF_KW, LET_KW, MATCH_KW, PUB_KW, STRUCT_KW, USE_KW, WHERE_KW, DYN_KW, SOURCE_FILE, MACRO_ITEMS, MACRO_STMTS, USE, USE_TREE, USE_TREE_LIST, RENAME, STRUCT, RECORD_FIELD_LIST, RECORD_FIELD, FN, PARAM_LIST, PARAM, VISIBILITY, ATTR, META, NAME, NAME_REF, PATH, PATH_SEGMENT, GENERIC_ARG_LIST, ASSOC_TYPE_ARG, CONST_ARG, TYPE_ARG, TYPE_BOUND_LIST, TYPE_BOUND, PATH_TYPE, REF_TYPE, DYN_TRAIT_TYPE, LITERAL_PAT, WILDCARD_PAT, IDENT_PAT, STMT_LIST, LET_STMT, EXPR_STMT, LITERAL, BLOCK_EXPR, RANGE_EXPR, BIN_EXPR, CALL_EXPR, ARG_LIST, METHOD_CALL_EXPR, FIELD_EXPR, RECORD_EXPR, RECORD_EXPR_FIELD_LIST, RECORD_EXPR_FIELD, PATH_EXPR, TUPLE_EXPR, PAREN_EXPR, CLOSURE_EXPR, LET_EXPR, IF_EXPR, MATCH_EXPR, MATCH_ARM_LIST, MATCH_ARM, MATCH_GUARD}
 use Rattle.parser_events.specs.Forest.{Expected, UnexpectedIn, ExpectedType, ExpectedExpression, ExpectedPattern, ExpectedItem, ExpectedStatement, ExpectedField, UnexpectedTokens, Forest, End, Leaf, Said, ErrorLeaf, Node, Float}
 use Rattle.ra_parser.specs.Rule.{source_file, macro_items, macro_statements, meta, any_type, pattern, expression, Production}
