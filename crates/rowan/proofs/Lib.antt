@@ -12,3 +12,4 @@ pub mod Texts
 pub mod Parts
 pub mod Characters
 pub mod Bytes
+pub mod Stretches
