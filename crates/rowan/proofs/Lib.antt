@@ -13,3 +13,4 @@ pub mod Parts
 pub mod Characters
 pub mod Bytes
 pub mod Stretches
+pub mod Printing
