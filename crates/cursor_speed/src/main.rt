@@ -49,6 +49,10 @@ impl Language for Statements {
 
     ghost to_raw = { λ k. k.0 };
 
+    ghost use lib.Chars.{codes};
+
+    ghost name_of = { λ _. codes "KIND" };
+
     ghost undoes = { λ k. refl };
 
     fn kind_from_raw(raw: SyntaxKind) -> Kind {

@@ -12,3 +12,5 @@ pub mod Texts
 pub mod Parts
 pub mod Characters
 pub mod Bytes
+pub mod Stretches
+pub mod Printing

@@ -1,5 +1,6 @@
 -- A walk's events follow the cursors: the next event is at the first child, the next sibling or the parent.
-use Rattle.std.proofs.Common.{◌≡◌, ℕ, zero, suc, ◌+◌, List, [], ◌∷◌, ◌++◌, drop, refl, ap, sym, ◌∙◌, add-one, append_assoc, Option, Some, None, slice_get, true, false}
+use Rattle.std.proofs.Common.{◌≡◌, ℕ, zero, suc, ◌+◌, List, [], ◌∷◌, ◌++◌, drop, refl, ap, sym, ◌∙◌, add-one, append_assoc, subst, Option, Some, None, slice_get, true, false}
+use Rattle.std.specs.Prelude.{Result, Ok, MatchResult}
 use Rattle.rowan_green.specs.Forest.{Forest, empty, node, leaf, Tree}
 use Rattle.rowan_green.specs.Leaf.{Leaf}
 use Rattle.rowan_green.specs.Term.{Term, forest_of, forest_of-terms}
@@ -10,6 +11,10 @@ use Rattle.rowan.specs.Walk.{Event, walk_forest, walk_from, skipped}
 use Rattle.rowan.specs.Left.{left_above, left_leaving, left_entering, left_at, event_of}
 use Rattle.rowan.specs.declared.utility_types.WalkEvent.TheVariants.{Enter, Leave}
 use Rattle.rowan.proofs.Lists.{first_from}
+
+-- what was given is the first of what was left
+pub first_given : {A E : Type 0} (s t : List A) (x : Result A E) (v : A) → x ≡ Ok v → MatchResult x (λ a. s ≡ a ∷ t) (λ _. t ≡ []) → s ≡ v ∷ t
+first_given s t x v e h = subst (λ y. MatchResult y (λ a. s ≡ a ∷ t) (λ _. t ≡ [])) e h
 
 -- the events from a child on
 abbrev pub events_by : Option Cursor → List Event → List Event

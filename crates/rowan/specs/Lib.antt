@@ -17,3 +17,4 @@ pub mod Text
 pub mod Pieces
 pub mod Reading
 pub mod Comparing
+pub mod Debug

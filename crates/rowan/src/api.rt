@@ -89,8 +89,7 @@ impl<L: Language> SyntaxNode<L> {
         ensures start { result.start.0 ≡ start_of self.now }
         ensures end { result.end.0 ≡ end_of self.now }
     {
-        let end = TextSize(self.cursor.end());
-        TextRange::new(TextSize(self.cursor.start()), end)
+        TextRange::new(TextSize(self.cursor.start()), TextSize(self.cursor.end()))
     }
 
     /// Its number among its parent's children, nodes and tokens alike; 0 for a root.
@@ -119,7 +118,8 @@ impl<L: Language> SyntaxNode<L> {
     pub fn tree_top(&self) -> Result<SyntaxNode<L>, AllocError>
         ensures { IfOk result (λ r. r ≡ top_of self.now) }
     {
-        Ok(SyntaxNode::of(self.cursor.tree_top().clone()?))
+        let top = self.cursor.tree_top();
+        Ok(SyntaxNode::of(top.clone()?))
     }
 
     /// The first child that is a node.

@@ -1,5 +1,5 @@
 //! Languages: what the raw kinds of a tree mean.
-ghost use Rattle.std.specs.Prelude.{◌≡◌, ℕ};
+ghost use Rattle.std.specs.Prelude.{◌≡◌, ℕ, List};
 
 use rowan_green::SyntaxKind;
 use std::fmt::Debug;
@@ -15,6 +15,9 @@ pub trait Language: Copy + Debug + Ord + Hash {
     /// The raw kind of a kind.
     ghost to_raw: { Self.Kind → ℕ };
 
+    /// The name that a kind is printed with, as bytes.
+    ghost name_of: { Self.Kind → List ℕ };
+
     /// The kind of a raw kind. It answers for every raw kind.
     fn kind_from_raw(raw: SyntaxKind) -> Self::Kind
         ensures { result ≡ from_raw raw.0 };
@@ -23,7 +26,8 @@ pub trait Language: Copy + Debug + Ord + Hash {
         ensures { result.0 ≡ to_raw kind };
 
     /// The name that a kind is printed with.
-    fn kind_name(kind: Self::Kind) -> &'static str;
+    fn kind_name(kind: Self::Kind) -> &'static str
+        ensures { result.now ≡ name_of kind };
 
     /// A kind is read back from its raw kind.
     ghost undoes: { (kind : Self.Kind) → from_raw (to_raw kind) ≡ kind };

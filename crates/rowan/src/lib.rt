@@ -22,6 +22,7 @@ mod cursor_pointer;
 mod cursor_ranges;
 mod cursor_step;
 mod cursor_tokens;
+mod debug_tree;
 mod display;
 pub mod element;
 pub mod error;

@@ -1,11 +1,15 @@
 //! Texts of trees are compared without a copy.
-ghost use Rattle.std.specs.Prelude.{◌≡◌, true, take, drop, length};
+ghost use Rattle.std.specs.Prelude.{◌≡◌, ◌+◌, ◌^◌, ◌≤◌, ◌<◌, ◌⊎◌, true, false, take, drop, length, MatchOption};
+ghost use Rattle.std.specs.Bool.{OnTrue};
 ghost use Rattle.std.specs.Str.{bytes_eq};
 ghost use Rattle.rowan_green.specs.Forest.{tree_text};
+ghost use Rattle.rowan_green.specs.declared.utility_types.NodeOrToken.TheVariants.{Node, Token};
+ghost use Rattle.rowan.specs.Text.{IsPart};
+ghost use Rattle.rowan.specs.Comparing.{IsStretch, IsHead, Passes, PassesBoth, Differ, bytes_left};
 
-use crate::chunks::{ChunkReader, Part, read_part};
+use crate::chunks::Part;
 use crate::syntax_text::SyntaxText;
-use rowan_green::{GreenNode, NodeOrToken};
+use rowan_green::{GreenElement, GreenNode, GreenToken, NodeOrToken};
 
 /// Whether these bytes stand in a node's text behind the first `skip`. Goes down only where they
 /// would stand.
@@ -39,39 +43,157 @@ fn has_bytes(node: &GreenNode, skip: usize, bytes: &[u8]) -> bool
     left.is_empty()
 }
 
-/// Compares what it reads with what stands in a node's text, from a byte on.
-#[derive(Clone, Copy)]
-struct Comparison<'a> {
+/// A stretch of a node's text, read from its front: `left` bytes that begin `ahead` bytes behind the
+/// begin of the child of number `index`.
+#[derive(Drop)]
+struct Stretch<'a> {
     node: &'a GreenNode,
-    start: u32,
+    index: usize,
+    ahead: u32,
+    left: u32,
 }
 
-impl<'a> ChunkReader for Comparison<'a> {
-    type Found = ();
+impl<'a> Stretch<'a> {
+    fn of(part: Part<'a>) -> Stretch<'a>
+        requires part { IsPart (tree_text part.node.now) part.start (part.start + part.len) }
+        requires fits { part.start + part.len < 2 ^ 32 }
+        ensures sound { IsStretch result }
+        ensures bytes { bytes_left result ≡ take part.entry.len (drop part.entry.start (tree_text part.entry.node.now)) }
+        ensures left { result.left ≡ part.entry.len }
+    {
+        Stretch {
+            node: part.node,
+            index: 0,
+            ahead: part.start,
+            left: part.len,
+        }
+    }
 
-    ghost use Rattle.std.specs.Prelude.{⊤};
-    ghost use Rattle.rowan_green.specs.Forest.{tree_text};
-    ghost use Rattle.rowan.specs.Comparing.{Compares, compares_nothing, compares_further, compares_stopped};
+    /// The element that the first byte left is in, once those before it are passed over; none where no
+    /// byte is left.
+    fn head(&mut self) -> Option<&'a GreenElement>
+        requires { IsStretch self.old }
+        ensures passes { Passes 0 self.old self.new }
+        ensures head { MatchOption result (self.new.left ≡ 0) (λ e. IsHead self.new e.now) }
+    {
+        let count = self.node.children().len();
+        'elements: while self.index < count && self.left > 0 {
+            let child = self.node.child(self.index)?;
+            let size = child.text_len().0;
+            if self.ahead < size {
+                return Some(child);
+            }
+            self.ahead -= size;
+            self.index += 1;
+        }
+        None
+    }
 
-    ghost can_read = { λ _. ⊤ };
+    /// Passes so many bytes.
+    fn pass(&mut self, count: u32)
+        requires sound { IsStretch self.old }
+        requires enough { count ≤ self.old.left }
+        ensures { Passes count self.old self.new }
+    {
+        self.ahead += count;
+        self.left -= count;
+    }
+}
 
-    ghost reads = { λ r at text x. Compares (λ s. s.start) (λ s. tree_text s.node.now) r at text x };
+/// Compares two tokens in which stretches begin, as far as both have bytes there, and passes what is
+/// the same.
+fn same_tokens(
+    a: &mut Stretch<'_>,
+    here: &GreenToken,
+    b: &mut Stretch<'_>,
+    there: &GreenToken,
+) -> bool
+    requires sound { IsStretch a.old × IsStretch b.old }
+    requires here { IsHead a.old (Token here.now) }
+    requires there { IsHead b.old (Token there.now) }
+    ensures same { OnTrue result (PassesBoth a.old b.old a.new b.new × (a.new.left < a.old.left)) }
+    ensures differ { result ≡ false → Differ (bytes_left a.old) (bytes_left b.old) }
+{
+    let here_left = a.left.min(here.text_len().0 - a.ahead);
+    let there_left = b.left.min(there.text_len().0 - b.ahead);
+    let count = here_left.min(there_left);
+    let front = &here.text().as_bytes()[a.ahead as usize..(a.ahead + count) as usize];
+    let other = &there.text().as_bytes()[b.ahead as usize..(b.ahead + count) as usize];
+    if front != other {
+        return false;
+    }
+    a.pass(count);
+    b.pass(count);
+    true
+}
 
-    ghost nothing = { compares_nothing (λ s. s.start) (λ s. tree_text s.node.now) };
+/// Compares what the first stretch has in the node that it begins in with what the second has, as
+/// far as both have bytes, and passes what is the same.
+#[cycle(same)]
+fn same_within(a: &mut Stretch<'_>, node: &GreenNode, b: &mut Stretch<'_>) -> bool
+    requires sound { IsStretch a.old × IsStretch b.old }
+    requires head { IsHead a.old (Node node.now) }
+    requires some { 0 < b.old.left }
+    ensures same { OnTrue result (PassesBoth a.old b.old a.new b.new × (a.new.left < a.old.left)) }
+    ensures differ { result ≡ false → Differ (bytes_left a.old) (bytes_left b.old) }
+{
+    let size = a.left.min(node.text_len().0 - a.ahead);
+    let mut inner = Stretch {
+        node,
+        index: 0,
+        ahead: a.ahead,
+        left: size,
+    };
+    if !same_front(&mut inner, b) {
+        return false;
+    }
+    a.pass(size - inner.left);
+    true
+}
 
-    ghost further = { compares_further (λ s. s.start) (λ s. tree_text s.node.now) };
+/// Compares two stretches as far as both have bytes, and passes what is the same.
+#[cycle(same)]
+fn same_front(a: &mut Stretch<'_>, b: &mut Stretch<'_>) -> bool
+    requires sound { IsStretch a.old × IsStretch b.old }
+    ensures same { OnTrue result (PassesBoth a.old b.old a.new b.new) }
+    ensures ends { OnTrue result ((a.new.left ≡ 0) ⊎ (b.new.left ≡ 0)) }
+    ensures differ { result ≡ false → Differ (bytes_left a.old) (bytes_left b.old) }
+{
+    'heads: loop {
+        let Some(here) = a.head() else { return true };
+        let Some(there) = b.head() else { return true };
+        if !same_heads(a, here, b, there) {
+            return false;
+        }
+    }
+}
 
-    ghost stopped = { compares_stopped (λ s. s.start) (λ s. tree_text s.node.now) };
-
-    fn read(self, at: u32, chunk: &str) -> Result<Comparison<'a>, ()> {
-        if has_bytes(
-            self.node,
-            self.start as usize + at as usize,
-            chunk.as_bytes(),
-        ) {
-            Ok(self)
-        } else {
-            Err(())
+/// Compares two elements in which stretches begin, as far as both have bytes there, and passes what is
+/// the same. Goes down in the longer node: the other stretch goes on from where it is, so that what
+/// lies within that node is not looked up again.
+#[cycle(same)]
+fn same_heads(
+    a: &mut Stretch<'_>,
+    here: &GreenElement,
+    b: &mut Stretch<'_>,
+    there: &GreenElement,
+) -> bool
+    requires sound { IsStretch a.old × IsStretch b.old }
+    requires here { IsHead a.old here.now }
+    requires there { IsHead b.old there.now }
+    ensures same { OnTrue result (PassesBoth a.old b.old a.new b.new × (a.new.left < a.old.left)) }
+    ensures differ { result ≡ false → Differ (bytes_left a.old) (bytes_left b.old) }
+{
+    match (here, there) {
+        (NodeOrToken::Token(here), NodeOrToken::Token(there)) => same_tokens(a, here, b, there),
+        (NodeOrToken::Node(here), NodeOrToken::Token(_)) => same_within(a, here, b),
+        (NodeOrToken::Token(_), NodeOrToken::Node(there)) => same_within(b, there, a),
+        (NodeOrToken::Node(here), NodeOrToken::Node(there)) => {
+            if here.text_len().0 - a.ahead >= there.text_len().0 - b.ahead {
+                same_within(a, here, b)
+            } else {
+                same_within(b, there, a)
+            }
         }
     }
 }
@@ -104,8 +226,9 @@ impl PartialEq for SyntaxText {
 
     ghost laws = { partial_equiv_from_equiv nat_list_eq_equiv };
 
-    /// Whether the two are the same text, however their trees cut it. In trees that differ, each piece
-    /// of the one is looked up from the top of the other.
+    /// Whether the two are the same text, however their trees cut it. Both are read side by side, each
+    /// byte once. A node that reaches past the end of one in the other tree is entered again there, and
+    /// its children before that are passed over by their lengths.
     fn eq(&self, other: &SyntaxText) -> bool {
         let part = self.part();
         let there = other.part();
@@ -115,11 +238,7 @@ impl PartialEq for SyntaxText {
         if stands_alike(part, there) {
             return true;
         }
-        let comparison = Comparison {
-            node: there.node,
-            start: there.start,
-        };
-        read_part(part.node, part.start, part.len, 0, comparison).is_ok()
+        same_front(&mut Stretch::of(part), &mut Stretch::of(there))
     }
 }
 

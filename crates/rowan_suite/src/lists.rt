@@ -16,11 +16,14 @@ pub struct Lists;
 impl Language for Lists {
     type Kind = Kind;
 
-    ghost use Rattle.std.specs.Prelude.{refl};
+    ghost use Rattle.std.specs.Prelude.{refl, if◌then◌else◌, ◌==◌};
+    ghost use lib.Chars.{codes};
 
     ghost from_raw = { λ n. record { 0 = n } };
 
     ghost to_raw = { λ k. k.0 };
+
+    ghost name_of = { λ k. if k.0 == 1 then codes "ROOT" else (if k.0 == 2 then codes "LIST" else (if k.0 == 3 then codes "WORD" else codes "COMMA")) };
 
     ghost undoes = { λ k. refl };
 

@@ -6,6 +6,7 @@
 ghost use Rattle.std.specs.Iterator.{IsFinite};
 
 mod finding;
+mod printing;
 mod steps;
 mod texts;
 mod walks;

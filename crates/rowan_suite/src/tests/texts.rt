@@ -1,5 +1,5 @@
 //! Texts of nodes: what is found in them, their pieces, and when two are equal.
-use super::{Node, first_list};
+use super::{Node, first_list, tree};
 use crate::Lists;
 use rowan::{SyntaxNode, SyntaxText};
 use rowan_green::{GreenError, GreenNode, GreenNodeBuilder, SyntaxKind, TextRange, TextSize};
@@ -184,5 +184,48 @@ fn text_lengths(node: &Node) -> Result<(u32, u32), AllocError> {
 fn texts(rt: HostRuntime) -> Result<(), Fail> {
     let alloc = rt.alloc();
     assert!(rt; text_lengths(&first_list(alloc)?)? == (3, 0));
+    Ok(())
+}
+
+/// Two trees, and whether they have one text.
+#[derive(Clone, Copy)]
+struct Pair {
+    first: &'static str,
+    second: &'static str,
+    equal: bool,
+}
+
+fn compared(first: &'static str, second: &'static str, equal: bool) -> Pair {
+    Pair {
+        first,
+        second,
+        equal,
+    }
+}
+
+fn are_equal(alloc: Global, pair: Pair) -> Result<bool, GreenError> {
+    let first = tree(alloc, pair.first)?.text()?;
+    let second = tree(alloc, pair.second)?.text()?;
+    Ok(first == second)
+}
+
+#[test]
+fn trees_cut_a_text_as_they_like(rt: HostRuntime) -> Result<(), Fail> {
+    let rows = [
+        compared(
+            "{ ab ( , ( ) cd ) ; ( e ) }",
+            "{ ( a ( b ) , ) c ( d ; e ) }",
+            true,
+        ),
+        compared("{ ( abc ) ( d ) }", "{ ( ) ( a ) ( bcd ) }", true),
+        compared("{ ( abc ) ( d ) }", "{ ( a ) ( bce ) }", false),
+        compared("{ ( ( abcd ) ) }", "{ a b c d }", true),
+        compared("{ ( ab ( c ) ) x }", "{ ( a ( bx ) ) c }", false),
+    ];
+    let mut right = true;
+    for row in rows {
+        right = right & (are_equal(rt.alloc(), row)? == row.equal);
+    }
+    assert!(rt; right);
     Ok(())
 }

@@ -1,0 +1,109 @@
+//! The tree below a node, printed for those who look at it.
+ghost use Rattle.std.specs.Prelude.{◌≡◌, ◌≤◌, ◌++◌, length, string_bytes, OnOk, IfOk, IfSome};
+ghost use Rattle.std.specs.Fmt.{AppendsText, debug_str};
+ghost use Rattle.rowan_green.specs.declared.utility_types.NodeOrToken.TheVariants.{Node};
+ghost use Rattle.rowan.specs.Text.{IsCut};
+ghost use Rattle.rowan.specs.Walk.{walk};
+ghost use Rattle.rowan.specs.Debug.{shown_end, shown, line_front, line_text, line_of, lines_of};
+
+use crate::api::{SyntaxElement, SyntaxNode};
+use crate::element::ElementExt;
+use crate::language::Language;
+use crate::utility_types::WalkEvent;
+use rowan_green::NodeOrToken;
+use std::alloc::{AllocError, Global};
+use std::fmt::Write;
+
+/// Where a long text is cut: its first character boundary from byte 21 on.
+fn shown_end(text: &str) -> usize
+    requires { 21 ≤ length text.now }
+    ensures end { result ≡ shown_end text.now }
+    ensures cut { IsCut text.now result }
+{
+    let bytes = text.as_bytes();
+    let mut end = 21;
+    'bytes: while end < bytes.len() && bytes[end] >= 128 && bytes[end] < 192 {
+        end += 1;
+    }
+    end
+}
+
+/// Puts a token's text, quoted, behind what is printed.
+fn push_quoted(alloc: Global, text: &str, to: &mut String) -> Result<(), AllocError>
+    ensures { OnOk result (AppendsText (string_bytes to.old) (string_bytes to.new) (debug_str (shown text.now))) }
+{
+    if text.len() < 25 {
+        return write!(to, "{text:?}");
+    }
+    let front = &text[..shown_end(text)];
+    let cut = format!(in alloc; "{front} ...")?;
+    write!(to, "{cut:?}")
+}
+
+/// Puts what a line begins with behind what is printed: two spaces a level, a name and a range.
+fn push_front(
+    depth: u64,
+    name: &str,
+    start: u32,
+    end: u32,
+    to: &mut String,
+) -> Result<(), AllocError>
+    ensures { OnOk result (string_bytes to.new ≡ string_bytes to.old ++ line_front depth name.now start end) }
+{
+    'levels: for _level in 0..depth {
+        to.push_str("  ")?;
+    }
+    write!(to, "{name}@{start}..{end}")
+}
+
+/// Puts what a token's line ends with behind what is printed: its text, quoted.
+fn push_text(alloc: Global, text: &str, to: &mut String) -> Result<(), AllocError>
+    ensures { OnOk result (AppendsText (string_bytes to.old) (string_bytes to.new) (line_text text.now)) }
+{
+    to.push_str(" ")?;
+    push_quoted(alloc, text, to)?;
+    to.push_str("\n")?;
+    Ok(())
+}
+
+/// Puts an element's line behind what is printed.
+fn push_line<L: Language>(
+    alloc: Global,
+    element: &SyntaxElement<L>,
+    depth: u64,
+    to: &mut String,
+) -> Result<(), AllocError>
+    ensures { OnOk result (AppendsText (string_bytes to.old) (string_bytes to.new) (line_of (λ raw. L.name_of (L.from_raw raw)) depth element.now)) }
+{
+    let name = L::kind_name(element.kind());
+    let range = element.text_range();
+    push_front(depth, name, range.start().0, range.end().0, to)?;
+    match element {
+        NodeOrToken::Node(_) => to.push_str("\n")?,
+        NodeOrToken::Token(token) => push_text(alloc, token.text(), to)?,
+    }
+    Ok(())
+}
+
+impl<L: Language> SyntaxNode<L> {
+    /// The node and all below it, in preorder, a line each: two spaces a level, the name of the kind,
+    /// the range, and behind a token's its text, quoted. A text of 25 bytes or more is cut at its
+    /// first character boundary from byte 21 on, and ` ...` stands behind it.
+    pub fn debug_tree(&self, alloc: Global) -> Result<String, AllocError>
+        ensures { IfOk result (λ s. IfSome (lines_of (λ raw. L.name_of (L.from_raw raw)) 0 (walk (Node self.now))) (λ t. string_bytes s ≡ t)) }
+    {
+        let mut text = String::new(alloc);
+        let mut depth: u64 = 0;
+        let mut walk = self.preorder_with_tokens(alloc)?;
+        'events: while let Some(event) = walk.next() {
+            match event? {
+                WalkEvent::Enter(element) => {
+                    push_line(alloc, &element, depth, &mut text)?;
+                    depth = depth.checked_add(1).ok_or(AllocError)?;
+                }
+                WalkEvent::Leave(_) => depth = depth.saturating_sub(1),
+            }
+        }
+        Ok(text)
+    }
+}
