@@ -138,7 +138,7 @@ find-one p (y ∷ ys) zero x at pass one =
 find-one p (y ∷ ys) (suc i) x at pass one = find-cons p y ys x (p y) refl (one y) (λ no. find-one p ys i x at pass one)
 
 -- each kind is the one of its name
-find-kinds : (kind : SyntaxKind) → find (λ other. bytes_eq (name_of other) (name_of kind)) all_kinds ≡ Some kind
+pub find-kinds : (kind : SyntaxKind) → find (λ other. bytes_eq (name_of other) (name_of kind)) all_kinds ≡ Some kind
 find-kinds kind =
     find-one (λ other. bytes_eq (name_of other) (name_of kind)) all_kinds (raw_of kind) kind (slice_get-kinds kind)
     ((bytes_eq-Decides (name_of kind) (name_of kind)).1 refl)
