@@ -81,7 +81,8 @@ impl<L: Language> SyntaxNode<L> {
     pub fn kind(&self) -> L::Kind
         ensures { result ≡ L.from_raw (kind_at self.now) }
     {
-        L::kind_from_raw(self.cursor.kind())
+        let raw = self.cursor.kind();
+        L::kind_from_raw(raw)
     }
 
     /// Where its text stands in the text of the tree.
@@ -315,7 +316,8 @@ impl<L: Language> SyntaxToken<L> {
     pub fn index(&self) -> usize
         ensures { result ≡ index_of self.now }
     {
-        self.cursor.index() as usize
+        let index = self.cursor.index();
+        index as usize
     }
 
     pub fn text(&self) -> &str
