@@ -27,6 +27,8 @@ enum Ask {
     LastList,
     TypedPointer,
     TypedChild,
+    TypedChildren,
+    TypedNotFound,
     ReplacedNode,
     ReplacedToken,
     WordBeforeAll,
@@ -145,12 +147,32 @@ fn not_found(alloc: Global, out: &mut String, root: &Node) -> Result<(), Fail> {
     }
 }
 
+/// A pointer to a list of another tree.
+fn typed_not_found(alloc: Global, out: &mut String, list: Node) -> Result<(), Fail> {
+    let Some(list) = ListNode::cast(list) else {
+        return Ok(out.push_str("no list ")?);
+    };
+    match AstPtr::new(&list).to_node(alloc, &tree(alloc, "{ ab cd }")?) {
+        Ok(found) => found.syntax().show(alloc, out),
+        Err(e) => Ok(out.push_str(format!(in alloc; "{e}")?.as_str())?),
+    }
+}
+
+fn typed_children(alloc: Global, out: &mut String, root: &Node) -> Result<(), Fail> {
+    for list in support::children::<ListNode>(alloc, root)? {
+        list?.syntax().show(alloc, out)?;
+    }
+    Ok(())
+}
+
 fn of_sample(alloc: Global, out: &mut String, ask: Ask, root: &Node) -> Result<(), Fail> {
     match ask {
         Ask::FirstList => found(alloc, out, &first_list(alloc)?, root),
         Ask::LastList => last_found(alloc, out, root),
         Ask::TypedPointer => typed_found(alloc, out, first_list(alloc)?, root),
         Ask::TypedChild => show_list(alloc, out, support::child::<ListNode>(alloc, root)?),
+        Ask::TypedChildren => typed_children(alloc, out, root),
+        Ask::TypedNotFound => typed_not_found(alloc, out, first_list(alloc)?),
         Ask::WordBeforeAll => show_item(alloc, out, support::token(alloc, root, Kind(3))),
         Ask::NotFound => not_found(alloc, out, root),
         _ => Ok(()),
@@ -196,6 +218,8 @@ fn finding(rt: HostRuntime) -> Result<(), Fail> {
         asked(Ask::LastList, "LIST@7..7 "),
         asked(Ask::TypedPointer, "LIST@2..5 LIST@0..3 "),
         asked(Ask::TypedChild, "LIST@2..5 LIST@0..3 "),
+        asked(Ask::TypedChildren, "LIST@2..5 LIST@6..7 LIST@7..7 "),
+        asked(Ask::TypedNotFound, "not found"),
         asked(Ask::ReplacedNode, "ab;e,cd"),
         asked(Ask::ReplacedToken, "ab.cd;e,"),
         asked(Ask::WordBeforeAll, "WORD@0..2 "),
