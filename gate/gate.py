@@ -1,0 +1,151 @@
+"""The gate: every proof from nothing, the must-fail edits, the tests, and each program on its stored input.
+
+    ./test               leaves out the edits that must-fail.ledger has as refused before over the very same sources,
+                         but for a sample of one crate, which the commit picks; tries all others
+    ./test --whole       tries every edit and does not read the ledger
+    ./test --record      as ./test, with no sample; where all passed, writes the ledger
+    ./test --share 2/3   with any of these: tries, of the edits, those of the second of three shares of the crates alone
+    ./test --list        with any of these: prints the edits that it would try, and runs nothing
+
+Its last line is that of 'rt ci': 'N passed, M failed'. Only edits rest on the ledger, and on a run without --whole alone.
+"""
+import argparse
+import hashlib
+import os
+import shutil
+import subprocess
+import sys
+import tempfile
+
+import ledger
+from ledger import crate_of
+
+TOP = os.path.dirname(os.path.dirname(os.path.realpath(__file__)))
+# Edits in a sample, all of one crate: the first of a crate costs a proof of the crate, each further one some seconds.
+SAMPLE = 8
+# A check takes one to four gigabytes. Where there are fewer bytes a core than this, 'rt ci' by its own estimate leaves cores idle.
+BYTES_A_CORE = 5_000_000_000
+
+
+def stop(why):
+    print(f"test: {why}\n0 passed, 1 failed")
+    sys.exit(2)
+
+
+def by_crate(edits):
+    """Returns the edits of each crate, both in the order of their names."""
+    groups = {}
+    for edit in sorted(edits):
+        groups.setdefault(crate_of(edit), []).append(edit)
+    return groups
+
+
+def sample(known):
+    """Returns some edits of one crate, picked by the commit; by the sums where there is no commit."""
+    asked = subprocess.run(["git", "-C", TOP, "rev-parse", "HEAD"], capture_output=True)
+    seed = asked.stdout if asked.returncode == 0 else "".join(sorted(known.values())).encode()
+    slices = [edits[at : at + SAMPLE] for edits in by_crate(known).values() for at in range(0, len(edits), SAMPLE)]
+    return slices[int(hashlib.sha256(seed).hexdigest(), 16) % len(slices)] if slices else []
+
+
+def share(edits, number, of):
+    """Returns the edits of one share: a crate's are together, and the shares have about as many as one another."""
+    shares = [[] for _ in range(of)]
+    for group in sorted(by_crate(edits).values(), key=lambda group: (-len(group), group)):
+        min(shares, key=len).extend(group)
+    return {*shares[number - 1]}
+
+
+def copy(to):
+    """Copies the working tree, but for what was built: what is proved is one state, whatever is edited meanwhile."""
+
+    def left_out(at, names):
+        is_crate = os.path.dirname(at) == f"{TOP}/crates"
+        return [name for name in names if name == ".git" and at == TOP or name == "out" and is_crate]
+
+    shutil.copytree(TOP, to, symlinks=True, ignore=left_out)
+    # (rt ci wants to stand at the top of a repository)
+    os.mkdir(f"{to}/.git")
+
+
+def bring_back(copied):
+    """Moves what was built, as the program that ./run starts, from the copy to this tree; what later checks reuse here stays."""
+    kept = ("incremental", "rlib")
+    for name in os.listdir(f"{copied}/crates"):
+        made, here = f"{copied}/crates/{name}/out", f"{TOP}/crates/{name}/out"
+        for old in os.listdir(here) if os.path.isdir(here) else []:
+            if old not in kept:
+                subprocess.run(["rm", "-rf", "--", f"{here}/{old}"], check=True)
+        for new in os.listdir(made) if os.path.isdir(made) else []:
+            if new not in kept:
+                os.makedirs(here, exist_ok=True)
+                shutil.move(f"{made}/{new}", here)
+
+
+def environment():
+    """Returns the environment of 'rt ci': where memory is short, a job for each core."""
+    cores, memory = len(os.sched_getaffinity(0)), os.sysconf("SC_PAGE_SIZE") * os.sysconf("SC_PHYS_PAGES")
+    is_short = memory < BYTES_A_CORE * cores
+    return {"RT_JOBS": str(cores), **os.environ} if is_short else dict(os.environ)
+
+
+def run(at):
+    """Runs 'rt ci' in a folder and prints what it prints, but for its last line. Returns its status and that line."""
+    last = ""
+    with subprocess.Popen(["rt", "ci"], cwd=at, env=environment(), stdout=subprocess.PIPE, stdin=subprocess.DEVNULL, errors="replace") as ran:
+        for line in ran.stdout:
+            print(last, end="", flush=True)
+            last = line
+    return ran.returncode, last
+
+
+def arguments():
+    parser = argparse.ArgumentParser(prog="./test", usage=__doc__, add_help=False, allow_abbrev=False)
+    for word in ("--whole", "--record", "--list"):
+        parser.add_argument(word, action="store_true")
+    parser.add_argument("--share", default="1/1")
+    asked = parser.parse_args()
+    number, _, of = asked.share.partition("/")
+    if not (number.isdigit() and of.isdigit() and 1 <= int(number) <= int(of)):
+        stop("--share takes two numbers, as 2/3")
+    asked.share = int(number), int(of)
+    return asked
+
+
+def main():
+    asked = arguments()
+    if not shutil.which("rt"):
+        stop("the Rattle kit's command 'rt' is not on the PATH")
+    with tempfile.TemporaryDirectory(prefix="gate-") as room:
+        copied = f"{room}/repository"
+        copy(copied)
+        try:
+            sums = ledger.Sums(copied).edits()
+            before = {} if asked.whole else ledger.recorded(copied)
+        except (OSError, ValueError, LookupError) as error:
+            stop(f"cannot tell what the edits rest on: {error!r}")
+        known = {path: key for path, key in sums.items() if before.get(path) == key}
+        again = [] if asked.record or asked.share[1] > 1 else sample(known)
+        tried = {edit for edit in share(sums, *asked.share) if edit not in known or edit in again}
+        print(f"test: {len(sums)} must-fail edits: {len(tried)} tried, {len(again)} of them as a sample; {len(sums) - len(tried)} left out", flush=True)
+        if asked.list:
+            print("".join(f"{edit}\n" for edit in sorted(tried)), end="")
+            return 0
+        for edit in {*sums} - tried:
+            os.remove(f"{copied}/{edit}")
+        status, last = run(copied)
+        # (each crate and each edit that was tried is one of those that passed)
+        all_passed = status == 0 and last == f"{len(ledger.lines_of(copied)) + len(tried)} passed, 0 failed\n"
+        bring_back(copied)
+        if asked.record and all_passed:
+            # (what a record by shares, whole or not, found before stands as long as its sum does)
+            stands = {path for path, key in ledger.recorded(TOP).items() if sums.get(path) == key}
+            ledger.record(TOP, {path: sums[path] for path in stands | tried})
+        elif asked.record:
+            print("test: not all passed, so nothing is recorded")
+        print(last, end="", flush=True)
+        return status or int(asked.record and not all_passed)
+
+
+if __name__ == "__main__":
+    sys.exit(main())

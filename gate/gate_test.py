@@ -1,0 +1,186 @@
+"""Tests of the gate over a small repository with a stand-in for 'rt', which proves nothing: which edits are tried after which change?"""
+import os
+import shutil
+import subprocess
+import sys
+import tempfile
+import unittest
+
+HERE = os.path.dirname(os.path.realpath(__file__))
+# Notes which edits it finds, builds a program, and counts crates and edits as 'rt ci' does. FAIL and MISS turn its answer.
+STAND_IN = """#!/usr/bin/env bash
+ls crates/*/must-fail/*.edit > "$TRIED" 2> /dev/null
+mkdir -p crates/app/out/rlib && echo new > crates/app/out/app && echo new > crates/app/out/rlib/stamp
+echo "${RT_JOBS:-none}" > "$JOBS"
+passed=$(( $(wc -l < "$TRIED") + $(grep -c '^[a-z]' crates.txt) ))
+echo "a program says: 9 passed, 0 failed"
+[ -z "${FAIL:-}" ] || { echo "$((passed - 1)) passed, 1 failed"; exit 1; }
+echo "$((passed - ${MISS:-0})) passed, 0 failed"
+"""
+CRATES = "# lowest first\nlow: memchr\nmiddle: low\napart:\napp: middle apart\n"
+EDITS = {"low": 2, "middle": 3, "apart": 10}
+ALL = {f"crates/{crate}/must-fail/e{at}.edit" for crate, count in EDITS.items() for at in range(count)}
+
+
+def of(*crates):
+    return {edit for edit in ALL if edit.split("/")[1] in crates}
+
+
+def write(path, text, mode="w"):
+    os.makedirs(os.path.dirname(path), exist_ok=True)
+    with open(path, mode) as file:
+        file.write(text)
+
+
+class Gate(unittest.TestCase):
+    @classmethod
+    def setUpClass(cls):
+        cls.base = tempfile.mkdtemp(prefix="gate-test-")
+        for name in ("KIT-ID", "WHAT-base", "bin/rtlib.py", "bin/rattle"):
+            write(f"{cls.base}/kit/{name}", f"{name} 1\n")
+        write(f"{cls.base}/kit/bin/rt", STAND_IN)
+        os.chmod(f"{cls.base}/kit/bin/rt", 0o755)
+        top = f"{cls.base}/repository"
+        for crate, count in (*EDITS.items(), ("app", 0)):
+            for file in ("src/lib.rt", "src/part.rt", "specs/Lib.antt", "proofs/Lib.antt"):
+                write(f"{top}/crates/{crate}/{file}", f"{crate} {file}\n")
+            for at in range(count):
+                write(f"{top}/crates/{crate}/must-fail/e{at}.edit", f"file: src/lib.rt\nold: {crate}\nnew: {at}\n")
+        write(f"{top}/crates.txt", CRATES)
+        write(f"{top}/HANDLES", "Handles allowed: none.\n")
+        for name in ("gate.py", "ledger.py"):
+            write(f"{top}/gate/{name}", "")
+            shutil.copy(f"{HERE}/{name}", f"{top}/gate/{name}")
+
+    @classmethod
+    def tearDownClass(cls):
+        shutil.rmtree(cls.base)
+
+    def setUp(self):
+        self.room = tempfile.mkdtemp(prefix="gate-test-")
+        self.addCleanup(shutil.rmtree, self.room)
+        shutil.copytree(self.base, self.room, dirs_exist_ok=True)
+        self.kit, self.top, self.ledger = f"{self.room}/kit", f"{self.room}/repository", f"{self.room}/repository/must-fail.ledger"
+
+    def run_gate(self, *words, **environment):
+        """Runs the gate; notes its status and lines. Returns the edits that 'rt' found."""
+        tried = f"{self.room}/tried"
+        write(tried, "not run\n")
+        paths = {"PATH": f"{self.kit}/bin:{os.environ['PATH']}", "TRIED": tried, "JOBS": f"{self.room}/jobs"}
+        ran = subprocess.run([sys.executable, f"{self.top}/gate/gate.py", *words], capture_output=True, text=True, env={**os.environ, **paths, **environment})
+        self.status, self.said = ran.returncode, (ran.stdout + ran.stderr).splitlines()
+        with open(tried) as file:
+            return {*file.read().splitlines()}
+
+    def record(self):
+        self.assertEqual(self.run_gate("--record"), ALL)
+        self.assertEqual((self.status, self.said[-1]), (0, "19 passed, 0 failed"))
+        with open(self.ledger) as file:
+            return file.read()
+
+    def after(self, path, text, mode="a"):
+        """Records, writes to a file, and returns the edits that are tried then. That run fails, so the ledger stays."""
+        self.record()
+        write(f"{self.room}/{path}", text, mode)
+        return self.run_gate("--record", FAIL="1")
+
+    def test_the_first_run_tries_all(self):
+        self.assertEqual(self.run_gate(), ALL)
+        self.assertFalse(os.path.exists(self.ledger))
+
+    def test_a_second_run_tries_a_sample_of_one_crate(self):
+        self.record()
+        tried = self.run_gate()
+        self.assertTrue(0 < len(tried) <= 8 and len({edit.split("/")[1] for edit in tried}) == 1, tried)
+        self.assertEqual(tried, self.run_gate())
+
+    def test_whole_tries_all_and_reads_no_ledger(self):
+        self.record()
+        self.assertEqual(self.run_gate("--whole"), ALL)
+
+    def test_shares_are_all_edits_each_once(self):
+        shares = [self.run_gate("--whole", "--share", f"{at}/3") for at in (1, 2, 3)]
+        self.assertEqual(sorted(edit for share in shares for edit in share), sorted(ALL))
+
+    def test_shares_are_recorded_one_after_another(self):
+        for at in (1, 2, 3):
+            self.run_gate("--whole", "--record", "--share", f"{at}/3")
+        self.assertEqual(self.run_gate("--record"), set())
+
+    def test_a_source_turns_its_crate_and_those_above(self):
+        for part in ("src/lib.rt", "specs/Lib.antt", "proofs/Lib.antt"):
+            self.assertEqual(self.after(f"repository/crates/low/{part}", "x"), of("low", "middle"))
+            os.remove(self.ledger)
+        self.assertEqual(self.after("repository/crates/app/src/lib.rt", "x"), set())
+
+    def test_a_new_or_renamed_file_counts(self):
+        self.assertEqual(self.after("repository/crates/middle/src/new.rt", ""), of("middle"))
+        os.rename(f"{self.top}/crates/apart/src/part.rt", f"{self.top}/crates/apart/src/other.rt")
+        self.assertEqual(self.run_gate("--record", FAIL="1"), of("middle", "apart"))
+
+    def test_what_is_built_does_not_count(self):
+        self.assertEqual(self.after("repository/crates/low/out/low", "built"), set())
+
+    def test_a_crates_line_counts_and_no_comment(self):
+        self.assertEqual(self.after("repository/crates.txt", CRATES.replace("low: memchr", "low:  memchr").replace("# lowest", "# low\n# est"), "w"), set())
+        write(f"{self.top}/crates.txt", CRATES.replace("middle: low", "middle: low memchr"))
+        self.assertEqual(self.run_gate("--record", FAIL="1"), of("middle"))
+
+    def test_the_handles_and_the_kit_turn_all(self):
+        for path in ("repository/HANDLES", "kit/KIT-ID", "kit/WHAT-base", "kit/bin/rattle", "kit/bin/rtlib.py"):
+            self.assertEqual(self.after(path, "x"), ALL, path)
+            os.remove(self.ledger)
+
+    def test_an_edit_turns_itself(self):
+        self.assertEqual(self.after("repository/crates/apart/must-fail/e3.edit", "new: y\n"), {"crates/apart/must-fail/e3.edit"})
+
+    def test_a_copied_edit_is_another(self):
+        self.record()
+        shutil.copy(f"{self.top}/crates/apart/must-fail/e3.edit", f"{self.top}/crates/apart/must-fail/copy.edit")
+        self.assertEqual(self.run_gate("--record", FAIL="1"), {"crates/apart/must-fail/copy.edit"})
+
+    def test_a_ledger_that_was_changed(self):
+        said = self.record()
+        rows = said.splitlines(keepends=True)
+        write(self.ledger, "".join(rows[:6]))
+        self.assertEqual(len(self.run_gate("--record", FAIL="1")), len(ALL) - 5)
+        key = rows[1].split(" ")[0]
+        write(self.ledger, said.replace(rows[2].split(" ")[0], key))
+        self.assertEqual(self.run_gate("--record", FAIL="1"), {rows[2].split(" ")[1].strip()})
+
+    def test_a_failure_is_passed_on_and_records_nothing(self):
+        self.run_gate(FAIL="1")
+        self.assertEqual((self.status, self.said[-1]), (1, "18 passed, 1 failed"))
+        for turned in ({"FAIL": "1"}, {"MISS": "2"}):
+            self.run_gate("--record", **turned)
+            self.assertNotEqual(self.status, 0)
+            self.assertFalse(os.path.exists(self.ledger))
+
+    def test_what_cannot_be_read_is_a_failure(self):
+        self.assertEqual(self.run_gate("--share", "4/3"), {"not run"})
+        self.assertEqual((self.status, self.said[-1]), (2, "0 passed, 1 failed"))
+        # (two crates that stand on each other)
+        write(f"{self.top}/crates.txt", "low: middle\nmiddle: low\n")
+        self.assertEqual(self.run_gate(), {"not run"})
+        self.assertEqual((self.status, self.said[-1]), (2, "0 passed, 1 failed"))
+
+    def test_list_runs_nothing(self):
+        self.assertEqual(self.run_gate("--list"), {"not run"})
+        self.assertEqual({*self.said[1:]}, ALL)
+
+    def test_what_is_built_comes_back(self):
+        out = f"{self.top}/crates/app/out"
+        write(f"{out}/stale", "old")
+        write(f"{out}/incremental/mine", "mine")
+        self.run_gate()
+        found = {os.path.relpath(f"{at}/{name}", out) for at, _, names in os.walk(out) for name in names}
+        self.assertEqual(found, {"app", "incremental/mine"})
+
+    def test_jobs_that_are_given_are_kept(self):
+        self.run_gate(RT_JOBS="7")
+        with open(f"{self.room}/jobs") as file:
+            self.assertEqual(file.read(), "7\n")
+
+
+if __name__ == "__main__":
+    unittest.main()
