@@ -3,7 +3,6 @@ pub mod KindNames
 pub mod Shapes
 pub mod Walks
 pub mod NoFloat
-pub mod Fits
 pub mod Runs
 pub mod Requests
 pub mod Fronts

@@ -11,7 +11,7 @@ use Rattle.document_requests.specs.declared.reply.Refusal.TheVariants.{Later}
 
 -- where the bytes are UTF-8 or not
 told : Bool → List ℕ → Type 0
-told b bytes = not_run Later ≡ served_if_any (if b then option_and_then request_of (read bytes) else None)
+told b bytes = not_run Later ≡ served_if_any (if b then option_and_then (request_of bytes) (read bytes) else None)
 
 by_test : (bytes : List ℕ) (b : Bool) → is_utf8 bytes ≡ b → ¬ (IsUtf8 bytes) → told b bytes
 unfolding told
@@ -22,8 +22,8 @@ pub no_text : (bytes : List ℕ) → ¬ (IsUtf8 bytes) → not_run Later ≡ rep
 unfolding told
 no_text bytes fails = by_test bytes (is_utf8 bytes) refl fails
 
-pub value_read : (text bytes : List ℕ) (d : Data) → text ≡ bytes → IsUtf8 bytes → read text ≡ Some d → served_if_any (request_of d) ≡ replies bytes
+pub value_read : (text bytes : List ℕ) (d : Data) → text ≡ bytes → IsUtf8 bytes → read text ≡ Some d → served_if_any (request_of text d) ≡ replies bytes
 value_read text bytes d same utf8 is =
-    sym
-    (ap (λ b. served_if_any (if b then option_and_then request_of (read bytes) else None)) (is_utf8-from_IsUtf8 bytes utf8)
-    ∙ ap (λ o. served_if_any (option_and_then request_of o)) (ap read (sym same) ∙ is))
+    ap (λ t. served_if_any (request_of t d)) same ∙ sym
+    (ap (λ b. served_if_any (if b then option_and_then (request_of bytes) (read bytes) else None)) (is_utf8-from_IsUtf8 bytes utf8)
+    ∙ ap (λ o. served_if_any (option_and_then (request_of bytes) o)) (ap read (sym same) ∙ is))

@@ -1,10 +1,10 @@
 -- What reading and writing do to watched devices.
-use Rattle.std.specs.Prelude.{◌≡◌, ◌⊎◌, ℕ, ◌+◌, ◌^◌, List, ◌++◌, Option}
+use Rattle.std.specs.Prelude.{◌≡◌, ◌≤◌, ◌⊎◌, ℕ, ◌+◌, ◌^◌, List, ◌++◌, Option, Some, None}
 use Rattle.std.specs.Io.KnownBytes.{Appends}
 use Rattle.document_requests.specs.declared.fault.Fault.{Fault}
 use Rattle.document_requests.specs.declared.fault.Fault.TheVariants.{Reading, Writing, Memory}
 use Rattle.document_requests.specs.declared.watched.Watched.{Watched}
-use Rattle.document_requests.specs.Watched.{calls_of, failures_of, counted}
+use Rattle.document_requests.specs.Watched.{calls_of, failures_of, end_of, counted}
 
 -- the most reads of one run
 abbrev pub max_reads : ℕ
@@ -17,6 +17,22 @@ NoneFailed old new = failures_of new ≡ failures_of old
 -- one of the calls failed
 abbrev pub OneFailed : {D : Type 0} → Watched D → Watched D → Type 0
 OneFailed old new = failures_of new ≡ failures_of old + 1
+
+-- no more calls than reads of one run
+abbrev pub BoundsReads : {D : Type 0} → Watched D → Watched D → Type 0
+BoundsReads old new = calls_of new ≤ calls_of old + max_reads
+
+-- The end was met by the last call and by none before it: nothing was read after it.
+abbrev pub EndsReading : {D : Type 0} → Watched D → Watched D → Type 0
+EndsReading old new = end_of old ≡ None → end_of new ≡ Some (calls_of new)
+
+-- the end was not met
+abbrev pub MeetsNoEnd : {D : Type 0} → Watched D → Watched D → Type 0
+MeetsNoEnd old new = end_of old ≡ None → end_of new ≡ None
+
+-- Nothing was read after the end, if it was met.
+abbrev pub ReadsNoFurther : {D : Type 0} → Watched D → Watched D → Type 0
+ReadsNoFurther old new = MeetsNoEnd old new ⊎ EndsReading old new
 
 -- Reading stops where a read failed, or where all reads were made and there may be more. Want of memory comes at any point.
 abbrev pub StopsReading : {D : Type 0} → Watched D → Watched D → Fault → Type 0
@@ -34,8 +50,9 @@ StopsWriting old new Reading = ⊥
 StopsWriting old new Writing = OneFailed old new
 StopsWriting old new Memory = NoneFailed old new
 
--- A run stops at the first call that fails, or where all reads were made and there may be more, or for want of memory.
+-- A run stops at the first call that fails, or where all reads were made and there may be more, or out of memory. Where reading
+-- failed, nothing was written.
 abbrev pub StopsRun : {R W : Type 0} → Watched R → Watched R → Watched W → Watched W → Fault → Type 0
-StopsRun read read' written written' Reading = StopsReading read read' Reading × NoneFailed written written'
+StopsRun read read' written written' Reading = StopsReading read read' Reading × (written' ≡ written)
 StopsRun read read' written written' Writing = NoneFailed read read' × OneFailed written written'
 StopsRun read read' written written' Memory = NoneFailed read read' × NoneFailed written written'

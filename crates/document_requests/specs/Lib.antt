@@ -1,6 +1,7 @@
 pub mod Watched
 pub mod Device
 pub mod Words
+pub mod Floats
 pub mod Request
 pub mod Asked
 pub mod Reply

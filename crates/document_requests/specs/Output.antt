@@ -35,7 +35,7 @@ served r =
 
 -- the request that these bytes are: UTF-8, JSON, and of a request's shape
 abbrev pub request_in : List ℕ → Option Request
-request_in bytes = if is_utf8 bytes then option_and_then request_of (read bytes) else None
+request_in bytes = if is_utf8 bytes then option_and_then (request_of bytes) (read bytes) else None
 
 abbrev pub served_if_any : Option Request → Output
 served_if_any None = not_run refusals.Later

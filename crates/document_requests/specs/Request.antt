@@ -1,5 +1,5 @@
 -- What a request asks, and which JSON values are requests.
-use Rattle.std.specs.Prelude.{ℕ, List, [], ◌∷◌, Option, Some, None, option_map, option_and_then, codes, if◌then◌else◌}
+use Rattle.std.specs.Prelude.{ℕ, ◌&&◌, List, [], ◌∷◌, Option, Some, None, option_map, option_and_then, codes, if◌then◌else◌}
 use Rattle.std.specs.Str.{bytes_eq}
 use Rattle.serde_json.specs.Data.{Data, Items, no_items, item}
 use Rattle.serde_json.specs.Find.{get, as_str, as_array, as_number, as_u64}
@@ -8,6 +8,7 @@ use Rattle.parser_input.specs.declared.edition.Edition.{Edition}
 use Rattle.document_requests.specs.declared.request.Op.{Op}
 use Rattle.document_requests.specs.declared.request.Entry.{Entry}
 use Rattle.document_requests.specs.declared.request.Target.{Target}
+use Rattle.document_requests.specs.Floats.{writes_float}
 use Rattle.document_requests.specs.Words.{edition_named, op_named, entry_named, kind_named}
 
 -- an element becomes what a text is read as
@@ -78,6 +79,7 @@ asked_in d =
     (λ edition. option_and_then (λ text. option_map (λ commands. record { edition = edition; text = text; commands = commands }) (option_and_then commands_in (list_in (codes "commands") d))) (text_in (codes "text") d))
     (option_and_then edition_named (text_in (codes "edition") d))
 
--- No number in it has a point or an exponent.
-abbrev pub request_of : Data → Option Request
-request_of d = if has_float d then None else asked_in d
+-- the request that a text holds as this value, in which no number is written with a point or an exponent. (`-0` and whole numbers past
+-- 64 bits are read as floats too; they are no whole numbers, and where nobody looks at them they change nothing.)
+abbrev pub request_of : List ℕ → Data → Option Request
+request_of text d = if has_float d && writes_float text then None else asked_in d

@@ -1,5 +1,6 @@
--- What contracts see of a watched device: the device itself, how many calls were made, and how many of them failed.
-use Rattle.std.specs.Prelude.{ℕ, ◌-◌, ◌^◌, min}
+-- What contracts see of a watched device: the device itself, how many calls were made, how many of them failed, and which was the first
+-- that met the end of what it reads.
+use Rattle.std.specs.Prelude.{ℕ, ◌-◌, ◌^◌, ◌==◌, zero, suc, min, Bool, true, false, Option, Some, None, Result, Ok, Err}
 use Rattle.document_requests.specs.declared.watched.Watched.{Watched}
 
 abbrev pub device_of : {D : Type 0} → Watched D → D
@@ -11,6 +12,22 @@ calls_of w = w.calls
 abbrev pub failures_of : {D : Type 0} → Watched D → ℕ
 failures_of w = w.failures
 
+-- the number of the first call that met the end, counted from 1 on
+abbrev pub end_of : {D : Type 0} → Watched D → Option ℕ
+end_of w = w.end
+
 -- the count that stays at its greatest value
 abbrev pub counted : ℕ → ℕ
 counted n = min n (2 ^ 64 - 1)
+
+-- A read that gives nothing has met the end, unless it asked for nothing.
+abbrev pub is_end : {E : Type 0} → Result ℕ E → ℕ → Bool
+is_end (Ok count) zero = false
+is_end (Ok count) (suc asked) = count == 0
+is_end (Err error) asked = false
+
+-- the first call that met the end, once this call was made
+abbrev pub first_end : Option ℕ → Bool → ℕ → Option ℕ
+first_end (Some first) met call = Some first
+first_end None true call = Some call
+first_end None false call = None

@@ -1,7 +1,6 @@
 //! Commands are done one after another.
-ghost use Rattle.std.specs.Prelude.{◌≡◌, ◌≤◌, ◌++◌, List, map, option_map, length, IfOk, IfErr, OnOk, OnErr};
+ghost use Rattle.std.specs.Prelude.{◌≡◌, map, option_map, IfOk, IfErr, OnOk, OnErr};
 ghost use Rattle.syntax_tree.specs.Element.{handle_of};
-ghost use Rattle.rust_document.specs.Step.{MAX_TEXT};
 ghost use Rattle.document_requests.specs.Answered.{ends_of, reply as answered};
 ghost use Rattle.document_requests.specs.Applied.{session, IsStopped, Runs, RunsFront};
 ghost use Rattle.document_requests.specs.Asked.{change as change_in, command as command_in};
@@ -23,7 +22,6 @@ fn find(
     document: &Document,
     target: Target,
 ) -> Result<Option<SyntaxElement>, AllocError>
-    requires { length document.now.text ≤ MAX_TEXT }
     ensures { IfOk result (λ element. option_map handle_of element ≡ found document.now target) }
 {
     if target.start >= target.stop || target.stop > document.text().len() as u64 {
@@ -42,11 +40,9 @@ fn replace(
     new: &SyntaxElement,
     ids: &mut TreeIds,
 ) -> Result<Vec<TextRange>, Stop>
-    requires { length document.old.text ≤ MAX_TEXT }
     ensures done { IfOk result (λ ranges. replaced (session document.old ids.old) (handle_of old.now) (handle_of new.now) ≡ record { reply = Changed (map ends_of ranges.items); after = session document.new ids.new }) }
     ensures stopped { IfErr result (IsStopped (replaced (session document.old ids.old) (handle_of old.now) (handle_of new.now)) (session document.new ids.new)) }
     ensures kept { OnErr result (document.new ≡ document.old) }
-    ensures fits { length document.new.text ≤ MAX_TEXT }
 {
     let mut editor = document.editor()?;
     editor.replace(alloc, old, new)?;
@@ -62,11 +58,9 @@ fn put(
     change: Change<'_>,
     ids: &mut TreeIds,
 ) -> Result<Vec<TextRange>, Stop>
-    requires { length document.old.text ≤ MAX_TEXT }
     ensures done { IfOk result (λ ranges. changed_by (change_in change.entry) (session document.old ids.old) ≡ record { reply = Changed (map ends_of ranges.items); after = session document.new ids.new }) }
     ensures stopped { IfErr result (IsStopped (changed_by (change_in change.entry) (session document.old ids.old)) (session document.new ids.new)) }
     ensures kept { OnErr result (document.new ≡ document.old) }
-    ensures fits { length document.new.text ≤ MAX_TEXT }
 {
     let Change::Put {
         op: Op::Replace,
@@ -89,10 +83,8 @@ fn answer(
     command: &Command<'_>,
     ids: &mut TreeIds,
 ) -> Result<Reply, AllocError>
-    requires { length document.old.text ≤ MAX_TEXT }
     ensures done { IfOk result (λ reply. answer (command_in command.now) (session document.old ids.old) ≡ record { reply = answered reply; after = session document.new ids.new }) }
     ensures kept { OnErr result (document.new ≡ document.old) }
-    ensures fits { length document.new.text ≤ MAX_TEXT }
 {
     let Command::Commit { changes } = command;
     let [change] = changes.as_slice() else {
@@ -114,7 +106,6 @@ pub fn apply(
     replies: &mut Vec<Reply>,
     ids: &mut TreeIds,
 ) -> Result<(), AllocError>
-    requires { length document.old.text ≤ MAX_TEXT }
     ensures done { OnOk result (Runs (map command_in commands.now) (session document.old ids.old) (map answered replies.old.items) (map answered replies.new.items) (session document.new ids.new)) }
     ensures stopped { OnErr result (RunsFront (map command_in commands.now) (session document.old ids.old) (map answered replies.old.items) (map answered replies.new.items) document.new) }
 {

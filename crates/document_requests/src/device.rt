@@ -2,7 +2,7 @@
 ghost use Rattle.std.specs.Prelude.{◌≡◌, ◌<◌, ◌-◌, ◌^◌, IfSome, IfOk, IfErr, OnOk, OnErr};
 ghost use Rattle.std.specs.Io.KnownBytes.{Appends};
 ghost use Rattle.document_requests.specs.Watched.{device_of, failures_of};
-ghost use Rattle.document_requests.specs.Device.{NoneFailed, OneFailed, StopsReading, AppendsFront};
+ghost use Rattle.document_requests.specs.Device.{NoneFailed, OneFailed, BoundsReads, EndsReading, MeetsNoEnd, StopsReading, AppendsFront};
 ghost use Rattle.document_requests.specs.declared.fault.Fault.TheVariants.{Writing};
 
 use crate::fault::Fault;
@@ -22,6 +22,9 @@ pub fn read_to_end<R: Read>(alloc: Global, reader: &mut Watched<R>) -> Result<Ve
     ensures read { IfOk result (λ bytes. IfSome (R.remaining (device_of reader.old)) (λ input. bytes.items ≡ input)) }
     ensures none_failed { OnOk result (NoneFailed reader.old reader.new) }
     ensures stopped { IfErr result (StopsReading reader.old reader.new) }
+    ensures reads { BoundsReads reader.old reader.new }
+    ensures ends { OnOk result (EndsReading reader.old reader.new) }
+    ensures meets_no_end { OnErr result (MeetsNoEnd reader.old reader.new) }
 {
     let mut bytes = Vec::new(alloc);
     let mut chunk = [0; CHUNK];

@@ -20,6 +20,3 @@ pub use fault::Fault;
 pub use reply::{Refusal, Reply};
 pub use request::{Change, Command, Entry, Op, Request, Target};
 pub use watched::Watched;
-
-#[cfg(test)]
-mod tests;

@@ -1,7 +1,7 @@
 //! A run: a request is read, served and answered.
 ghost use Rattle.std.specs.Prelude.{◌≡◌, ◌<◌, ◌-◌, ◌^◌, IfSome, IfOk, IfErr, OnOk, OnErr};
 ghost use Rattle.std.specs.Io.KnownBytes.{Appends};
-ghost use Rattle.document_requests.specs.Device.{NoneFailed, StopsWriting, StopsRun, AppendsFront};
+ghost use Rattle.document_requests.specs.Device.{NoneFailed, BoundsReads, EndsReading, ReadsNoFurther, StopsWriting, StopsRun, AppendsFront};
 ghost use Rattle.document_requests.specs.Outcome.{output};
 ghost use Rattle.document_requests.specs.Output.{replies};
 ghost use Rattle.document_requests.specs.Watched.{device_of, failures_of};
@@ -47,7 +47,7 @@ fn write_outcome<W: Write>(
 /// where the request is not run, with status 1.
 ///
 /// Stops at the first call of a device that fails, or after 67,108,864 reads that did not reach the end. What was written then is
-/// a front of the answer. Makes no empty write.
+/// a front of the answer; where reading failed, nothing. Nothing is read after the end of the input, and no write is empty.
 pub fn run<R: Read, W: Write>(
     alloc: Global,
     reader: &mut Watched<R>,
@@ -60,6 +60,9 @@ pub fn run<R: Read, W: Write>(
     ensures none_read_failed { OnOk result (NoneFailed reader.old reader.new) }
     ensures none_write_failed { OnOk result (NoneFailed writer.old writer.new) }
     ensures stopped { IfErr result (StopsRun reader.old reader.new writer.old writer.new) }
+    ensures reads { BoundsReads reader.old reader.new }
+    ensures ends { OnOk result (EndsReading reader.old reader.new) }
+    ensures reads_no_further { ReadsNoFurther reader.old reader.new }
     ensures front { OnErr result (IfSome (R.remaining (device_of reader.old)) (λ input. AppendsFront (W.contents (device_of writer.old)) (W.contents (device_of writer.new)) (replies input).written)) }
 {
     let bytes = read_to_end(alloc, reader)?;

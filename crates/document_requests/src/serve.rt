@@ -50,11 +50,11 @@ fn serve(alloc: Global, request: &Request<'_>) -> Result<Outcome, AllocError>
     Ok(Outcome::Run { document, replies })
 }
 
-/// Runs the request that a value holds, if it holds one.
-fn serve_value(alloc: Global, value: &Value) -> Result<Outcome, AllocError>
-    ensures { IfOk result (λ outcome. output outcome ≡ served_if_any (request_of (view value.now))) }
+/// Runs the request that a text holds as a value, if it holds one.
+fn serve_value(alloc: Global, text: &str, value: &Value) -> Result<Outcome, AllocError>
+    ensures { IfOk result (λ outcome. output outcome ≡ served_if_any (request_of text.now (view value.now))) }
 {
-    match request_of(alloc, value)? {
+    match request_of(alloc, text, value)? {
         Some(request) => serve(alloc, &request),
         None => Ok(Outcome::NotRun(Refusal::Later)),
     }
@@ -68,7 +68,7 @@ pub fn serve_bytes(alloc: Global, bytes: &[u8]) -> Result<Outcome, AllocError>
         return Ok(Outcome::NotRun(Refusal::Later));
     };
     match Value::from_str(alloc, text) {
-        Ok(value) => serve_value(alloc, &value),
+        Ok(value) => serve_value(alloc, text, &value),
         Err(error) => match error.classify() {
             Category::Memory => Err(AllocError),
             _ => Ok(Outcome::NotRun(Refusal::Later)),

@@ -6,7 +6,7 @@ ghost use Rattle.document_requests.specs.Words.{edition_named, op_named, entry_n
 ghost use Rattle.document_requests.specs.Request.{whole_number, target_in, payload_in, change_of, only_change, command_of, commands_in, request_of};
 ghost use Rattle.document_requests.specs.Asked.{change, command, request};
 
-use crate::floats::has_float;
+use crate::floats::{has_float, writes_float};
 use crate::request::{Change, Command, Entry, Op, Request, Target};
 use parser_input::edition::Edition;
 use parser_input::syntax_kind::SyntaxKind;
@@ -126,12 +126,16 @@ fn commands_in(alloc: Global, values: &[Value]) -> Result<Option<Vec<Command<'_>
     Ok(Some(commands))
 }
 
-/// The request that a value holds; further members are not looked at. None where it holds none, or a number that is written
+/// The request that a text holds as a value; further members are not looked at. None where it holds none, or a number that is written
 /// with a point or an exponent.
-pub fn request_of(alloc: Global, value: &Value) -> Result<Option<Request<'_>>, AllocError>
-    ensures { IfOk result (λ found. option_map request found ≡ request_of (view value.now)) }
+pub fn request_of<'a>(
+    alloc: Global,
+    text: &str,
+    value: &'a Value,
+) -> Result<Option<Request<'a>>, AllocError>
+    ensures { IfOk result (λ found. option_map request found ≡ request_of text.now (view value.now)) }
 {
-    if has_float(value) {
+    if has_float(value) && writes_float(text) {
         return Ok(None);
     }
     let word = value.get("edition").and_then(Value::as_str);

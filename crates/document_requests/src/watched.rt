@@ -1,33 +1,36 @@
 //! A device that counts its calls.
-ghost use Rattle.std.specs.Prelude.{◌≡◌, ◌≢◌, ◌+◌, if◌then◌else◌, IfOk, OnOk, OnErr};
+ghost use Rattle.std.specs.Prelude.{◌≡◌, ◌≢◌, ◌+◌, if◌then◌else◌, length, None, IfOk, OnOk, OnErr};
 ghost use Rattle.std.specs.Io.{ReadsAtMost, WritesAtMost};
 ghost use Rattle.std.specs.Io.KnownBytes.{Keeps, ReadConsumes, WriteAppends};
 
 use std::io;
 use std::io::{Read, Write};
 
-/// A reader or a writer that counts its calls and those of them that failed. A read fails by an error, a write by an error or by
-/// taking no byte. A count stays at 18,446,744,073,709,551,615.
+/// A reader or a writer that counts its calls and those of them that failed, and notes which call met the end of the input first. A
+/// read fails by an error, a write by an error or by taking no byte. A count stays at 18,446,744,073,709,551,615.
 #[derive(Drop)]
 pub struct Watched<D> {
     device: D,
     calls: u64,
     failures: u64,
+    end: Option<u64>,
 }
 
 impl<D> Watched<D> {
-    ghost use Rattle.document_requests.specs.Watched.{device_of, calls_of, failures_of, counted};
+    ghost use Rattle.document_requests.specs.Watched.{device_of, calls_of, failures_of, end_of, counted};
 
     /// A device of which no call was made yet.
     pub fn new(device: D) -> Watched<D>
         ensures device { device_of result ≡ device }
         ensures calls { calls_of result ≡ 0 }
         ensures failures { failures_of result ≡ 0 }
+        ensures end { end_of result ≡ None }
     {
         Watched {
             device,
             calls: 0,
             failures: 0,
+            end: None,
         }
     }
 
@@ -45,11 +48,19 @@ impl<D> Watched<D> {
         self.failures
     }
 
+    /// The number of the first call that met the end of the input, counted from 1 on.
+    pub fn end(&self) -> Option<u64>
+        ensures { result ≡ end_of self.now }
+    {
+        self.end
+    }
+
     /// Counts a call.
     fn count(&mut self, failed: bool)
         ensures device { device_of self.new ≡ device_of self.old }
         ensures calls { calls_of self.new ≡ counted (calls_of self.old + 1) }
         ensures failures { failures_of self.new ≡ (if failed then counted (failures_of self.old + 1) else failures_of self.old) }
+        ensures end { end_of self.new ≡ end_of self.old }
     {
         self.calls = self.calls.saturating_add(1);
         if failed {
@@ -59,7 +70,7 @@ impl<D> Watched<D> {
 }
 
 impl<R: Read> Read for Watched<R> {
-    ghost use Rattle.document_requests.specs.Watched.{device_of, calls_of, failures_of, counted};
+    ghost use Rattle.document_requests.specs.Watched.{device_of, calls_of, failures_of, end_of, counted, is_end, first_end};
 
     ghost remaining = { λ w. R.remaining (device_of w) };
 
@@ -69,9 +80,14 @@ impl<R: Read> Read for Watched<R> {
         ensures calls { calls_of self.new ≡ counted (calls_of self.old + 1) }
         ensures ok { OnOk result (failures_of self.new ≡ failures_of self.old) }
         ensures err { OnErr result (failures_of self.new ≡ counted (failures_of self.old + 1)) }
+        ensures end { end_of self.new ≡ first_end (end_of self.old) (is_end result (length buf.old)) (calls_of self.new) }
     {
+        let asked = buf.len();
         let result = self.device.read(buf);
         self.count(result.is_err());
+        if asked > 0 && self.end.is_none() && matches!(&result, Ok(0)) {
+            self.end = Some(self.calls);
+        }
         result
     }
 }

@@ -7,6 +7,7 @@ mod commits;
 mod opening;
 mod payloads;
 mod recording;
+mod requests;
 mod trees;
 
 use parser_input::edition::Edition;

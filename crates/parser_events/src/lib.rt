@@ -17,9 +17,5 @@ pub mod shortcuts;
 pub mod step;
 pub mod str_sink;
 pub mod str_step;
-#[cfg(test)]
-mod tests;
 mod trivia;
-#[cfg(test)]
-mod trivia_tests;
 mod unwinding;

@@ -1,6 +1,6 @@
 //! What a parser gives: the steps of its trees.
 
-ghost use Rattle.std.specs.Prelude.{◌≡◌, map, reverse};
+ghost use Rattle.std.specs.Prelude.{◌≡◌, IfOk, map, reverse};
 ghost use Rattle.std.specs.Iterator.{YieldsFirst, item_count};
 ghost use Rattle.parser_input.specs.Lexed.{leaves_of};
 ghost use Rattle.parser_events.specs.Fits.{fits};
@@ -10,6 +10,7 @@ ghost use Rattle.parser_events.specs.View.{Parsed};
 use crate::fits::{covers, has_one_root};
 use crate::step::Step;
 use parser_input::lexed_str::LexedStr;
+use std::alloc::{AllocError, Global};
 use std::marker::Model;
 
 /// The steps of a parser's trees, and how many looks the parser made.
@@ -37,6 +38,15 @@ impl Output {
         ensures { result ≡ record { steps = map step_of (reverse steps.items); looks = looks } }
     {
         Output { steps, looks }
+    }
+
+    /// An output of these steps, which no parser made: for whoever tries what takes outputs.
+    pub fn from_steps(alloc: Global, steps: &[Step]) -> Result<Output, AllocError>
+        ensures { IfOk result (λ output. output ≡ record { steps = map step_of steps.now; looks = 0 }) }
+    {
+        let mut backwards = Vec::from_slice(alloc, steps)?;
+        backwards.reverse();
+        Ok(Output::from_backwards(backwards, 0))
     }
 
     /// The steps of the trees, the last one first.

@@ -12,3 +12,4 @@ pub mod TreeTexts
 pub mod Prefaces
 pub mod TreeSinks
 pub mod TreeRefusals
+pub mod Faults

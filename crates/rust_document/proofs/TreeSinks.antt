@@ -1,5 +1,5 @@
 -- What all steps of a dressed tree make of a builder and of a list of messages.
-use Rattle.std.proofs.Common.{◌≡◌, ℕ, true, List, [], ◌∷◌, ◌++◌, map, encode_utf8_all, refl, sym, ◌∙◌, ap, append_assoc, append-nil}
+use Rattle.std.proofs.Common.{◌≡◌, true, List, [], ◌∷◌, ◌++◌, map, encode_utf8_all, refl, sym, ◌∙◌, ap, append_assoc, append-nil}
 use Rattle.std.proofs.lemmas.List.{map-append}
 use Rattle.rowan_green.specs.Building.{Building, nothing_built}
 use Rattle.rowan_green.specs.Forest.{Tree}
@@ -8,15 +8,15 @@ use Rattle.rowan_green.specs.declared.utility_types.NodeOrToken.TheVariants.{Nod
 use Rattle.parser_input.specs.Leaf as leaves
 use Rattle.parser_events.specs.Dress.{dress_root, root, close_node, open_node}
 use Rattle.parser_events.specs.Dressed as dressed
-use Rattle.parser_events.specs.Dressed.{Dressed, Saying, sayings_of, text_of}
+use Rattle.parser_events.specs.Dressed.{Dressed, sayings_of, text_of}
 use Rattle.parser_events.specs.Fits.{fits, IsRooted}
 use Rattle.parser_events.specs.Forest as forest
 use Rattle.parser_events.specs.Sinks.{TakesAll}
 use Rattle.parser_events.specs.Steps.{Step, steps}
 use Rattle.parser_events.specs.TextSteps as texts
 use Rattle.parser_events.specs.TextSteps.{TextStep, text_steps}
-use Rattle.rust_document.specs.Seen.{told, says}
-use Rattle.rust_document.specs.Reading.{terms_of, root_of}
+use Rattle.rust_document.specs.Seen.{told}
+use Rattle.rust_document.specs.Reading.{terms_of, root_of, Message, of_grammar}
 use Rattle.rust_document.specs.TreeBuilt.{AreStepsOf, IsBuilt, IsTreeOf}
 use Rattle.rust_document.specs.TreeSinks.{built, heard, IsTaken}
 use Rattle.rust_document.specs.declared.syntax_error.SyntaxError.{SyntaxError}
@@ -35,7 +35,7 @@ abbrev all_signs : List TextStep → List Sign
 all_signs [] = []
 all_signs (s ∷ ss) = signs s ++ all_signs ss
 
-abbrev all_heard : List TextStep → List (ℕ × forest.Message)
+abbrev all_heard : List TextStep → List Message
 all_heard [] = []
 all_heard (s ∷ ss) = heard s ++ all_heard ss
 
@@ -60,7 +60,7 @@ taken-told old new [] h = ap (λ (t : TreeSink). map told t.errors.items) h ∙ 
 taken-told old new (s ∷ ss) h =
     let next = h.0 in
     taken-told next new ss h.1.1
-    ∙ ap (λ (w : List (ℕ × forest.Message)). w ++ all_heard ss) h.1.0.errors
+    ∙ ap (λ (w : List Message). w ++ all_heard ss) h.1.0.errors
     ∙ append_assoc (map told old.errors.items) (heard s) (all_heard ss)
 
 -- ---- the steps of a dressed tree
@@ -71,7 +71,7 @@ signs-append (x ∷ xs) ys = ap (λ (w : List Sign). signs x ++ w) (signs-append
 
 heard-append : (xs ys : List TextStep) → all_heard (xs ++ ys) ≡ all_heard xs ++ all_heard ys
 heard-append [] ys = refl
-heard-append (x ∷ xs) ys = ap (λ (w : List (ℕ × forest.Message)). heard x ++ w) (heard-append xs ys) ∙ sym (append_assoc (heard x) (all_heard xs) (all_heard ys))
+heard-append (x ∷ xs) ys = ap (λ (w : List Message). heard x ++ w) (heard-append xs ys) ∙ sym (append_assoc (heard x) (all_heard xs) (all_heard ys))
 
 -- their word is the word of the tree's terms
 signs-tree : (d : Dressed) → all_signs (text_steps d) ≡ word (terms_of d)
@@ -85,15 +85,15 @@ signs-tree (dressed.Node k c d) =
     ∙ ap (λ (w : List Sign). word (terms_of c) ++ closes ∷ w) (signs-tree d))
 
 -- and their messages are the tree's
-heard-tree : (d : Dressed) → all_heard (text_steps d) ≡ map says (sayings_of d)
+heard-tree : (d : Dressed) → all_heard (text_steps d) ≡ map of_grammar (sayings_of d)
 heard-tree dressed.End = refl
 heard-tree (dressed.Leaf k t d) = heard-tree d
-heard-tree (dressed.Said m p d) = ap (λ (w : List (ℕ × forest.Message)). says (record { message = m; place = p }) ∷ w) (heard-tree d)
+heard-tree (dressed.Said m p d) = ap (λ (w : List Message). of_grammar (record { message = m; place = p }) ∷ w) (heard-tree d)
 heard-tree (dressed.Node k c d) =
     heard-append (text_steps c) (texts.Exit ∷ text_steps d)
-    ∙ ap (λ (w : List (ℕ × forest.Message)). w ++ all_heard (text_steps d)) (heard-tree c)
-    ∙ ap (λ (w : List (ℕ × forest.Message)). map says (sayings_of c) ++ w) (heard-tree d)
-    ∙ sym (map-append says (sayings_of c) (sayings_of d))
+    ∙ ap (λ (w : List Message). w ++ all_heard (text_steps d)) (heard-tree c)
+    ∙ ap (λ (w : List Message). map of_grammar (sayings_of c) ++ w) (heard-tree d)
+    ∙ sym (map-append of_grammar (sayings_of c) (sayings_of d))
 
 -- a node dressed with a text is one node
 rooted-terms : (f : forest.Forest) (ls : List leaves.Leaf) → IsRooted f → word (terms_of (dress_root f ls)) ≡ words (Node (root_of (terms_of (dress_root f ls))) ∷ [])
@@ -120,7 +120,7 @@ root-is t u e = let same : (Node t ∷ []) ≡ (Node u ∷ []) = words-injective
 
 -- and the messages are those that stand in it.
 told-all :
-    (old new : TreeSink) (d : Dressed) → old.errors.items ≡ [] → TakesAll IsTaken old (text_steps d) new → map told new.errors.items ≡ map says (sayings_of d)
+    (old new : TreeSink) (d : Dressed) → old.errors.items ≡ [] → TakesAll IsTaken old (text_steps d) new → map told new.errors.items ≡ map of_grammar (sayings_of d)
 told-all old new d start h =
     taken-told old new (text_steps d) h ∙ ap (λ (es : List SyntaxError). map told es ++ all_heard (text_steps d)) start ∙ heard-tree d
 

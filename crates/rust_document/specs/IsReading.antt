@@ -4,7 +4,7 @@ use Rattle.rowan_green.specs.Forest.{Tree}
 use Rattle.parser_input.specs.declared.edition.Edition.{Edition}
 use Rattle.rust_document.specs.Reading.{tree, messages}
 use Rattle.rust_document.specs.Thin.{is_thin}
-use Rattle.rust_document.specs.Seen.{told, says}
+use Rattle.rust_document.specs.Seen.{told}
 use Rattle.rust_document.specs.declared.syntax_error.SyntaxError.{SyntaxError}
 use Rattle.rust_document.specs.Tokens.{tokens_of, shown}
 use Rattle.rust_document.specs.declared.tokens.LexedToken.{LexedToken}
@@ -15,7 +15,7 @@ pub record IsReading (edition : Edition) (text : List ℕ) (tokens : List LexedT
   pub thin : is_thin edition text ≡ true
   pub tokens_are : map shown tokens ≡ tokens_of edition text
   pub root_is : root ≡ tree edition text
-  pub errors_are : map told errors ≡ map says (messages edition text)
+  pub errors_are : map told errors ≡ messages edition text
 
 -- the reading of a text, where it is thin
 abbrev pub IsReadingIfThin : Edition → List ℕ → Option Reading → Type 0

@@ -1,9 +1,12 @@
 -- The reading of a text: its leaves, its messages and its tree. No earlier text and no command enters.
-use Rattle.std.specs.Prelude.{ℕ, List, false, encode_utf8_all}
+use Rattle.std.specs.Prelude.{ℕ, ◌+◌, List, [], ◌∷◌, ◌++◌, map, Option, None, Some, false, encode_utf8_all}
+use Rattle.rustc_lexer.specs.Characters.{size}
 use Rattle.rowan_green.specs.Forest.{Forest, empty, node, leaf, Tree}
 use Rattle.parser_input.specs.Kinds.{ERROR}
 use Rattle.parser_input.specs.Leaf.{Leaf}
-use Rattle.parser_input.specs.Lexed.{lexed, leaves_of}
+use Rattle.parser_input.specs.Lexed.{Lexed, lexed, leaves_of}
+use Rattle.parser_input.specs.Messages.{wording}
+use Rattle.parser_input.specs.declared.message.Message as leaves
 use Rattle.parser_input.specs.Input.{input}
 use Rattle.parser_input.specs.declared.edition.Edition.{Edition}
 use Rattle.parser_events.specs.Forest as forest
@@ -39,7 +42,30 @@ dressed_file edition ls =
 unfoldable pub tree : Edition → List ℕ → Tree
 tree edition text = root_of (terms_of (dressed_file edition (leaves_in edition text)))
 
--- The messages of a text, with their places, as the parser gives them. The lexer's come behind them; no leaf of the kinds
--- that are read so far has one.
-unfoldable pub messages : Edition → List ℕ → List Saying
-messages edition text = sayings_of (dressed_file edition (leaves_in edition text))
+-- what is wrong at a place: by the grammar, or with a leaf, in words
+pub data Fault : Type 0 where
+  OfGrammar : forest.Message → Fault
+  OfLeaf : List ℕ → Fault
+
+-- a message: its place in bytes, and what it says
+abbrev pub Message : Type 0
+Message = ℕ × Fault
+
+-- a message of the parser
+abbrev pub of_grammar : Saying → Message
+of_grammar s = (s.place, OfGrammar s.message)
+
+-- the message of the lexer about a leaf, if there is one: it stands where the leaf begins
+abbrev pub of_leaf : ℕ → Option leaves.Message → List Message
+of_leaf place None = []
+of_leaf place (Some m) = (place, OfLeaf (wording m)) ∷ []
+
+-- the messages of the lexer about leaves that stand side by side from a place on
+abbrev pub of_leaves : ℕ → List Lexed → List Message
+of_leaves place [] = []
+of_leaves place (l ∷ ls) = of_leaf place l.message ++ of_leaves (place + size l.leaf.text) ls
+
+-- the messages of a text: the parser's in the order of its steps, then the lexer's in the order of the leaves
+unfoldable pub messages : Edition → List ℕ → List Message
+messages edition text =
+    map of_grammar (sayings_of (dressed_file edition (leaves_in edition text))) ++ of_leaves 0 (lexed edition text)

@@ -1,13 +1,13 @@
 -- What each step of a tree with its text makes of a builder and of a list of messages.
-use Rattle.std.specs.Prelude.{◌≡◌, ℕ, ◌+◌, ◌<◌, ◌^◌, List, [], ◌∷◌, ◌++◌, map, encode_utf8_all}
+use Rattle.std.specs.Prelude.{◌≡◌, ◌+◌, ◌<◌, ◌^◌, List, [], ◌∷◌, ◌++◌, map, encode_utf8_all}
 use Rattle.rowan_green.specs.Building.{Building, with_sign, with_opened, with_closed, current_children}
 use Rattle.rowan_green.specs.Refusal.{RefusesUnless}
 use Rattle.rowan_green.specs.Term.{FitsToken, FitsNode}
 use Rattle.rowan_green.specs.Word.{opens, token}
 use Rattle.rowan_green.specs.declared.error.GreenError.{GreenError}
 use Rattle.rowan_green.specs.declared.error.GreenError.TheVariants.{TooLong, Unbalanced, NoMemory}
-use Rattle.parser_events.specs.Forest as forest
 use Rattle.parser_events.specs.TextSteps.{TextStep, Token, Enter, Exit, Error}
+use Rattle.rust_document.specs.Reading.{Message, OfGrammar}
 use Rattle.rust_document.specs.Seen.{told}
 use Rattle.rust_document.specs.declared.tree_sink.TreeSink.{TreeSink}
 
@@ -19,11 +19,11 @@ built b Exit = with_closed b
 built b (Error message place) = b
 
 -- the message that a step is, with its place
-abbrev pub heard : TextStep → List (ℕ × forest.Message)
+abbrev pub heard : TextStep → List Message
 heard (Token kind text) = []
 heard (Enter kind) = []
 heard Exit = []
-heard (Error message place) = (place, message) ∷ []
+heard (Error message place) = (place, OfGrammar message) ∷ []
 
 -- a step is taken
 pub record IsTaken (old : TreeSink) (step : TextStep) (new : TreeSink) : Type 0 where

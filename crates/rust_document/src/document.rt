@@ -1,5 +1,5 @@
 //! A text that is read.
-ghost use Rattle.std.specs.Prelude.{◌≡◌, ◌+◌, ◌==◌, ◌&&◌, [], None, chars, map, option_map, IfOk, IfErr, OnOk};
+ghost use Rattle.std.specs.Prelude.{◌≡◌, ◌≤◌, ◌+◌, ◌==◌, ◌&&◌, [], None, chars, length, map, option_map, IfOk, IfErr, OnOk};
 ghost use Rattle.parser_input.specs.Kind.{raw_of};
 ghost use Rattle.rowan_green.specs.Forest.{same_tree, tree_text};
 ghost use Rattle.syntax_tree.specs.Element.{handle_of};
@@ -8,10 +8,10 @@ ghost use Rattle.syntax_tree.specs.Path.{first_of};
 ghost use Rattle.rust_document.specs.Commit.{RefusesCommit};
 ghost use Rattle.rust_document.specs.Committed.{ends_of};
 ghost use Rattle.rust_document.specs.Open.{IsOpened, RefusesOpen};
-ghost use Rattle.rust_document.specs.Seen.{told, says};
+ghost use Rattle.rust_document.specs.Seen.{told};
 ghost use Rattle.rust_document.specs.Reading.{messages};
 ghost use Rattle.rust_document.specs.Rewrite.{rewritten, changed};
-ghost use Rattle.rust_document.specs.Step.{present, root_handle, verdict, Accepted};
+ghost use Rattle.rust_document.specs.Step.{MAX_TEXT, present, root_handle, verdict, Accepted};
 ghost use Rattle.rust_document.specs.Tokens.{shown, tokens_of};
 
 use crate::error::{CommitError, OpenError};
@@ -99,14 +99,17 @@ impl Document {
         })
     }
 
+    /// The edition that the text is read in.
     pub fn edition(&self) -> Edition
         ensures { result ≡ self.now.edition }
     {
         self.edition
     }
 
+    /// The text, of at most 16,777,216 bytes.
     pub fn text(&self) -> &str
-        ensures { result.now ≡ self.now.text }
+        ensures text { result.now ≡ self.now.text }
+        ensures fits { length self.now.text ≤ MAX_TEXT }
     {
         self.text.as_str()
     }
@@ -125,9 +128,9 @@ impl Document {
         Tokens::of(&self.tokens)
     }
 
-    /// The messages of the parser, in the order of its steps.
+    /// The messages: the parser's in the order of its steps, then the lexer's in the order of the tokens.
     pub fn errors(&self) -> &[SyntaxError]
-        ensures { map told result.now ≡ map says (messages self.now.edition (chars self.now.text)) }
+        ensures { map told result.now ≡ messages self.now.edition (chars self.now.text) }
     {
         &self.errors
     }

@@ -21,5 +21,5 @@ pub use document::{Committed, Document, MAX_TEXT};
 pub use error::{CommitError, OpenError, PayloadError, RecordError};
 pub use payload_entry::{PayloadEntry, payload};
 pub use syntax_editor::SyntaxEditor;
-pub use syntax_error::SyntaxError;
+pub use syntax_error::{SyntaxError, SyntaxMessage};
 pub use tokens::{LexedToken, Tokens};

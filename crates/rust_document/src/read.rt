@@ -1,13 +1,16 @@
 //! Reads a text.
-ghost use Rattle.std.specs.Prelude.{◌≡◌, ◌≤◌, length, chars, encode_utf8_all, IfOk};
+ghost use Rattle.std.specs.Prelude.{◌≡◌, ◌<◌, ◌≤◌, ◌++◌, length, map, chars, encode_utf8_all, IfOk, OnOk};
 ghost use Rattle.parser_input.specs.Lexed.{leaves_of};
+ghost use Rattle.parser_input.specs.Stored.{leaf_at, offset};
 ghost use Rattle.parser_events.specs.Dress.{joined};
 ghost use Rattle.parser_events.specs.Steps.{steps};
 ghost use Rattle.ra_parser.specs.Laws.{file_of};
 ghost use Rattle.rust_document.specs.IsReading.{IsReadingIfThin};
+ghost use Rattle.rust_document.specs.Reading.{of_leaf, of_leaves};
+ghost use Rattle.rust_document.specs.Seen.{told};
 ghost use Rattle.rust_document.specs.TreeBuilt.{IsBuilt};
 
-use crate::syntax_error::SyntaxError;
+use crate::syntax_error::{SyntaxError, SyntaxMessage};
 use crate::thin::is_thin;
 use crate::tokens::{LexedToken, lexed_tokens};
 use crate::tree_sink::{Built, build};
@@ -37,6 +40,34 @@ fn parsed(alloc: Global, lexed: &LexedStr<'_>) -> Result<Built, AllocError>
     Ok(built)
 }
 
+/// Appends the message of the lexer about a leaf, if there is one.
+fn append_fault(
+    lexed: &LexedStr<'_>,
+    leaf: usize,
+    errors: &mut Vec<SyntaxError>,
+) -> Result<(), AllocError>
+    requires { leaf < length lexed.now.leaves }
+    ensures { OnOk result (map told errors.new.items ≡ map told errors.old.items ++ of_leaf (offset lexed.now.leaves leaf) (leaf_at lexed.now.leaves leaf).message) }
+{
+    let Some(words) = lexed.error(leaf) else {
+        return Ok(());
+    };
+    let offset = lexed.text_start(leaf);
+    let message = SyntaxMessage::Lexer(words);
+    errors.push(SyntaxError { offset, message })?;
+    Ok(())
+}
+
+/// Appends the messages of the lexer.
+fn append_faults(lexed: &LexedStr<'_>, errors: &mut Vec<SyntaxError>) -> Result<(), AllocError>
+    ensures { OnOk result (map told errors.new.items ≡ map told errors.old.items ++ of_leaves 0 lexed.now.leaves) }
+{
+    for leaf in 0..lexed.len() {
+        append_fault(lexed, leaf, errors)?;
+    }
+    Ok(())
+}
+
 /// Reads a text of at most 16,777,216 bytes; None where a token of it is not thin.
 pub fn read(alloc: Global, edition: Edition, text: &str) -> Result<Option<Reading>, AllocError>
     requires { length text.now ≤ 16777216 }
@@ -47,8 +78,9 @@ pub fn read(alloc: Global, edition: Edition, text: &str) -> Result<Option<Readin
     }
     let lexed = LexedStr::new(alloc, edition, text)?;
     let built = parsed(alloc, &lexed)?;
+    let Built { root, mut errors } = built;
+    append_faults(&lexed, &mut errors)?;
     let tokens = lexed_tokens(alloc, &lexed)?;
-    let Built { root, errors } = built;
     Ok(Some(Reading {
         tokens,
         root,

@@ -3,21 +3,33 @@
 use parser_events::message::Message;
 use std::fmt;
 
-/// What the parser says of a place in a text. Its `Display` is the message's text.
+/// What is wrong at a place of a text: by the grammar, or with a token.
+#[derive(Clone, Copy, Debug, PartialEq, Eq)]
+pub enum SyntaxMessage {
+    /// What the parser says.
+    Parser(Message),
+    /// What the lexer says, in words.
+    Lexer(&'static str),
+}
+
+/// A message about a place in a text. Its `Display` is the message's text.
 #[derive(Clone, Copy, Debug, PartialEq, Eq)]
 pub struct SyntaxError {
     /// The place, in bytes from the text's start.
     pub offset: usize,
-    pub message: Message,
+    pub message: SyntaxMessage,
 }
 
 impl fmt::Display for SyntaxError {
     ghost use Rattle.std.specs.Prelude.{Some};
-    ghost use Rattle.parser_events.specs.MessageTexts.{message_text};
+    ghost use Rattle.rust_document.specs.Seen.{words_of};
 
-    ghost output = { λ e. Some (message_text e.message) };
+    ghost output = { λ e. Some (words_of e.message) };
 
     fn fmt<W: fmt::Write>(&self, f: &mut fmt::Formatter<W>) -> fmt::Result {
-        write!(f, "{}", self.message)
+        match self.message {
+            SyntaxMessage::Parser(message) => write!(f, "{message}"),
+            SyntaxMessage::Lexer(words) => write!(f, "{words}"),
+        }
     }
 }

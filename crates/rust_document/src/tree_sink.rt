@@ -5,11 +5,12 @@ ghost use Rattle.parser_input.specs.Kind.{raw_of};
 ghost use Rattle.parser_input.specs.Lexed.{leaves_of};
 ghost use Rattle.parser_events.specs.Seen.{message_of};
 ghost use Rattle.parser_events.specs.TextSteps as texts;
+ghost use Rattle.rust_document.specs.Reading.{OfGrammar};
 ghost use Rattle.rust_document.specs.Seen.{told};
 ghost use Rattle.rust_document.specs.TreeBuilt.{IsBuilt, IsTreeOf};
 ghost use Rattle.rust_document.specs.TreeSinks.{built, MayRefuse};
 
-use crate::syntax_error::SyntaxError;
+use crate::syntax_error::{SyntaxError, SyntaxMessage};
 use parser_events::message::Message;
 use parser_events::output::Output;
 use parser_events::shortcuts::intersperse_trivia;
@@ -66,10 +67,11 @@ fn put_message(
     message: Message,
     offset: usize,
 ) -> Result<(), GreenError>
-    ensures ok { OnOk result (map told errors.new.items ≡ map told errors.old.items ++ (offset, message_of message) ∷ []) }
+    ensures ok { OnOk result (map told errors.new.items ≡ map told errors.old.items ++ (offset, OfGrammar (message_of message)) ∷ []) }
     ensures refused { IfErr result (λ error. error ≡ NoMemory) }
     ensures err { OnErr result (errors.new.items ≡ errors.old.items) }
 {
+    let message = SyntaxMessage::Parser(message);
     errors.push(SyntaxError { offset, message })?;
     Ok(())
 }

@@ -1,12 +1,13 @@
 -- The leaves of a text are its bytes, and are read as the grammar says.
-use Rattle.std.proofs.Common.{chars, map, length, ap, sym, subst, ◌∙◌, arith}
+use Rattle.std.proofs.Common.{◌++◌, chars, map, length, ap, sym, subst, ◌∙◌, arith}
 use Rattle.std.proofs.Math.Utf8.{encodes}
 use Rattle.parser_input.specs.Lexed.{leaves_of}
 use Rattle.parser_input.specs.Stored.{Whole}
 use Rattle.parser_events.specs.Dress.{joined}
 use Rattle.parser_events.specs.Steps.{steps}
 use Rattle.ra_parser.specs.Laws.{file_of}
-use Rattle.rust_document.specs.Seen.{in_bytes}
+use Rattle.rust_document.specs.Reading.{of_leaves}
+use Rattle.rust_document.specs.Seen.{in_bytes, told}
 use Rattle.rust_document.specs.Tokens.{spans_from}
 use Rattle.rust_document.specs.TreeBuilt.{IsBuilt}
 use Rattle.rust_document.proofs.Sizes.{bytes-all, count-all}
@@ -27,6 +28,7 @@ lexed_tokens-requires c =
 
 pub returns : goal.returns
 returns c =
-    whole c.args.edition (chars c.args.text.now) _ _ _ (sym c.if-not-is_thin.ensures)
+    whole c.args.edition (chars c.args.text.now) _ _ _ _ (sym c.if-not-is_thin.ensures)
     (subst (λ (w : Whole). IsBuilt (steps (file_of w.edition (leaves_of w.leaves))) (leaves_of w.leaves) c.in_ok-built.built.root c.in_ok-built.built.errors.items) c.in_ok-lexed.ensures c.in_ok-built.ensures)
+    (c.in_ok-append_faults.ensures ∙ ap (λ (w : Whole). map told c.in_ok-built.built.errors.items ++ of_leaves 0 w.leaves) c.in_ok-lexed.ensures)
     (c.in_ok-tokens.ensures ∙ ap (λ (w : Whole). spans_from 0 (map in_bytes (leaves_of w.leaves))) c.in_ok-lexed.ensures)

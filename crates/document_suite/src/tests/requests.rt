@@ -1,0 +1,19 @@
+//! What no contract says: that runs succeed where memory is ample, and the worked cases.
+mod broken;
+mod devices;
+mod lists;
+mod replies;
+
+use document_requests::run::run;
+use document_requests::{Fault, Watched};
+use std::alloc::Global;
+
+/// Whether a request is answered by these bytes and this status.
+fn is_answered(alloc: Global, request: &[u8], expected: &str, status: u8) -> Result<bool, Fault> {
+    let mut input = request;
+    let mut output = Vec::new(alloc);
+    let mut reader = Watched::new(&mut input);
+    let mut writer = Watched::new(&mut output);
+    let found = run(alloc, &mut reader, &mut writer)?;
+    Ok(found == status && output.as_slice() == expected.as_bytes())
+}

@@ -1,0 +1,217 @@
+//! What no clause says: that the steps are the ones that were meant, by lists written by hand.
+
+ghost use Rattle.std.specs.Prelude.{◌≡◌, ◌∷◌, [], length, IfOk};
+ghost use Rattle.parser_input.specs.Kinds as kinds;
+ghost use Rattle.parser_input.specs.Recorded.{plain, identifier};
+
+use parser_events::message::Message;
+use parser_events::output::Output;
+use parser_events::parser::Parser;
+use parser_events::step::Step;
+use parser_input::input::Input;
+use parser_input::syntax_kind::SyntaxKind;
+use std::alloc::{AllocError, Global};
+
+fn three_words(alloc: Global) -> Result<Input, AllocError>
+    ensures { IfOk result (λ input. length input ≡ 3) }
+{
+    let mut input = Input::with_capacity(alloc, 3)?;
+    input.push_ident(SyntaxKind::IDENT)?;
+    input.push_ident(SyntaxKind::IDENT)?;
+    input.push_ident(SyntaxKind::IDENT)?;
+    Ok(input)
+}
+
+fn word_and_float(alloc: Global) -> Result<Input, AllocError>
+    ensures { IfOk result (λ input. input ≡ identifier kinds.IDENT ∷ plain kinds.FLOAT_NUMBER ∷ []) }
+{
+    let mut input = Input::with_capacity(alloc, 2)?;
+    input.push_ident(SyntaxKind::IDENT)?;
+    input.push(SyntaxKind::FLOAT_NUMBER)?;
+    Ok(input)
+}
+
+fn has_steps(output: &Output, want: &[Step]) -> bool {
+    let mut steps = output.iter();
+    for step in want {
+        if steps.next() != Some(*step) {
+            return false;
+        }
+    }
+    steps.next().is_none()
+}
+
+#[test]
+fn tokens_and_a_message_in_a_node(rt: HostRuntime) -> Result<(), AllocError> {
+    let input = three_words(rt.alloc())?;
+    let mut parser = Parser::new(rt.alloc(), &input);
+    let path = parser.start();
+    parser.token(SyntaxKind::IDENT, 1);
+    parser.error(Message::Expected(SyntaxKind::SEMICOLON));
+    parser.token(SyntaxKind::SHL, 2);
+    let _path = path.complete(&mut parser, SyntaxKind::PATH);
+    let output = parser.finish()?;
+    assert!(rt;
+        has_steps(
+            &output,
+            &[
+                Step::Enter {
+                    kind: SyntaxKind::PATH
+                },
+                Step::Token {
+                    kind: SyntaxKind::IDENT,
+                    n_input_tokens: 1
+                },
+                Step::Error {
+                    msg: Message::Expected(SyntaxKind::SEMICOLON)
+                },
+                Step::Token {
+                    kind: SyntaxKind::SHL,
+                    n_input_tokens: 2
+                },
+                Step::Exit,
+            ]
+        )
+    );
+    Ok(())
+}
+
+#[test]
+fn an_empty_node_beside_an_abandoned_one(rt: HostRuntime) -> Result<(), AllocError> {
+    let input = three_words(rt.alloc())?;
+    let mut parser = Parser::new(rt.alloc(), &input);
+    let root = parser.start();
+    let left_out = parser.start();
+    let name = parser.start();
+    let _name = name.complete(&mut parser, SyntaxKind::NAME);
+    parser.token(SyntaxKind::IDENT, 1);
+    left_out.abandon(&mut parser);
+    let _root = root.complete(&mut parser, SyntaxKind::SOURCE_FILE);
+    let output = parser.finish()?;
+    assert!(rt;
+        has_steps(
+            &output,
+            &[
+                Step::Enter {
+                    kind: SyntaxKind::SOURCE_FILE
+                },
+                Step::Enter {
+                    kind: SyntaxKind::NAME
+                },
+                Step::Exit,
+                Step::Token {
+                    kind: SyntaxKind::IDENT,
+                    n_input_tokens: 1
+                },
+                Step::Exit,
+            ]
+        )
+    );
+    Ok(())
+}
+
+#[test]
+fn looks_are_counted(rt: HostRuntime) -> Result<(), AllocError> {
+    let input = word_and_float(rt.alloc())?;
+    let mut parser = Parser::new(rt.alloc(), &input);
+    assert_eq!(rt; parser.kind_at(1), SyntaxKind::FLOAT_NUMBER);
+    assert_eq!(rt; parser.kind_at(2), SyntaxKind::EOF);
+    assert_eq!(rt; parser.contextual_at(0), SyntaxKind::IDENT);
+    assert!(rt; !parser.joint_at(0));
+    parser.token(SyntaxKind::IDENT, 1);
+    assert_eq!(rt; parser.kind_at(0), SyntaxKind::FLOAT_NUMBER);
+    assert_eq!(rt; parser.kind_at(usize::MAX), SyntaxKind::EOF);
+    assert_eq!(rt; parser.position(), 1);
+    let output = parser.finish()?;
+    assert_eq!(rt; output.steps(), 4);
+    Ok(())
+}
+
+#[test]
+fn a_node_around_a_closed_one(rt: HostRuntime) -> Result<(), AllocError> {
+    let input = three_words(rt.alloc())?;
+    let mut parser = Parser::new(rt.alloc(), &input);
+    let operand = parser.start();
+    parser.token(SyntaxKind::IDENT, 1);
+    let operand = operand.complete(&mut parser, SyntaxKind::PATH_EXPR);
+    let sum = operand.precede(&mut parser);
+    assert!(rt; parser.is_innermost(&sum));
+    parser.token(SyntaxKind::PLUS, 1);
+    let _sum = sum.complete(&mut parser, SyntaxKind::BIN_EXPR);
+    let output = parser.finish()?;
+    assert!(rt;
+        has_steps(
+            &output,
+            &[
+                Step::Enter {
+                    kind: SyntaxKind::BIN_EXPR
+                },
+                Step::Enter {
+                    kind: SyntaxKind::PATH_EXPR
+                },
+                Step::Token {
+                    kind: SyntaxKind::IDENT,
+                    n_input_tokens: 1
+                },
+                Step::Exit,
+                Step::Token {
+                    kind: SyntaxKind::PLUS,
+                    n_input_tokens: 1
+                },
+                Step::Exit,
+            ]
+        )
+    );
+    Ok(())
+}
+
+#[test]
+fn a_float_ends_a_field_access(rt: HostRuntime) -> Result<(), AllocError> {
+    let input = word_and_float(rt.alloc())?;
+    let mut parser = Parser::new(rt.alloc(), &input);
+    let access = parser.start();
+    parser.token(SyntaxKind::IDENT, 1);
+    let around = parser.split_float(access, false);
+    let _around = around.complete(&mut parser, SyntaxKind::FIELD_EXPR);
+    let output = parser.finish()?;
+    assert!(rt;
+        has_steps(
+            &output,
+            &[
+                Step::Enter {
+                    kind: SyntaxKind::FIELD_EXPR
+                },
+                Step::Enter {
+                    kind: SyntaxKind::FIELD_EXPR
+                },
+                Step::Token {
+                    kind: SyntaxKind::IDENT,
+                    n_input_tokens: 1
+                },
+                Step::FloatSplit { ends_in_dot: false },
+                Step::Exit,
+            ]
+        )
+    );
+    Ok(())
+}
+
+#[test]
+fn nodes_that_may_be_preceded(rt: HostRuntime) -> Result<(), AllocError> {
+    let input = three_words(rt.alloc())?;
+    let mut parser = Parser::new(rt.alloc(), &input);
+    let first = parser.start();
+    parser.token(SyntaxKind::IDENT, 1);
+    let first = first.complete(&mut parser, SyntaxKind::PATH);
+    let second = parser.start();
+    assert!(rt; !parser.can_precede(&first));
+    let second = second.complete(&mut parser, SyntaxKind::NAME);
+    assert!(rt; parser.can_precede(&first));
+    assert!(rt; parser.can_precede(&second));
+    let pair = first.precede(&mut parser);
+    assert!(rt; parser.can_precede(&second));
+    let pair = pair.complete(&mut parser, SyntaxKind::TUPLE_EXPR);
+    assert!(rt; !parser.can_precede(&second));
+    assert!(rt; parser.can_precede(&pair));
+    Ok(())
+}

@@ -1,0 +1,381 @@
+//! What no clause says: that the trees with their text are the ones that were meant, by lists written by hand.
+
+ghost use Rattle.std.specs.Prelude.{◌≡◌, ◌+◌};
+
+use parser_events::message::Message;
+use parser_events::output::Output;
+use parser_events::shortcuts::intersperse_trivia;
+use parser_events::step::Step;
+use parser_events::str_sink::StrSink;
+use parser_events::str_step::StrStep;
+use parser_input::edition::Edition;
+use parser_input::lexed_str::LexedStr;
+use parser_input::syntax_kind::SyntaxKind;
+use std::alloc::{AllocError, Global};
+
+/// A step with the place of its text, in bytes.
+#[derive(Clone, Copy, PartialEq, Eq)]
+enum Mark {
+    Leaf(SyntaxKind, usize, usize),
+    Enter(SyntaxKind, usize),
+    Exit(usize),
+    Said(Message, usize),
+}
+
+/// How many steps a sink took before the one that it refused.
+#[derive(Clone, Copy, PartialEq, Eq)]
+struct Refusal(usize);
+
+/// Takes no more than so many steps, and looks whether they are those that are wanted.
+#[derive(Drop)]
+struct Awaiting<'a> {
+    wanted: &'a [Mark],
+    most: usize,
+    taken: usize,
+    bytes: usize,
+    are_wanted: bool,
+}
+
+impl<'a> Awaiting<'a> {
+    fn new(wanted: &'a [Mark], most: usize) -> Awaiting<'a> {
+        Awaiting {
+            wanted,
+            most,
+            taken: 0,
+            bytes: 0,
+            are_wanted: true,
+        }
+    }
+
+    /// What a step is here.
+    fn mark(&self, step: StrStep<'_>) -> Mark {
+        match step {
+            StrStep::Token { kind, text } => {
+                Mark::Leaf(kind, self.bytes, self.bytes.saturating_add(text.len()))
+            }
+            StrStep::Enter { kind } => Mark::Enter(kind, self.bytes),
+            StrStep::Exit => Mark::Exit(self.bytes),
+            StrStep::Error { msg, pos } => Mark::Said(msg, pos),
+        }
+    }
+}
+
+impl StrSink for Awaiting<'_> {
+    type Error = Refusal;
+
+    ghost takes = { λ old step new. (new.taken ≡ old.taken + 1) × (new.most ≡ old.most) };
+
+    ghost refuses = { λ old step error new. (error.0 ≡ old.taken) × (new ≡ old) };
+
+    fn step(&mut self, step: StrStep<'_>) -> Result<(), Refusal> {
+        if self.most <= self.taken {
+            return Err(Refusal(self.taken));
+        }
+        let mark = self.mark(step);
+        if self.wanted.get(self.taken).copied() != Some(mark) {
+            self.are_wanted = false;
+        }
+        if let Mark::Leaf(_, _, end) = mark {
+            self.bytes = end;
+        }
+        self.taken += 1;
+        Ok(())
+    }
+}
+
+/// What becomes of steps that are put into a text, by a sink that takes no more than so many and wants these: the step that
+/// was refused, how many were taken, and whether they were the first of those.
+fn put(
+    alloc: Global,
+    text: &str,
+    steps: &[Step],
+    wanted: &[Mark],
+    most: usize,
+) -> Result<(Option<usize>, usize, bool), AllocError> {
+    let lexed = LexedStr::new(alloc, Edition::Edition2021, text)?;
+    let output = Output::from_steps(alloc, steps)?;
+    let mut sink = Awaiting::new(wanted, most);
+    let refused = match intersperse_trivia(&lexed, &output, &mut sink) {
+        Ok(()) => None,
+        Err(Refusal(step)) => Some(step),
+    };
+    Ok((refused, sink.taken, sink.are_wanted))
+}
+
+fn do_fit(alloc: Global, text: &str, steps: &[Step]) -> Result<bool, AllocError> {
+    let lexed = LexedStr::new(alloc, Edition::Edition2021, text)?;
+    let output = Output::from_steps(alloc, steps)?;
+    Ok(output.fits(&lexed))
+}
+
+/// A node begins.
+fn enter(kind: SyntaxKind) -> Step {
+    Step::Enter { kind }
+}
+
+/// A leaf over one token.
+fn leaf(kind: SyntaxKind) -> Step {
+    Step::Token {
+        kind,
+        n_input_tokens: 1,
+    }
+}
+
+/// A file of one struct without fields.
+fn one_struct() -> [Step; 9] {
+    [
+        enter(SyntaxKind::SOURCE_FILE),
+        enter(SyntaxKind::STRUCT),
+        leaf(SyntaxKind::STRUCT_KW),
+        enter(SyntaxKind::NAME),
+        leaf(SyntaxKind::IDENT),
+        Step::Exit,
+        leaf(SyntaxKind::SEMICOLON),
+        Step::Exit,
+        Step::Exit,
+    ]
+}
+
+#[test]
+fn comments_before_a_struct(rt: HostRuntime) -> Result<(), AllocError> {
+    let steps = one_struct();
+    for (text, wanted) in [
+        (
+            "// a\nstruct S;",
+            [
+                Mark::Enter(SyntaxKind::SOURCE_FILE, 0),
+                Mark::Enter(SyntaxKind::STRUCT, 0),
+                Mark::Leaf(SyntaxKind::COMMENT, 0, 4),
+                Mark::Leaf(SyntaxKind::WHITESPACE, 4, 5),
+                Mark::Leaf(SyntaxKind::STRUCT_KW, 5, 11),
+                Mark::Leaf(SyntaxKind::WHITESPACE, 11, 12),
+                Mark::Enter(SyntaxKind::NAME, 12),
+                Mark::Leaf(SyntaxKind::IDENT, 12, 13),
+                Mark::Exit(13),
+                Mark::Leaf(SyntaxKind::SEMICOLON, 13, 14),
+                Mark::Exit(14),
+                Mark::Exit(14),
+            ],
+        ),
+        (
+            "// a\n\nstruct S;",
+            [
+                Mark::Enter(SyntaxKind::SOURCE_FILE, 0),
+                Mark::Leaf(SyntaxKind::COMMENT, 0, 4),
+                Mark::Leaf(SyntaxKind::WHITESPACE, 4, 6),
+                Mark::Enter(SyntaxKind::STRUCT, 6),
+                Mark::Leaf(SyntaxKind::STRUCT_KW, 6, 12),
+                Mark::Leaf(SyntaxKind::WHITESPACE, 12, 13),
+                Mark::Enter(SyntaxKind::NAME, 13),
+                Mark::Leaf(SyntaxKind::IDENT, 13, 14),
+                Mark::Exit(14),
+                Mark::Leaf(SyntaxKind::SEMICOLON, 14, 15),
+                Mark::Exit(15),
+                Mark::Exit(15),
+            ],
+        ),
+        (
+            "/// a\n\nstruct S;",
+            [
+                Mark::Enter(SyntaxKind::SOURCE_FILE, 0),
+                Mark::Enter(SyntaxKind::STRUCT, 0),
+                Mark::Leaf(SyntaxKind::COMMENT, 0, 5),
+                Mark::Leaf(SyntaxKind::WHITESPACE, 5, 7),
+                Mark::Leaf(SyntaxKind::STRUCT_KW, 7, 13),
+                Mark::Leaf(SyntaxKind::WHITESPACE, 13, 14),
+                Mark::Enter(SyntaxKind::NAME, 14),
+                Mark::Leaf(SyntaxKind::IDENT, 14, 15),
+                Mark::Exit(15),
+                Mark::Leaf(SyntaxKind::SEMICOLON, 15, 16),
+                Mark::Exit(16),
+                Mark::Exit(16),
+            ],
+        ),
+        (
+            "//! a\nstruct S;",
+            [
+                Mark::Enter(SyntaxKind::SOURCE_FILE, 0),
+                Mark::Leaf(SyntaxKind::COMMENT, 0, 5),
+                Mark::Leaf(SyntaxKind::WHITESPACE, 5, 6),
+                Mark::Enter(SyntaxKind::STRUCT, 6),
+                Mark::Leaf(SyntaxKind::STRUCT_KW, 6, 12),
+                Mark::Leaf(SyntaxKind::WHITESPACE, 12, 13),
+                Mark::Enter(SyntaxKind::NAME, 13),
+                Mark::Leaf(SyntaxKind::IDENT, 13, 14),
+                Mark::Exit(14),
+                Mark::Leaf(SyntaxKind::SEMICOLON, 14, 15),
+                Mark::Exit(15),
+                Mark::Exit(15),
+            ],
+        ),
+    ] {
+        let outcome = put(rt.alloc(), text, &steps, &wanted, usize::MAX)?;
+        assert!(rt; outcome == (None, 12, true), "{text}");
+    }
+    Ok(())
+}
+
+/// Whether these steps are put into a text as these marks say.
+fn is_put(alloc: Global, text: &str, steps: &[Step], wanted: &[Mark]) -> Result<bool, AllocError> {
+    let outcome = put(alloc, text, steps, wanted, usize::MAX)?;
+    Ok(outcome == (None, wanted.len(), true))
+}
+
+#[test]
+fn floats_behind_a_dot(rt: HostRuntime) -> Result<(), AllocError> {
+    let with_fraction = is_put(
+        rt.alloc(),
+        "0.1",
+        &[
+            enter(SyntaxKind::FIELD_EXPR),
+            enter(SyntaxKind::FIELD_EXPR),
+            Step::FloatSplit { ends_in_dot: false },
+            Step::Exit,
+        ],
+        &[
+            Mark::Enter(SyntaxKind::FIELD_EXPR, 0),
+            Mark::Enter(SyntaxKind::FIELD_EXPR, 0),
+            Mark::Enter(SyntaxKind::NAME_REF, 0),
+            Mark::Leaf(SyntaxKind::INT_NUMBER, 0, 1),
+            Mark::Exit(1),
+            Mark::Exit(1),
+            Mark::Leaf(SyntaxKind::DOT, 1, 2),
+            Mark::Enter(SyntaxKind::NAME_REF, 2),
+            Mark::Leaf(SyntaxKind::INT_NUMBER, 2, 3),
+            Mark::Exit(3),
+            Mark::Exit(3),
+        ],
+    )?;
+    let with_dot = is_put(
+        rt.alloc(),
+        "0.",
+        &[
+            enter(SyntaxKind::SOURCE_FILE),
+            enter(SyntaxKind::FIELD_EXPR),
+            Step::FloatSplit { ends_in_dot: true },
+            Step::Exit,
+        ],
+        &[
+            Mark::Enter(SyntaxKind::SOURCE_FILE, 0),
+            Mark::Enter(SyntaxKind::FIELD_EXPR, 0),
+            Mark::Enter(SyntaxKind::NAME_REF, 0),
+            Mark::Leaf(SyntaxKind::INT_NUMBER, 0, 1),
+            Mark::Exit(1),
+            Mark::Exit(1),
+            Mark::Leaf(SyntaxKind::DOT, 1, 2),
+            Mark::Exit(2),
+        ],
+    )?;
+    let with_exponent = is_put(
+        rt.alloc(),
+        "1e0",
+        &[
+            enter(SyntaxKind::FIELD_EXPR),
+            enter(SyntaxKind::FIELD_EXPR),
+            Step::FloatSplit { ends_in_dot: false },
+            Step::Exit,
+        ],
+        &[
+            Mark::Enter(SyntaxKind::FIELD_EXPR, 0),
+            Mark::Enter(SyntaxKind::FIELD_EXPR, 0),
+            Mark::Said(Message::IllegalFloat, 0),
+            Mark::Enter(SyntaxKind::ERROR, 0),
+            Mark::Leaf(SyntaxKind::FLOAT_NUMBER, 0, 3),
+            Mark::Exit(3),
+            Mark::Exit(3),
+            Mark::Exit(3),
+        ],
+    )?;
+    assert_eq!(rt;
+        (with_fraction, with_dot, with_exponent),
+        (true, true, true)
+    );
+    Ok(())
+}
+
+#[test]
+fn each_step_refused_in_turn(rt: HostRuntime) -> Result<(), AllocError> {
+    let steps = one_struct();
+    let wanted = [
+        Mark::Enter(SyntaxKind::SOURCE_FILE, 0),
+        Mark::Leaf(SyntaxKind::COMMENT, 0, 4),
+        Mark::Leaf(SyntaxKind::WHITESPACE, 4, 6),
+        Mark::Enter(SyntaxKind::STRUCT, 6),
+        Mark::Leaf(SyntaxKind::COMMENT, 6, 10),
+        Mark::Leaf(SyntaxKind::WHITESPACE, 10, 11),
+        Mark::Leaf(SyntaxKind::STRUCT_KW, 11, 17),
+        Mark::Leaf(SyntaxKind::WHITESPACE, 17, 18),
+        Mark::Enter(SyntaxKind::NAME, 18),
+        Mark::Leaf(SyntaxKind::IDENT, 18, 19),
+        Mark::Exit(19),
+        Mark::Leaf(SyntaxKind::SEMICOLON, 19, 20),
+        Mark::Exit(20),
+        Mark::Leaf(SyntaxKind::WHITESPACE, 20, 21),
+        Mark::Exit(21),
+    ];
+    for most in 0..16 {
+        let outcome = put(
+            rt.alloc(),
+            "// a\n\n// b\nstruct S; ",
+            &steps,
+            &wanted,
+            most,
+        )?;
+        let refused = if most < 15 { Some(most) } else { None };
+        assert!(rt; outcome == (refused, most, true), "at {most}");
+    }
+    Ok(())
+}
+
+#[test]
+fn steps_that_fit(rt: HostRuntime) -> Result<(), AllocError> {
+    let file = enter(SyntaxKind::SOURCE_FILE);
+    let field = enter(SyntaxKind::FIELD_EXPR);
+    let said = Step::Error {
+        msg: Message::ExpectedItem,
+    };
+    let with_dot = Step::FloatSplit { ends_in_dot: true };
+    let without_dot = Step::FloatSplit { ends_in_dot: false };
+    let shift = Step::Token {
+        kind: SyntaxKind::SHL,
+        n_input_tokens: 2,
+    };
+    for (text, steps, want) in [
+        (" << ", [file, shift, said, Step::Exit], true),
+        ("< <", [file, shift, said, Step::Exit], false),
+        ("<", [file, shift, said, Step::Exit], false),
+        ("<<<", [file, shift, said, Step::Exit], false),
+        (" 0.", [file, field, with_dot, Step::Exit], true),
+        ("0.", [file, field, without_dot, Step::Exit], false),
+        ("0.1", [file, field, with_dot, Step::Exit], false),
+        ("0.1", [file, field, without_dot, Step::Exit], true),
+        ("0", [file, field, without_dot, Step::Exit], false),
+        ("0.", [file, said, said, with_dot], false),
+        (" ", [file, field, Step::Exit, Step::Exit], true),
+        ("", [file, field, field, Step::Exit], false),
+        ("", [file, Step::Exit, file, Step::Exit], false),
+        ("", [file, Step::Exit, said, said], false),
+        ("", [said, file, Step::Exit, said], false),
+    ] {
+        let got = do_fit(rt.alloc(), text, &steps)?;
+        assert_eq!(rt; got, want, "{text}");
+    }
+    Ok(())
+}
+
+#[test]
+fn texts_of_messages(rt: HostRuntime) -> Result<(), AllocError> {
+    for (message, want) in [
+        (Message::Expected(SyntaxKind::NAME), "expected NAME"),
+        (
+            Message::UnexpectedIn(SyntaxKind::RECORD_FIELD_LIST),
+            "unexpected token in RECORD_FIELD_LIST",
+        ),
+        (Message::ExpectedType, "expected a type"),
+        (Message::IllegalFloat, "illegal float literal"),
+    ] {
+        let is_as_wanted = message.to_string(rt.alloc())?.as_str() == want;
+        assert!(rt; is_as_wanted, "{want}");
+    }
+    Ok(())
+}
