@@ -1,11 +1,13 @@
-//! Reads the leaves of texts and what the parser sees of them, over and over, and prints how many tokens the parser sees.
+//! Reads texts over and over, stage by stage, and prints how many tokens the parser sees.
 //!
 //! Standard input is a list of texts, each ended by the character U+001E; the edition is 2021. For each round a line goes to
-//! standard error: the bytes, the leaves, the tokens, the time. What is made of a text is dropped outside of the time.
+//! standard error: the bytes; the raw tokens and the time that cutting them took; the leaves, the tokens that the parser sees, and
+//! the time that both took. What is made of a text is dropped outside of the time.
 #![tactic(auto)]
 
 use parser_input::edition::Edition;
 use parser_input::lexed_str::LexedStr;
+use rustc_lexer::tokenize;
 use std::alloc::{AllocError, Global};
 use std::io;
 use std::time::Instant;
@@ -17,25 +19,67 @@ const ROUNDS: u32 = 5;
 #[derive(Clone, Copy)]
 struct Sum {
     bytes: usize,
+    raw_tokens: usize,
+    lexing_nanos: u128,
     leaves: usize,
-    tokens: usize,
-    nanos: u128,
+    input_tokens: usize,
+    leaves_nanos: u128,
 }
 
 impl Sum {
+    fn new() -> Sum {
+        Sum {
+            bytes: 0,
+            raw_tokens: 0,
+            lexing_nanos: 0,
+            leaves: 0,
+            input_tokens: 0,
+            leaves_nanos: 0,
+        }
+    }
+
     // This and the text, which is read here.
     fn with(self, rt: &HostRuntime, text: &str) -> io::Result<Sum> {
         let start = Instant::now(rt)?;
+        let (raw_tokens, bytes) = lexed(text);
+        let lexing_nanos = start.elapsed(rt)?.as_nanos();
+        let start = Instant::now(rt)?;
         let lexed = LexedStr::new(rt.alloc(), Edition::Edition2021, text)?;
         let input = lexed.to_input(rt.alloc())?;
-        let nanos = start.elapsed(rt)?.as_nanos();
+        let leaves_nanos = start.elapsed(rt)?.as_nanos();
         Ok(Sum {
-            bytes: self.bytes.wrapping_add(text.len()),
+            bytes: self.bytes.wrapping_add(bytes),
+            raw_tokens: self.raw_tokens.wrapping_add(raw_tokens),
+            lexing_nanos: self.lexing_nanos.wrapping_add(lexing_nanos),
             leaves: self.leaves.wrapping_add(lexed.len()),
-            tokens: self.tokens.wrapping_add(input.len()),
-            nanos: self.nanos.wrapping_add(nanos),
+            input_tokens: self.input_tokens.wrapping_add(input.len()),
+            leaves_nanos: self.leaves_nanos.wrapping_add(leaves_nanos),
         })
     }
+
+    fn print(self, rt: &HostRuntime) -> io::Result<()> {
+        let (bytes, raw_tokens, leaves, input_tokens) = (
+            self.bytes,
+            self.raw_tokens,
+            self.leaves,
+            self.input_tokens,
+        );
+        let (lexing, leaving) = (self.lexing_nanos / 1000, self.leaves_nanos / 1000);
+        eprintln!(rt;
+            "{bytes} bytes, {raw_tokens} raw tokens in {lexing}, {leaves} leaves and {input_tokens} input tokens in {leaving} microseconds"
+        )
+    }
+}
+
+// The raw tokens of a text, and the sum of their lengths.
+fn lexed(text: &str) -> (usize, usize) {
+    let mut count: usize = 0;
+    let mut sum: usize = 0;
+    for token in tokenize(text) {
+        count = count.wrapping_add(1);
+        sum = sum.wrapping_add(token.len);
+    }
+    (count, sum)
 }
 
 fn split(alloc: Global, texts: &str) -> Result<Vec<&str>, AllocError> {
@@ -47,12 +91,7 @@ fn split(alloc: Global, texts: &str) -> Result<Vec<&str>, AllocError> {
 }
 
 fn measure(rt: &HostRuntime, texts: &[&str]) -> io::Result<Sum> {
-    let mut sum = Sum {
-        bytes: 0,
-        leaves: 0,
-        tokens: 0,
-        nanos: 0,
-    };
+    let mut sum = Sum::new();
     for text in texts {
         sum = sum.with(rt, text)?;
     }
@@ -65,10 +104,8 @@ fn main(rt: HostRuntime) -> io::Result<()> {
     let mut last = 0;
     for _ in 0..ROUNDS {
         let sum = measure(&rt, &texts)?;
-        let micros = sum.nanos / 1000;
-        let (bytes, leaves, tokens) = (sum.bytes, sum.leaves, sum.tokens);
-        eprintln!(rt; "{bytes} bytes, {leaves} leaves, {tokens} tokens, {micros} microseconds")?;
-        last = tokens;
+        sum.print(&rt)?;
+        last = sum.input_tokens;
     }
     println!(rt; "{last}")
 }

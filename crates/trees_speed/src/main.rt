@@ -1,95 +1,15 @@
-//! Builds a tree of a million tokens, counts its tokens and drops it, once with few names that
-//! recur and once with a new name in each statement. The counts go to standard output, the times
-//! to standard error.
+//! Builds a tree of a million tokens, counts its tokens, walks through it with cursors and drops it, once with few names that recur
+//! and once with a new name in each statement. The counts go to standard output, the times to standard error.
 #![tactic(auto)]
 
-use rowan_green::{GreenError, GreenNode, GreenNodeBuilder, NodeOrToken, SyntaxKind};
+use rowan::{SyntaxNode, WalkEvent};
+use rowan_green::{GreenNode, NodeOrToken};
+use statements::{Statements, tree};
 use std::alloc::{AllocError, Global};
-use std::fmt::Write;
 use std::io;
 use std::time::Instant;
 
-const ROOT: SyntaxKind = SyntaxKind(1);
-
-const BLOCK: SyntaxKind = SyntaxKind(2);
-
-const STATEMENT: SyntaxKind = SyntaxKind(3);
-
-const NAME: SyntaxKind = SyntaxKind(4);
-
-const EXPRESSION: SyntaxKind = SyntaxKind(5);
-
-const KEYWORD: SyntaxKind = SyntaxKind(6);
-
-const SPACE: SyntaxKind = SyntaxKind(7);
-
-const IDENTIFIER: SyntaxKind = SyntaxKind(8);
-
-const SIGN: SyntaxKind = SyntaxKind(9);
-
-const NUMBER: SyntaxKind = SyntaxKind(10);
-
-const BLOCKS: u32 = 10_000;
-
-const STATEMENTS: u32 = 10;
-
-fn name(
-    builder: &mut GreenNodeBuilder<'_>,
-    kind: SyntaxKind,
-    text: &str,
-) -> Result<(), GreenError> {
-    builder.start_node(kind)?;
-    builder.token(IDENTIFIER, text)?;
-    builder.finish_node()
-}
-
-/// Ten tokens: `let NAME = NAME+1;`, with its three spaces.
-fn statement(builder: &mut GreenNodeBuilder<'_>, text: &str) -> Result<(), GreenError> {
-    builder.start_node(STATEMENT)?;
-    builder.token(KEYWORD, "let")?;
-    builder.token(SPACE, " ")?;
-    name(builder, NAME, text)?;
-    builder.token(SPACE, " ")?;
-    builder.token(SIGN, "=")?;
-    builder.token(SPACE, " ")?;
-    name(builder, EXPRESSION, text)?;
-    builder.token(SIGN, "+")?;
-    builder.token(NUMBER, "1")?;
-    builder.token(SIGN, ";")?;
-    builder.finish_node()
-}
-
-/// The name of a statement: one of `names` names, which recur in turn.
-fn write_name(text: &mut String, number: u32, names: u32) -> Result<(), AllocError> {
-    text.clear();
-    let name = number.checked_rem(names).unwrap_or(number);
-    write!(text, "name_{name}")
-}
-
-fn block(
-    builder: &mut GreenNodeBuilder<'_>,
-    text: &mut String,
-    first: u32,
-    names: u32,
-) -> Result<(), GreenError> {
-    builder.start_node(BLOCK)?;
-    for i in 0..STATEMENTS {
-        write_name(text, first.wrapping_add(i), names)?;
-        statement(builder, text.as_str())?;
-    }
-    builder.finish_node()
-}
-
-fn tree(alloc: Global, names: u32) -> Result<GreenNode, GreenError> {
-    let mut builder = GreenNodeBuilder::new(alloc);
-    let mut text = String::new(alloc);
-    builder.start_node(ROOT)?;
-    for i in 0..BLOCKS {
-        block(&mut builder, &mut text, i.wrapping_mul(STATEMENTS), names)?;
-    }
-    builder.finish_node()?;
-    Ok(builder.finish()?)
-}
+mod statements;
 
 /// How many tokens lie below the node.
 fn tokens_below(node: &GreenNode) -> u64 {
@@ -104,29 +24,60 @@ fn tokens_below(node: &GreenNode) -> u64 {
     tokens
 }
 
-/// Builds, counts and drops a tree; `None` where memory was refused.
-fn measure(rt: &HostRuntime, names: u32) -> io::Result<u64> {
+/// How many events a walk through the tree has, and the bytes of the tokens that it enters.
+fn walked(alloc: Global, root: &SyntaxNode<Statements>) -> Result<(u64, u64), AllocError> {
+    let mut events: u64 = 0;
+    let mut bytes: u64 = 0;
+    for event in root.preorder_with_tokens(alloc)? {
+        if let WalkEvent::Enter(NodeOrToken::Token(token)) = event? {
+            bytes = bytes.wrapping_add(token.text().len() as u64);
+        }
+        events = events.wrapping_add(1);
+    }
+    Ok((events, bytes))
+}
+
+/// How many nodes the tree has.
+fn nodes_of(alloc: Global, root: &SyntaxNode<Statements>) -> Result<u64, AllocError> {
+    let mut nodes: u64 = 0;
+    for node in root.descendants(alloc)? {
+        let _node = node?;
+        nodes = nodes.wrapping_add(1);
+    }
+    Ok(nodes)
+}
+
+/// Walks through the tree and prints what was found.
+fn walk(rt: &HostRuntime, green: GreenNode) -> io::Result<()> {
+    let root = SyntaxNode::new_root(rt.alloc(), green)?;
     let start = Instant::now(rt)?;
-    let Ok(node) = tree(rt.alloc(), names) else {
-        return Ok(0);
+    let (events, bytes) = walked(rt.alloc(), &root)?;
+    let walked = start.elapsed(rt)?.as_micros();
+    let nodes = nodes_of(rt.alloc(), &root)?;
+    let counted = start.elapsed(rt)?.as_micros().saturating_sub(walked);
+    let start = Instant::now(rt)?;
+    drop(root);
+    let dropped = start.elapsed(rt)?.as_micros();
+    eprintln!(rt;
+        "{events} events in {walked}, {nodes} nodes in {counted}, dropped in {dropped} microseconds"
+    )?;
+    println!(rt; "{events} {bytes} {nodes}")
+}
+
+fn measure(rt: &HostRuntime, names: u32) -> io::Result<()> {
+    let start = Instant::now(rt)?;
+    let Ok(green) = tree(rt.alloc(), names) else {
+        return println!(rt; "out of memory");
     };
     let built = start.elapsed(rt)?.as_micros();
-    let tokens = tokens_below(&node);
+    let tokens = tokens_below(&green);
     let counted = start.elapsed(rt)?.as_micros().saturating_sub(built);
-    drop(node);
-    let dropped = start
-        .elapsed(rt)?
-        .as_micros()
-        .saturating_sub(built)
-        .saturating_sub(counted);
-    eprintln!(rt;
-        "{names} names: built {built}, counted {counted}, dropped {dropped} microseconds"
-    )?;
-    Ok(tokens)
+    eprintln!(rt; "{names} names: built in {built}, {tokens} tokens in {counted} microseconds")?;
+    println!(rt; "{tokens}")?;
+    walk(rt, green)
 }
 
 fn main(rt: HostRuntime) -> io::Result<()> {
-    let few = measure(&rt, 100)?;
-    let many = measure(&rt, 0)?;
-    println!(rt; "{few} {many}")
+    measure(&rt, 100)?;
+    measure(&rt, 0)
 }

@@ -1,7 +1,7 @@
 use Rattle.std.proofs.Common.{arith, ap, ◌∙◌}
 use Rattle.rowan_green.specs.Forest.{forest_count}
 use Rattle.rowan_green.specs.Term.{forest_of, forest_of-terms}
-use Rattle.green_speed.proofs.+tokens_below.Goals as goal
+use Rattle.trees_speed.proofs.+tokens_below.Goals as goal
 
 pub loop-child-init : goal.loop-child-init
 loop-child-init t c =
