@@ -5,9 +5,11 @@
     ./test --whole       tries every edit and does not read the ledger
     ./test --record      as ./test, with no sample; where all passed, writes the ledger
     ./test --share 2/3   with any of these: tries, of the edits, those of the second of three shares of the crates alone
+    ./test --edits NAME  with any of these: tries the edits of one crate alone, and none of the tests and programs; a share is
+                         then one of this crate's edits, so that a crate with many can be tried side by side
     ./test --list        with any of these: prints the edits that it would try, and runs nothing
 
-Its last line is that of 'rt ci': 'N passed, M failed'. Only edits rest on the ledger, and on a run without --whole alone.
+Its last line is 'N passed, M failed', as of 'rt ci'. Only edits rest on the ledger, and on a run without --whole alone.
 """
 import argparse
 import hashlib
@@ -56,6 +58,14 @@ def share(edits, number, of):
     return {*shares[number - 1]}
 
 
+def chosen(sums, asked):
+    """Returns the edits that this run may try: all, those of a share of the crates, or those of a share of one crate."""
+    number, of = asked.share
+    if asked.edits:
+        return {*[edit for edit in sorted(sums) if crate_of(edit) == asked.edits][number - 1 :: of]}
+    return share(sums, number, of)
+
+
 def copy(to):
     """Copies the working tree, but for what was built: what is proved is one state, whatever is edited meanwhile."""
 
@@ -89,14 +99,29 @@ def environment():
     return {"RT_JOBS": str(cores), **os.environ} if is_short else dict(os.environ)
 
 
-def run(at):
-    """Runs 'rt ci' in a folder and prints what it prints, but for its last line. Returns its status and that line."""
-    last = ""
-    with subprocess.Popen(["rt", "ci"], cwd=at, env=environment(), stdout=subprocess.PIPE, stdin=subprocess.DEVNULL, errors="replace") as ran:
+def run(at, *words):
+    """Runs 'rt' in a folder and prints what it prints, but for its last line. Returns its status, that line, and all lines."""
+    lines = [""]
+    how = {"cwd": at, "env": environment(), "stdout": subprocess.PIPE, "stdin": subprocess.DEVNULL, "errors": "replace"}
+    with subprocess.Popen(["rt", *words], **how) as ran:
         for line in ran.stdout:
-            print(last, end="", flush=True)
-            last = line
-    return ran.returncode, last
+            print(lines[-1], end="", flush=True)
+            lines.append(line)
+    return ran.returncode, lines[-1], lines
+
+
+def run_all(at, tried):
+    """Runs the gate in a folder. Returns its status, its last line, and whether each crate and each edit that was tried passed."""
+    status, last, _ = run(at, "ci")
+    return status, last, status == 0 and last == f"{len(ledger.lines_of(at)) + len(tried)} passed, 0 failed\n"
+
+
+def run_edits(at, name, tried):
+    """The same of a crate's edits alone."""
+    status, last, lines = run(at, "must-fail", name)
+    print(last, end="")
+    passed = sum(f"must-fail {name}/{os.path.basename(edit)}: refused, as it must be" in line for edit in tried for line in lines)
+    return status, f"{passed} passed, {len(tried) - passed} failed\n", status == 0 and passed == len(tried)
 
 
 def arguments():
@@ -104,6 +129,7 @@ def arguments():
     for word in ("--whole", "--record", "--list"):
         parser.add_argument(word, action="store_true")
     parser.add_argument("--share", default="1/1")
+    parser.add_argument("--edits")
     asked = parser.parse_args()
     number, _, of = asked.share.partition("/")
     if not (number.isdigit() and of.isdigit() and 1 <= int(number) <= int(of)):
@@ -125,18 +151,19 @@ def main():
         except (OSError, ValueError, LookupError) as error:
             stop(f"cannot tell what the edits rest on: {error!r}")
         known = {path: key for path, key in sums.items() if before.get(path) == key}
-        again = [] if asked.record or asked.share[1] > 1 else sample(known)
-        tried = {edit for edit in share(sums, *asked.share) if edit not in known or edit in again}
+        again = [] if asked.record or asked.edits or asked.share[1] > 1 else sample(known)
+        tried = {edit for edit in chosen(sums, asked) if edit not in known or edit in again}
         print(f"test: {len(sums)} must-fail edits: {len(tried)} tried, {len(again)} of them as a sample; {len(sums) - len(tried)} left out", flush=True)
         if asked.list:
             print("".join(f"{edit}\n" for edit in sorted(tried)), end="")
             return 0
         for edit in {*sums} - tried:
             os.remove(f"{copied}/{edit}")
-        status, last = run(copied)
-        # (each crate and each edit that was tried is one of those that passed)
-        all_passed = status == 0 and last == f"{len(ledger.lines_of(copied)) + len(tried)} passed, 0 failed\n"
-        bring_back(copied)
+        if asked.edits:
+            status, last, all_passed = run_edits(copied, asked.edits, tried)
+        else:
+            status, last, all_passed = run_all(copied, tried)
+            bring_back(copied)
         if asked.record and all_passed:
             # (what a record by shares, whole or not, found before stands as long as its sum does)
             stands = {path for path, key in ledger.recorded(TOP).items() if sums.get(path) == key}

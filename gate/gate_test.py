@@ -7,9 +7,14 @@ import tempfile
 import unittest
 
 HERE = os.path.dirname(os.path.realpath(__file__))
-# Notes which edits it finds, builds a program, and counts crates and edits as 'rt ci' does. FAIL and MISS turn its answer.
+# Notes which edits it finds, builds a program, and counts crates and edits as 'rt ci' does, or names edits as 'rt must-fail' does.
+# FAIL and MISS turn its answer.
 STAND_IN = """#!/usr/bin/env bash
 ls crates/*/must-fail/*.edit > "$TRIED" 2> /dev/null
+if [ "$1" = must-fail ]; then
+    for edit in $(tail -n +$((${MISS:-0} + 1)) "$TRIED"); do echo "rt: must-fail $2/$(basename "$edit"): refused, as it must be: .."; done
+    exit "${FAIL:-0}"
+fi
 mkdir -p crates/app/out/rlib && echo new > crates/app/out/app && echo new > crates/app/out/rlib/stamp
 echo "${RT_JOBS:-none}" > "$JOBS"
 passed=$(( $(wc -l < "$TRIED") + $(grep -c '^[a-z]' crates.txt) ))
@@ -163,6 +168,18 @@ class Gate(unittest.TestCase):
         write(f"{self.top}/crates.txt", "low: middle\nmiddle: low\n")
         self.assertEqual(self.run_gate(), {"not run"})
         self.assertEqual((self.status, self.said[-1]), (2, "0 passed, 1 failed"))
+
+    def test_edits_of_one_crate_alone(self):
+        shares = [self.run_gate("--edits", "apart", "--record", "--share", f"{at}/2") for at in (1, 2)]
+        self.assertEqual((self.status, self.said[-1]), (0, "5 passed, 0 failed"))
+        self.assertEqual((shares[0] | shares[1], shares[0] & shares[1]), (of("apart"), set()))
+        self.assertEqual(self.run_gate("--record"), of("low", "middle"))
+
+    def test_edits_that_are_not_refused_are_not_recorded(self):
+        for turned in ({"FAIL": "1"}, {"MISS": "1"}):
+            self.run_gate("--edits", "apart", "--record", **turned)
+            self.assertNotEqual(self.status, 0)
+            self.assertFalse(os.path.exists(self.ledger))
 
     def test_list_runs_nothing(self):
         self.assertEqual(self.run_gate("--list"), {"not run"})
