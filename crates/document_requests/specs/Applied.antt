@@ -1,5 +1,6 @@
 -- What code tells of commands.
-use Rattle.std.specs.Prelude.{◌≡◌, ℕ, List, ◌++◌, take}
+use Rattle.std.specs.Prelude.{◌≡◌, ℕ, List, ◌++◌, map, take}
+use Rattle.rowan_green.specs.declared.text_range.TextRange.{TextRange}
 use Rattle.rust_document.specs.Step.{State}
 use Rattle.rust_document.specs.declared.error.CommitError.{CommitError}
 use Rattle.rust_document.specs.declared.error.CommitError.TheVariants as commits
@@ -7,6 +8,7 @@ use Rattle.rust_document.specs.declared.error.PayloadError.{PayloadError}
 use Rattle.rust_document.specs.declared.error.PayloadError.TheVariants as payloads
 use Rattle.rust_document.specs.declared.error.RecordError.{RecordError}
 use Rattle.rust_document.specs.declared.error.RecordError.TheVariants as records
+use Rattle.document_requests.specs.Answered.{ends_of}
 use Rattle.document_requests.specs.Reply as answered
 use Rattle.document_requests.specs.Request.{Command}
 use Rattle.document_requests.specs.Session.{Session, Answer, run}
@@ -16,6 +18,10 @@ use Rattle.document_requests.specs.declared.reply.Refusal.TheVariants as refusal
 
 abbrev pub session : State → ℕ → Session
 session document next = record { document = document; next = next }
+
+-- The answer is that these ranges were put in, and this is what it leaves.
+abbrev pub IsChanged : Answer → List TextRange → Session → Type 0
+IsChanged a ranges after = a ≡ record { reply = answered.Changed (map ends_of ranges); after = after }
 
 -- The answer is this refusal, and this is what it leaves. Want of memory is no answer.
 abbrev pub IsStopped : Answer → Session → Stop → Type 0

@@ -6,15 +6,14 @@ use Rattle.rowan_green.specs.Forest.{tree_text}
 use Rattle.rowan_green.specs.Leaf.{Leaf}
 use Rattle.rowan_green.specs.Term.{tree_of}
 use Rattle.rowan_green.specs.declared.utility_types.NodeOrToken.TheVariants as terms
-use Rattle.syntax_tree.specs.Path.{first_of}
-use Rattle.syntax_tree.specs.Handle.{Handle, element_of, placed_handle}
+use Rattle.syntax_tree.specs.Handle.{Handle, element_of}
 use Rattle.rust_document.specs.Payload as payload
 use Rattle.rust_document.specs.Payload.{Payload, token_payload}
 use Rattle.rust_document.specs.Record as record_of
 use Rattle.rust_document.specs.Record.{Recording, recording}
 use Rattle.rust_document.specs.Rewrite.{Editing, rewritten, changed}
 use Rattle.rust_document.specs.Step as step
-use Rattle.rust_document.specs.Step.{State, present, root_handle, Verdict, verdict}
+use Rattle.rust_document.specs.Step.{State, first_element, present, Verdict, verdict}
 use Rattle.document_requests.specs.Reply.{Reply, Changed, Refused}
 use Rattle.document_requests.specs.Request.{Command, Commit, Change, Put}
 use Rattle.document_requests.specs.declared.reply.Refusal.{Refusal}
@@ -41,8 +40,7 @@ numbered s = record { document = s.document; next = s.next + 1 }
 -- The element that a target names: its start is before its end, which lies in the text.
 abbrev pub found : State → Target → Option Handle
 found d t =
-    if nat_lt t.start t.stop && nat_le t.stop (length d.text) then option_map (placed_handle (root_handle d)) (first_of (raw_of t.kind) t.start t.stop (present d))
-    else None
+    if nat_lt t.start t.stop && nat_le t.stop (length d.text) then first_element d (raw_of t.kind) t.start t.stop else None
 
 -- the present tree with nothing recorded
 abbrev pub editor_of : State → Editing

@@ -1,10 +1,9 @@
 //! Commands are done one after another.
 ghost use Rattle.std.specs.Prelude.{◌≡◌, map, option_map, IfOk, IfErr, OnOk, OnErr};
 ghost use Rattle.syntax_tree.specs.Element.{handle_of};
-ghost use Rattle.document_requests.specs.Answered.{ends_of, reply as answered};
-ghost use Rattle.document_requests.specs.Applied.{session, IsStopped, Runs, RunsFront};
+ghost use Rattle.document_requests.specs.Answered.{reply as answered};
+ghost use Rattle.document_requests.specs.Applied.{session, IsChanged, IsStopped, Runs, RunsFront};
 ghost use Rattle.document_requests.specs.Asked.{change as change_in, command as command_in};
-ghost use Rattle.document_requests.specs.Reply.{Changed};
 ghost use Rattle.document_requests.specs.Session.{found, replaced, changed_by, answer, run};
 
 use crate::reply::{Refusal, Reply};
@@ -40,8 +39,12 @@ fn replace(
     new: &SyntaxElement,
     ids: &mut TreeIds,
 ) -> Result<Vec<TextRange>, Stop>
-    ensures done { IfOk result (λ ranges. replaced (session document.old ids.old) (handle_of old.now) (handle_of new.now) ≡ record { reply = Changed (map ends_of ranges.items); after = session document.new ids.new }) }
-    ensures stopped { IfErr result (IsStopped (replaced (session document.old ids.old) (handle_of old.now) (handle_of new.now)) (session document.new ids.new)) }
+    ensures done { IfOk result (λ ranges. IsChanged
+        (replaced (session document.old ids.old) (handle_of old.now) (handle_of new.now)) ranges.items
+        (session document.new ids.new)) }
+    ensures stopped { IfErr result (IsStopped
+        (replaced (session document.old ids.old) (handle_of old.now) (handle_of new.now))
+        (session document.new ids.new)) }
     ensures kept { OnErr result (document.new ≡ document.old) }
 {
     let mut editor = document.editor()?;
@@ -58,8 +61,12 @@ fn put(
     change: Change<'_>,
     ids: &mut TreeIds,
 ) -> Result<Vec<TextRange>, Stop>
-    ensures done { IfOk result (λ ranges. changed_by (change_in change.entry) (session document.old ids.old) ≡ record { reply = Changed (map ends_of ranges.items); after = session document.new ids.new }) }
-    ensures stopped { IfErr result (IsStopped (changed_by (change_in change.entry) (session document.old ids.old)) (session document.new ids.new)) }
+    ensures done { IfOk result (λ ranges. IsChanged
+        (changed_by (change_in change.entry) (session document.old ids.old)) ranges.items
+        (session document.new ids.new)) }
+    ensures stopped { IfErr result (IsStopped
+        (changed_by (change_in change.entry) (session document.old ids.old))
+        (session document.new ids.new)) }
     ensures kept { OnErr result (document.new ≡ document.old) }
 {
     let Change::Put {
@@ -83,7 +90,9 @@ fn answer(
     command: &Command<'_>,
     ids: &mut TreeIds,
 ) -> Result<Reply, AllocError>
-    ensures done { IfOk result (λ reply. answer (command_in command.now) (session document.old ids.old) ≡ record { reply = answered reply; after = session document.new ids.new }) }
+    ensures done { IfOk result (λ reply. answer (command_in command.now)
+        (session document.old ids.old) ≡
+        record { reply = answered reply; after = session document.new ids.new }) }
     ensures kept { OnErr result (document.new ≡ document.old) }
 {
     let Command::Commit { changes } = command;
@@ -106,8 +115,12 @@ pub fn apply(
     replies: &mut Vec<Reply>,
     ids: &mut TreeIds,
 ) -> Result<(), AllocError>
-    ensures done { OnOk result (Runs (map command_in commands.now) (session document.old ids.old) (map answered replies.old.items) (map answered replies.new.items) (session document.new ids.new)) }
-    ensures stopped { OnErr result (RunsFront (map command_in commands.now) (session document.old ids.old) (map answered replies.old.items) (map answered replies.new.items) document.new) }
+    ensures done { OnOk result (Runs (map command_in commands.now) (session document.old ids.old)
+        (map answered replies.old.items) (map answered replies.new.items)
+        (session document.new ids.new)) }
+    ensures stopped { OnErr result (RunsFront (map command_in commands.now)
+        (session document.old ids.old) (map answered replies.old.items)
+        (map answered replies.new.items) document.new) }
 {
     for command in commands {
         replies.reserve(1)?;

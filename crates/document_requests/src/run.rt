@@ -22,11 +22,13 @@ fn write_outcome<W: Write>(
     outcome: &Outcome,
 ) -> Result<u8, Fault>
     requires { failures_of writer.old < 2 ^ 64 - 1 }
-    ensures written { OnOk result (Appends (W.contents (device_of writer.old)) (W.contents (device_of writer.new)) (output outcome.now).written) }
+    ensures written { OnOk result (Appends (W.contents (device_of writer.old))
+        (W.contents (device_of writer.new)) (output outcome.now).written) }
     ensures status { IfOk result (λ status. status ≡ (output outcome.now).status) }
     ensures none_failed { OnOk result (NoneFailed writer.old writer.new) }
     ensures stopped { IfErr result (StopsWriting writer.old writer.new) }
-    ensures front { OnErr result (AppendsFront (W.contents (device_of writer.old)) (W.contents (device_of writer.new)) (output outcome.now).written) }
+    ensures front { OnErr result (AppendsFront (W.contents (device_of writer.old))
+        (W.contents (device_of writer.new)) (output outcome.now).written) }
 {
     match outcome {
         Outcome::NotRun(refusal) => {
@@ -55,15 +57,20 @@ pub fn run<R: Read, W: Write>(
 ) -> Result<u8, Fault>
     requires reads { failures_of reader.old < 2 ^ 64 - 1 }
     requires writes { failures_of writer.old < 2 ^ 64 - 1 }
-    ensures written { OnOk result (IfSome (R.remaining (device_of reader.old)) (λ input. Appends (W.contents (device_of writer.old)) (W.contents (device_of writer.new)) (replies input).written)) }
-    ensures status { IfOk result (λ status. IfSome (R.remaining (device_of reader.old)) (λ input. status ≡ (replies input).status)) }
+    ensures written { OnOk result
+        (IfSome (R.remaining (device_of reader.old))
+        (λ input. Appends (W.contents (device_of writer.old)) (W.contents (device_of writer.new)) (replies input).written)) }
+    ensures status { IfOk result (λ status. IfSome (R.remaining (device_of reader.old))
+        (λ input. status ≡ (replies input).status)) }
     ensures none_read_failed { OnOk result (NoneFailed reader.old reader.new) }
     ensures none_write_failed { OnOk result (NoneFailed writer.old writer.new) }
     ensures stopped { IfErr result (StopsRun reader.old reader.new writer.old writer.new) }
     ensures reads { BoundsReads reader.old reader.new }
     ensures ends { OnOk result (EndsReading reader.old reader.new) }
     ensures reads_no_further { ReadsNoFurther reader.old reader.new }
-    ensures front { OnErr result (IfSome (R.remaining (device_of reader.old)) (λ input. AppendsFront (W.contents (device_of writer.old)) (W.contents (device_of writer.new)) (replies input).written)) }
+    ensures front { OnErr result (IfSome (R.remaining (device_of reader.old)) (λ input. AppendsFront
+        (W.contents (device_of writer.old)) (W.contents (device_of writer.new))
+        (replies input).written)) }
 {
     let bytes = read_to_end(alloc, reader)?;
     let outcome = serve_bytes(alloc, &bytes)?;

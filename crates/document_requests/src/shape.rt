@@ -87,7 +87,8 @@ fn change_of(value: &Value) -> Option<Change<'_>>
 
 /// The one change that a commit has so far.
 fn only_change(alloc: Global, values: &[Value]) -> Result<Option<Vec<Change<'_>>>, AllocError>
-    ensures { IfOk result (λ found. option_map (λ changes. map change changes.items) found ≡ only_change (items_view values.now)) }
+    ensures { IfOk result (λ found. option_map (λ changes. map change changes.items) found
+        ≡ only_change (items_view values.now)) }
 {
     let [value] = values else {
         return Ok(None);
@@ -114,7 +115,8 @@ fn command_of(alloc: Global, value: &Value) -> Result<Option<Command<'_>>, Alloc
 }
 
 fn commands_in(alloc: Global, values: &[Value]) -> Result<Option<Vec<Command<'_>>>, AllocError>
-    ensures { IfOk result (λ found. option_map (λ commands. map command commands.items) found ≡ commands_in (items_view values.now)) }
+    ensures { IfOk result (λ found. option_map (λ commands. map command commands.items) found
+        ≡ commands_in (items_view values.now)) }
 {
     let mut commands = Vec::with_capacity(alloc, values.len())?;
     for value in values {

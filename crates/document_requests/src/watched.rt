@@ -59,7 +59,8 @@ impl<D> Watched<D> {
     fn count(&mut self, failed: bool)
         ensures device { device_of self.new ≡ device_of self.old }
         ensures calls { calls_of self.new ≡ counted (calls_of self.old + 1) }
-        ensures failures { failures_of self.new ≡ (if failed then counted (failures_of self.old + 1) else failures_of self.old) }
+        ensures failures { failures_of self.new ≡
+            (if failed then counted (failures_of self.old + 1) else failures_of self.old) }
         ensures end { end_of self.new ≡ end_of self.old }
     {
         self.calls = self.calls.saturating_add(1);
@@ -76,11 +77,13 @@ impl<R: Read> Read for Watched<R> {
 
     fn read(&mut self, buf: &mut [u8]) -> io::Result<usize>
         ensures bound { ReadsAtMost result buf.new }
-        ensures bytes { ReadConsumes (R.remaining (device_of self.old)) (R.remaining (device_of self.new)) result buf.new }
+        ensures bytes { ReadConsumes (R.remaining (device_of self.old))
+            (R.remaining (device_of self.new)) result buf.new }
         ensures calls { calls_of self.new ≡ counted (calls_of self.old + 1) }
         ensures ok { OnOk result (failures_of self.new ≡ failures_of self.old) }
         ensures err { OnErr result (failures_of self.new ≡ counted (failures_of self.old + 1)) }
-        ensures end { end_of self.new ≡ first_end (end_of self.old) (is_end result (length buf.old)) (calls_of self.new) }
+        ensures end { end_of self.new ≡ first_end (end_of self.old) (is_end result (length buf.old))
+            (calls_of self.new) }
     {
         let asked = buf.len();
         let result = self.device.read(buf);
@@ -99,7 +102,8 @@ impl<W: Write> Write for Watched<W> {
 
     fn write(&mut self, buf: &[u8]) -> io::Result<usize>
         ensures bound { WritesAtMost result buf.now }
-        ensures bytes { WriteAppends (W.contents (device_of self.old)) (W.contents (device_of self.new)) result buf.now }
+        ensures bytes { WriteAppends (W.contents (device_of self.old))
+            (W.contents (device_of self.new)) result buf.now }
         ensures calls { calls_of self.new ≡ counted (calls_of self.old + 1) }
         ensures some { IfOk result (λ n. n ≢ 0 → failures_of self.new ≡ failures_of self.old) }
         ensures none { IfOk result (λ n. n ≡ 0 → failures_of self.new ≡ counted (failures_of self.old + 1)) }

@@ -81,7 +81,8 @@ pub(crate) fn has_one_root(backwards: &[Step]) -> bool
 /// before that.
 fn unbroken_end(lexed: &LexedStr<'_>, start: usize, n: u8) -> Option<usize>
     requires { start ≤ length lexed.now.leaves }
-    ensures { MatchOption result (is_unbroken n (drop start (leaves_of lexed.now.leaves)) ≡ false) (λ end. (end ≡ start + n) × (is_unbroken n (drop start (leaves_of lexed.now.leaves)) ≡ true)) }
+    ensures { MatchOption result (is_unbroken n (drop start (leaves_of lexed.now.leaves)) ≡ false)
+        (λ end. (end ≡ start + n) × (is_unbroken n (drop start (leaves_of lexed.now.leaves)) ≡ true)) }
 {
     let mut end = start;
     let mut left = n;
@@ -128,7 +129,8 @@ fn is_split_at(lexed: &LexedStr<'_>, expected: bool, i: usize) -> bool
 /// between the tokens.
 fn behind_token(lexed: &LexedStr<'_>, n: u8, start: usize) -> Option<usize>
     requires { start ≤ length lexed.now.leaves }
-    ensures { MatchOption result ((kind : ℕ) → Misfits lexed.now.leaves (steps.Token kind n) start) (λ next. (kind : ℕ) → Leads lexed.now.leaves (steps.Token kind n) start next) }
+    ensures { MatchOption result ((kind : ℕ) → Misfits lexed.now.leaves (steps.Token kind n) start)
+        (λ next. (kind : ℕ) → Leads lexed.now.leaves (steps.Token kind n) start next) }
 {
     let first = pending_end(lexed, start);
     match unbroken_end(lexed, first, n) {
@@ -140,7 +142,8 @@ fn behind_token(lexed: &LexedStr<'_>, n: u8, start: usize) -> Option<usize>
 /// The leaf that a split leads to, from one on; none where the float that it is for does not stand there.
 fn behind_split(lexed: &LexedStr<'_>, expected: bool, start: usize) -> Option<usize>
     requires { start ≤ length lexed.now.leaves }
-    ensures { MatchOption result (Misfits lexed.now.leaves (steps.FloatSplit expected) start) (λ next. Leads lexed.now.leaves (steps.FloatSplit expected) start next) }
+    ensures { MatchOption result (Misfits lexed.now.leaves (steps.FloatSplit expected) start)
+        (λ next. Leads lexed.now.leaves (steps.FloatSplit expected) start next) }
 {
     let first = pending_end(lexed, start);
     if first == lexed.len() {
@@ -155,7 +158,8 @@ fn behind_split(lexed: &LexedStr<'_>, expected: bool, start: usize) -> Option<us
 /// The leaf that a step leads to, from one on; none where the step does not fit the leaves there.
 fn behind_step(lexed: &LexedStr<'_>, step: Step, start: usize) -> Option<usize>
     requires { start ≤ length lexed.now.leaves }
-    ensures { MatchOption result (Misfits lexed.now.leaves (step_of step) start) (λ next. Leads lexed.now.leaves (step_of step) start next) }
+    ensures { MatchOption result (Misfits lexed.now.leaves (step_of step) start)
+        (λ next. Leads lexed.now.leaves (step_of step) start next) }
 {
     match step {
         Step::Token {

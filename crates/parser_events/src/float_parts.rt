@@ -35,7 +35,8 @@ fn put_parts<'a, S: StrSink>(
     requires before { chars whole.now ≡ before_dot (chars text.now) }
     requires from { chars rest.now ≡ from_dot (chars text.now) }
     ensures taken { OnOk result (TakesAll S.takes sink.old (split_steps ends_in_dot pos (chars text.now)) sink.new) }
-    ensures refused { IfErr result (λ error. RefusesOne S.takes S.refuses sink.old (split_steps ends_in_dot pos (chars text.now)) error sink.new) }
+    ensures refused { IfErr result (λ error. RefusesOne S.takes S.refuses sink.old
+        (split_steps ends_in_dot pos (chars text.now)) error sink.new) }
 {
     match rest.strip_prefix('.') {
         None => put_all(
@@ -115,7 +116,8 @@ pub(crate) fn put_float<S: StrSink>(
     sink: &mut S,
 ) -> Result<(), S::Error>
     ensures taken { OnOk result (TakesAll S.takes sink.old (split_steps ends_in_dot pos (chars text.now)) sink.new) }
-    ensures refused { IfErr result (λ error. RefusesOne S.takes S.refuses sink.old (split_steps ends_in_dot pos (chars text.now)) error sink.new) }
+    ensures refused { IfErr result (λ error. RefusesOne S.takes S.refuses sink.old
+        (split_steps ends_in_dot pos (chars text.now)) error sink.new) }
 {
     let (whole, rest) = cut_at_dot(text);
     put_parts(text, whole, rest, ends_in_dot, pos, sink)

@@ -123,7 +123,8 @@ impl Recorder {
 
     /// The steps of the recorded trees, the last one first.
     pub(crate) fn steps_backwards(self) -> Result<Vec<Step>, AllocError>
-        ensures steps { IfOk result (λ steps. (f : Marked) → self ≡ Some (record_of (f ∷ [])) → map step_of (reverse steps.items) ≡ walk f) }
+        ensures steps { IfOk result (λ steps. (f : Marked) → self ≡ Some (record_of (f ∷ []))
+            → map step_of (reverse steps.items) ≡ walk f) }
         ensures refused { self ≡ None → IsErr result }
     {
         if self.refused {
@@ -135,7 +136,9 @@ impl Recorder {
     /// Whether a node that was closed is one of the trees of the innermost open node: by the number of the first entry that
     /// stands for it, and how many it holds. Yes once a growth was refused. This passes over the trees behind it.
     pub(crate) fn is_child(&self, first: usize, inside: usize) -> bool
-        ensures tells { (kept : Kept) → self.now ≡ Some kept → (f : Marked) (below : List Marked) → kept.entered ≡ all_entries (f ∷ below) → innermost kept ≡ total_size below → ((result ≡ true) ↔ IsAmong (record { before = first; inside = inside }) (f ∷ below)) }
+        ensures tells { (kept : Kept) → self.now ≡ Some kept → (f : Marked) (below : List Marked)
+            → kept.entered ≡ all_entries (f ∷ below) → innermost kept ≡ total_size below →
+            ((result ≡ true) ↔ IsAmong (record { before = first; inside = inside }) (f ∷ below)) }
         ensures refused { self.now ≡ None → result ≡ true }
     {
         if self.refused {
@@ -154,7 +157,9 @@ impl Recorder {
 
 // Whether a node that begins at the entry `first` and holds so many is one of the trees from an entry on.
 fn is_tree(events: &[Event], floor: usize, first: usize, inside: usize) -> bool
-    ensures { (f : Marked) (below : List Marked) → map event_of events.now ≡ all_entries (f ∷ below) → floor ≡ total_size below → ((result ≡ true) ↔ IsAmong (record { before = first; inside = inside }) (f ∷ below)) }
+    ensures { (f : Marked) (below : List Marked) → map event_of events.now ≡ all_entries (f ∷ below)
+        → floor ≡ total_size below →
+        ((result ≡ true) ↔ IsAmong (record { before = first; inside = inside }) (f ∷ below)) }
 {
     let mut end = events.len();
     'trees: while floor < end {

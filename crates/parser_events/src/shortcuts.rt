@@ -27,7 +27,8 @@ use parser_input::syntax_kind::SyntaxKind;
 /// Gives a sink these steps.
 pub(crate) fn put_all<S: StrSink>(steps: &[StrStep<'_>], sink: &mut S) -> Result<(), S::Error>
     ensures taken { OnOk result (TakesAll S.takes sink.old (map text_step_of steps.now) sink.new) }
-    ensures refused { IfErr result (λ error. RefusesOne S.takes S.refuses sink.old (map text_step_of steps.now) error sink.new) }
+    ensures refused { IfErr result
+        (λ error. RefusesOne S.takes S.refuses sink.old (map text_step_of steps.now) error sink.new) }
 {
     for i in 0..steps.len() {
         match sink.step(steps[i]) {
@@ -47,8 +48,10 @@ pub(crate) fn put_leaves<S: StrSink>(
 ) -> Result<(), S::Error>
     requires order { start ≤ end }
     requires within { end ≤ length lexed.now.leaves }
-    ensures taken { OnOk result (TakesAll S.takes sink.old (leaf_steps (slice_range (leaves_of lexed.now.leaves) start end)) sink.new) }
-    ensures refused { IfErr result (λ error. RefusesOne S.takes S.refuses sink.old (leaf_steps (slice_range (leaves_of lexed.now.leaves) start end)) error sink.new) }
+    ensures taken { OnOk result (TakesAll S.takes sink.old
+        (leaf_steps (slice_range (leaves_of lexed.now.leaves) start end)) sink.new) }
+    ensures refused { IfErr result (λ error. RefusesOne S.takes S.refuses sink.old
+        (leaf_steps (slice_range (leaves_of lexed.now.leaves) start end)) error sink.new) }
 {
     for i in start..end {
         let leaf = StrStep::Token {
@@ -100,8 +103,10 @@ pub(crate) fn put_token<S: StrSink>(
     sink: &mut S,
 ) -> Result<usize, S::Error>
     requires { start ≤ length lexed.now.leaves }
-    ensures taken { IfOk result (λ next. Lays S.takes lexed.now.leaves (steps.Token (raw_of kind) n) start sink.old next sink.new) }
-    ensures refused { IfErr result (λ error. RefusesOne S.takes S.refuses sink.old (put_by (steps.Token (raw_of kind) n) (place_at lexed.now.leaves start)) error sink.new) }
+    ensures taken { IfOk result (λ next. Lays S.takes lexed.now.leaves
+        (steps.Token (raw_of kind) n) start sink.old next sink.new) }
+    ensures refused { IfErr result (λ error. RefusesOne S.takes S.refuses sink.old
+        (put_by (steps.Token (raw_of kind) n) (place_at lexed.now.leaves start)) error sink.new) }
 {
     let first = pending_end(lexed, start);
     let end = token_end(lexed, first, n);
@@ -124,8 +129,10 @@ pub(crate) fn put_enter<S: StrSink>(
     sink: &mut S,
 ) -> Result<usize, S::Error>
     requires { start ≤ length lexed.now.leaves }
-    ensures taken { IfOk result (λ next. Lays S.takes lexed.now.leaves (steps.Enter (raw_of kind)) start sink.old next sink.new) }
-    ensures refused { IfErr result (λ error. RefusesOne S.takes S.refuses sink.old (put_by (steps.Enter (raw_of kind)) (place_at lexed.now.leaves start)) error sink.new) }
+    ensures taken { IfOk result
+        (λ next. Lays S.takes lexed.now.leaves (steps.Enter (raw_of kind)) start sink.old next sink.new) }
+    ensures refused { IfErr result (λ error. RefusesOne S.takes S.refuses sink.old
+        (put_by (steps.Enter (raw_of kind)) (place_at lexed.now.leaves start)) error sink.new) }
 {
     let end = pending_end(lexed, start);
     let first = attached_from(lexed, kind, start, end);
@@ -173,8 +180,10 @@ fn put_split<S: StrSink>(
     sink: &mut S,
 ) -> Result<usize, S::Error>
     requires { start ≤ length lexed.now.leaves }
-    ensures taken { IfOk result (λ next. Lays S.takes lexed.now.leaves (steps.FloatSplit ends_in_dot) start sink.old next sink.new) }
-    ensures refused { IfErr result (λ error. RefusesOne S.takes S.refuses sink.old (put_by (steps.FloatSplit ends_in_dot) (place_at lexed.now.leaves start)) error sink.new) }
+    ensures taken { IfOk result (λ next. Lays S.takes lexed.now.leaves
+        (steps.FloatSplit ends_in_dot) start sink.old next sink.new) }
+    ensures refused { IfErr result (λ error. RefusesOne S.takes S.refuses sink.old
+        (put_by (steps.FloatSplit ends_in_dot) (place_at lexed.now.leaves start)) error sink.new) }
 {
     let first = pending_end(lexed, start);
     let text = text_at(lexed, first);
@@ -194,7 +203,8 @@ fn put_split<S: StrSink>(
 fn put_exit<S: StrSink>(lexed: &LexedStr<'_>, start: usize, sink: &mut S) -> Result<usize, S::Error>
     requires { start ≤ length lexed.now.leaves }
     ensures taken { IfOk result (λ next. Lays S.takes lexed.now.leaves steps.Exit start sink.old next sink.new) }
-    ensures refused { IfErr result (λ error. RefusesOne S.takes S.refuses sink.old (put_by steps.Exit (place_at lexed.now.leaves start)) error sink.new) }
+    ensures refused { IfErr result (λ error. RefusesOne S.takes S.refuses sink.old
+        (put_by steps.Exit (place_at lexed.now.leaves start)) error sink.new) }
 {
     match put_all(&[StrStep::Exit], sink) {
         Ok(()) => Ok(start),
@@ -210,8 +220,10 @@ fn put_message<S: StrSink>(
     sink: &mut S,
 ) -> Result<usize, S::Error>
     requires { start ≤ length lexed.now.leaves }
-    ensures taken { IfOk result (λ next. Lays S.takes lexed.now.leaves (steps.Error (message_of msg)) start sink.old next sink.new) }
-    ensures refused { IfErr result (λ error. RefusesOne S.takes S.refuses sink.old (put_by (steps.Error (message_of msg)) (place_at lexed.now.leaves start)) error sink.new) }
+    ensures taken { IfOk result (λ next. Lays S.takes lexed.now.leaves
+        (steps.Error (message_of msg)) start sink.old next sink.new) }
+    ensures refused { IfErr result (λ error. RefusesOne S.takes S.refuses sink.old
+        (put_by (steps.Error (message_of msg)) (place_at lexed.now.leaves start)) error sink.new) }
 {
     let pos = start_of(lexed, start);
     match put_all(&[StrStep::Error { msg, pos }], sink) {
@@ -229,7 +241,8 @@ fn put_step<S: StrSink>(
 ) -> Result<usize, S::Error>
     requires { start ≤ length lexed.now.leaves }
     ensures taken { IfOk result (λ next. Lays S.takes lexed.now.leaves (step_of step) start sink.old next sink.new) }
-    ensures refused { IfErr result (λ error. RefusesOne S.takes S.refuses sink.old (put_by (step_of step) (place_at lexed.now.leaves start)) error sink.new) }
+    ensures refused { IfErr result (λ error. RefusesOne S.takes S.refuses sink.old
+        (put_by (step_of step) (place_at lexed.now.leaves start)) error sink.new) }
 {
     match step {
         Step::Token {
@@ -246,8 +259,10 @@ fn put_step<S: StrSink>(
 /// Puts all leaves that are left, and leaves the root.
 fn put_end<S: StrSink>(lexed: &LexedStr<'_>, start: usize, sink: &mut S) -> Result<(), S::Error>
     requires { start ≤ length lexed.now.leaves }
-    ensures taken { OnOk result (TakesAll S.takes sink.old (leaf_steps (drop start (leaves_of lexed.now.leaves)) ++ text_steps.Exit ∷ []) sink.new) }
-    ensures refused { IfErr result (λ error. RefusesOne S.takes S.refuses sink.old (leaf_steps (drop start (leaves_of lexed.now.leaves)) ++ text_steps.Exit ∷ []) error sink.new) }
+    ensures taken { OnOk result (TakesAll S.takes sink.old
+        (leaf_steps (drop start (leaves_of lexed.now.leaves)) ++ text_steps.Exit ∷ []) sink.new) }
+    ensures refused { IfErr result (λ error. RefusesOne S.takes S.refuses sink.old
+        (leaf_steps (drop start (leaves_of lexed.now.leaves)) ++ text_steps.Exit ∷ []) error sink.new) }
 {
     match put_leaves(lexed, start, lexed.len(), sink) {
         Ok(()) => {}
@@ -265,8 +280,10 @@ fn put_inside<S: StrSink>(
     backwards: &[Step],
     sink: &mut S,
 ) -> Result<(), S::Error>
-    ensures taken { OnOk result (TakesAll S.takes sink.old (put_inside (map step_of (reverse backwards.now)) (place_at lexed.now.leaves 0)) sink.new) }
-    ensures refused { IfErr result (λ error. RefusesOne S.takes S.refuses sink.old (put_inside (map step_of (reverse backwards.now)) (place_at lexed.now.leaves 0)) error sink.new) }
+    ensures taken { OnOk result (TakesAll S.takes sink.old
+        (put_inside (map step_of (reverse backwards.now)) (place_at lexed.now.leaves 0)) sink.new) }
+    ensures refused { IfErr result (λ error. RefusesOne S.takes S.refuses sink.old
+        (put_inside (map step_of (reverse backwards.now)) (place_at lexed.now.leaves 0)) error sink.new) }
 {
     let mut left = backwards.len();
     if left == 0 {
@@ -288,7 +305,9 @@ fn put_inside<S: StrSink>(
 
 /// The kind of the node that a step enters.
 fn entered(step: Step) -> Option<SyntaxKind>
-    ensures { MatchOption result ((rest : List steps.Step) → (own : List Leaf) → put_around (step_of step ∷ rest) own ≡ []) (λ kind. step_of step ≡ steps.Enter (raw_of kind)) }
+    ensures { MatchOption result
+        ((rest : List steps.Step) → (own : List Leaf) → put_around (step_of step ∷ rest) own ≡ [])
+        (λ kind. step_of step ≡ steps.Enter (raw_of kind)) }
 {
     match step {
         Step::Enter { kind } => Some(kind),
@@ -308,8 +327,10 @@ fn put_output<S: StrSink>(
     output: &Output,
     sink: &mut S,
 ) -> Result<(), S::Error>
-    ensures taken { OnOk result (TakesAll S.takes sink.old (put_around output.now.steps (leaves_of lexed.now.leaves)) sink.new) }
-    ensures refused { IfErr result (λ error. RefusesOne S.takes S.refuses sink.old (put_around output.now.steps (leaves_of lexed.now.leaves)) error sink.new) }
+    ensures taken { OnOk result
+        (TakesAll S.takes sink.old (put_around output.now.steps (leaves_of lexed.now.leaves)) sink.new) }
+    ensures refused { IfErr result (λ error. RefusesOne S.takes S.refuses sink.old
+        (put_around output.now.steps (leaves_of lexed.now.leaves)) error sink.new) }
 {
     let backwards = output.backwards();
     let last = backwards.len();
@@ -342,9 +363,13 @@ pub fn intersperse_trivia<S: StrSink>(
     output: &Output,
     sink: &mut S,
 ) -> Result<(), S::Error>
-    ensures taken { OnOk result (TakesAll S.takes sink.old (put_around output.now.steps (leaves_of lexed.now.leaves)) sink.new) }
-    ensures tree { OnOk result ((f : Forest) → IsRooted f → output.now.steps ≡ steps.steps f → fits output.now.steps (leaves_of lexed.now.leaves) ≡ true → TakesAll S.takes sink.old (text_steps.text_steps (dress_root f (leaves_of lexed.now.leaves))) sink.new) }
-    ensures refused { IfErr result (λ error. RefusesOne S.takes S.refuses sink.old (put_around output.now.steps (leaves_of lexed.now.leaves)) error sink.new) }
+    ensures taken { OnOk result
+        (TakesAll S.takes sink.old (put_around output.now.steps (leaves_of lexed.now.leaves)) sink.new) }
+    ensures tree { OnOk result ((f : Forest) → IsRooted f → output.now.steps ≡ steps.steps f
+        → fits output.now.steps (leaves_of lexed.now.leaves) ≡ true → TakesAll S.takes sink.old
+        (text_steps.text_steps (dress_root f (leaves_of lexed.now.leaves))) sink.new) }
+    ensures refused { IfErr result (λ error. RefusesOne S.takes S.refuses sink.old
+        (put_around output.now.steps (leaves_of lexed.now.leaves)) error sink.new) }
 {
     match put_output(lexed, output, sink) {
         Ok(()) => Ok(()),

@@ -35,7 +35,8 @@ fn is_outer_line(text: &str) -> bool
 
 /// Whether a block comment is on what stands behind it. The shortest one, of two stars and two slashes, is not.
 fn is_outer_block(text: &str) -> bool
-    ensures { result ≡ (begins_with (47 ∷ 42 ∷ 42 ∷ []) (chars text.now) && not (get_or (chars text.now) 3 0 == 42) && not (get_or (chars text.now) 3 0 == 47)) }
+    ensures { result ≡ (begins_with (47 ∷ 42 ∷ 42 ∷ []) (chars text.now) && not
+        (get_or (chars text.now) 3 0 == 42) && not (get_or (chars text.now) 3 0 == 47)) }
 {
     begins_with(text, "/**") & !begins_with(text, "/***") & !begins_with(text, "/**/")
 }
@@ -115,7 +116,10 @@ fn is_outer_before(lexed: &LexedStr<'_>, start: usize, end: usize) -> bool
 fn stops_at(lexed: &LexedStr<'_>, start: usize, leaf: usize) -> bool
     requires order { start ≤ leaf }
     requires within { leaf < length lexed.now.leaves }
-    ensures { result ≡ (if (leaf_at lexed.now.leaves leaf).leaf.kind == kinds.COMMENT then is_inner (leaf_at lexed.now.leaves leaf).leaf.text else (has_empty_line (leaf_at lexed.now.leaves leaf).leaf.text && not (is_outer_next (reverse (slice_range (leaves_of lexed.now.leaves) start leaf))))) }
+    ensures { result ≡ (if (leaf_at lexed.now.leaves leaf).leaf.kind == kinds.COMMENT then is_inner
+        (leaf_at lexed.now.leaves leaf).leaf.text else (has_empty_line
+        (leaf_at lexed.now.leaves leaf).leaf.text && not
+        (is_outer_next (reverse (slice_range (leaves_of lexed.now.leaves) start leaf))))) }
 {
     if is_comment(lexed.kind(leaf)) {
         return is_inner(lexed.text(leaf));

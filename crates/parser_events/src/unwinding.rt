@@ -30,7 +30,9 @@ impl Unwinding {
     // Takes the innermost pending node, if it begins here.
     fn begun_at(&mut self, index: usize) -> Option<SyntaxKind>
         ensures steps { self.new.steps.items ≡ self.old.steps.items }
-        ensures cases { MatchOption result (begun index (state_of self.old).pending (state_of self.old).laid ≡ state_of self.new) (λ kind. (state_of self.old).pending ≡ record { kind = raw_of kind; start = index } ∷ (state_of self.new).pending) }
+        ensures cases { MatchOption result (begun index (state_of self.old).pending
+            (state_of self.old).laid ≡ state_of self.new) (λ kind. (state_of self.old).pending ≡
+            record { kind = raw_of kind; start = index } ∷ (state_of self.new).pending) }
         ensures shorter { OnSome result (length self.new.pending.items < length self.old.pending.items) }
     {
         let last = *self.pending.last()?;
@@ -52,7 +54,12 @@ impl Unwinding {
     }
 
     fn end(&mut self, step: Step, kind: SyntaxKind, start: usize) -> Result<(), AllocError>
-        ensures { OnOk result (state_of self.new ≡ record { pending = record { kind = raw_of kind; start = start } ∷ (state_of self.old).pending; laid = step_of step ∷ (state_of self.old).laid }) }
+        ensures { OnOk result (state_of self.new ≡ record {
+          pending =
+              record { kind = raw_of kind; start = start } ∷
+              (state_of self.old).pending;
+          laid = step_of step ∷ (state_of self.old).laid;
+        }) }
     {
         self.steps.push(step)?;
         self.pending.push(Pending { kind, start })?;
@@ -60,7 +67,11 @@ impl Unwinding {
     }
 
     fn lay(&mut self, step: Step) -> Result<(), AllocError>
-        ensures { OnOk result (state_of self.new ≡ record { pending = (state_of self.old).pending; laid = step_of step ∷ (state_of self.old).laid }) }
+        ensures { OnOk result (state_of self.new ≡ record {
+          pending =
+              (state_of self.old).pending;
+          laid = step_of step ∷ (state_of self.old).laid;
+        }) }
     {
         self.steps.push(step)?;
         Ok(())
@@ -95,7 +106,8 @@ impl Unwinding {
 
 /// The steps of the recorded trees, the last one first.
 pub(crate) fn steps_backwards(alloc: Global, events: &[Event]) -> Result<Vec<Step>, AllocError>
-    ensures { IfOk result (λ steps. (f : Marked) → map event_of events.now ≡ entries 0 f → map step_of (reverse steps.items) ≡ walk f) }
+    ensures { IfOk result (λ steps. (f : Marked) → map event_of events.now ≡ entries 0 f
+        → map step_of (reverse steps.items) ≡ walk f) }
 {
     let mut unwinding = Unwinding {
         steps: Vec::new(alloc),

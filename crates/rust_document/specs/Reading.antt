@@ -6,6 +6,7 @@ use Rattle.parser_input.specs.Kinds.{ERROR}
 use Rattle.parser_input.specs.Leaf.{Leaf}
 use Rattle.parser_input.specs.Lexed.{Lexed, lexed, leaves_of}
 use Rattle.parser_input.specs.Messages.{wording}
+use Rattle.parser_input.specs.Stored.{leaf_at, offset}
 use Rattle.parser_input.specs.declared.message.Message as leaves
 use Rattle.parser_input.specs.Input.{input}
 use Rattle.parser_input.specs.declared.edition.Edition.{Edition}
@@ -59,6 +60,10 @@ of_grammar s = (s.place, OfGrammar s.message)
 abbrev pub of_leaf : ℕ → Option leaves.Message → List Message
 of_leaf place None = []
 of_leaf place (Some m) = (place, OfLeaf (wording m)) ∷ []
+
+-- the message of the lexer about the leaf of a number
+abbrev pub of_leaf_at : List Lexed → ℕ → List Message
+of_leaf_at ls i = of_leaf (offset ls i) (leaf_at ls i).message
 
 -- the messages of the lexer about leaves that stand side by side from a place on
 abbrev pub of_leaves : ℕ → List Lexed → List Message

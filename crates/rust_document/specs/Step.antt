@@ -1,9 +1,10 @@
 -- What a command makes of a document.
-use Rattle.std.specs.Prelude.{ℕ, ◌==◌, Bool, not, ◌||◌, nat_lt, List, [], ◌∷◌, length, chars}
+use Rattle.std.specs.Prelude.{ℕ, ◌==◌, Bool, not, ◌||◌, nat_lt, List, [], ◌∷◌, length, chars, Option, option_map}
 use Rattle.rustc_lexer.specs.Rows.{row, first_fit}
 use Rattle.rowan_green.specs.Forest.{Tree, tree_text, same_tree}
 use Rattle.parser_input.specs.declared.edition.Edition.{Edition}
-use Rattle.syntax_tree.specs.Handle.{Handle}
+use Rattle.syntax_tree.specs.Handle.{Handle, placed_handle}
+use Rattle.syntax_tree.specs.Path.{first_of}
 use Rattle.rust_document.specs.Reading.{tree}
 use Rattle.rust_document.specs.Thin.{is_thin}
 use Rattle.rust_document.specs.Rewrite.{Editing, rewritten, bare}
@@ -26,6 +27,10 @@ present d = tree d.edition (chars d.text)
 -- its root, as it is handed out
 abbrev pub root_handle : State → Handle
 root_handle d = record { number = d.number; root = present d; path = [] }
+
+-- the first element in preorder of a kind and a range of bytes, as it is handed out
+abbrev pub first_element : State → ℕ → ℕ → ℕ → Option Handle
+first_element d kind start end = option_map (placed_handle (root_handle d)) (first_of kind start end (present d))
 
 -- a tree without white space and comments
 abbrev pub bare_tree : Tree → Tree

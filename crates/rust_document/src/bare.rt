@@ -21,7 +21,8 @@ fn is_left_out(element: &GreenElement) -> bool
 
 /// The next child that is no white space and no comment.
 fn next_bare<'a>(children: &mut Children<'a>) -> Option<&'a GreenElement>
-    ensures { MatchOption result (bare (forest_of children.old) ≡ empty) (λ e. Steps children.old e.now children.new) }
+    ensures { MatchOption result (bare (forest_of children.old) ≡ empty)
+        (λ e. Steps children.old e.now children.new) }
 {
     'children: while let Some(child) = children.next() {
         if !is_left_out(child) {

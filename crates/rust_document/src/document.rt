@@ -3,15 +3,13 @@ ghost use Rattle.std.specs.Prelude.{◌≡◌, ◌≤◌, ◌+◌, ◌==◌, ◌
 ghost use Rattle.parser_input.specs.Kind.{raw_of};
 ghost use Rattle.rowan_green.specs.Forest.{same_tree, tree_text};
 ghost use Rattle.syntax_tree.specs.Element.{handle_of};
-ghost use Rattle.syntax_tree.specs.Handle.{placed_handle};
-ghost use Rattle.syntax_tree.specs.Path.{first_of};
 ghost use Rattle.rust_document.specs.Commit.{RefusesCommit};
 ghost use Rattle.rust_document.specs.Committed.{ends_of};
 ghost use Rattle.rust_document.specs.Open.{IsOpened, RefusesOpen};
 ghost use Rattle.rust_document.specs.Seen.{told};
 ghost use Rattle.rust_document.specs.Reading.{messages};
 ghost use Rattle.rust_document.specs.Rewrite.{rewritten, changed};
-ghost use Rattle.rust_document.specs.Step.{MAX_TEXT, present, root_handle, verdict, Accepted};
+ghost use Rattle.rust_document.specs.Step.{MAX_TEXT, first_element, present, root_handle, verdict, Accepted};
 ghost use Rattle.rust_document.specs.Tokens.{shown, tokens_of};
 
 use crate::error::{CommitError, OpenError};
@@ -142,7 +140,8 @@ impl Document {
         kind: SyntaxKind,
         range: TextRange,
     ) -> Result<Option<SyntaxElement>, AllocError>
-        ensures { IfOk result (λ found. option_map handle_of found ≡ option_map (placed_handle (root_handle self.now)) (first_of (raw_of kind) range.start.0 range.end.0 (present self.now))) }
+        ensures { IfOk result (λ found. option_map handle_of found ≡ first_element self.now
+            (raw_of kind) range.start.0 range.end.0) }
     {
         self.root.find(alloc, kind, range)
     }
@@ -174,7 +173,13 @@ impl Document {
         ids: &mut TreeIds,
     ) -> Result<Committed, CommitError>
         ensures accepted { OnOk result (verdict self.old editor ≡ Accepted) }
-        ensures state { OnOk result (self.new ≡ record { edition = self.old.edition; text = tree_text (rewritten editor); number = ids.old }) }
+        ensures state { OnOk result (self.new ≡
+            record {
+              edition = self.old.edition;
+              text = tree_text
+                  (rewritten editor);
+              number = ids.old;
+            }) }
         ensures changed { IfOk result (λ c. map ends_of c.changed.items ≡ changed editor) }
         ensures number { OnOk result (ids.new ≡ ids.old + 1) }
         ensures refused { IfErr result (RefusesCommit (verdict self.old editor) ids.old) }

@@ -1,12 +1,11 @@
 //! Reads a text.
 ghost use Rattle.std.specs.Prelude.{◌≡◌, ◌<◌, ◌≤◌, ◌++◌, length, map, chars, encode_utf8_all, IfOk, OnOk};
 ghost use Rattle.parser_input.specs.Lexed.{leaves_of};
-ghost use Rattle.parser_input.specs.Stored.{leaf_at, offset};
 ghost use Rattle.parser_events.specs.Dress.{joined};
 ghost use Rattle.parser_events.specs.Steps.{steps};
 ghost use Rattle.ra_parser.specs.Laws.{file_of};
 ghost use Rattle.rust_document.specs.IsReading.{IsReadingIfThin};
-ghost use Rattle.rust_document.specs.Reading.{of_leaf, of_leaves};
+ghost use Rattle.rust_document.specs.Reading.{of_leaf_at, of_leaves};
 ghost use Rattle.rust_document.specs.Seen.{told};
 ghost use Rattle.rust_document.specs.TreeBuilt.{IsBuilt};
 
@@ -32,7 +31,9 @@ pub struct Reading {
 fn parsed(alloc: Global, lexed: &LexedStr<'_>) -> Result<Built, AllocError>
     requires bytes { length (encode_utf8_all (joined (leaves_of lexed.now.leaves))) ≤ 16777216 }
     requires count { length lexed.now.leaves ≤ 16777216 }
-    ensures { IfOk result (λ b. IsBuilt (steps (file_of lexed.now.edition (leaves_of lexed.now.leaves))) (leaves_of lexed.now.leaves) b.root b.errors.items) }
+    ensures { IfOk result (λ b. IsBuilt
+        (steps (file_of lexed.now.edition (leaves_of lexed.now.leaves)))
+        (leaves_of lexed.now.leaves) b.root b.errors.items) }
 {
     let input = lexed.to_input(alloc)?;
     let output = parse::source_file(alloc, &input)?;
@@ -47,7 +48,8 @@ fn append_fault(
     errors: &mut Vec<SyntaxError>,
 ) -> Result<(), AllocError>
     requires { leaf < length lexed.now.leaves }
-    ensures { OnOk result (map told errors.new.items ≡ map told errors.old.items ++ of_leaf (offset lexed.now.leaves leaf) (leaf_at lexed.now.leaves leaf).message) }
+    ensures { OnOk result
+        (map told errors.new.items ≡ map told errors.old.items ++ of_leaf_at lexed.now.leaves leaf) }
 {
     let Some(words) = lexed.error(leaf) else {
         return Ok(());

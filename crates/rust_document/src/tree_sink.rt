@@ -67,7 +67,8 @@ fn put_message(
     message: Message,
     offset: usize,
 ) -> Result<(), GreenError>
-    ensures ok { OnOk result (map told errors.new.items ≡ map told errors.old.items ++ (offset, OfGrammar (message_of message)) ∷ []) }
+    ensures ok { OnOk result (map told errors.new.items ≡ map told errors.old.items ++
+        (offset, OfGrammar (message_of message)) ∷ []) }
     ensures refused { IfErr result (λ error. error ≡ NoMemory) }
     ensures err { OnErr result (errors.new.items ≡ errors.old.items) }
 {

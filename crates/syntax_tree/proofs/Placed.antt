@@ -1,11 +1,11 @@
 -- Lemmas on elements where they stand: the path of each leads to it, and its bytes lie in the whole.
-use Rattle.std.proofs.Common.{◌≡◌, ◌≢◌, ℕ, zero, suc, ◌+◌, ◌≤◌, ◌<◌, List, [], ◌∷◌, ◌++◌, length, refl, arith, ap, ◌∙◌, sym, subst, add-suc, append_assoc, length-append}
+use Rattle.std.proofs.Common.{◌≡◌, ℕ, suc, ◌+◌, ◌≤◌, List, [], ◌∷◌, ◌++◌, length, refl, arith, ap, ◌∙◌, sym, subst, append_assoc}
 use Rattle.std.specs.Prelude.{Bool, true, false, cond, Option, Some, None, option_map, option_and_then, unwrap_or, find}
 use Rattle.rowan_green.specs.Leaf.{Leaf}
 use Rattle.rowan_green.specs.Forest.{Forest, empty, node, leaf, Tree, forest_text}
-use Rattle.rowan_green.specs.Term.{Term, term_len, text_of}
+use Rattle.rowan_green.specs.Term.{Term, term_len}
 use Rattle.rowan_green.specs.declared.utility_types.NodeOrToken.TheVariants.{Node, Token}
-use Rattle.syntax_tree.specs.Path.{Path, Placed, placed_in, elements, child, at, replaced, with_child, before, first_of, is_of}
+use Rattle.syntax_tree.specs.Path.{Path, Placed, placed_in, elements, child, at, replaced, with_child, first_of, is_of}
 use Rattle.syntax_tree.specs.Replacement.{start_of, bytes_before}
 use Rattle.syntax_tree.proofs.Children.{bytes_before-child, no_bytes_before}
 use Rattle.syntax_tree.proofs.Replaced.{changed_start}

@@ -6,7 +6,6 @@ use Rattle.rowan_green.specs.Term.{Term, text_of, term_len}
 use Rattle.rowan_green.specs.declared.utility_types.NodeOrToken.TheVariants.{Node, Token}
 use Rattle.syntax_tree.specs.Path.{Path, child, at}
 use Rattle.syntax_tree.specs.Replacement.{start_of, bytes_before}
-use Rattle.syntax_tree.proofs.Children.{no_bytes_before}
 
 -- a part of a text, with `start` bytes before it
 pub record IsSlice (whole part : List ℕ) (start : ℕ) : Type 0 where

@@ -34,7 +34,8 @@ pub fn first_of(
     start: usize,
     end: usize,
 ) -> Result<Option<Vec<usize>>, AllocError>
-    ensures { IfOk result (λ found. option_map (λ v. v.items) found ≡ option_map (λ p. p.path) (first_of (raw_of kind) start end root.now)) }
+    ensures { IfOk result (λ found. option_map (λ v. v.items) found ≡ option_map (λ p. p.path)
+        (first_of (raw_of kind) start end root.now)) }
 {
     let wanted = Wanted {
         kind: kind.to_raw(),
@@ -59,7 +60,9 @@ fn found_in(
     path: &mut Vec<usize>,
 ) -> Result<bool, AllocError>
     requires { start + term_len element.now < 2 ^ 32 }
-    ensures found { IfOk result (λ found. found_path found path.new.items ≡ option_map (λ p. p.path) (find (is_of wanted.now.kind wanted.now.start wanted.now.end) (placed_at path.old.items start element.now))) }
+    ensures found { IfOk result (λ found. found_path found path.new.items ≡ option_map (λ p. p.path)
+        (find (is_of wanted.now.kind wanted.now.start wanted.now.end)
+        (placed_at path.old.items start element.now))) }
     ensures kept { IfOk result (λ found. found ≡ false → path.new.items ≡ path.old.items) }
 {
     let end = start + usize::from(element.text_len());

@@ -21,7 +21,8 @@ pub fn replaced_at(
     requires leads { at (Node root.now) path.now ≢ None }
     requires root_is_node { path.now ≡ [] → IsNode new.now }
     ensures ok { IfOk result (λ t. t ≡ changed_tree root.now (Some (record { path = path.now; new = new.now }))) }
-    ensures refused { IfErr result (RefusesUnless (length (tree_text (changed_tree root.now (Some (record { path = path.now; new = new.now })))) < 2 ^ 32)) }
+    ensures refused { IfErr result (RefusesUnless (length (tree_text
+        (changed_tree root.now (Some (record { path = path.now; new = new.now })))) < 2 ^ 32)) }
 {
     let element = NodeOrToken::Node(root.clone()?);
     match replaced_in(alloc, &element, path, new)? {

@@ -176,7 +176,9 @@ impl SyntaxNode {
         kind: SyntaxKind,
         range: TextRange,
     ) -> Result<Option<SyntaxElement>, AllocError>
-        ensures { IfOk result (λ found. option_map handle_of found ≡ option_map (placed_handle self.now) (first_of (raw_of kind) range.start.0 range.end.0 self.now.root)) }
+        ensures { IfOk result (λ found. option_map handle_of found ≡ option_map
+            (placed_handle self.now)
+            (first_of (raw_of kind) range.start.0 range.end.0 self.now.root)) }
     {
         let (start, end) = (usize::from(range.start()), usize::from(range.end()));
         match first_of(alloc, &self.place.root, kind, start, end)? {
@@ -230,7 +232,12 @@ impl SyntaxToken {
         green: GreenToken,
         ids: &mut TreeIds,
     ) -> Result<SyntaxToken, TreeError>
-        ensures ok { IfOk result (λ t. t ≡ record { number = ids.old; root = tree_of TOMBSTONE (terms.Token green ∷ []); path = 0 ∷ [] }) }
+        ensures ok { IfOk result (λ t. t ≡ record {
+          number = ids.old;
+          root = tree_of TOMBSTONE
+              (terms.Token green ∷ []);
+          path = 0 ∷ [];
+        }) }
         ensures number { OnOk result (ids.new ≡ ids.old + 1) }
         ensures refused { IfErr result (RefusesTree ids.old) }
         ensures kept { IfErr result (λ _. ids.new ≡ ids.old) }

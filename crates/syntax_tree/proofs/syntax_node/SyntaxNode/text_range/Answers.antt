@@ -1,5 +1,5 @@
 -- A node's bytes lie within the text of its tree.
-use Rattle.std.proofs.Common.{arith, ap}
+use Rattle.std.proofs.Common.{arith}
 use Rattle.rowan_green.specs.declared.utility_types.NodeOrToken.TheVariants.{Node}
 use Rattle.syntax_tree.proofs.Placed.{start_within}
 use Rattle.syntax_tree.proofs.syntax_node.SyntaxNode.text_range.Goals as goal
