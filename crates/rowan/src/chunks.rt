@@ -1,5 +1,5 @@
 //! Texts of trees, read piece by piece without a copy.
-ghost use Rattle.std.specs.Prelude.{◌≡◌, ◌+◌, ◌^◌, ◌<◌, ℕ, List, [], ◌++◌, length, take, drop, IfOk, Result, Ok, Err};
+ghost use Rattle.std.specs.Prelude.{◌≡◌, ◌+◌, ◌^◌, ◌<◌, ℕ, List, [], ◌++◌, length, take, drop, Result, Ok, Err};
 ghost use Rattle.rowan_green.specs.Forest.{tree_text};
 ghost use Rattle.rowan.specs.Text.{IsPart};
 
@@ -10,19 +10,24 @@ pub(crate) trait ChunkReader: Sized {
     /// What a reader has when it stops before the end.
     type Found;
 
-    /// Whether a reader may be given a piece.
-    ghost can_read: { Self → Type 0 };
+    /// Whether a reader may be given this text, in whatever pieces, and nothing else.
+    ghost can_read: { Self → List ℕ → Type 0 };
 
     /// What may come of a text that begins at this byte, in whatever pieces it is given: the reader
     /// behind it, or what it stopped with.
     ghost reads: { Self → ℕ → List ℕ → Result Self Self.Found → Type 0 };
 
     fn read(self, at: u32, chunk: &str) -> Result<Self, Self::Found>
-        requires can { can_read self }
+        requires can { can_read self chunk.now }
         requires some { 0 < length chunk.now }
         requires fits { at + length chunk.now < 2 ^ 32 }
-        ensures read { reads self at chunk.now result }
-        ensures goes_on { IfOk result can_read };
+        ensures { reads self at chunk.now result };
+
+    /// What may be given two texts may be given the first.
+    ghost begins: { (r : Self) (a b : List ℕ) → can_read r (a ++ b) → can_read r a };
+
+    /// And, once the first is read, the second.
+    ghost goes_on: { (r s : Self) (at : ℕ) (a b : List ℕ) → can_read r (a ++ b) → reads r at a (Ok s) → can_read s b };
 
     /// No text changes nothing.
     ghost nothing: { (r : Self) (at : ℕ) → reads r at [] (Ok r) };
@@ -51,11 +56,10 @@ pub(crate) fn read_part<R: ChunkReader>(
     at: u32,
     reader: R,
 ) -> Result<R, R::Found>
-    requires can { R.can_read reader }
+    requires can { R.can_read reader (take len (drop skip (tree_text node.now))) }
     requires part { IsPart (tree_text node.now) skip (skip + len) }
     requires fits { at + len < 2 ^ 32 }
-    ensures read { R.reads reader at (take len (drop skip (tree_text node.now))) result }
-    ensures goes_on { IfOk result R.can_read }
+    ensures { R.reads reader at (take len (drop skip (tree_text node.now))) result }
 {
     let mut reader = reader;
     let mut ahead = skip;

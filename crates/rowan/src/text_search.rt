@@ -20,7 +20,11 @@ impl ChunkReader for CharSearch {
     ghost use Rattle.std.specs.Prelude.{⊤};
     ghost use Rattle.rowan.specs.Reading.{Finds, finds_nothing, finds_further, finds_stopped};
 
-    ghost can_read = { λ _. ⊤ };
+    ghost can_read = { λ _ _. ⊤ };
+
+    ghost begins = { λ _ _ _ _. tt };
+
+    ghost goes_on = { λ _ _ _ _ _ _ _. tt };
 
     ghost reads = { Finds (λ s. s.wanted) };
 

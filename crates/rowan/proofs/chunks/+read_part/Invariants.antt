@@ -10,7 +10,7 @@ decreases-read_part g l = tree_count l.node.now
 -- what comes of the rest is what comes of all
 abbrev pub invariant-loop-child : goal.invariant-loop-child
 invariant-loop-child g l = record {
-  can : g.R.ChunkReader.can_read l.reader;
+  can : g.R.ChunkReader.can_read l.reader (take l.left (drop l.ahead (texts_of l.child-iterator)));
   part : IsPart (texts_of l.child-iterator) l.ahead (l.ahead + l.left);
   below : forest_count (forest_of l.child-iterator) + 1 ≤ tree_count l.node;
   place : l.place + l.left ≡ l.at + l.len;
