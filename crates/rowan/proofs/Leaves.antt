@@ -184,7 +184,7 @@ back_step p i h =
     ∙ append_assoc (reverse (tokens_from p (i + 1))) (reverse (child_tokens (Some c))) (tokens_back p i)
     ∙ ap (λ xs. reverse (tokens_from p (i + 1)) ++ xs) (sym (back_first c (children_before p i)) ∙ ap tokens_back_by (sym b))
 
-back_to : (p : Place) (i : ℕ) → i ≤ length (terms_below p) → reverse (tokens_in p) ≡ reverse (tokens_from p i) ++ tokens_back p i
+pub back_to : (p : Place) (i : ℕ) → i ≤ length (terms_below p) → reverse (tokens_in p) ≡ reverse (tokens_from p i) ++ tokens_back p i
 back_to p zero h = sym (append-nil (reverse (tokens_in p)))
 back_to p (suc i) h = back_to p i (omega arith) ∙ back_step p i (omega arith) ∙ ap (λ k. reverse (tokens_from p k) ++ tokens_back p k) (add-one i)
 
