@@ -1,15 +1,15 @@
 -- Laws of places and walks: by the way up, and by the forest below.
-use Rattle.std.proofs.Common.{◌≡◌, ℕ, zero, suc, ◌+◌, ◌-◌, ◌<◌, ◌≤◌, List, [], ◌∷◌, ◌++◌, length, take, drop, refl, sym, ◌∙◌, ap, subst, arith, add-one, append_assoc, append-nil, length-append, reverse, Option, Some, None, slice_get, slice_range}
+use Rattle.std.proofs.Common.{◌≡◌, ℕ, zero, suc, ◌+◌, ◌-◌, List, [], ◌∷◌, ◌++◌, length, take, drop, refl, sym, ◌∙◌, ap, subst, arith, add-one, append_assoc, append-nil, length-append, reverse, Option, Some, None, slice_get, slice_range}
 use Rattle.std.proofs.lemmas.List.{reverse-append, reverse-reverse}
 use Rattle.rowan_green.specs.Leaf.{Leaf}
-use Rattle.rowan_green.specs.Forest.{Forest, empty, node, leaf, Tree, forest_text, tree_text}
-use Rattle.rowan_green.specs.Term.{Term, children_of, forest_of, forest_of-terms, terms-forest_of, texts_of, text_of}
-use Rattle.rowan_green.specs.Word.{Sign, opens, token, closes, word, words}
+use Rattle.rowan_green.specs.Forest.{Forest, empty, node, leaf, Tree, tree_text}
+use Rattle.rowan_green.specs.Term.{Term, children_of, forest_of, forest_of-terms, texts_of, text_of}
+use Rattle.rowan_green.specs.Word.{opens, token, closes, word}
 use Rattle.rowan_green.specs.declared.utility_types.NodeOrToken.TheVariants.{Node, Token}
-use Rattle.rowan.specs.Place.{Place, below, top_of, term_at, term_by, start_by, children_in, terms_below, kind_in, kind_at, text_in, text_at, start_of, end_of}
-use Rattle.rowan.specs.Around.{Cursor, cursor_of, cursor_in, cursor_at}
+use Rattle.rowan.specs.Place.{Place, below, term_at, term_by, start_by, children_in, terms_below, kind_in, kind_at, text_in, text_at}
+use Rattle.rowan.specs.Around.{cursor_of, cursor_in, cursor_at}
 use Rattle.rowan.specs.Leaves.{tokens_in, tokens_from, tokens_ahead, tokens_behind, tokens_back}
-use Rattle.rowan.specs.Walk.{Event, walk, walk_from, walk_forest}
+use Rattle.rowan.specs.Walk.{Event, walk_from, walk_forest}
 use Rattle.rowan.specs.Laws.{signs, TextsAreSlices, WalksAreWords, TokensStandInOrder}
 use Rattle.rowan.specs.declared.utility_types.WalkEvent.TheVariants.{Enter, Leave}
 use Rattle.rowan.proofs.Lists.{number_within}
