@@ -8,7 +8,7 @@ use Rattle.rowan_green.specs.Word.{opens, token, closes, word}
 use Rattle.rowan_green.specs.declared.utility_types.NodeOrToken.TheVariants.{Node, Token}
 use Rattle.rowan.specs.Place.{Place, below, term_at, term_by, start_by, children_in, terms_below, kind_in, kind_at, text_in, text_at}
 use Rattle.rowan.specs.Around.{cursor_of, cursor_in, cursor_at}
-use Rattle.rowan.specs.Leaves.{tokens_in, tokens_from, tokens_ahead, tokens_behind, tokens_back}
+use Rattle.rowan.specs.Leaves.{tokens_in, tokens_from, tokens_before, tokens_after, tokens_back}
 use Rattle.rowan.specs.Walk.{Event, walk_from, walk_forest}
 use Rattle.rowan.specs.Laws.{signs, TextsAreSlices, WalksAreWords, TokensStandInOrder}
 use Rattle.rowan.specs.declared.utility_types.WalkEvent.TheVariants.{Enter, Leave}
@@ -172,16 +172,16 @@ four_places : (a b c d f : List Place) → a ++ ((b ++ (c ++ d)) ++ f) ≡ (a ++
 four_places a b c d f =
     ap (λ v. a ++ v) (append_assoc b (c ++ d) f ∙ ap (λ v. b ++ v) (append_assoc c d f)) ∙ sym (append_assoc a b (c ++ (d ++ f)))
 
-order_by : (root : Tree) (up : List ℕ) (e : Term) → term_by root up ≡ Some e → tokens_in (record { root = root; up = [] }) ≡ reverse (tokens_ahead (record { root = root; up = up })) ++ (child_tokens (Some (cursor_of (record { root = root; up = up }) e)) ++ tokens_behind (record { root = root; up = up }))
+order_by : (root : Tree) (up : List ℕ) (e : Term) → term_by root up ≡ Some e → tokens_in (record { root = root; up = [] }) ≡ reverse (tokens_before (record { root = root; up = up })) ++ (child_tokens (Some (cursor_of (record { root = root; up = up }) e)) ++ tokens_after (record { root = root; up = up }))
 order_by root [] (Node t) h = sym (append-nil (tokens_in (record { root = root; up = [] })))
 order_by root [] (Token l) h = absurd (cc)
 order_by root (i ∷ up) e h =
     let p : Place = record { root = root; up = up } in
     let t = parent_node (term_by root up) i e h in
     order_by root up (Node t.tree) t.is
-    ∙ ap (λ v. reverse (tokens_ahead p) ++ (v ++ tokens_behind p)) (tokens_split p i e h)
-    ∙ four_places (reverse (tokens_ahead p)) (reverse (tokens_back p i)) (child_tokens (Some (cursor_of (below p i) e))) (tokens_from p (i + 1)) (tokens_behind p)
-    ∙ ap (λ v. v ++ (child_tokens (Some (cursor_of (below p i) e)) ++ (tokens_from p (i + 1) ++ tokens_behind p))) (sym (reverse-append (tokens_back p i) (tokens_ahead p)))
+    ∙ ap (λ v. reverse (tokens_before p) ++ (v ++ tokens_after p)) (tokens_split p i e h)
+    ∙ four_places (reverse (tokens_before p)) (reverse (tokens_back p i)) (child_tokens (Some (cursor_of (below p i) e))) (tokens_from p (i + 1)) (tokens_after p)
+    ∙ ap (λ v. v ++ (child_tokens (Some (cursor_of (below p i) e)) ++ (tokens_from p (i + 1) ++ tokens_after p))) (sym (reverse-append (tokens_back p i) (tokens_before p)))
 
 pub tokens-order : TokensStandInOrder
 tokens-order p l h = order_by p.root p.up (Token l) h

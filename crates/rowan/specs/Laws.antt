@@ -7,7 +7,7 @@ use Rattle.rowan_green.specs.Word.{Sign, opens, token, closes, words}
 use Rattle.rowan_green.specs.declared.utility_types.NodeOrToken.TheVariants.{Node, Token}
 use Rattle.rowan.specs.Place.{Place, top_of, term_at, kind_at, text_at, start_of, end_of}
 use Rattle.rowan.specs.Around.{cursor_of}
-use Rattle.rowan.specs.Leaves.{tokens_in, tokens_ahead, tokens_behind}
+use Rattle.rowan.specs.Leaves.{tokens_in, tokens_before, tokens_after}
 use Rattle.rowan.specs.Walk.{Event, walk}
 use Rattle.rowan.specs.declared.utility_types.WalkEvent.TheVariants.{Enter, Leave}
 
@@ -30,4 +30,4 @@ WalksAreWords = (p : Place) (e : Term) → term_at p ≡ Some e → signs (walk 
 -- the tokens of a tree are those before one of them, that one, and those after it
 abbrev pub TokensStandInOrder : Type 0
 TokensStandInOrder =
-    (p : Place) (l : Leaf) → term_at p ≡ Some (Token l) → tokens_in (top_of p) ≡ reverse (tokens_ahead p) ++ p ∷ tokens_behind p
+    (p : Place) (l : Leaf) → term_at p ≡ Some (Token l) → tokens_in (top_of p) ≡ reverse (tokens_before p) ++ p ∷ tokens_after p

@@ -1,4 +1,4 @@
--- Laws of readers of texts: what comes of a text and of one behind it.
+-- Laws of readers of texts: what comes of a text and of one after it.
 use Rattle.std.specs.Prelude.{◌≡◌, ℕ, zero, suc, ◌+◌, ◌<◌, List, [], ◌∷◌, ◌++◌, length, refl, Result, Ok, Err, MatchResult}
 use Rattle.std.proofs.Common.{sym, ◌∙◌, ap, subst, arith, append_assoc, append-nil, length-append}
 use Rattle.std.specs.Char.{encode_utf8}
@@ -11,8 +11,8 @@ use Rattle.rowan.specs.Pieces.{Folds, FoldsText, TakesText}
 
 -- ---- the search for a character
 
-abbrev pub stands_behind : (c k : ℕ) (a b : List ℕ) → StandsAt c b k → StandsAt c (a ++ b) (length a + k)
-stands_behind c k a b s = record {
+abbrev pub stands_after : (c k : ℕ) (a b : List ℕ) → StandsAt c b k → StandsAt c (a ++ b) (length a + k)
+stands_after c k a b s = record {
   before = a ++ s.before;
   after = s.after;
   splits = ap (λ v. a ++ v) s.splits ∙ sym (append_assoc a s.before (encode_utf8 c ++ s.after));
@@ -46,7 +46,7 @@ module _ {S : Type 0} (wanted : S → ℕ) where
         length a + k.0,
         e,
         record {
-          stands = stands_behind (wanted r) k.0 a b f.stands;
+          stands = stands_after (wanted r) k.0 a b f.stands;
           first = NoCharPasses-append _ a f.stands.before h.1 f.first;
         },
       )

@@ -14,7 +14,7 @@ pub(crate) trait ChunkReader: Sized {
     ghost can_read: { Self → List ℕ → Type 0 };
 
     /// What may come of a text that begins at this byte, in whatever pieces it is given: the reader
-    /// behind it, or what it stopped with.
+    /// after it, or what it stopped with.
     ghost reads: { Self → ℕ → List ℕ → Result Self Self.Found → Type 0 };
 
     fn read(self, at: u32, chunk: &str) -> Result<Self, Self::Found>
@@ -39,7 +39,7 @@ pub(crate) trait ChunkReader: Sized {
     ghost stopped: { (r : Self) (e : Self.Found) (at : ℕ) (a b : List ℕ) → reads r at a (Err e) → reads r at (a ++ b) (Err e) };
 }
 
-/// Where a text stands: `len` bytes of a node's text, behind the first `start`.
+/// Where a text stands: `len` bytes of a node's text, after the first `start`.
 #[derive(Clone, Copy)]
 pub(crate) struct Part<'a> {
     pub(crate) node: &'a GreenNode,
@@ -47,7 +47,7 @@ pub(crate) struct Part<'a> {
     pub(crate) len: u32,
 }
 
-/// Has a reader read `len` bytes of a node's text, those behind the first `skip`, the first of which
+/// Has a reader read `len` bytes of a node's text, those after the first `skip`, the first of which
 /// is told as `at`. Goes down only where these bytes are.
 pub(crate) fn read_part<R: ChunkReader>(
     node: &GreenNode,
@@ -62,7 +62,7 @@ pub(crate) fn read_part<R: ChunkReader>(
     ensures { R.reads reader at (take len (drop skip (tree_text node.now))) result }
 {
     let mut reader = reader;
-    let mut ahead = skip;
+    let mut offset = skip;
     let mut left = len;
     let mut place = at;
     for child in node.children() {
@@ -70,17 +70,17 @@ pub(crate) fn read_part<R: ChunkReader>(
             return Ok(reader);
         }
         let size = child.text_len().0;
-        if size <= ahead {
-            ahead -= size;
+        if size <= offset {
+            offset -= size;
             continue;
         }
-        let taken = left.min(size - ahead);
+        let taken = left.min(size - offset);
         let read = match child {
-            NodeOrToken::Node(node) => read_part(node, ahead, taken, place, reader),
+            NodeOrToken::Node(node) => read_part(node, offset, taken, place, reader),
             NodeOrToken::Token(token) => {
                 reader.read(
                     place,
-                    &token.text()[ahead as usize..(ahead + taken) as usize],
+                    &token.text()[offset as usize..(offset + taken) as usize],
                 )
             }
         };
@@ -88,7 +88,7 @@ pub(crate) fn read_part<R: ChunkReader>(
             Ok(next) => reader = next,
             Err(found) => return Err(found),
         }
-        ahead = 0;
+        offset = 0;
         left -= taken;
         place += taken;
     }

@@ -2,7 +2,7 @@
 ghost use Rattle.std.specs.Prelude.{◌≡◌, IfOk};
 ghost use Rattle.rowan_green.specs.declared.utility_types.NodeOrToken.TheVariants.{Node, Token};
 ghost use Rattle.rowan.specs.Place.{above, kind_at, start_of, end_of, index_of, top_of};
-ghost use Rattle.rowan.specs.Around.{Cursor, place_in, element_ancestors, behind, ahead, first};
+ghost use Rattle.rowan.specs.Around.{Cursor, place_in, element_ancestors, siblings_after, siblings_before, first};
 
 use crate::api::{SyntaxElement, SyntaxNode, SyntaxToken};
 use crate::around::Ancestors;
@@ -42,11 +42,11 @@ pub trait ElementExt<L: Language> {
 
     /// The sibling right after it, node or token: none of a root and of the last child.
     fn next_sibling_or_token(&self, alloc: Global) -> Result<Option<SyntaxElement<L>>, AllocError>
-        ensures { IfOk result (λ r. r ≡ first (behind (place_in (cursor self.now)))) };
+        ensures { IfOk result (λ r. r ≡ first (siblings_after (place_in (cursor self.now)))) };
 
     /// The sibling right before it, node or token: none of a root and of the first child.
     fn prev_sibling_or_token(&self, alloc: Global) -> Result<Option<SyntaxElement<L>>, AllocError>
-        ensures { IfOk result (λ r. r ≡ first (ahead (place_in (cursor self.now)))) };
+        ensures { IfOk result (λ r. r ≡ first (siblings_before (place_in (cursor self.now)))) };
 }
 
 impl<L: Language> ElementExt<L> for NodeOrToken<SyntaxNode<L>, SyntaxToken<L>> {
