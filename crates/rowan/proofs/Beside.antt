@@ -1,4 +1,4 @@
--- The tokens that touch an offset are the one with the byte before it and the one with the byte behind it.
+-- The tokens that touch an offset are the one with the byte before it and the one with the byte after it.
 use Rattle.std.proofs.Common.{◌≡◌, ℕ, zero, suc, ◌+◌, ◌<◌, ◌≤◌, List, [], ◌∷◌, refl, ap, sym, ◌∙◌, arith, add-one, Option, Some, None, true, false, nat_lt, cond, ◌⊎◌, inl, inr}
 use Rattle.std.specs.List.{filter}
 use Rattle.std.proofs.lemmas.Bool.{and_from, and_left, and_right, lt-ltb, le-ltb, le-leb, lt-leb, cases_lt}
@@ -8,13 +8,13 @@ use Rattle.rowan.specs.Place.{Place, term_at, start_of, end_of}
 use Rattle.rowan.specs.Around.{first}
 use Rattle.rowan.specs.Leaves.{tokens_in}
 use Rattle.rowan.specs.Touching.{touches, has_byte, touching, with_byte, before_offset}
-use Rattle.rowan.proofs.Touching.{Chain, ordered, picked, passed, has_it, begins_later, ends_before, none_behind, tokens_chain}
+use Rattle.rowan.proofs.Touching.{Chain, ordered, picked, passed, has_it, begins_later, ends_before, none_after, tokens_chain}
 
 abbrev one_of : Option Place → List Place
 one_of None = []
 one_of (Some q) = q ∷ []
 
--- the token with the byte before an offset, and the one with the byte behind it, each once
+-- the token with the byte before an offset, and the one with the byte after it, each once
 abbrev pub joined : Option Place → Option Place → ℕ → List Place
 joined None r o = one_of r
 joined (Some q) r o = q ∷ cond (nat_lt o (end_of q)) [] (one_of r)
@@ -26,8 +26,8 @@ touches_it o q a b c =
 is_empty : (o : ℕ) (q : Place) → end_of q ≤ start_of q → touches o q ≡ false
 is_empty o q a = and_left _ _ (le-ltb (start_of q) (end_of q) a)
 
-lies_behind : (o : ℕ) (q : Place) → o < start_of q → touches o q ≡ false
-lies_behind o q a = and_right _ _ (and_left _ _ (lt-leb (start_of q) o a))
+lies_after : (o : ℕ) (q : Place) → o < start_of q → touches o q ≡ false
+lies_after o q a = and_right _ _ (and_left _ _ (lt-leb (start_of q) o a))
 
 lies_before : (o : ℕ) (q : Place) → end_of q < o → touches o q ≡ false
 lies_before o q a = and_right _ _ (and_right _ _ (lt-leb o (end_of q) a))
@@ -35,7 +35,7 @@ lies_before o q a = and_right _ _ (and_right _ _ (lt-leb o (end_of q) a))
 none_touches : (o a b : ℕ) (qs : List Place) → Chain a qs b → o < a → filter (touches o) qs ≡ []
 none_touches o a b [] h l = refl
 none_touches o a b (q ∷ qs) h l =
-    passed (touches o) q qs (lies_behind o q (omega (arith, h.0)))
+    passed (touches o) q qs (lies_after o q (omega (arith, h.0)))
     ∙ none_touches o (end_of q) b qs h.1 (omega (arith, h.0, ordered q))
 
 -- from the offset on, at most one touches it
@@ -77,7 +77,7 @@ split_at k a b (q ∷ qs) h e = by_end (split_at k (end_of q) b qs h.1) (cases_l
     by_end ih (inl x) (inr y) z =
         picked (touches (k + 1)) q qs (touches_it (k + 1) q (omega (arith, h.0)) (omega (arith, h.0)) (omega arith))
         ∙ ap (λ xs. q ∷ xs) (none_touches (k + 1) (end_of q) b qs h.1 x)
-        ∙ sym (ap (λ xs. joined (first xs) (first (filter (has_byte (k + 1)) (q ∷ qs))) (k + 1)) (passed (has_byte k) q qs (begins_later k q (omega arith)) ∙ none_behind k (end_of q) b qs h.1 (omega arith))
+        ∙ sym (ap (λ xs. joined (first xs) (first (filter (has_byte (k + 1)) (q ∷ qs))) (k + 1)) (passed (has_byte k) q qs (begins_later k q (omega arith)) ∙ none_after k (end_of q) b qs h.1 (omega arith))
         ∙ ap (λ xs. one_of (first xs)) (picked (has_byte (k + 1)) q qs (has_it (k + 1) q (omega (arith, h.0)) x)))
     by_end ih (inr x) y (inl z) = skip ih (lies_before (k + 1) q z) (ends_before k q (omega arith)) (ends_before (k + 1) q x) x
     by_end ih (inr x) (inr y) (inr z) = skip ih (is_empty (k + 1) q (omega arith)) (begins_later k q (omega arith)) (ends_before (k + 1) q x) x

@@ -36,22 +36,22 @@ parts_eq [] b (y ∷ h) k e = absurd (omega arith)
 parts_eq (x ∷ a) b [] k e = absurd (omega arith)
 parts_eq (x ∷ a) b (y ∷ h) k e = ap (λ v. nat_eq x y && v) (parts_eq a b h k (omega arith)) ∙ and_assoc (nat_eq x y) (bytes_eq a h) (bytes_eq b k)
 
-module _ (s t : List Term) (e : Term) (y : s ≡ e ∷ t) (size ahead : ℕ) (z : size ≡ length (text_of e)) where
-  pub passed_bytes : (n : ℕ) → size ≤ ahead → take n (drop ahead (texts_of s)) ≡ take n (drop (ahead - size) (texts_of t))
+module _ (s t : List Term) (e : Term) (y : s ≡ e ∷ t) (size offset : ℕ) (z : size ≡ length (text_of e)) where
+  pub passed_bytes : (n : ℕ) → size ≤ offset → take n (drop offset (texts_of s)) ≡ take n (drop (offset - size) (texts_of t))
   passed_bytes n h =
-      ap (λ v. take n (drop ahead v)) (texts_are s t e y)
-      ∙ skip_first (text_of e) (texts_of t) ahead n (omega arith)
-      ∙ ap (λ m. take n (drop (ahead - m) (texts_of t))) (sym z)
+      ap (λ v. take n (drop offset v)) (texts_are s t e y)
+      ∙ skip_first (text_of e) (texts_of t) offset n (omega arith)
+      ∙ ap (λ m. take n (drop (offset - m) (texts_of t))) (sym z)
 
-  pub split_bytes : (left here behind : List ℕ) (k : ℕ) → ahead < size → k ≡ min (length left) (size - ahead) → here ≡ take k left → behind ≡ drop k left → bytes_eq (take (length left) (drop ahead (texts_of s))) left ≡ (bytes_eq (take (length here) (drop ahead (text_of e))) here && bytes_eq (take (length behind) (texts_of t)) behind)
-  split_bytes left here behind k h m p q =
-      let m' : k ≡ min (length left) (length (text_of e) - ahead) = omega arith in
+  pub split_bytes : (left here after : List ℕ) (k : ℕ) → offset < size → k ≡ min (length left) (size - offset) → here ≡ take k left → after ≡ drop k left → bytes_eq (take (length left) (drop offset (texts_of s))) left ≡ (bytes_eq (take (length here) (drop offset (text_of e))) here && bytes_eq (take (length after) (texts_of t)) after)
+  split_bytes left here after k h m p q =
+      let m' : k ≡ min (length left) (length (text_of e) - offset) = omega arith in
       let lh : length here ≡ k = omega (arith, ap length p, length-take k left) in
-      let lb : length behind ≡ length left - k = omega (arith, ap length q, length-drop k left) in
-      let la : length (take k (drop ahead (text_of e))) ≡ length here = omega (arith, length-take k (drop ahead (text_of e)), length-drop ahead (text_of e)) in
-      let w : left ≡ here ++ behind = sym (take-append-drop k left) ∙ ap (λ v. v ++ drop k left) (sym p) ∙ ap (λ v. here ++ v) (sym q) in
-      let u : take (length left) (drop ahead (texts_of s)) ≡ take k (drop ahead (text_of e)) ++ take (length left - k) (texts_of t) = ap (λ v. take (length left) (drop ahead v)) (texts_are s t e y) ∙ split_first (text_of e) (texts_of t) ahead (length left) k (omega arith) m' in
-      ap (λ v. bytes_eq v left) u ∙ ap (λ v. bytes_eq (take k (drop ahead (text_of e)) ++ take (length left - k) (texts_of t)) v) w
-      ∙ parts_eq (take k (drop ahead (text_of e))) (take (length left - k) (texts_of t)) here behind la
-      ∙ ap (λ n. bytes_eq (take n (drop ahead (text_of e))) here && bytes_eq (take (length left - k) (texts_of t)) behind) (sym lh)
-      ∙ ap (λ n. bytes_eq (take (length here) (drop ahead (text_of e))) here && bytes_eq (take n (texts_of t)) behind) (sym lb)
+      let lb : length after ≡ length left - k = omega (arith, ap length q, length-drop k left) in
+      let la : length (take k (drop offset (text_of e))) ≡ length here = omega (arith, length-take k (drop offset (text_of e)), length-drop offset (text_of e)) in
+      let w : left ≡ here ++ after = sym (take-append-drop k left) ∙ ap (λ v. v ++ drop k left) (sym p) ∙ ap (λ v. here ++ v) (sym q) in
+      let u : take (length left) (drop offset (texts_of s)) ≡ take k (drop offset (text_of e)) ++ take (length left - k) (texts_of t) = ap (λ v. take (length left) (drop offset v)) (texts_are s t e y) ∙ split_first (text_of e) (texts_of t) offset (length left) k (omega arith) m' in
+      ap (λ v. bytes_eq v left) u ∙ ap (λ v. bytes_eq (take k (drop offset (text_of e)) ++ take (length left - k) (texts_of t)) v) w
+      ∙ parts_eq (take k (drop offset (text_of e))) (take (length left - k) (texts_of t)) here after la
+      ∙ ap (λ n. bytes_eq (take n (drop offset (text_of e))) here && bytes_eq (take (length left - k) (texts_of t)) after) (sym lh)
+      ∙ ap (λ n. bytes_eq (take (length here) (drop offset (text_of e))) here && bytes_eq (take n (texts_of t)) after) (sym lb)

@@ -9,7 +9,7 @@ use Rattle.std.specs.Str.Pattern.{HasCharAt}
 use Rattle.std.specs.Prelude.{MatchOption}
 use Rattle.rowan_green.specs.Term.{Term, texts_of, text_of}
 use Rattle.rowan.specs.Text.{IsCut, IsPart, StandsAt, FirstAt, Lacks, IsCharAt}
-use Rattle.rowan.specs.Reading.{stands_behind, stands_before}
+use Rattle.rowan.specs.Reading.{stands_after, stands_before}
 use Rattle.rowan.proofs.Texts.{lt_or_ge, cut_first, cut_rest, cut_of_part, take_over}
 use Rattle.rowan.proofs.Parts.{texts_are}
 
@@ -40,7 +40,7 @@ first_found c s i j l n h = record {
   first = n;
 }
 
--- a character of a part of a text, behind what stands before the part
+-- a character of a part of a text, after what stands before the part
 stands_in : (a v : List ℕ) (c n : ℕ) → StandsAt c (a ++ v) (length a + n) → StandsAt c v n
 stands_in a v c n s = record {
   before = drop (length a) s.before;
@@ -71,9 +71,9 @@ char_of_part bs v start len n r h e p =
     subst (λ t. IsCut t (length (take start bs) + n)) x (subst (λ k. IsCut (take (start + len) bs) (k + n)) (sym a) d))
     (subst (λ t. IsCharAt t (length (take start bs) + n) r) x (subst (λ k. IsCharAt (take (start + len) bs) (k + n) r) (sym a) p))
 
-char_behind : (a b : List ℕ) (k : ℕ) (r : Option ℕ) → IsCharAt b k r → IsCharAt (a ++ b) (length a + k) r
-char_behind a b k None h = λ q. h (omega (arith, q.0, length-append a b), cut_rest a b k q.1)
-char_behind a b k (Some c) h = stands_behind c k a b h
+char_after : (a b : List ℕ) (k : ℕ) (r : Option ℕ) → IsCharAt b k r → IsCharAt (a ++ b) (length a + k) r
+char_after a b k None h = λ q. h (omega (arith, q.0, length-append a b), cut_rest a b k q.1)
+char_after a b k (Some c) h = stands_after c k a b h
 
 char_before : (a b : List ℕ) (k : ℕ) (r : Option ℕ) → k < length a → IsCharAt a k r → IsCharAt (a ++ b) k r
 char_before a b k None l h = λ q. h (l, cut_first a b k (omega arith) q.1)
@@ -101,11 +101,11 @@ module _ (s t : List Term) (e : Term) (y : s ≡ e ∷ t) (size left : ℕ) (z :
       ∙ ap (λ v. v ++ take (left - length (text_of e)) (texts_of t)) (sym (take_min left (text_of e)) ∙ ap (λ k. take k (text_of e)) n)
       ∙ ap (λ k. take (min left size) (text_of e) ++ take (left - k) (texts_of t)) (sym z)
 
-  pub passed_char : (ahead : ℕ) (r : Option ℕ) → size ≤ ahead → ahead < left → IsCharAt (take (left - size) (texts_of t)) (ahead - size) r → IsCharAt (take left (texts_of s)) ahead r
-  passed_char ahead r h k p =
-      let n : length (take (min left size) (text_of e)) + (ahead - size) ≡ ahead = omega (arith, length-take (min left size) (text_of e)) in
-      subst (λ v. IsCharAt v ahead r) (sym split_here) (subst (λ m. IsCharAt (take (min left size) (text_of e) ++ take (left - size) (texts_of t)) m r) n (char_behind (take (min left size) (text_of e)) (take (left - size) (texts_of t)) (ahead - size) r p))
+  pub passed_char : (offset : ℕ) (r : Option ℕ) → size ≤ offset → offset < left → IsCharAt (take (left - size) (texts_of t)) (offset - size) r → IsCharAt (take left (texts_of s)) offset r
+  passed_char offset r h k p =
+      let n : length (take (min left size) (text_of e)) + (offset - size) ≡ offset = omega (arith, length-take (min left size) (text_of e)) in
+      subst (λ v. IsCharAt v offset r) (sym split_here) (subst (λ m. IsCharAt (take (min left size) (text_of e) ++ take (left - size) (texts_of t)) m r) n (char_after (take (min left size) (text_of e)) (take (left - size) (texts_of t)) (offset - size) r p))
 
-  pub within_char : (ahead : ℕ) (r : Option ℕ) → ahead < size → ahead < left → IsCharAt (take (min left size) (text_of e)) ahead r → IsCharAt (take left (texts_of s)) ahead r
-  within_char ahead r h k p =
-      subst (λ v. IsCharAt v ahead r) (sym split_here) (char_before (take (min left size) (text_of e)) (take (left - size) (texts_of t)) ahead r (omega (arith, length-take (min left size) (text_of e))) p)
+  pub within_char : (offset : ℕ) (r : Option ℕ) → offset < size → offset < left → IsCharAt (take (min left size) (text_of e)) offset r → IsCharAt (take left (texts_of s)) offset r
+  within_char offset r h k p =
+      subst (λ v. IsCharAt v offset r) (sym split_here) (char_before (take (min left size) (text_of e)) (take (left - size) (texts_of t)) offset r (omega (arith, length-take (min left size) (text_of e))) p)

@@ -9,7 +9,7 @@ use Rattle.rowan_green.specs.declared.utility_types.NodeOrToken.TheVariants.{Nod
 use Rattle.rowan.specs.Place.{Place, above, below, term_at, terms_below, children_in, index_of}
 use Rattle.rowan.specs.Around.{Cursor, place_in, cursor_in, cursor_at, children_before, tokens, first}
 use Rattle.rowan.specs.Walk.{Event, walk_from, entered}
-use Rattle.rowan.specs.Leaves.{tokens_from, tokens_in, tokens_behind, tokens_back, tokens_back_by, tokens_ahead}
+use Rattle.rowan.specs.Leaves.{tokens_from, tokens_in, tokens_after, tokens_back, tokens_back_by, tokens_before}
 use Rattle.rowan.specs.declared.utility_types.WalkEvent.TheVariants.{Enter, Leave}
 use Rattle.rowan.proofs.Walks.{walk_here, walk_nothing, events_by, place_of_child}
 use Rattle.rowan.proofs.Lists.{number_within, stands_within, before_here}
@@ -101,27 +101,27 @@ number_by p i (Some e) c h k = number_within p i e h
 pub child_number : (p : Place) (i : ℕ) (c : Cursor) → Some c ≡ cursor_at (below p i) → i < length (terms_below p)
 child_number p i c h = number_by p i (slice_get (terms_below p) i) c refl h
 
--- ---- the tokens behind a place
+-- ---- the tokens after a place
 
 module _ (q p : Place) (i : ℕ) (h : Some p ≡ above q) (k : i ≡ index_of q) where
   is_below : q ≡ below p i
   is_below = child_of q p h ∙ ap (below p) (sym k)
 
-  pub behind_step : tokens_behind q ≡ tokens_from p (i + 1) ++ tokens_behind p
-  behind_step = ap tokens_behind is_below
+  pub after_step : tokens_after q ≡ tokens_from p (i + 1) ++ tokens_after p
+  after_step = ap tokens_after is_below
 
-behind_top_by : (root : Tree) (up : List ℕ) → None ≡ above (record { root = root; up = up }) → tokens_behind (record { root = root; up = up }) ≡ []
-behind_top_by root [] h = refl
-behind_top_by root (i ∷ up) h = absurd (cc)
+after_top_by : (root : Tree) (up : List ℕ) → None ≡ above (record { root = root; up = up }) → tokens_after (record { root = root; up = up }) ≡ []
+after_top_by root [] h = refl
+after_top_by root (i ∷ up) h = absurd (cc)
 
-pub behind_end : (q : Place) → None ≡ above q → tokens_behind q ≡ []
-behind_end q h = behind_top_by q.root q.up h
+pub after_end : (q : Place) → None ≡ above q → tokens_after q ≡ []
+after_end q h = after_top_by q.root q.up h
 
-pub found_behind : (p t : Place) (i : ℕ) → Some t ≡ first (tokens_from p i) → first (tokens_from p i ++ tokens_behind p) ≡ Some t
-found_behind p t i h = first-some (tokens_from p i) (tokens_behind p) t h
+pub found_after : (p t : Place) (i : ℕ) → Some t ≡ first (tokens_from p i) → first (tokens_from p i ++ tokens_after p) ≡ Some t
+found_after p t i h = first-some (tokens_from p i) (tokens_after p) t h
 
-pub none_behind : (p : Place) (i : ℕ) → None ≡ first (tokens_from p i) → first (tokens_from p i ++ tokens_behind p) ≡ first (tokens_behind p)
-none_behind p i h = first-append (tokens_from p i) (tokens_behind p) h
+pub none_after : (p : Place) (i : ℕ) → None ≡ first (tokens_from p i) → first (tokens_from p i ++ tokens_after p) ≡ first (tokens_after p)
+none_after p i h = first-append (tokens_from p i) (tokens_after p) h
 
 -- ---- backwards
 
@@ -184,7 +184,7 @@ back_step p i h =
     ∙ append_assoc (reverse (tokens_from p (i + 1))) (reverse (child_tokens (Some c))) (tokens_back p i)
     ∙ ap (λ xs. reverse (tokens_from p (i + 1)) ++ xs) (sym (back_first c (children_before p i)) ∙ ap tokens_back_by (sym b))
 
-back_to : (p : Place) (i : ℕ) → i ≤ length (terms_below p) → reverse (tokens_in p) ≡ reverse (tokens_from p i) ++ tokens_back p i
+pub back_to : (p : Place) (i : ℕ) → i ≤ length (terms_below p) → reverse (tokens_in p) ≡ reverse (tokens_from p i) ++ tokens_back p i
 back_to p zero h = sym (append-nil (reverse (tokens_in p)))
 back_to p (suc i) h = back_to p i (omega arith) ∙ back_step p i (omega arith) ∙ ap (λ k. reverse (tokens_from p k) ++ tokens_back p k) (add-one i)
 
@@ -209,18 +209,18 @@ back_empty p q i n h l k =
     ap (λ cs. first (tokens_back_by cs)) ((nearest p i (Node q) h).list)
     ∙ first-append (reverse (tokens_in q)) (tokens_back p (index_of q)) (k ∙ ap first (back_all q n l))
 
--- ---- the tokens ahead of a place
+-- ---- the tokens before a place
 
 module _ (q p : Place) (i : ℕ) (h : Some p ≡ above q) (k : i ≡ index_of q) where
-  pub ahead_step : tokens_ahead q ≡ tokens_back p i ++ tokens_ahead p
-  ahead_step = ap tokens_ahead (child_of q p h ∙ ap (below p) (sym k))
+  pub before_step : tokens_before q ≡ tokens_back p i ++ tokens_before p
+  before_step = ap tokens_before (child_of q p h ∙ ap (below p) (sym k))
 
-ahead_top_by : (root : Tree) (up : List ℕ) → None ≡ above (record { root = root; up = up }) → tokens_ahead (record { root = root; up = up }) ≡ []
-ahead_top_by root [] h = refl
-ahead_top_by root (i ∷ up) h = absurd (cc)
+before_top_by : (root : Tree) (up : List ℕ) → None ≡ above (record { root = root; up = up }) → tokens_before (record { root = root; up = up }) ≡ []
+before_top_by root [] h = refl
+before_top_by root (i ∷ up) h = absurd (cc)
 
-pub ahead_end : (q : Place) → None ≡ above q → tokens_ahead q ≡ []
-ahead_end q h = ahead_top_by q.root q.up h
+pub before_end : (q : Place) → None ≡ above q → tokens_before q ≡ []
+before_end q h = before_top_by q.root q.up h
 
-pub none_ahead : (p : Place) (i : ℕ) → None ≡ first (tokens_back p i) → first (tokens_back p i ++ tokens_ahead p) ≡ first (tokens_ahead p)
-none_ahead p i h = first-append (tokens_back p i) (tokens_ahead p) h
+pub none_siblings_before : (p : Place) (i : ℕ) → None ≡ first (tokens_back p i) → first (tokens_back p i ++ tokens_before p) ≡ first (tokens_before p)
+none_siblings_before p i h = first-append (tokens_back p i) (tokens_before p) h

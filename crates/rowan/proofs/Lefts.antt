@@ -7,7 +7,7 @@ use Rattle.rowan_green.specs.Forest.{Tree}
 use Rattle.rowan_green.specs.Term.{Term}
 use Rattle.rowan_green.specs.declared.utility_types.NodeOrToken.TheVariants.{Node, Token}
 use Rattle.rowan.specs.Place.{Place, below, index_of, start_of, end_of, terms_below}
-use Rattle.rowan.specs.Around.{Cursor, place_in, cursor_at, numbered, children_from, children_before, behind, ahead, nodes, first, siblings, sibling_nodes}
+use Rattle.rowan.specs.Around.{Cursor, place_in, cursor_at, numbered, children_from, children_before, siblings_after, siblings_before, nodes, first, siblings, sibling_nodes}
 use Rattle.rowan.specs.Left.{children_left, siblings_left, sibling_nodes_left}
 use Rattle.rowan.specs.declared.utility_types.Direction.{Direction}
 use Rattle.rowan.specs.declared.utility_types.Direction.TheVariants.{Next, Prev}
@@ -77,48 +77,48 @@ node_offset p q i k e h m l =
 
 -- ---- siblings
 
-behind_by : (root : Tree) (up : List ℕ) (o : Option Cursor) → o ≡ first (behind (record { root = root; up = up })) → behind (record { root = root; up = up }) ≡ siblings_left Next o
-behind_by root [] None h = refl
-behind_by root [] (Some c) h = absurd (cc)
-behind_by root (i ∷ up) None h = none_is_empty (behind (record { root = root; up = i ∷ up })) h
-behind_by root (i ∷ up) (Some c) h =
+after_by : (root : Tree) (up : List ℕ) (o : Option Cursor) → o ≡ first (siblings_after (record { root = root; up = up })) → siblings_after (record { root = root; up = up }) ≡ siblings_left Next o
+after_by root [] None h = refl
+after_by root [] (Some c) h = absurd (cc)
+after_by root (i ∷ up) None h = none_is_empty (siblings_after (record { root = root; up = i ∷ up })) h
+after_by root (i ∷ up) (Some c) h =
     let p : Place = record { root = root; up = up } in
     let m : Some c ≡ cursor_at (below p (i + 1)) = h ∙ first_from p (i + 1) in
-    from_here p (i + 1) ∙ ap (λ o. cons_option o (children_from p (i + 1 + 1))) (sym m) ∙ ap (λ q. c ∷ behind q) (sym (place_of_child p (i + 1) c m))
+    from_here p (i + 1) ∙ ap (λ o. cons_option o (children_from p (i + 1 + 1))) (sym m) ∙ ap (λ q. c ∷ siblings_after q) (sym (place_of_child p (i + 1) c m))
 
 cursor_cases : (p : Place) (j : ℕ) (o : Option Cursor) (r : Option Cursor) → o ≡ cursor_at (below p j) → r ≡ first (cons_option o (children_before p j)) → (r ≡ first (children_before p j) → children_before p j ≡ siblings_left Prev r) → cons_option o (children_before p j) ≡ siblings_left Prev r
 cursor_cases p j None r h k ih = ih k
 cursor_cases p j (Some c) None h k ih = absurd (cc)
 cursor_cases p j (Some c) (Some x) h k ih =
     let e : x ≡ c = cc in
-    ap (λ q. c ∷ ahead q) (sym (place_of_child p j c h)) ∙ ap (λ y. y ∷ ahead (place_in y)) (sym e)
+    ap (λ q. c ∷ siblings_before q) (sym (place_of_child p j c h)) ∙ ap (λ y. y ∷ siblings_before (place_in y)) (sym e)
 
 before_by : (p : Place) (i : ℕ) (r : Option Cursor) → r ≡ first (children_before p i) → children_before p i ≡ siblings_left Prev r
 before_by p zero None h = refl
 before_by p zero (Some c) h = absurd (cc)
 before_by p (suc i) r h = cursor_cases p i (cursor_at (below p i)) r refl h (before_by p i r)
 
-ahead_by : (root : Tree) (up : List ℕ) (o : Option Cursor) → o ≡ first (ahead (record { root = root; up = up })) → ahead (record { root = root; up = up }) ≡ siblings_left Prev o
-ahead_by root [] None h = refl
-ahead_by root [] (Some c) h = absurd (cc)
-ahead_by root (i ∷ up) o h = before_by (record { root = root; up = up }) i o h
+siblings_before_by : (root : Tree) (up : List ℕ) (o : Option Cursor) → o ≡ first (siblings_before (record { root = root; up = up })) → siblings_before (record { root = root; up = up }) ≡ siblings_left Prev o
+siblings_before_by root [] None h = refl
+siblings_before_by root [] (Some c) h = absurd (cc)
+siblings_before_by root (i ∷ up) o h = before_by (record { root = root; up = up }) i o h
 
-pub next_siblings : (d : Direction) (c : Cursor) (r : Result (Option Cursor) AllocError) → d ≡ Next → IfOk r (λ o. o ≡ first (behind (place_in c))) → IfOk r (λ o. siblings d c ≡ c ∷ siblings_left d o)
-next_siblings d c (Ok o) e h = rw e (ap (λ xs. c ∷ xs) (behind_by (place_in c).root (place_in c).up o h))
+pub next_siblings : (d : Direction) (c : Cursor) (r : Result (Option Cursor) AllocError) → d ≡ Next → IfOk r (λ o. o ≡ first (siblings_after (place_in c))) → IfOk r (λ o. siblings d c ≡ c ∷ siblings_left d o)
+next_siblings d c (Ok o) e h = rw e (ap (λ xs. c ∷ xs) (after_by (place_in c).root (place_in c).up o h))
 next_siblings d c (Err x) e h = tt
 
-pub prev_siblings : (d : Direction) (c : Cursor) (r : Result (Option Cursor) AllocError) → d ≡ Prev → IfOk r (λ o. o ≡ first (ahead (place_in c))) → IfOk r (λ o. siblings d c ≡ c ∷ siblings_left d o)
-prev_siblings d c (Ok o) e h = rw e (ap (λ xs. c ∷ xs) (ahead_by (place_in c).root (place_in c).up o h))
+pub prev_siblings : (d : Direction) (c : Cursor) (r : Result (Option Cursor) AllocError) → d ≡ Prev → IfOk r (λ o. o ≡ first (siblings_before (place_in c))) → IfOk r (λ o. siblings d c ≡ c ∷ siblings_left d o)
+prev_siblings d c (Ok o) e h = rw e (ap (λ xs. c ∷ xs) (siblings_before_by (place_in c).root (place_in c).up o h))
 prev_siblings d c (Err x) e h = tt
 
-behind_nodes : (root : Tree) (up : List ℕ) (o : Option Place) → o ≡ first (nodes (behind (record { root = root; up = up }))) → nodes (behind (record { root = root; up = up })) ≡ sibling_nodes_left Next o
-behind_nodes root [] None h = refl
-behind_nodes root [] (Some q) h = absurd (cc)
-behind_nodes root (i ∷ up) None h = none_is_empty (nodes (behind (record { root = root; up = i ∷ up }))) h
-behind_nodes root (i ∷ up) (Some q) h =
+after_nodes : (root : Tree) (up : List ℕ) (o : Option Place) → o ≡ first (nodes (siblings_after (record { root = root; up = up }))) → nodes (siblings_after (record { root = root; up = up })) ≡ sibling_nodes_left Next o
+after_nodes root [] None h = refl
+after_nodes root [] (Some q) h = absurd (cc)
+after_nodes root (i ∷ up) None h = none_is_empty (nodes (siblings_after (record { root = root; up = i ∷ up }))) h
+after_nodes root (i ∷ up) (Some q) h =
     let p : Place = record { root = root; up = up } in
     let n = nodes_by p q (terms_below p) (drop (i + 1) (terms_below p)) (i + 1) refl h in
-    n.1 ∙ ap (λ x. q ∷ nodes (behind x)) (sym n.0)
+    n.1 ∙ ap (λ x. q ∷ nodes (siblings_after x)) (sym n.0)
 
 node_cases : (p : Place) (j : ℕ) (o : Option Cursor) (r : Option Place) → o ≡ cursor_at (below p j) → r ≡ first (nodes (cons_option o (children_before p j))) → (r ≡ first (nodes (children_before p j)) → nodes (children_before p j) ≡ sibling_nodes_left Prev r) → nodes (cons_option o (children_before p j)) ≡ sibling_nodes_left Prev r
 node_cases p j None r h k ih = ih k
@@ -126,22 +126,22 @@ node_cases p j (Some (Token q)) r h k ih = ih k
 node_cases p j (Some (Node q)) None h k ih = absurd (cc)
 node_cases p j (Some (Node q)) (Some x) h k ih =
     let e : x ≡ q = cc in
-    ap (λ y. q ∷ nodes (ahead y)) (sym (place_of_child p j (Node q) h)) ∙ ap (λ y. y ∷ nodes (ahead y)) (sym e)
+    ap (λ y. q ∷ nodes (siblings_before y)) (sym (place_of_child p j (Node q) h)) ∙ ap (λ y. y ∷ nodes (siblings_before y)) (sym e)
 
 before_nodes : (p : Place) (i : ℕ) (r : Option Place) → r ≡ first (nodes (children_before p i)) → nodes (children_before p i) ≡ sibling_nodes_left Prev r
 before_nodes p zero None h = refl
 before_nodes p zero (Some c) h = absurd (cc)
 before_nodes p (suc i) r h = node_cases p i (cursor_at (below p i)) r refl h (before_nodes p i r)
 
-ahead_nodes : (root : Tree) (up : List ℕ) (o : Option Place) → o ≡ first (nodes (ahead (record { root = root; up = up }))) → nodes (ahead (record { root = root; up = up })) ≡ sibling_nodes_left Prev o
-ahead_nodes root [] None h = refl
-ahead_nodes root [] (Some c) h = absurd (cc)
-ahead_nodes root (i ∷ up) o h = before_nodes (record { root = root; up = up }) i o h
+siblings_before_nodes : (root : Tree) (up : List ℕ) (o : Option Place) → o ≡ first (nodes (siblings_before (record { root = root; up = up }))) → nodes (siblings_before (record { root = root; up = up })) ≡ sibling_nodes_left Prev o
+siblings_before_nodes root [] None h = refl
+siblings_before_nodes root [] (Some c) h = absurd (cc)
+siblings_before_nodes root (i ∷ up) o h = before_nodes (record { root = root; up = up }) i o h
 
-pub next_nodes : (d : Direction) (p : Place) (r : Result (Option Place) AllocError) → d ≡ Next → IfOk r (λ o. o ≡ first (nodes (behind p))) → IfOk r (λ o. sibling_nodes d p ≡ p ∷ sibling_nodes_left d o)
-next_nodes d p (Ok o) e h = rw e (ap (λ xs. p ∷ xs) (behind_nodes p.root p.up o h))
+pub next_nodes : (d : Direction) (p : Place) (r : Result (Option Place) AllocError) → d ≡ Next → IfOk r (λ o. o ≡ first (nodes (siblings_after p))) → IfOk r (λ o. sibling_nodes d p ≡ p ∷ sibling_nodes_left d o)
+next_nodes d p (Ok o) e h = rw e (ap (λ xs. p ∷ xs) (after_nodes p.root p.up o h))
 next_nodes d p (Err x) e h = tt
 
-pub prev_nodes : (d : Direction) (p : Place) (r : Result (Option Place) AllocError) → d ≡ Prev → IfOk r (λ o. o ≡ first (nodes (ahead p))) → IfOk r (λ o. sibling_nodes d p ≡ p ∷ sibling_nodes_left d o)
-prev_nodes d p (Ok o) e h = rw e (ap (λ xs. p ∷ xs) (ahead_nodes p.root p.up o h))
+pub prev_nodes : (d : Direction) (p : Place) (r : Result (Option Place) AllocError) → d ≡ Prev → IfOk r (λ o. o ≡ first (nodes (siblings_before p))) → IfOk r (λ o. sibling_nodes d p ≡ p ∷ sibling_nodes_left d o)
+prev_nodes d p (Ok o) e h = rw e (ap (λ xs. p ∷ xs) (siblings_before_nodes p.root p.up o h))
 prev_nodes d p (Err x) e h = tt

@@ -14,3 +14,4 @@ pub mod Characters
 pub mod Bytes
 pub mod Stretches
 pub mod Printing
+pub mod PlaceLaws

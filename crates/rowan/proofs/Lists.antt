@@ -4,7 +4,7 @@ use Rattle.std.specs.List.{cons_option}
 use Rattle.rowan_green.specs.Forest.{Tree}
 use Rattle.rowan_green.specs.Term.{Term}
 use Rattle.rowan.specs.Place.{Place, above, below, term_at, terms_below}
-use Rattle.rowan.specs.Around.{cursor_in, cursor_at, numbered, children_from, children_before, behind, ahead, first}
+use Rattle.rowan.specs.Around.{cursor_in, cursor_at, numbered, children_from, children_before, siblings_after, siblings_before, first}
 
 -- the children from a number on: the child of that number, if there is one, and those from the next one on
 list_from : (p : Place) (es : List Term) (i j : ℕ) → numbered p j (drop i es) ≡ cons_option (cursor_in (below p j) (slice_get es i)) (numbered p (j + 1) (drop (suc i) es))
@@ -54,17 +54,17 @@ number_within p i e h = within_get (terms_below p) i e h
 pub stands_within : (p : Place) (i : ℕ) → i < length (terms_below p) → IsSome (term_at (below p i))
 stands_within p i h = get_within (terms_below p) i h
 
-behind_root : (root : Tree) (up : List ℕ) → None ≡ above (record { root = root; up = up }) → behind (record { root = root; up = up }) ≡ []
-behind_root root [] h = refl
-behind_root root (i ∷ up) h = absurd (cc)
+after_root : (root : Tree) (up : List ℕ) → None ≡ above (record { root = root; up = up }) → siblings_after (record { root = root; up = up }) ≡ []
+after_root root [] h = refl
+after_root root (i ∷ up) h = absurd (cc)
 
 -- the root has no siblings
-pub behind_top : (q : Place) → None ≡ above q → behind q ≡ []
-behind_top q h = behind_root q.root q.up h
+pub after_top : (q : Place) → None ≡ above q → siblings_after q ≡ []
+after_top q h = after_root q.root q.up h
 
-ahead_root : (root : Tree) (up : List ℕ) → None ≡ above (record { root = root; up = up }) → ahead (record { root = root; up = up }) ≡ []
-ahead_root root [] h = refl
-ahead_root root (i ∷ up) h = absurd (cc)
+before_root : (root : Tree) (up : List ℕ) → None ≡ above (record { root = root; up = up }) → siblings_before (record { root = root; up = up }) ≡ []
+before_root root [] h = refl
+before_root root (i ∷ up) h = absurd (cc)
 
-pub ahead_top : (q : Place) → None ≡ above q → ahead q ≡ []
-ahead_top q h = ahead_root q.root q.up h
+pub before_top : (q : Place) → None ≡ above q → siblings_before q ≡ []
+before_top q h = before_root q.root q.up h

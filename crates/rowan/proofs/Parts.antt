@@ -4,7 +4,7 @@ use Rattle.rowan_green.specs.Forest.{Tree, forest_text, tree_text, forest_count,
 use Rattle.rowan_green.specs.Term.{Term, children_of, forest_of, texts_of, text_of, term_count, forest_of-terms}
 use Rattle.rowan_green.specs.declared.utility_types.NodeOrToken.TheVariants.{Node, Token}
 use Rattle.rowan.specs.Text.{IsPart}
-use Rattle.rowan.proofs.Texts.{skip_first, split_first, part_behind, part_within, part_rest}
+use Rattle.rowan.proofs.Texts.{skip_first, split_first, part_after, part_within, part_rest}
 
 pub whole_text : (t : Tree) → texts_of (children_of t) ≡ tree_text t
 whole_text t = ap forest_text (forest_of-terms t.forest)
@@ -33,7 +33,7 @@ module _ (s t : List Term) (e : Term) (y : s ≡ e ∷ t) where
 
     pub passed_part : size ≤ skip → IsPart (texts_of t) (skip - size) (skip - size + len)
     passed_part h =
-        subst (λ n. IsPart (texts_of t) (skip - n) (skip - n + len)) (sym z) (part_behind (text_of e) (texts_of t) skip len (omega arith) here)
+        subst (λ n. IsPart (texts_of t) (skip - n) (skip - n + len)) (sym z) (part_after (text_of e) (texts_of t) skip len (omega arith) here)
 
     pub passed_text : size ≤ skip → take len (drop skip (texts_of s)) ≡ take len (drop (skip - size) (texts_of t))
     passed_text h =
@@ -48,8 +48,8 @@ module _ (s t : List Term) (e : Term) (y : s ≡ e ∷ t) where
       pub read_within : IsPart (text_of e) skip (skip + taken)
       read_within = part_within (text_of e) (texts_of t) skip len taken (omega arith) taken_is here
 
-      pub read_behind : IsPart (texts_of t) 0 (0 + (len - taken))
-      read_behind =
+      pub read_after : IsPart (texts_of t) 0 (0 + (len - taken))
+      read_after =
           let q : len - taken ≡ 0 + (len - taken) = omega arith in
           subst (λ n. IsPart (texts_of t) 0 n) q (part_rest (text_of e) (texts_of t) skip len taken (omega arith) taken_is here)
 

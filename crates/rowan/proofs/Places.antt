@@ -32,11 +32,11 @@ len_children None = omega arith
 len_children (Some (Node t)) = omega (arith, ap (λ f. length (forest_text f)) (forest_of-terms t.forest))
 len_children (Some (Token l)) = omega arith
 
--- behind a child begins the next one
+-- after a child begins the next one
 pub next_start : (p : Place) (i : ℕ) → start_of (below p (i + 1)) ≡ end_of (below p i)
 next_start p i = rw add-one (omega (arith, len_next (terms_below p) i))
 
--- no child begins behind the end of its parent, or before its beginning
+-- no child begins after the end of its parent, or before its beginning
 pub start_within : (p : Place) (i : ℕ) → start_of (below p i) ≤ end_of p
 start_within p i = omega (arith, len_within (terms_below p) i, len_children (term_at p))
 

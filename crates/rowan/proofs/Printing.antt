@@ -1,5 +1,5 @@
 -- Texts that are printed piece by piece.
-use Rattle.std.proofs.Common.{◌≡◌, ℕ, zero, suc, ◌+◌, ◌-◌, arith, subst, List, [], ◌∷◌, ◌++◌, replicate, append_assoc, append-nil, add-one, Option, Some, None, refl, sym, ◌∙◌, ap}
+use Rattle.std.proofs.Common.{◌≡◌, ℕ, zero, suc, ◌+◌, ◌-◌, ◌≤◌, length, length-append, arith, subst, List, [], ◌∷◌, ◌++◌, replicate, append_assoc, append-nil, add-one, Option, Some, None, refl, sym, ◌∙◌, ap}
 use Rattle.std.specs.Prelude.{IfSome, pred, Result, Ok, MatchResult}
 use Rattle.std.specs.List.{concat}
 use Rattle.std.specs.Fmt.{AppendsText, ◌++?◌}
@@ -11,6 +11,14 @@ use Rattle.rowan.specs.declared.utility_types.WalkEvent.TheVariants.{Enter, Leav
 last_more : (x : List ℕ) (n : ℕ) → concat (replicate n x) ++ x ≡ concat (replicate (suc n) x)
 last_more x zero = sym (append-nil x)
 last_more x (suc n) = append_assoc x (concat (replicate n x)) x ∙ ap (λ v. x ++ v) (last_more x n)
+
+-- so many pieces of two bytes have twice as many
+pub twice_len : (a x : List ℕ) (n : ℕ) → length x ≡ 2 → n + n ≤ length (a ++ concat (replicate n x))
+twice_len a x n h = omega (arith, length-append a (concat (replicate n x)), len_by n)
+  where
+    len_by : (n : ℕ) → length (concat (replicate n x)) ≡ n + n
+    len_by zero = refl
+    len_by (suc n) = omega (arith, length-append x (concat (replicate n x)), len_by n, h)
 
 -- one more of the same piece
 pub one_more : (a b c x : List ℕ) (n : ℕ) → b ≡ a ++ concat (replicate n x) → c ≡ b ++ x → c ≡ a ++ concat (replicate (n + 1) x)
@@ -40,9 +48,9 @@ pub prints_last : (all : Option (List ℕ)) (a : List ℕ) → Prints all a (Som
 prints_last None a h = tt
 prints_last (Some t) a h = let e : a ++ [] ≡ t = cc in sym (append-nil a) ∙ e
 
--- what stands behind a text with more behind it
-pub behind_as : (a b c x y z : List ℕ) → b ≡ a ++ x → x ++ y ≡ z → c ≡ b ++ y → c ≡ a ++ z
-behind_as a b c x y z h e k = k ∙ ap (λ v. v ++ y) h ∙ append_assoc a x y ∙ ap (λ v. a ++ v) e
+-- what stands after a text with more after it
+pub after_as : (a b c x y z : List ℕ) → b ≡ a ++ x → x ++ y ≡ z → c ≡ b ++ y → c ≡ a ++ z
+after_as a b c x y z h e k = k ∙ ap (λ v. v ++ y) h ∙ append_assoc a x y ∙ ap (λ v. a ++ v) e
 
 -- a front and an end that are known by other names
 pub line_done : (a b c f g : List ℕ) (o p : Option (List ℕ)) → b ≡ a ++ f → f ≡ g → AppendsText b c o → p ≡ o → AppendsText a c (Some g ++? p)

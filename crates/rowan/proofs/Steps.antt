@@ -5,7 +5,7 @@ use Rattle.rowan_green.specs.Leaf.{Leaf}
 use Rattle.rowan_green.specs.Term.{Term, children_of, term_len}
 use Rattle.rowan_green.specs.declared.utility_types.NodeOrToken.TheVariants.{Node, Token}
 use Rattle.rowan.specs.Place.{Place, above, below, index_of, term_at, terms_below, children_in, text_in, start_of, end_of}
-use Rattle.rowan.specs.Around.{cursor_in, cursor_at, children_from, children_before, behind, ahead, nodes, first}
+use Rattle.rowan.specs.Around.{cursor_in, cursor_at, children_from, children_before, siblings_after, siblings_before, nodes, first}
 use Rattle.rowan.proofs.Places.{child_of, next_start, start_within, last_end}
 use Rattle.rowan.proofs.Lists.{first_from, from_here, before_here, none_from, number_within}
 
@@ -45,14 +45,14 @@ module _ (q p : Place) (i : ℕ) (h : Some p ≡ above q) (k : i ≡ index_of q)
       let n : i < length (terms_below p) = number_within p i x (sym (ap term_at is_below) ∙ l) in
       omega arith
 
-  pub behind_here : behind q ≡ children_from p (i + 1)
-  behind_here = ap behind is_below
+  pub after_here : siblings_after q ≡ children_from p (i + 1)
+  after_here = ap siblings_after is_below
 
-  pub ahead_here : ahead q ≡ children_before p i
-  ahead_here = ap ahead is_below
+  pub siblings_before_here : siblings_before q ≡ children_before p i
+  siblings_before_here = ap siblings_before is_below
 
-  pub next_here : cursor_at (below p (i + 1)) ≡ first (behind q)
-  next_here = sym (first_from p (i + 1)) ∙ ap first (sym behind_here)
+  pub next_here : cursor_at (below p (i + 1)) ≡ first (siblings_after q)
+  next_here = sym (first_from p (i + 1)) ∙ ap first (sym after_here)
 
 pub get_past : (es : List Term) (i : ℕ) → length es ≤ i → slice_get es i ≡ None
 get_past [] i h = refl
@@ -63,7 +63,7 @@ module _ (p : Place) (g : Tree) (i : ℕ) (h : term_at p ≡ Some (Node g)) wher
   next_child : (e : Term) → Some e ≡ slice_get (children_of g) i → start_of (below p (i + 1)) ≡ start_of (below p i) + term_len e
   next_child e k = next_start p i ∙ ap (λ o. start_of (below p i) + length (text_in o)) (child_term p g i e h k)
 
-  -- behind a child the next one begins, within the parent
+  -- after a child the next one begins, within the parent
   pub over_child : (e : Term) (offset len : ℕ) → Some e ≡ slice_get (children_of g) i → len ≡ term_len e → offset ≡ start_of (below p i) → (offset + len ≡ start_of (below p (i + 1))) × (offset + len ≤ end_of p)
   over_child e offset len k l o = (omega (arith, next_child e k), omega (arith, next_child e k, start_within p (i + 1)))
 
@@ -83,18 +83,18 @@ module _ (p : Place) (g : Tree) (i : ℕ) (h : term_at p ≡ Some (Node g)) wher
   pub none_past : (n : ℕ) → n ≡ length (children_of g) → n ≤ i → children_from p i ≡ []
   none_past n l m = none_from p (terms_below p) i i (get_past (terms_below p) i (rw (← count_is p g n h l) m))
 
-  pub node_ahead : (e : Term) (t : Tree) → Some e ≡ slice_get (children_of g) i → e ≡ Node t → first (nodes (children_before p (i + 1))) ≡ Some (below p i)
-  node_ahead e t k x =
+  pub node_siblings_before : (e : Term) (t : Tree) → Some e ≡ slice_get (children_of g) i → e ≡ Node t → first (nodes (children_before p (i + 1))) ≡ Some (below p i)
+  node_siblings_before e t k x =
       let c : cursor_at (below p i) ≡ Some (Node (below p i)) = ap (cursor_in (below p i)) (child_term p g i e h k ∙ ap Some x) in
       rw (before_here p i, c) refl
 
-  pub token_ahead : (e : Term) (l : Leaf) → Some e ≡ slice_get (children_of g) i → e ≡ Token l → first (nodes (children_before p (i + 1))) ≡ first (nodes (children_before p i))
-  token_ahead e l k x =
+  pub token_siblings_before : (e : Term) (l : Leaf) → Some e ≡ slice_get (children_of g) i → e ≡ Token l → first (nodes (children_before p (i + 1))) ≡ first (nodes (children_before p i))
+  token_siblings_before e l k x =
       let c : cursor_at (below p i) ≡ Some (Token (below p i)) = ap (cursor_in (below p i)) (child_term p g i e h k ∙ ap Some x) in
       rw (before_here p i, c) refl
 
-  pub none_ahead : None ≡ slice_get (children_of g) i → children_before p (i + 1) ≡ children_before p i
-  none_ahead k =
+  pub none_siblings_before : None ≡ slice_get (children_of g) i → children_before p (i + 1) ≡ children_before p i
+  none_siblings_before k =
       let c : cursor_at (below p i) ≡ None = ap (λ o. cursor_in (below p i) (slice_get (children_in o) i)) h ∙ ap (cursor_in (below p i)) (sym k) in
       rw (before_here p i, c) refl
 

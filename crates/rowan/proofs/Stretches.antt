@@ -41,7 +41,7 @@ next_terms es i e h = rw add-one (next_term es i e h)
 
 pub left_len : (s : Stretch) → IsStretch s → length (bytes_left s) ≡ s.left
 left_len s h =
-    omega (arith, length-take s.left (drop s.ahead (texts_of (terms_left s))), length-drop s.ahead (texts_of (terms_left s)), h.within)
+    omega (arith, length-take s.left (drop s.offset (texts_of (terms_left s))), length-drop s.offset (texts_of (terms_left s)), h.within)
 
 pub passes_none : (s : Stretch) → IsStretch s → Passes 0 s s
 passes_none s h = record { bytes = refl; left = omega arith; sound = h; falls = omega arith }
@@ -55,49 +55,49 @@ passes_more m n s t u p q = record {
 }
 
 -- bytes of the first term are passed
-pub passes_bytes : (n : ℕ) (s t : Stretch) → IsStretch s → t.node ≡ s.node → t.index ≡ s.index → t.ahead ≡ s.ahead + n → s.left ≡ n + t.left → Passes n s t
-passes_bytes n s t h node index ahead left =
+pub passes_bytes : (n : ℕ) (s t : Stretch) → IsStretch s → t.node ≡ s.node → t.index ≡ s.index → t.offset ≡ s.offset + n → s.left ≡ n + t.left → Passes n s t
+passes_bytes n s t h node index offset left =
     let terms : terms_left t ≡ terms_left s = ap (λ v. drop v (children_of t.node.now)) index ∙ ap (λ v. drop s.index (children_of v.now)) node in
     let w = texts_of (terms_left s) in
     record {
       bytes =
-          ap (λ v. take t.left (drop t.ahead (texts_of v))) terms ∙ ap (λ k. take t.left (drop k w)) ahead
-          ∙ ap (λ v. take t.left v) (sym (drop_more w s.ahead n)) ∙ sym (drop-take n t.left (drop s.ahead w)) ∙ ap (λ k. drop n (take k (drop s.ahead w))) (sym left);
+          ap (λ v. take t.left (drop t.offset (texts_of v))) terms ∙ ap (λ k. take t.left (drop k w)) offset
+          ∙ ap (λ v. take t.left v) (sym (drop_more w s.offset n)) ∙ sym (drop-take n t.left (drop s.offset w)) ∙ ap (λ k. drop n (take k (drop s.offset w))) (sym left);
       left = left;
       sound = record {
-        within = omega (arith, h.within, ahead, left, ap (λ v. length (texts_of v)) terms);
-        fits = omega (arith, h.fits, ahead, left);
+        within = omega (arith, h.within, offset, left, ap (λ v. length (texts_of v)) terms);
+        fits = omega (arith, h.fits, offset, left);
       };
       falls = omega (arith, ap (λ v. forest_count (forest_of v)) terms);
     }
 
 -- a term that lies before the first byte is passed
-pub passes_term : (s t : Stretch) (e : Term) → IsStretch s → t.node ≡ s.node → t.index ≡ s.index + 1 → t.ahead + term_len e ≡ s.ahead → t.left ≡ s.left → slice_get (children_of s.node.now) s.index ≡ Some e → Passes 0 s t
-passes_term s t e h node index ahead left is =
-    let behind : terms_left t ≡ drop (s.index + 1) (children_of s.node.now) = ap (λ v. drop v (children_of t.node.now)) index ∙ ap (λ v. drop (s.index + 1) (children_of v.now)) node in
-    let terms : terms_left s ≡ e ∷ terms_left t = next_terms (children_of s.node.now) s.index e is ∙ ap (λ v. e ∷ v) (sym behind) in
-    let a : t.ahead ≡ s.ahead - term_len e = omega (arith, ahead) in
+pub passes_term : (s t : Stretch) (e : Term) → IsStretch s → t.node ≡ s.node → t.index ≡ s.index + 1 → t.offset + term_len e ≡ s.offset → t.left ≡ s.left → slice_get (children_of s.node.now) s.index ≡ Some e → Passes 0 s t
+passes_term s t e h node index offset left is =
+    let after : terms_left t ≡ drop (s.index + 1) (children_of s.node.now) = ap (λ v. drop v (children_of t.node.now)) index ∙ ap (λ v. drop (s.index + 1) (children_of v.now)) node in
+    let terms : terms_left s ≡ e ∷ terms_left t = next_terms (children_of s.node.now) s.index e is ∙ ap (λ v. e ∷ v) (sym after) in
+    let a : t.offset ≡ s.offset - term_len e = omega (arith, offset) in
     record {
       bytes =
-          ap (λ k. take t.left (drop k (texts_of (terms_left t)))) a ∙ ap (λ k. take k (drop (s.ahead - term_len e) (texts_of (terms_left t)))) left
-          ∙ sym (passed_bytes (terms_left s) (terms_left t) e terms (term_len e) s.ahead refl s.left (omega (arith, ahead)));
+          ap (λ k. take t.left (drop k (texts_of (terms_left t)))) a ∙ ap (λ k. take k (drop (s.offset - term_len e) (texts_of (terms_left t)))) left
+          ∙ sym (passed_bytes (terms_left s) (terms_left t) e terms (term_len e) s.offset refl s.left (omega (arith, offset)));
       left = omega (arith, left);
       sound = record {
-        within = omega (arith, h.within, ap length (texts_are (terms_left s) (terms_left t) e terms), length-append (text_of e) (texts_of (terms_left t)), left, ahead);
-        fits = omega (arith, h.fits, left, ahead);
+        within = omega (arith, h.within, ap length (texts_are (terms_left s) (terms_left t) e terms), length-append (text_of e) (texts_of (terms_left t)), left, offset);
+        fits = omega (arith, h.fits, left, offset);
       };
       falls = omega (arith, count_falls (terms_left s) (terms_left t) e terms);
     }
 
 -- the bytes that are left in the first term
-pub head_bytes : (s : Stretch) (e : Term) (n : ℕ) → IsHead s e → n ≤ s.left → s.ahead + n ≤ term_len e → take n (bytes_left s) ≡ take n (drop s.ahead (text_of e))
+pub head_bytes : (s : Stretch) (e : Term) (n : ℕ) → IsHead s e → n ≤ s.left → s.offset + n ≤ term_len e → take n (bytes_left s) ≡ take n (drop s.offset (text_of e))
 head_bytes s e n h l k =
     let z : n - n ≡ 0 = omega arith in
-    take_less (drop s.ahead (texts_of (terms_left s))) n s.left l
-    ∙ ap (λ v. take n (drop s.ahead v)) (texts_are (terms_left s) h.behind e h.terms)
-    ∙ split_first (text_of e) (texts_of h.behind) s.ahead n n h.inside (omega arith)
-    ∙ ap (λ j. take n (drop s.ahead (text_of e)) ++ take j (texts_of h.behind)) z
-    ∙ append-nil (take n (drop s.ahead (text_of e)))
+    take_less (drop s.offset (texts_of (terms_left s))) n s.left l
+    ∙ ap (λ v. take n (drop s.offset v)) (texts_are (terms_left s) h.after e h.terms)
+    ∙ split_first (text_of e) (texts_of h.after) s.offset n n h.inside (omega arith)
+    ∙ ap (λ j. take n (drop s.offset (text_of e)) ++ take j (texts_of h.after)) z
+    ∙ append-nil (take n (drop s.offset (text_of e)))
 
 pub both_none : (a b : Stretch) → IsStretch a → IsStretch b → PassesBoth a b a b
 both_none a b h k = record { count = 0; first = passes_none a h; second = passes_none b k; same = refl }
@@ -128,23 +128,23 @@ both_more a b c d e f p q = record {
 pub differ_turned : (x y : List ℕ) → Differ x y → Differ y x
 differ_turned x y h = λ v w e. h w v (sym e)
 
-same_behind : (f x y : List ℕ) → f ++ x ≡ f ++ y → x ≡ y
-same_behind [] x y e = e
-same_behind (z ∷ f) x y e = same_behind f x y (ap (λ v. drop 1 v) e)
+same_after : (f x y : List ℕ) → f ++ x ≡ f ++ y → x ≡ y
+same_after [] x y e = e
+same_after (z ∷ f) x y e = same_after f x y (ap (λ v. drop 1 v) e)
 
 -- a text that begins with so many bytes of its own
 cut_text : (x v : List ℕ) (n : ℕ) → x ++ v ≡ take n x ++ (drop n x ++ v)
 cut_text x v n = ap (λ u. u ++ v) (sym (take-append-drop n x)) ∙ append_assoc (take n x) (drop n x) v
 
--- what differs behind a common front differs
-pub differ_behind : (x y : List ℕ) (n : ℕ) → take n x ≡ take n y → Differ (drop n x) (drop n y) → Differ x y
-differ_behind x y n same h = λ v w e.
-    h v w (same_behind (take n x) _ _ (sym (cut_text x v n) ∙ e ∙ cut_text y w n ∙ ap (λ u. u ++ (drop n y ++ w)) (sym same)))
+-- what differs after a common front differs
+pub differ_after : (x y : List ℕ) (n : ℕ) → take n x ≡ take n y → Differ (drop n x) (drop n y) → Differ x y
+differ_after x y n same h = λ v w e.
+    h v w (same_after (take n x) _ _ (sym (cut_text x v n) ∙ e ∙ cut_text y w n ∙ ap (λ u. u ++ (drop n y ++ w)) (sym same)))
 
 -- the same of stretches that passed bytes together
 pub both_differ : (a b c d : Stretch) → PassesBoth a b c d → Differ (bytes_left c) (bytes_left d) → Differ (bytes_left a) (bytes_left b)
 both_differ a b c d p h =
-    differ_behind (bytes_left a) (bytes_left b) p.count p.same (subst (λ v. Differ (drop p.count (bytes_left a)) v) p.second.bytes (subst (λ v. Differ v (bytes_left d)) p.first.bytes h))
+    differ_after (bytes_left a) (bytes_left b) p.count p.same (subst (λ v. Differ (drop p.count (bytes_left a)) v) p.second.bytes (subst (λ v. Differ v (bytes_left d)) p.first.bytes h))
 
 -- what begins differently differs
 pub differ_before : (x y u : List ℕ) (n : ℕ) → take n x ≡ u → Differ u y → Differ x y
@@ -167,28 +167,28 @@ module _ (s : Stretch) (first : s.index ≡ 0) where
   all_text : texts_of (terms_left s) ≡ tree_text s.node.now
   all_text = ap texts_of all_terms ∙ whole_text s.node.now
 
-  pub whole_stretch : s.ahead + s.left ≤ length (tree_text s.node.now) → s.ahead + s.left < 2 ^ 32 → IsStretch s
+  pub whole_stretch : s.offset + s.left ≤ length (tree_text s.node.now) → s.offset + s.left < 2 ^ 32 → IsStretch s
   whole_stretch h k = record { within = omega (arith, h, ap length all_text); fits = k }
 
-  pub whole_bytes : bytes_left s ≡ take s.left (drop s.ahead (tree_text s.node.now))
-  whole_bytes = ap (λ v. take s.left (drop s.ahead v)) all_text
+  pub whole_bytes : bytes_left s ≡ take s.left (drop s.offset (tree_text s.node.now))
+  whole_bytes = ap (λ v. take s.left (drop s.offset v)) all_text
 
   pub whole_left : count_left s + 1 ≤ tree_count s.node.now
   whole_left = omega (arith, whole_count s.node.now, ap (λ v. forest_count (forest_of v)) all_terms)
 
 -- ---- the part of a stretch in the node that it begins in
 
-module _ (a inner : Stretch) (t : Tree) (h : IsHead a (Node t)) (node : inner.node.now ≡ t) (first : inner.index ≡ 0) (ahead : inner.ahead ≡ a.ahead) (left : inner.left ≡ min a.left (length (tree_text t) - a.ahead)) where
+module _ (a inner : Stretch) (t : Tree) (h : IsHead a (Node t)) (node : inner.node.now ≡ t) (first : inner.index ≡ 0) (offset : inner.offset ≡ a.offset) (left : inner.left ≡ min a.left (length (tree_text t) - a.offset)) where
   pub inner_stretch : IsStretch a → IsStretch inner
   inner_stretch k =
-      whole_stretch inner first (omega (arith, h.inside, left, ahead, ap (λ v. length (tree_text v)) node)) (omega (arith, k.fits, left, ahead))
+      whole_stretch inner first (omega (arith, h.inside, left, offset, ap (λ v. length (tree_text v)) node)) (omega (arith, k.fits, left, offset))
 
   pub inner_falls : count_left inner + 1 ≤ count_left a
-  inner_falls = omega (arith, whole_left inner first, ap tree_count node, count_falls (terms_left a) h.behind (Node t) h.terms)
+  inner_falls = omega (arith, whole_left inner first, ap tree_count node, count_falls (terms_left a) h.after (Node t) h.terms)
 
   pub inner_bytes : bytes_left inner ≡ take inner.left (bytes_left a)
   inner_bytes =
-      whole_bytes inner first ∙ ap (λ v. take inner.left (drop inner.ahead (tree_text v))) node ∙ ap (λ k. take inner.left (drop k (tree_text t))) ahead
+      whole_bytes inner first ∙ ap (λ v. take inner.left (drop inner.offset (tree_text v))) node ∙ ap (λ k. take inner.left (drop k (tree_text t))) offset
       ∙ sym (head_bytes a (Node t) inner.left h (omega (arith, left)) (omega (arith, h.inside, left)))
 
   -- what passes there passes in the whole
@@ -216,8 +216,8 @@ not_true : (b : Bool) → not b ≡ true → b ≡ true → ⊥
 not_true true h k = absurd (cc)
 not_true false h k = absurd (cc)
 
-module _ (a b : Stretch) (l m : Leaf) (here : IsHead a (Token l)) (there : IsHead b (Token m)) (sa : IsStretch a) (sb : IsStretch b) (n : ℕ) (na : n ≤ a.left) (nb : n ≤ b.left) (fa : a.ahead + n ≤ length l.text) (fb : b.ahead + n ≤ length m.text) where
-  module _ (x y : List ℕ) (ne : Bool) (xe : x ≡ take n (drop a.ahead l.text)) (ye : y ≡ take n (drop b.ahead m.text)) (is : ne ≡ not (bytes_eq x y)) where
+module _ (a b : Stretch) (l m : Leaf) (here : IsHead a (Token l)) (there : IsHead b (Token m)) (sa : IsStretch a) (sb : IsStretch b) (n : ℕ) (na : n ≤ a.left) (nb : n ≤ b.left) (fa : a.offset + n ≤ length l.text) (fb : b.offset + n ≤ length m.text) where
+  module _ (x y : List ℕ) (ne : Bool) (xe : x ≡ take n (drop a.offset l.text)) (ye : y ≡ take n (drop b.offset m.text)) (is : ne ≡ not (bytes_eq x y)) where
     pub fronts_same : (c d : Stretch) → ne ≡ false → Passes n a c → Passes n b d → PassesBoth a b c d
     fronts_same c d h p q = record {
       count = n;

@@ -90,8 +90,8 @@ cut_rest t rest n c =
     let l = length-append t rest in
     (omega (arith, c.0), λ p q g. subst (λ x. 192 ≤ x) (get_or-append-add t rest n 0) (c.1 (omega arith) (omega arith) (subst (λ x. 128 ≤ x) (sym (get_or-append-add t rest n 0)) g)))
 
-pub part_behind : (t rest : List ℕ) (skip len : ℕ) → length t ≤ skip → IsPart (t ++ rest) skip (skip + len) → IsPart rest (skip - length t) (skip - length t + len)
-part_behind t rest skip len h p =
+pub part_after : (t rest : List ℕ) (skip len : ℕ) → length t ≤ skip → IsPart (t ++ rest) skip (skip + len) → IsPart rest (skip - length t) (skip - length t + len)
+part_after t rest skip len h p =
     let a : skip ≡ length t + (skip - length t) = omega arith in
     let b : skip + len ≡ length t + (skip - length t + len) = omega arith in record {
       ordered = omega arith;

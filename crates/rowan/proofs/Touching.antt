@@ -1,4 +1,4 @@
--- The tokens below a place stand one behind the other, and the way down by ranges leads to the one that has a byte.
+-- The tokens below a place stand one after the other, and the way down by ranges leads to the one that has a byte.
 use Rattle.std.proofs.Common.{◌≡◌, ℕ, zero, suc, ◌+◌, ◌<◌, ◌≤◌, List, [], ◌∷◌, ◌++◌, length, drop, refl, ap, sym, ◌∙◌, arith, add-one, length-append, append-nil, Option, Some, None, slice_get, Bool, true, false, nat_le, cond, ◌⊎◌, inl, inr}
 use Rattle.std.specs.List.{filter}
 use Rattle.std.proofs.lemmas.Bool.{and_from, and_left, and_right, le-leb, lt-leb, leb-true, leb-false, and_cases, and_parts}
@@ -18,7 +18,7 @@ use Rattle.rowan.proofs.Walks.{walk_inside}
 use Rattle.rowan.proofs.Leaves.{entered-append}
 use Rattle.rowan.proofs.Places.{next_start}
 
--- ---- lists of places that stand one behind the other
+-- ---- lists of places that stand one after the other
 
 abbrev pub Chain : ℕ → List Place → ℕ → Type 0
 Chain a [] b = a ≡ b
@@ -56,11 +56,11 @@ begins_later k q a = and_left _ _ (lt-leb (start_of q) k a)
 pub ends_before : (k : ℕ) (q : Place) → end_of q ≤ k → has_byte k q ≡ false
 ends_before k q a = and_right _ _ (lt-leb (k + 1) (end_of q) (omega arith))
 
-pub none_behind : (k a b : ℕ) (qs : List Place) → Chain a qs b → k < a → filter (has_byte k) qs ≡ []
-none_behind k a b [] h l = refl
-none_behind k a b (q ∷ qs) h l =
+pub none_after : (k a b : ℕ) (qs : List Place) → Chain a qs b → k < a → filter (has_byte k) qs ≡ []
+none_after k a b [] h l = refl
+none_after k a b (q ∷ qs) h l =
     passed (has_byte k) q qs (begins_later k q (omega (arith, h.0)))
-    ∙ none_behind k (end_of q) b qs h.1 (omega (arith, h.0, ordered q))
+    ∙ none_after k (end_of q) b qs h.1 (omega (arith, h.0, ordered q))
 
 pub none_before : (k a b : ℕ) (qs : List Place) → Chain a qs b → b ≤ k → filter (has_byte k) qs ≡ []
 none_before k a b [] h l = refl
@@ -68,7 +68,7 @@ none_before k a b (q ∷ qs) h l =
     passed (has_byte k) q qs (ends_before k q (omega (arith, chain_up (end_of q) b qs h.1)))
     ∙ none_before k (end_of q) b qs h.1 l
 
--- ---- the tokens of a forest stand one behind the other
+-- ---- the tokens of a forest stand one after the other
 
 pub drop_head : (es rest : List Term) (e : Term) (i : ℕ) → drop i es ≡ e ∷ rest → slice_get es i ≡ Some e
 drop_head [] rest e zero h = absurd (cc)
@@ -146,7 +146,7 @@ module _ (k : ℕ) where
   outside p a b qs h e f t = outside_by (and_cases (nat_le (start_of p) k) (nat_le (k + 1) (end_of p)) t)
     where
       outside_by : (nat_le (start_of p) k ≡ false) ⊎ (nat_le (k + 1) (end_of p) ≡ false) → filter (has_byte k) qs ≡ []
-      outside_by (inl x) = none_behind k a b qs h (omega (arith, leb-false (start_of p) k x, e))
+      outside_by (inl x) = none_after k a b qs h (omega (arith, leb-false (start_of p) k x, e))
       outside_by (inr x) = none_before k a b qs h (omega (arith, leb-false (k + 1) (end_of p) x, f))
 
   in_forest : (p : Place) (i : ℕ) (f : Forest) → drop i (terms_below p) ≡ terms f → first (filter (has_byte k) (leaves p i f)) ≡ found k (first (filter (holds k (k + 1)) (numbered p i (terms f))))
@@ -172,7 +172,7 @@ module _ (k : ℕ) where
       in_node : (first (filter (has_byte k) (leaves p (i + 1) r)) ≡ found k (first (filter (holds k (k + 1)) (numbered p (i + 1) (terms r))))) → (b : Bool) → has_byte k (below p i) ≡ b → first (filter (has_byte k) (leaves p i (node n g r))) ≡ found k (first (filter (holds k (k + 1)) (numbered p i (terms (node n g r)))))
       in_node ih true t =
           ap first (split p i n g r)
-          ∙ first-append-nil (filter (has_byte k) (leaves (below p i) 0 g)) (filter (has_byte k) (leaves p (i + 1) r)) (none_behind k _ _ (leaves p (i + 1) r) outer (omega (arith, next_start p i, leb-true (k + 1) (end_of (below p i)) ((and_parts (nat_le (start_of (below p i)) k) (nat_le (k + 1) (end_of (below p i))) t).1))))
+          ∙ first-append-nil (filter (has_byte k) (leaves (below p i) 0 g)) (filter (has_byte k) (leaves p (i + 1) r)) (none_after k _ _ (leaves p (i + 1) r) outer (omega (arith, next_start p i, leb-true (k + 1) (end_of (below p i)) ((and_parts (nat_le (start_of (below p i)) k) (nat_le (k + 1) (end_of (below p i))) t).1))))
           ∙ ap (λ w. first (filter (has_byte k) (tokens (entered w)))) (sym (walk_inside p i (record { kind = n; forest = g }) s))
           ∙ sym (ap (λ xs. found k (first xs)) (picked (holds k (k + 1)) (Node (below p i)) (numbered p (i + 1) (terms r)) t))
       in_node ih false t =

@@ -6,7 +6,7 @@ use Rattle.rowan_green.specs.Leaf.{Leaf}
 use Rattle.rowan_green.specs.Term.{Term, forest_of, forest_of-terms}
 use Rattle.rowan_green.specs.declared.utility_types.NodeOrToken.TheVariants.{Node, Token}
 use Rattle.rowan.specs.Place.{Place, above, below, term_at, terms_below, children_in}
-use Rattle.rowan.specs.Around.{Cursor, place_in, cursor_in, cursor_at, children, children_from, behind, first}
+use Rattle.rowan.specs.Around.{Cursor, place_in, cursor_in, cursor_at, children, children_from, siblings_after, first}
 use Rattle.rowan.specs.Walk.{Event, walk_forest, walk_from, skipped}
 use Rattle.rowan.specs.Left.{left_above, left_leaving, left_entering, left_at, event_of}
 use Rattle.rowan.specs.declared.utility_types.WalkEvent.TheVariants.{Enter, Leave}
@@ -63,14 +63,14 @@ place_is q (Some (Token l)) c h = let k : c ≡ Token q = cc in ap place_in k
 pub place_of_child : (p : Place) (i : ℕ) (c : Cursor) → Some c ≡ cursor_at (below p i) → place_in c ≡ below p i
 place_of_child p i c h = place_is (below p i) (term_at (below p i)) c h
 
-behind_first : (p : Place) (c : Cursor) (i d : ℕ) → Some c ≡ cursor_at (below p i) → walk_from p i ++ Leave (Node p) ∷ left_above p.root p.up d ≡ left_entering c (suc d)
-behind_first p c i d h =
+after_first : (p : Place) (c : Cursor) (i d : ℕ) → Some c ≡ cursor_at (below p i) → walk_from p i ++ Leave (Node p) ∷ left_above p.root p.up d ≡ left_entering c (suc d)
+after_first p c i d h =
     ap (λ w. w ++ Leave (Node p) ∷ left_above p.root p.up d) (walk_here p i ∙ ap (λ o. events_by o (walk_from p (i + 1))) (sym h))
     ∙ ap (λ w. Enter c ∷ w) (append_assoc (walk_from (place_in c) 0) (Leave c ∷ walk_from p (i + 1)) (Leave (Node p) ∷ left_above p.root p.up d))
     ∙ ap (λ (q : Place). Enter c ∷ (walk_from (place_in c) 0 ++ Leave c ∷ left_above q.root q.up (suc d))) (sym (place_of_child p i c h))
 
 pub step_in : (p : Place) (c : Cursor) (d : ℕ) → Some c ≡ first (children p) → left_at false (Node p) d ≡ event_of false (Node p) ∷ left_at false c (d + 1)
-step_in p c d h = rw add-one (ap (λ w. Enter (Node p) ∷ w) (behind_first p c 0 d (h ∙ first_from p 0)))
+step_in p c d h = rw add-one (ap (λ w. Enter (Node p) ∷ w) (after_first p c 0 d (h ∙ first_from p 0)))
 
 walk_none : (p : Place) (i : ℕ) → None ≡ first (children_from p i) → walk_from p i ≡ []
 walk_none p i h = walk_here p i ∙ ap (λ o. events_by o (walk_from p (i + 1))) (sym (h ∙ first_from p i))
@@ -83,21 +83,21 @@ step_over p d l h =
     let e : walk_from p 0 ≡ [] = ap (λ o. walk_forest p 0 (forest_of (drop 0 (children_in o)))) h in
     ap (λ w. Enter (Token p) ∷ (w ++ left_leaving (Token p) d)) e
 
-side_by : (root : Tree) (up : List ℕ) (s : Cursor) (k : ℕ) → Some s ≡ first (behind (record { root = root; up = up })) → left_above root up (suc k) ≡ left_entering s (suc k)
+side_by : (root : Tree) (up : List ℕ) (s : Cursor) (k : ℕ) → Some s ≡ first (siblings_after (record { root = root; up = up })) → left_above root up (suc k) ≡ left_entering s (suc k)
 side_by root [] s k h = absurd (cc)
-side_by root (i ∷ up) s k h = behind_first (record { root = root; up = up }) s (i + 1) k (h ∙ first_from (record { root = root; up = up }) (i + 1))
+side_by root (i ∷ up) s k h = after_first (record { root = root; up = up }) s (i + 1) k (h ∙ first_from (record { root = root; up = up }) (i + 1))
 
-pub step_side : (c s : Cursor) (d k : ℕ) → d ≡ k + 1 → Some s ≡ first (behind (place_in c)) → left_at true c d ≡ event_of true c ∷ left_at false s d
+pub step_side : (c s : Cursor) (d k : ℕ) → d ≡ k + 1 → Some s ≡ first (siblings_after (place_in c)) → left_at true c d ≡ event_of true c ∷ left_at false s d
 step_side c s d k e h = rw (e, add-one) (ap (λ w. Leave c ∷ w) (side_by (place_in c).root (place_in c).up s k h))
 
-up_by : (root : Tree) (up : List ℕ) (p : Place) (k : ℕ) → None ≡ first (behind (record { root = root; up = up })) → Some p ≡ above (record { root = root; up = up }) → left_above root up (suc k) ≡ left_leaving (Node p) k
+up_by : (root : Tree) (up : List ℕ) (p : Place) (k : ℕ) → None ≡ first (siblings_after (record { root = root; up = up })) → Some p ≡ above (record { root = root; up = up }) → left_above root up (suc k) ≡ left_leaving (Node p) k
 up_by root [] p k h f = absurd (cc)
 up_by root (i ∷ up) p k h f =
     let e : record { root = root; up = up } ≡ p = cc in
     let w = walk_none (record { root = root; up = up }) (i + 1) h in
     ap (λ v. v ++ left_leaving (Node (record { root = root; up = up })) k) w ∙ ap (λ q. left_leaving (Node q) k) e
 
-pub step_up : (c : Cursor) (p : Place) (d k : ℕ) → d ≡ k + 1 → None ≡ first (behind (place_in c)) → Some p ≡ above (place_in c) → left_at true c d ≡ event_of true c ∷ left_at true (Node p) k
+pub step_up : (c : Cursor) (p : Place) (d k : ℕ) → d ≡ k + 1 → None ≡ first (siblings_after (place_in c)) → Some p ≡ above (place_in c) → left_at true c d ≡ event_of true c ∷ left_at true (Node p) k
 step_up c p d k e h f = rw (e, add-one) (ap (λ w. Leave c ∷ w) (up_by (place_in c).root (place_in c).up p k h f))
 
 top_by : (root : Tree) (up : List ℕ) (d : ℕ) → None ≡ above (record { root = root; up = up }) → left_above root up d ≡ []

@@ -52,21 +52,21 @@ children p = children_from p 0
 abbrev pub children_back : Place → List Cursor
 children_back p = children_before p (length (terms_below p))
 
--- the siblings behind a place, in order
-abbrev pub behind : Place → List Cursor
-behind p = behind_by p.root p.up
+-- the siblings after a place, in order
+abbrev pub siblings_after : Place → List Cursor
+siblings_after p = after_by p.root p.up
   where
-    behind_by : Tree → List ℕ → List Cursor
-    behind_by root [] = []
-    behind_by root (i ∷ up) = children_from (record { root = root; up = up }) (i + 1)
+    after_by : Tree → List ℕ → List Cursor
+    after_by root [] = []
+    after_by root (i ∷ up) = children_from (record { root = root; up = up }) (i + 1)
 
--- the siblings ahead of a place, the nearest first
-abbrev pub ahead : Place → List Cursor
-ahead p = ahead_by p.root p.up
+-- the siblings before a place, the nearest first
+abbrev pub siblings_before : Place → List Cursor
+siblings_before p = before_by p.root p.up
   where
-    ahead_by : Tree → List ℕ → List Cursor
-    ahead_by root [] = []
-    ahead_by root (i ∷ up) = children_before (record { root = root; up = up }) i
+    before_by : Tree → List ℕ → List Cursor
+    before_by root [] = []
+    before_by root (i ∷ up) = children_before (record { root = root; up = up }) i
 
 -- the nodes among these
 abbrev pub nodes : List Cursor → List Place
@@ -99,12 +99,12 @@ abbrev pub element_ancestors : Cursor → List Place
 element_ancestors (Node p) = ancestors p
 element_ancestors (Token p) = ancestors_of (above p)
 
--- an element and its siblings behind it, or ahead of it, the nearest first
+-- an element and its siblings after it, or before it, the nearest first
 abbrev pub siblings : Direction → Cursor → List Cursor
-siblings Next c = c ∷ behind (place_in c)
-siblings Prev c = c ∷ ahead (place_in c)
+siblings Next c = c ∷ siblings_after (place_in c)
+siblings Prev c = c ∷ siblings_before (place_in c)
 
 -- the same of nodes alone
 abbrev pub sibling_nodes : Direction → Place → List Place
-sibling_nodes Next p = p ∷ nodes (behind p)
-sibling_nodes Prev p = p ∷ nodes (ahead p)
+sibling_nodes Next p = p ∷ nodes (siblings_after p)
+sibling_nodes Prev p = p ∷ nodes (siblings_before p)

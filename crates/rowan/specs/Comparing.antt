@@ -10,7 +10,7 @@ terms_left s = drop s.index (children_of s.node.now)
 
 -- the bytes that it has not passed
 abbrev pub bytes_left : Stretch → List ℕ
-bytes_left s = take s.left (drop s.ahead (texts_of (terms_left s)))
+bytes_left s = take s.left (drop s.offset (texts_of (terms_left s)))
 
 -- how many nodes and tokens it may still come to
 abbrev pub count_left : Stretch → ℕ
@@ -18,14 +18,14 @@ count_left s = forest_count (forest_of (terms_left s))
 
 -- its terms have all its bytes
 pub record IsStretch (s : Stretch) : Type 0 where
-  pub within : s.ahead + s.left ≤ length (texts_of (terms_left s))
-  pub fits : s.ahead + s.left < 2 ^ 32
+  pub within : s.offset + s.left ≤ length (texts_of (terms_left s))
+  pub fits : s.offset + s.left < 2 ^ 32
 
 -- its first byte is in this term, the first that it has not passed
 pub record IsHead (s : Stretch) (e : Term) : Type 0 where
-  pub behind : List Term
-  pub terms : terms_left s ≡ e ∷ behind
-  pub inside : s.ahead < term_len e
+  pub after : List Term
+  pub terms : terms_left s ≡ e ∷ after
+  pub inside : s.offset < term_len e
   pub some : 0 < s.left
 
 -- the second is the first with so many bytes passed
@@ -42,6 +42,6 @@ pub record PassesBoth (a b c d : Stretch) : Type 0 where
   pub second : Passes count b d
   pub same : take count (bytes_left a) ≡ take count (bytes_left b)
 
--- whatever is put behind them, two texts differ
+-- whatever is put after them, two texts differ
 abbrev pub Differ : List ℕ → List ℕ → Type 0
 Differ x y = (v w : List ℕ) → x ++ v ≡ y ++ w → ⊥

@@ -14,13 +14,13 @@ tokens_from p i = tokens (entered (walk_from p i))
 abbrev pub tokens_in : Place → List Place
 tokens_in p = tokens_from p 0
 
--- the tokens behind a place: those of its siblings behind it, then those behind its parent
-abbrev pub tokens_behind : Place → List Place
-tokens_behind p = behind_by p.root p.up
+-- the tokens after a place: those of its siblings after it, then those after its parent
+abbrev pub tokens_after : Place → List Place
+tokens_after p = after_by p.root p.up
   where
-    behind_by : Tree → List ℕ → List Place
-    behind_by root [] = []
-    behind_by root (i ∷ up) = tokens_from (record { root = root; up = up }) (i + 1) ++ behind_by root up
+    after_by : Tree → List ℕ → List Place
+    after_by root [] = []
+    after_by root (i ∷ up) = tokens_from (record { root = root; up = up }) (i + 1) ++ after_by root up
 
 -- the tokens at and below these children, which stand the last first: the last first too
 abbrev pub tokens_back_by : List Cursor → List Place
@@ -32,10 +32,10 @@ tokens_back_by (Token q ∷ cs) = q ∷ tokens_back_by cs
 abbrev pub tokens_back : Place → ℕ → List Place
 tokens_back p i = tokens_back_by (children_before p i)
 
--- the tokens ahead of a place, the nearest first: those of its siblings ahead of it, then those ahead of its parent
-abbrev pub tokens_ahead : Place → List Place
-tokens_ahead p = ahead_by p.root p.up
+-- the tokens before a place, the nearest first: those of its siblings before it, then those before its parent
+abbrev pub tokens_before : Place → List Place
+tokens_before p = before_by p.root p.up
   where
-    ahead_by : Tree → List ℕ → List Place
-    ahead_by root [] = []
-    ahead_by root (i ∷ up) = tokens_back (record { root = root; up = up }) i ++ ahead_by root up
+    before_by : Tree → List ℕ → List Place
+    before_by root [] = []
+    before_by root (i ∷ up) = tokens_back (record { root = root; up = up }) i ++ before_by root up

@@ -2,6 +2,7 @@ pub mod Place
 pub mod Around
 pub mod Walk
 pub mod Leaves
+pub mod Laws
 pub mod Touching
 pub mod Pointer
 pub mod Refusal

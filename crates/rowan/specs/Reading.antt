@@ -1,4 +1,4 @@
--- Laws of readers of texts: what comes of a text and of one behind it.
+-- Laws of readers of texts: what comes of a text and of one after it.
 use Rattle.std.specs.Prelude.{◌≡◌, ℕ, zero, suc, ◌+◌, ◌<◌, List, [], ◌∷◌, ◌++◌, length, refl, Result, Ok, Err, MatchResult}
 use Rattle.std.proofs.Common.{sym, ◌∙◌, ap, subst, arith, append_assoc, append-nil, length-append}
 use Rattle.std.specs.Char.{encode_utf8}
@@ -7,12 +7,12 @@ use Rattle.std.proofs.lemmas.Str.{NoCharPasses-nil, NoCharPasses-append}
 use Rattle.std.proofs.lemmas.List.Folds.{concat-append}
 use Rattle.std.proofs.lemmas.List.Elements.{All-append}
 use Rattle.rowan.specs.Text.{Lacks, StandsAt, FirstAt}
-use Rattle.rowan.specs.Pieces.{Folds, FoldsText}
+use Rattle.rowan.specs.Pieces.{Folds, FoldsText, TakesText}
 
 -- ---- the search for a character
 
-abbrev pub stands_behind : (c k : ℕ) (a b : List ℕ) → StandsAt c b k → StandsAt c (a ++ b) (length a + k)
-stands_behind c k a b s = record {
+abbrev pub stands_after : (c k : ℕ) (a b : List ℕ) → StandsAt c b k → StandsAt c (a ++ b) (length a + k)
+stands_after c k a b s = record {
   before = a ++ s.before;
   after = s.after;
   splits = ap (λ v. a ++ v) s.splits ∙ sym (append_assoc a s.before (encode_utf8 c ++ s.after));
@@ -46,7 +46,7 @@ module _ {S : Type 0} (wanted : S → ℕ) where
         length a + k.0,
         e,
         record {
-          stands = stands_behind (wanted r) k.0 a b f.stands;
+          stands = stands_after (wanted r) k.0 a b f.stands;
           first = NoCharPasses-append _ a f.stands.before h.1 f.first;
         },
       )
@@ -130,6 +130,30 @@ module _ {F T E : Type 0} (call : F → T → List ℕ → Result T E → F → 
 
   pub text_err : (f g : F) (t : T) (e : E) (c : List ℕ) → 0 < length c → call f t c (Err e) g → FoldsText call f t c (Err e) g
   text_err f g t e c n h = record { pieces = c ∷ []; whole = append-nil c; full = one_full c n; calls = (Err e, g, h, (refl, refl)) }
+
+  -- what may be called at the pieces of two texts may be called at those of the first
+  pub takes_begins : (takes : F → T → List ℕ → Type 0) (f : F) (t : T) (a b : List ℕ) → TakesText call takes f t (a ++ b) → TakesText call takes f t a
+  takes_begins takes f t a b p = record {
+    at = λ before piece after u g e full n h.
+        p.at before piece (after ++ b) u g
+        (ap (λ v. concat before ++ v) (sym (append_assoc piece after b)) ∙ sym (append_assoc (concat before) (piece ++ after) b)
+        ∙ ap (λ v. v ++ b) e) full n h;
+  }
+
+  -- and, after those of the first, at those of the second
+  pub takes_rest : (takes : F → T → List ℕ → Type 0) (f g : F) (t u : T) (a b : List ℕ) → TakesText call takes f t (a ++ b) → FoldsText call f t a (Ok u) g → TakesText call takes g u b
+  takes_rest takes f g t u a b p q = record {
+    at = λ before piece after v h e full n k.
+        p.at (q.pieces ++ before) piece after v h
+        (ap (λ w. w ++ (piece ++ after)) (concat-append q.pieces before ∙ ap (λ w. w ++ concat before) q.whole)
+        ∙ append_assoc a (concat before) (piece ++ after) ∙ ap (λ w. a ++ w) e)
+        (All-append (λ c. 0 < length c) q.pieces before q.full full) n
+        (folds_more f g h t u q.pieces before (Ok v) q.calls k);
+  }
+
+  -- the first piece may be all of the text
+  pub takes_whole : (takes : F → T → List ℕ → Type 0) (f : F) (t : T) (c : List ℕ) → 0 < length c → TakesText call takes f t c → takes f t c
+  takes_whole takes f t c n p = p.at [] c [] t f (append-nil c) (λ k d h. absurd (omega arith)) n (refl, refl)
 
 -- what comes of a fold that a reader makes, with its call and what it has so far
 abbrev pub ReadsFold : {S F T E : Type 0} → (F → T → List ℕ → Result T E → F → Type 0) → (S → F) → (S → T) → S → List ℕ → Result S E → Type 0

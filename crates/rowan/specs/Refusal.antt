@@ -4,7 +4,7 @@ use Rattle.rowan.specs.Place.{Place}
 use Rattle.rowan.specs.declared.error.CursorError.{CursorError}
 use Rattle.rowan.specs.declared.error.CursorError.TheVariants.{NotFound, TooLong, NoMemory}
 
--- NotFound only where nothing was to be found, never TooLong; want of memory at any point
+-- NotFound only where nothing was to be found, never TooLong; out of memory at any point
 abbrev pub RefusesSearch : Option Place → CursorError → Type 0
 RefusesSearch o NotFound = o ≡ None
 RefusesSearch o TooLong = ⊥

@@ -13,7 +13,7 @@ pub record IsPart (bs : List ℕ) (from to : ℕ) : Type 0 where
   pub begins : IsCut bs from
   pub ends : IsCut bs to
 
--- this character stands behind so many bytes
+-- this character stands after so many bytes
 pub record StandsAt (c : ℕ) (text : List ℕ) (n : ℕ) : Type 0 where
   pub before : List ℕ
   pub after : List ℕ
@@ -24,15 +24,15 @@ pub record StandsAt (c : ℕ) (text : List ℕ) (n : ℕ) : Type 0 where
 abbrev pub Lacks : ℕ → List ℕ → Type 0
 Lacks c text = NoCharPasses (λ d. d == c) text
 
--- this character stands behind so many bytes, and not among them
+-- this character stands after so many bytes, and not among them
 pub record FirstAt (c : ℕ) (text : List ℕ) (n : ℕ) : Type 0 where
   pub stands : StandsAt c text n
   pub first : Lacks c stands.before
 
--- some character begins behind so many bytes
+-- some character begins after so many bytes
 abbrev pub Begins : List ℕ → ℕ → Type 0
 Begins text n = (n < length text) × IsCut text n
 
--- the character behind so many bytes, if one begins there
+-- the character after so many bytes, if one begins there
 abbrev pub IsCharAt : List ℕ → ℕ → Option ℕ → Type 0
 IsCharAt text n r = MatchOption r (Begins text n → ⊥) (λ c. StandsAt c text n)

@@ -48,7 +48,7 @@ node_event (Leave (Token p)) = None
 abbrev pub node_events : List Event → List (WalkEvent Place)
 node_events w = filter_map node_event w
 
--- what is left of a walk behind the first leaving of an element that was entered `depth` elements further out, that leaving included
+-- what is left of a walk after the first leaving of an element that was entered `depth` elements further out, that leaving included
 abbrev pub skipped : ℕ → List Event → List Event
 skipped depth [] = []
 skipped depth (Enter c ∷ w) = skipped (suc depth) w

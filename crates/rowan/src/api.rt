@@ -4,8 +4,8 @@ ghost use Rattle.rowan_green.specs.Forest.{Tree};
 ghost use Rattle.rowan_green.specs.declared.utility_types.NodeOrToken.TheVariants.{Node, Token};
 ghost use Rattle.rowan.specs.Place.{Place, above, term_at, kind_at, text_at, start_of, end_of, index_of, top_of};
 ghost use Rattle.rowan.specs.Ranges.{child_at_range, LeadsTo};
-ghost use Rattle.rowan.specs.Leaves.{tokens_in, tokens_behind, tokens_ahead};
-ghost use Rattle.rowan.specs.Around.{Cursor, children, children_back, behind, ahead, nodes, first};
+ghost use Rattle.rowan.specs.Leaves.{tokens_in, tokens_after, tokens_before};
+ghost use Rattle.rowan.specs.Around.{Cursor, children, children_back, siblings_after, siblings_before, nodes, first};
 
 use crate::cursor;
 use crate::language::Language;
@@ -156,14 +156,14 @@ impl<L: Language> SyntaxNode<L> {
 
     /// The next sibling that is a node.
     pub fn next_sibling(&self, alloc: Global) -> Result<Option<SyntaxNode<L>>, AllocError>
-        ensures { IfOk result (λ r. r ≡ first (nodes (behind self.now))) }
+        ensures { IfOk result (λ r. r ≡ first (nodes (siblings_after self.now))) }
     {
         Ok(node_of(self.cursor.next_sibling(alloc)?))
     }
 
     /// The nearest sibling before it that is a node.
     pub fn prev_sibling(&self, alloc: Global) -> Result<Option<SyntaxNode<L>>, AllocError>
-        ensures { IfOk result (λ r. r ≡ first (nodes (ahead self.now))) }
+        ensures { IfOk result (λ r. r ≡ first (nodes (siblings_before self.now))) }
     {
         Ok(node_of(self.cursor.prev_sibling(alloc)?))
     }
@@ -172,7 +172,7 @@ impl<L: Language> SyntaxNode<L> {
         &self,
         alloc: Global,
     ) -> Result<Option<SyntaxElement<L>>, AllocError>
-        ensures { IfOk result (λ r. r ≡ first (behind self.now)) }
+        ensures { IfOk result (λ r. r ≡ first (siblings_after self.now)) }
     {
         Ok(element_of(self.cursor.next_sibling_or_token(alloc)?))
     }
@@ -181,7 +181,7 @@ impl<L: Language> SyntaxNode<L> {
         &self,
         alloc: Global,
     ) -> Result<Option<SyntaxElement<L>>, AllocError>
-        ensures { IfOk result (λ r. r ≡ first (ahead self.now)) }
+        ensures { IfOk result (λ r. r ≡ first (siblings_before self.now)) }
     {
         Ok(element_of(self.cursor.prev_sibling_or_token(alloc)?))
     }
@@ -193,7 +193,7 @@ impl<L: Language> SyntaxNode<L> {
         Ok(token_of(self.cursor.first_token(alloc)?))
     }
 
-    /// The last token below the node, however many empty nodes stand behind it.
+    /// The last token below the node, however many empty nodes stand after it.
     pub fn last_token(&self, alloc: Global) -> Result<Option<SyntaxToken<L>>, AllocError>
         ensures { IfOk result (λ r. r ≡ first (reverse (tokens_in self.now))) }
     {
@@ -351,7 +351,7 @@ impl<L: Language> SyntaxToken<L> {
         &self,
         alloc: Global,
     ) -> Result<Option<SyntaxElement<L>>, AllocError>
-        ensures { IfOk result (λ r. r ≡ first (behind self.now)) }
+        ensures { IfOk result (λ r. r ≡ first (siblings_after self.now)) }
     {
         Ok(element_of(self.cursor.next_sibling_or_token(alloc)?))
     }
@@ -360,21 +360,21 @@ impl<L: Language> SyntaxToken<L> {
         &self,
         alloc: Global,
     ) -> Result<Option<SyntaxElement<L>>, AllocError>
-        ensures { IfOk result (λ r. r ≡ first (ahead self.now)) }
+        ensures { IfOk result (λ r. r ≡ first (siblings_before self.now)) }
     {
         Ok(element_of(self.cursor.prev_sibling_or_token(alloc)?))
     }
 
-    /// The token behind this one in the tree, wherever it stands.
+    /// The token after this one in the tree, wherever it stands.
     pub fn next_token(&self, alloc: Global) -> Result<Option<SyntaxToken<L>>, AllocError>
-        ensures { IfOk result (λ r. r ≡ first (tokens_behind self.now)) }
+        ensures { IfOk result (λ r. r ≡ first (tokens_after self.now)) }
     {
         Ok(token_of(self.cursor.next_token(alloc)?))
     }
 
-    /// The token ahead of this one in the tree, wherever it stands.
+    /// The token before this one in the tree, wherever it stands.
     pub fn prev_token(&self, alloc: Global) -> Result<Option<SyntaxToken<L>>, AllocError>
-        ensures { IfOk result (λ r. r ≡ first (tokens_ahead self.now)) }
+        ensures { IfOk result (λ r. r ≡ first (tokens_before self.now)) }
     {
         Ok(token_of(self.cursor.prev_token(alloc)?))
     }

@@ -1,5 +1,5 @@
 //! Texts of trees, read piece by piece without a copy.
-ghost use Rattle.std.specs.Prelude.{◌≡◌, ◌+◌, ◌^◌, ◌<◌, ℕ, List, [], ◌++◌, length, take, drop, IfOk, Result, Ok, Err};
+ghost use Rattle.std.specs.Prelude.{◌≡◌, ◌+◌, ◌^◌, ◌<◌, ℕ, List, [], ◌++◌, length, take, drop, Result, Ok, Err};
 ghost use Rattle.rowan_green.specs.Forest.{tree_text};
 ghost use Rattle.rowan.specs.Text.{IsPart};
 
@@ -10,19 +10,24 @@ pub(crate) trait ChunkReader: Sized {
     /// What a reader has when it stops before the end.
     type Found;
 
-    /// Whether a reader may be given a piece.
-    ghost can_read: { Self → Type 0 };
+    /// Whether a reader may be given this text, in whatever pieces, and nothing else.
+    ghost can_read: { Self → List ℕ → Type 0 };
 
     /// What may come of a text that begins at this byte, in whatever pieces it is given: the reader
-    /// behind it, or what it stopped with.
+    /// after it, or what it stopped with.
     ghost reads: { Self → ℕ → List ℕ → Result Self Self.Found → Type 0 };
 
     fn read(self, at: u32, chunk: &str) -> Result<Self, Self::Found>
-        requires can { can_read self }
+        requires can { can_read self chunk.now }
         requires some { 0 < length chunk.now }
         requires fits { at + length chunk.now < 2 ^ 32 }
-        ensures read { reads self at chunk.now result }
-        ensures goes_on { IfOk result can_read };
+        ensures { reads self at chunk.now result };
+
+    /// What may be given two texts may be given the first.
+    ghost begins: { (r : Self) (a b : List ℕ) → can_read r (a ++ b) → can_read r a };
+
+    /// And, once the first is read, the second.
+    ghost goes_on: { (r s : Self) (at : ℕ) (a b : List ℕ) → can_read r (a ++ b) → reads r at a (Ok s) → can_read s b };
 
     /// No text changes nothing.
     ghost nothing: { (r : Self) (at : ℕ) → reads r at [] (Ok r) };
@@ -34,7 +39,7 @@ pub(crate) trait ChunkReader: Sized {
     ghost stopped: { (r : Self) (e : Self.Found) (at : ℕ) (a b : List ℕ) → reads r at a (Err e) → reads r at (a ++ b) (Err e) };
 }
 
-/// Where a text stands: `len` bytes of a node's text, behind the first `start`.
+/// Where a text stands: `len` bytes of a node's text, after the first `start`.
 #[derive(Clone, Copy)]
 pub(crate) struct Part<'a> {
     pub(crate) node: &'a GreenNode,
@@ -42,7 +47,7 @@ pub(crate) struct Part<'a> {
     pub(crate) len: u32,
 }
 
-/// Has a reader read `len` bytes of a node's text, those behind the first `skip`, the first of which
+/// Has a reader read `len` bytes of a node's text, those after the first `skip`, the first of which
 /// is told as `at`. Goes down only where these bytes are.
 pub(crate) fn read_part<R: ChunkReader>(
     node: &GreenNode,
@@ -51,14 +56,13 @@ pub(crate) fn read_part<R: ChunkReader>(
     at: u32,
     reader: R,
 ) -> Result<R, R::Found>
-    requires can { R.can_read reader }
+    requires can { R.can_read reader (take len (drop skip (tree_text node.now))) }
     requires part { IsPart (tree_text node.now) skip (skip + len) }
     requires fits { at + len < 2 ^ 32 }
-    ensures read { R.reads reader at (take len (drop skip (tree_text node.now))) result }
-    ensures goes_on { IfOk result R.can_read }
+    ensures { R.reads reader at (take len (drop skip (tree_text node.now))) result }
 {
     let mut reader = reader;
-    let mut ahead = skip;
+    let mut offset = skip;
     let mut left = len;
     let mut place = at;
     for child in node.children() {
@@ -66,17 +70,17 @@ pub(crate) fn read_part<R: ChunkReader>(
             return Ok(reader);
         }
         let size = child.text_len().0;
-        if size <= ahead {
-            ahead -= size;
+        if size <= offset {
+            offset -= size;
             continue;
         }
-        let taken = left.min(size - ahead);
+        let taken = left.min(size - offset);
         let read = match child {
-            NodeOrToken::Node(node) => read_part(node, ahead, taken, place, reader),
+            NodeOrToken::Node(node) => read_part(node, offset, taken, place, reader),
             NodeOrToken::Token(token) => {
                 reader.read(
                     place,
-                    &token.text()[ahead as usize..(ahead + taken) as usize],
+                    &token.text()[offset as usize..(offset + taken) as usize],
                 )
             }
         };
@@ -84,7 +88,7 @@ pub(crate) fn read_part<R: ChunkReader>(
             Ok(next) => reader = next,
             Err(found) => return Err(found),
         }
-        ahead = 0;
+        offset = 0;
         left -= taken;
         place += taken;
     }

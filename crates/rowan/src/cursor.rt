@@ -379,7 +379,7 @@ impl Hash for SyntaxToken {
     ghost respects_eq = { λ x y p. ap (λ (q : Place). fed.u32 (start_of q) ++ fed.u32 (index_of q)) ((same_place-Decides x y).0 p) };
 
     fn hash<H: Hasher>(&self, state: &mut H) {
-        self.start().hash(state);
-        self.index().hash(state);
+        self.offset.hash(state);
+        self.index.hash(state);
     }
 }

@@ -3,7 +3,7 @@
 ghost use Rattle.std.specs.Prelude.{◌≡◌, ◌+◌, ◌<◌, ◌≤◌, ◌^◌, length, IfOk, OnErr, IsSome};
 ghost use Rattle.std.specs.Option.{option_copied};
 ghost use Rattle.rowan.specs.Place.{above, below, terms_below, start_of, end_of, index_of, top_of};
-ghost use Rattle.rowan.specs.Around.{place_in, children, children_back, children_before, children_from, behind, ahead, nodes, first};
+ghost use Rattle.rowan.specs.Around.{place_in, children, children_back, children_before, children_from, siblings_after, siblings_before, nodes, first};
 
 use crate::cursor::{SyntaxElement, SyntaxNode, SyntaxToken};
 use rowan_green::NodeOrToken;
@@ -23,7 +23,7 @@ impl SyntaxNode {
     }
 
     pub fn next_sibling_or_token(&self, alloc: Global) -> Result<Option<SyntaxElement>, AllocError>
-        ensures { IfOk result (λ r. r ≡ first (behind self.now)) }
+        ensures { IfOk result (λ r. r ≡ first (siblings_after self.now)) }
     {
         match self.parent() {
             None => Ok(None),
@@ -32,7 +32,7 @@ impl SyntaxNode {
     }
 
     pub fn prev_sibling_or_token(&self, alloc: Global) -> Result<Option<SyntaxElement>, AllocError>
-        ensures { IfOk result (λ r. r ≡ first (ahead self.now)) }
+        ensures { IfOk result (λ r. r ≡ first (siblings_before self.now)) }
     {
         prove!(self.green().text_len().0 <= u32::MAX);
         match self.parent() {
@@ -136,7 +136,7 @@ impl SyntaxNode {
     }
 
     pub fn next_sibling(&self, alloc: Global) -> Result<Option<SyntaxNode>, AllocError>
-        ensures { IfOk result (λ r. r ≡ first (nodes (behind self.now))) }
+        ensures { IfOk result (λ r. r ≡ first (nodes (siblings_after self.now))) }
     {
         match self.parent() {
             None => Ok(None),
@@ -145,7 +145,7 @@ impl SyntaxNode {
     }
 
     pub fn prev_sibling(&self, alloc: Global) -> Result<Option<SyntaxNode>, AllocError>
-        ensures { IfOk result (λ r. r ≡ first (nodes (ahead self.now))) }
+        ensures { IfOk result (λ r. r ≡ first (nodes (siblings_before self.now))) }
     {
         match self.parent() {
             None => Ok(None),
@@ -167,14 +167,14 @@ impl SyntaxNode {
 
 impl SyntaxToken {
     pub fn next_sibling_or_token(&self, alloc: Global) -> Result<Option<SyntaxElement>, AllocError>
-        ensures { IfOk result (λ r. r ≡ first (behind self.now)) }
+        ensures { IfOk result (λ r. r ≡ first (siblings_after self.now)) }
     {
         let parent = self.parent();
         parent.child(alloc, self.index() as usize + 1, self.end())
     }
 
     pub fn prev_sibling_or_token(&self, alloc: Global) -> Result<Option<SyntaxElement>, AllocError>
-        ensures { IfOk result (λ r. r ≡ first (ahead self.now)) }
+        ensures { IfOk result (λ r. r ≡ first (siblings_before self.now)) }
     {
         prove!(self.green().text_len().0 <= u32::MAX);
         let parent = self.parent();
@@ -193,7 +193,7 @@ pub fn next_sibling_of(
     element: &SyntaxElement,
     alloc: Global,
 ) -> Result<Option<SyntaxElement>, AllocError>
-    ensures { IfOk result (λ r. r ≡ first (behind (place_in element.now))) }
+    ensures { IfOk result (λ r. r ≡ first (siblings_after (place_in element.now))) }
 {
     match element {
         NodeOrToken::Node(node) => node.next_sibling_or_token(alloc),
@@ -205,7 +205,7 @@ pub fn prev_sibling_of(
     element: &SyntaxElement,
     alloc: Global,
 ) -> Result<Option<SyntaxElement>, AllocError>
-    ensures { IfOk result (λ r. r ≡ first (ahead (place_in element.now))) }
+    ensures { IfOk result (λ r. r ≡ first (siblings_before (place_in element.now))) }
 {
     match element {
         NodeOrToken::Node(node) => node.prev_sibling_or_token(alloc),

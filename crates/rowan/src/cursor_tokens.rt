@@ -2,7 +2,7 @@
 ghost use Rattle.std.specs.Prelude.{◌≡◌, ◌≤◌, length, reverse, IfOk};
 ghost use Rattle.rowan.specs.Place.{below, start_of, terms_below};
 ghost use Rattle.rowan.specs.Around.{first};
-ghost use Rattle.rowan.specs.Leaves.{tokens_from, tokens_in, tokens_back, tokens_behind, tokens_ahead};
+ghost use Rattle.rowan.specs.Leaves.{tokens_from, tokens_in, tokens_back, tokens_after, tokens_before};
 
 use crate::cursor::{SyntaxNode, SyntaxToken};
 use crate::cursor_step::{end_of, index_of, start_of};
@@ -78,9 +78,9 @@ impl SyntaxNode {
 }
 
 impl SyntaxToken {
-    /// The token behind this one.
+    /// The token after this one.
     pub fn next_token(&self, alloc: Global) -> Result<Option<SyntaxToken>, AllocError>
-        ensures { IfOk result (λ r. r ≡ first (tokens_behind self.now)) }
+        ensures { IfOk result (λ r. r ≡ first (tokens_after self.now)) }
     {
         let mut node = self.parent();
         let mut index = self.index() as usize + 1;
@@ -98,9 +98,9 @@ impl SyntaxToken {
         }
     }
 
-    /// The token ahead of this one.
+    /// The token before this one.
     pub fn prev_token(&self, alloc: Global) -> Result<Option<SyntaxToken>, AllocError>
-        ensures { IfOk result (λ r. r ≡ first (tokens_ahead self.now)) }
+        ensures { IfOk result (λ r. r ≡ first (tokens_before self.now)) }
     {
         prove!(self.green().text_len().0 <= u32::MAX);
         let mut node = self.parent();

@@ -1,5 +1,5 @@
 //! The tree below a node, printed for those who look at it.
-ghost use Rattle.std.specs.Prelude.{◌≡◌, ◌≤◌, ◌++◌, length, string_bytes, OnOk, IfOk, IfSome};
+ghost use Rattle.std.specs.Prelude.{◌≡◌, ◌≤◌, ◌<◌, ◌+◌, ◌^◌, ◌++◌, length, string_bytes, OnOk, IfOk, IfSome};
 ghost use Rattle.std.specs.Fmt.{AppendsText, debug_str};
 ghost use Rattle.rowan_green.specs.declared.utility_types.NodeOrToken.TheVariants.{Node};
 ghost use Rattle.rowan.specs.Text.{IsCut};
@@ -28,7 +28,7 @@ fn shown_end(text: &str) -> usize
     end
 }
 
-/// Puts a token's text, quoted, behind what is printed.
+/// Puts a token's text, quoted, after what is printed.
 fn push_quoted(alloc: Global, text: &str, to: &mut String) -> Result<(), AllocError>
     ensures { OnOk result (AppendsText (string_bytes to.old) (string_bytes to.new) (debug_str (shown text.now))) }
 {
@@ -40,7 +40,7 @@ fn push_quoted(alloc: Global, text: &str, to: &mut String) -> Result<(), AllocEr
     write!(to, "{cut:?}")
 }
 
-/// Puts what a line begins with behind what is printed: two spaces a level, a name and a range.
+/// Puts what a line begins with after what is printed: two spaces a level, a name and a range.
 fn push_front(
     depth: u64,
     name: &str,
@@ -48,15 +48,17 @@ fn push_front(
     end: u32,
     to: &mut String,
 ) -> Result<(), AllocError>
-    ensures { OnOk result (string_bytes to.new ≡ string_bytes to.old ++ line_front depth name.now start end) }
+    ensures front { OnOk result (string_bytes to.new ≡ string_bytes to.old ++ line_front depth name.now start end) }
+    ensures fits { OnOk result (depth + 1 < 2 ^ 64) }
 {
     'levels: for _level in 0..depth {
         to.push_str("  ")?;
     }
+    prove!(depth <= to.len() as u64 / 2);
     write!(to, "{name}@{start}..{end}")
 }
 
-/// Puts what a token's line ends with behind what is printed: its text, quoted.
+/// Puts what a token's line ends with after what is printed: its text, quoted.
 fn push_text(alloc: Global, text: &str, to: &mut String) -> Result<(), AllocError>
     ensures { OnOk result (AppendsText (string_bytes to.old) (string_bytes to.new) (line_text text.now)) }
 {
@@ -66,14 +68,16 @@ fn push_text(alloc: Global, text: &str, to: &mut String) -> Result<(), AllocErro
     Ok(())
 }
 
-/// Puts an element's line behind what is printed.
+/// Puts an element's line after what is printed. Where its indentation has room, the level below has
+/// a number.
 fn push_line<L: Language>(
     alloc: Global,
     element: &SyntaxElement<L>,
     depth: u64,
     to: &mut String,
 ) -> Result<(), AllocError>
-    ensures { OnOk result (AppendsText (string_bytes to.old) (string_bytes to.new) (line_of (λ raw. L.name_of (L.from_raw raw)) depth element.now)) }
+    ensures line { OnOk result (AppendsText (string_bytes to.old) (string_bytes to.new) (line_of (λ raw. L.name_of (L.from_raw raw)) depth element.now)) }
+    ensures fits { OnOk result (depth + 1 < 2 ^ 64) }
 {
     let name = L::kind_name(element.kind());
     let range = element.text_range();
@@ -87,8 +91,8 @@ fn push_line<L: Language>(
 
 impl<L: Language> SyntaxNode<L> {
     /// The node and all below it, in preorder, a line each: two spaces a level, the name of the kind,
-    /// the range, and behind a token's its text, quoted. A text of 25 bytes or more is cut at its
-    /// first character boundary from byte 21 on, and ` ...` stands behind it.
+    /// the range, and after a token's its text, quoted. A text of 25 bytes or more is cut at its
+    /// first character boundary from byte 21 on, and ` ...` stands after it.
     pub fn debug_tree(&self, alloc: Global) -> Result<String, AllocError>
         ensures { IfOk result (λ s. IfSome (lines_of (λ raw. L.name_of (L.from_raw raw)) 0 (walk (Node self.now))) (λ t. string_bytes s ≡ t)) }
     {
@@ -99,7 +103,7 @@ impl<L: Language> SyntaxNode<L> {
             match event? {
                 WalkEvent::Enter(element) => {
                     push_line(alloc, &element, depth, &mut text)?;
-                    depth = depth.checked_add(1).ok_or(AllocError)?;
+                    depth += 1;
                 }
                 WalkEvent::Leave(_) => depth = depth.saturating_sub(1),
             }

@@ -32,7 +32,7 @@ impl<L: Language> fmt::Display for SyntaxToken<L> {
     }
 }
 
-/// Writes `len` bytes of a node's text, those behind the first `skip`. Goes down only where these
+/// Writes `len` bytes of a node's text, those after the first `skip`. Goes down only where these
 /// bytes are.
 fn write_part<W: fmt::Write>(
     node: &GreenNode,
@@ -43,25 +43,25 @@ fn write_part<W: fmt::Write>(
     requires { IsPart (tree_text node.now) skip (skip + len) }
     ensures { WritesOnOk W.write_str_gives f.old result (take len (drop skip (tree_text node.now))) f.new }
 {
-    let mut ahead = skip;
+    let mut offset = skip;
     let mut left = len;
     for child in node.children() {
         if left == 0 {
             return Ok(());
         }
         let size = child.text_len().0;
-        if size <= ahead {
-            ahead -= size;
+        if size <= offset {
+            offset -= size;
             continue;
         }
-        let taken = left.min(size - ahead);
+        let taken = left.min(size - offset);
         match child {
-            NodeOrToken::Node(node) => write_part(node, ahead, taken, f)?,
+            NodeOrToken::Node(node) => write_part(node, offset, taken, f)?,
             NodeOrToken::Token(token) => {
-                f.write_str(&token.text()[ahead as usize..(ahead + taken) as usize])?
+                f.write_str(&token.text()[offset as usize..(offset + taken) as usize])?
             }
         }
-        ahead = 0;
+        offset = 0;
         left -= taken;
     }
     Ok(())

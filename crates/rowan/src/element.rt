@@ -2,7 +2,7 @@
 ghost use Rattle.std.specs.Prelude.{◌≡◌, IfOk};
 ghost use Rattle.rowan_green.specs.declared.utility_types.NodeOrToken.TheVariants.{Node, Token};
 ghost use Rattle.rowan.specs.Place.{above, kind_at, start_of, end_of, index_of, top_of};
-ghost use Rattle.rowan.specs.Around.{place_in, element_ancestors, behind, ahead, first};
+ghost use Rattle.rowan.specs.Around.{Cursor, place_in, element_ancestors, siblings_after, siblings_before, first};
 
 use crate::api::{SyntaxElement, SyntaxNode, SyntaxToken};
 use crate::around::Ancestors;
@@ -12,95 +12,96 @@ use std::alloc::{AllocError, Global};
 
 /// The calls of a `SyntaxElement`. `NodeOrToken` is a type of another crate, so they come as a trait.
 pub trait ElementExt<L: Language> {
-    fn kind(&self) -> L::Kind;
+    /// The element where it stands.
+    ghost cursor: { Self → Cursor };
+
+    /// Its kind, as the language reads it.
+    fn kind(&self) -> L::Kind
+        ensures { result ≡ L.from_raw (kind_at (place_in (cursor self.now))) };
 
     /// Where its text stands in the text of the tree.
-    fn text_range(&self) -> TextRange;
+    fn text_range(&self) -> TextRange
+        ensures start { result.start.0 ≡ start_of (place_in (cursor self.now)) }
+        ensures end { result.end.0 ≡ end_of (place_in (cursor self.now)) };
 
     /// Its number among its parent's children, nodes and tokens alike; 0 for a root.
-    fn index(&self) -> usize;
+    fn index(&self) -> usize
+        ensures { result ≡ index_of (place_in (cursor self.now)) };
 
-    fn parent(&self) -> Result<Option<SyntaxNode<L>>, AllocError>;
+    /// The parent: none of a root.
+    fn parent(&self) -> Result<Option<SyntaxNode<L>>, AllocError>
+        ensures { IfOk result (λ r. r ≡ above (place_in (cursor self.now))) };
 
     /// The parent, that one's parent, and so on up to the root; a node begins with itself.
-    fn ancestors(&self) -> Result<Ancestors<L>, AllocError>;
+    fn ancestors(&self) -> Result<Ancestors<L>, AllocError>
+        ensures { IfOk result (λ a. a ≡ element_ancestors (cursor self.now)) };
 
     /// The root of the tree.
-    fn tree_top(&self) -> Result<SyntaxNode<L>, AllocError>;
+    fn tree_top(&self) -> Result<SyntaxNode<L>, AllocError>
+        ensures { IfOk result (λ r. r ≡ top_of (place_in (cursor self.now))) };
 
-    fn next_sibling_or_token(&self, alloc: Global) -> Result<Option<SyntaxElement<L>>, AllocError>;
+    /// The sibling right after it, node or token: none of a root and of the last child.
+    fn next_sibling_or_token(&self, alloc: Global) -> Result<Option<SyntaxElement<L>>, AllocError>
+        ensures { IfOk result (λ r. r ≡ first (siblings_after (place_in (cursor self.now)))) };
 
-    fn prev_sibling_or_token(&self, alloc: Global) -> Result<Option<SyntaxElement<L>>, AllocError>;
+    /// The sibling right before it, node or token: none of a root and of the first child.
+    fn prev_sibling_or_token(&self, alloc: Global) -> Result<Option<SyntaxElement<L>>, AllocError>
+        ensures { IfOk result (λ r. r ≡ first (siblings_before (place_in (cursor self.now)))) };
 }
 
 impl<L: Language> ElementExt<L> for NodeOrToken<SyntaxNode<L>, SyntaxToken<L>> {
-    fn kind(&self) -> L::Kind
-        ensures { result ≡ L.from_raw (kind_at (place_in self.now)) }
-    {
+    ghost cursor = { λ element. element };
+
+    fn kind(&self) -> L::Kind {
         match self {
             NodeOrToken::Node(node) => node.kind(),
             NodeOrToken::Token(token) => token.kind(),
         }
     }
 
-    fn text_range(&self) -> TextRange
-        ensures start { result.start.0 ≡ start_of (place_in self.now) }
-        ensures end { result.end.0 ≡ end_of (place_in self.now) }
-    {
+    fn text_range(&self) -> TextRange {
         match self {
             NodeOrToken::Node(node) => node.text_range(),
             NodeOrToken::Token(token) => token.text_range(),
         }
     }
 
-    fn index(&self) -> usize
-        ensures { result ≡ index_of (place_in self.now) }
-    {
+    fn index(&self) -> usize {
         match self {
             NodeOrToken::Node(node) => node.index(),
             NodeOrToken::Token(token) => token.index(),
         }
     }
 
-    fn parent(&self) -> Result<Option<SyntaxNode<L>>, AllocError>
-        ensures { IfOk result (λ r. r ≡ above (place_in self.now)) }
-    {
+    fn parent(&self) -> Result<Option<SyntaxNode<L>>, AllocError> {
         match self {
             NodeOrToken::Node(node) => node.parent(),
             NodeOrToken::Token(token) => token.parent(),
         }
     }
 
-    fn ancestors(&self) -> Result<Ancestors<L>, AllocError>
-        ensures { IfOk result (λ a. a ≡ element_ancestors self.now) }
-    {
+    fn ancestors(&self) -> Result<Ancestors<L>, AllocError> {
         match self {
             NodeOrToken::Node(node) => node.ancestors(),
             NodeOrToken::Token(token) => token.parent_ancestors(),
         }
     }
 
-    fn tree_top(&self) -> Result<SyntaxNode<L>, AllocError>
-        ensures { IfOk result (λ r. r ≡ top_of (place_in self.now)) }
-    {
+    fn tree_top(&self) -> Result<SyntaxNode<L>, AllocError> {
         match self {
             NodeOrToken::Node(node) => node.tree_top(),
             NodeOrToken::Token(token) => token.tree_top(),
         }
     }
 
-    fn next_sibling_or_token(&self, alloc: Global) -> Result<Option<SyntaxElement<L>>, AllocError>
-        ensures { IfOk result (λ r. r ≡ first (behind (place_in self.now))) }
-    {
+    fn next_sibling_or_token(&self, alloc: Global) -> Result<Option<SyntaxElement<L>>, AllocError> {
         match self {
             NodeOrToken::Node(node) => node.next_sibling_or_token(alloc),
             NodeOrToken::Token(token) => token.next_sibling_or_token(alloc),
         }
     }
 
-    fn prev_sibling_or_token(&self, alloc: Global) -> Result<Option<SyntaxElement<L>>, AllocError>
-        ensures { IfOk result (λ r. r ≡ first (ahead (place_in self.now))) }
-    {
+    fn prev_sibling_or_token(&self, alloc: Global) -> Result<Option<SyntaxElement<L>>, AllocError> {
         match self {
             NodeOrToken::Node(node) => node.prev_sibling_or_token(alloc),
             NodeOrToken::Token(token) => token.prev_sibling_or_token(alloc),

@@ -27,6 +27,7 @@ mod display;
 pub mod element;
 pub mod error;
 pub mod language;
+pub mod laws;
 pub mod preorder;
 pub mod ptr;
 mod replace;

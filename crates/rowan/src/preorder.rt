@@ -52,7 +52,7 @@ impl<L: Language> PreorderWithTokens<L> {
         }
     }
 
-    /// Goes on behind all that stands below the element entered last that is not left yet: that
+    /// Goes on after all that stands below the element entered last that is not left yet: that
     /// element is left next. At the start of a walk nothing is left of it.
     pub fn skip_subtree(&mut self) -> Result<(), AllocError>
         ensures ok { IfOk result (λ _. self.new ≡ skipped 0 self.old) }

@@ -1,6 +1,7 @@
 //! The pieces of a text, one after another.
 ghost use Rattle.std.specs.Prelude.{Ok};
-ghost use Rattle.rowan.specs.Pieces.{FoldsText, FoldCall, VisitCall, EachCall};
+ghost use Rattle.std.specs.Fn.{TakesAt, CalledAt};
+ghost use Rattle.rowan.specs.Pieces.{FoldsText, TakesText, FoldCall, FoldTakes, VisitCall, EachCall, ChunkTakes};
 
 use crate::chunks::{ChunkReader, read_part};
 use crate::syntax_text::SyntaxText;
@@ -17,10 +18,14 @@ struct Folding<T, E, F> {
 impl<T: Drop, E, F: FnMut(T, &str) -> Result<T, E> + Drop> ChunkReader for Folding<T, E, F> {
     type Found = E;
 
-    ghost use Rattle.rowan.specs.Pieces.{FoldCall};
-    ghost use Rattle.rowan.specs.Reading.{ReadsFold, text_nothing, fold_further, fold_stopped};
+    ghost use Rattle.rowan.specs.Pieces.{FoldCall, FoldTakes, TakesText};
+    ghost use Rattle.rowan.specs.Reading.{ReadsFold, text_nothing, fold_further, fold_stopped, takes_begins, takes_rest};
 
-    ghost can_read = { λ s. F.IsAlwaysCallable s.call };
+    ghost can_read = { λ s. TakesText (FoldCall F.FnMut) (FoldTakes F.FnMut) s.call s.total };
+
+    ghost begins = { λ r. takes_begins (FoldCall F.FnMut) (FoldTakes F.FnMut) r.call r.total };
+
+    ghost goes_on = { λ r s _. takes_rest (FoldCall F.FnMut) (FoldTakes F.FnMut) r.call s.call r.total s.total };
 
     ghost reads = { λ r _ text x. ReadsFold (FoldCall F.FnMut) (λ s. s.call) (λ s. s.total) r text x };
 
@@ -36,14 +41,12 @@ impl<T: Drop, E, F: FnMut(T, &str) -> Result<T, E> + Drop> ChunkReader for Foldi
             mut call,
             refusal,
         } = self;
-        match call(total, chunk) {
-            Ok(total) => Ok(Folding {
-                total,
-                call,
-                refusal,
-            }),
-            Err(error) => Err(error),
-        }
+        let total = call_with(&mut call, total, chunk)?;
+        Ok(Folding {
+            total,
+            call,
+            refusal,
+        })
     }
 }
 
@@ -57,10 +60,14 @@ struct Visiting<E, F> {
 impl<E, F: FnMut(&str) -> Result<(), E> + Drop> ChunkReader for Visiting<E, F> {
     type Found = E;
 
-    ghost use Rattle.rowan.specs.Pieces.{VisitCall};
-    ghost use Rattle.rowan.specs.Reading.{ReadsFold, text_nothing, fold_further, fold_stopped};
+    ghost use Rattle.rowan.specs.Pieces.{VisitCall, ChunkTakes, TakesText};
+    ghost use Rattle.rowan.specs.Reading.{ReadsFold, text_nothing, fold_further, fold_stopped, takes_begins, takes_rest};
 
-    ghost can_read = { λ s. F.IsAlwaysCallable s.call };
+    ghost can_read = { λ s. TakesText (VisitCall F.FnMut) (ChunkTakes F.FnMut) s.call tt };
+
+    ghost begins = { λ r. takes_begins (VisitCall F.FnMut) (ChunkTakes F.FnMut) r.call tt };
+
+    ghost goes_on = { λ r s _. takes_rest (VisitCall F.FnMut) (ChunkTakes F.FnMut) r.call s.call tt tt };
 
     ghost reads = { λ r _ text x. ReadsFold (VisitCall F.FnMut) (λ s. s.call) (λ _. tt) r text x };
 
@@ -70,12 +77,9 @@ impl<E, F: FnMut(&str) -> Result<(), E> + Drop> ChunkReader for Visiting<E, F> {
 
     ghost stopped = { λ r e _. fold_stopped (VisitCall F.FnMut) (λ s. s.call) (λ _. tt) r e };
 
-    fn read(self, _at: u32, chunk: &str) -> Result<Visiting<E, F>, E> {
-        let Visiting { mut call, refusal } = self;
-        match call(chunk) {
-            Ok(()) => Ok(Visiting { call, refusal }),
-            Err(error) => Err(error),
-        }
+    fn read(mut self, _at: u32, chunk: &str) -> Result<Visiting<E, F>, E> {
+        call_at(&mut self.call, chunk)?;
+        Ok(self)
     }
 }
 
@@ -88,10 +92,14 @@ struct Calling<F> {
 impl<F: FnMut(&str) + Drop> ChunkReader for Calling<F> {
     type Found = ();
 
-    ghost use Rattle.rowan.specs.Pieces.{EachCall};
-    ghost use Rattle.rowan.specs.Reading.{ReadsEach, text_nothing, each_further};
+    ghost use Rattle.rowan.specs.Pieces.{EachCall, ChunkTakes, TakesText};
+    ghost use Rattle.rowan.specs.Reading.{ReadsEach, text_nothing, each_further, takes_begins, takes_rest};
 
-    ghost can_read = { λ s. F.IsAlwaysCallable s.call };
+    ghost can_read = { λ s. TakesText (EachCall F.FnMut) (ChunkTakes F.FnMut) s.call tt };
+
+    ghost begins = { λ r. takes_begins (EachCall F.FnMut) (ChunkTakes F.FnMut) r.call tt };
+
+    ghost goes_on = { λ r s _. takes_rest (EachCall F.FnMut) (ChunkTakes F.FnMut) r.call s.call tt tt };
 
     ghost reads = { λ r _ text x. ReadsEach (EachCall F.FnMut) (λ s. s.call) r text x };
 
@@ -101,11 +109,30 @@ impl<F: FnMut(&str) + Drop> ChunkReader for Calling<F> {
 
     ghost stopped = { λ r e _ a b h. h };
 
-    fn read(self, _at: u32, chunk: &str) -> Result<Calling<F>, ()> {
-        let Calling { mut call } = self;
-        call(chunk);
-        Ok(Calling { call })
+    fn read(mut self, _at: u32, chunk: &str) -> Result<Calling<F>, ()> {
+        call_at(&mut self.call, chunk);
+        Ok(self)
     }
+}
+
+/// Calls `call` at a piece.
+fn call_at<R, F: FnMut(&str) -> R>(call: &mut F, chunk: &str) -> R
+    requires { TakesAt F.FnMut call.old chunk.now }
+    ensures { CalledAt F.FnMut call.old chunk.now result call.new }
+{
+    call(chunk)
+}
+
+/// Calls `call` at what was made so far and at a piece.
+fn call_with<T, E, F: FnMut(T, &str) -> Result<T, E>>(
+    call: &mut F,
+    total: T,
+    chunk: &str,
+) -> Result<T, E>
+    requires { FoldTakes F.FnMut call.old total chunk.now }
+    ensures { FoldCall F.FnMut call.old total chunk.now result call.new }
+{
+    call(total, chunk)
 }
 
 impl SyntaxText {
@@ -117,7 +144,7 @@ impl SyntaxText {
         init: T,
         f: F,
     ) -> Result<T, E>
-        requires { F.IsAlwaysCallable f }
+        requires { TakesText (FoldCall F.FnMut) (FoldTakes F.FnMut) f init self.now }
         ensures { (last : F) × FoldsText (FoldCall F.FnMut) f init self.now result last }
     {
         let part = self.part();
@@ -138,7 +165,7 @@ impl SyntaxText {
         &self,
         f: F,
     ) -> Result<(), E>
-        requires { F.IsAlwaysCallable f }
+        requires { TakesText (VisitCall F.FnMut) (ChunkTakes F.FnMut) f tt self.now }
         ensures { (last : F) × FoldsText (VisitCall F.FnMut) f tt self.now result last }
     {
         let part = self.part();
@@ -154,7 +181,7 @@ impl SyntaxText {
 
     /// Calls `f` on all pieces of the text in order, as [`SyntaxText::try_fold_chunks`] does.
     pub fn for_each_chunk<F: FnMut(&str) + Drop>(&self, f: F)
-        requires { F.IsAlwaysCallable f }
+        requires { TakesText (EachCall F.FnMut) (ChunkTakes F.FnMut) f tt self.now }
         ensures { (last : F) × FoldsText (EachCall F.FnMut) f tt self.now (Ok tt) last }
     {
         let part = self.part();

@@ -11,45 +11,45 @@ use crate::chunks::Part;
 use crate::syntax_text::SyntaxText;
 use rowan_green::{GreenElement, GreenNode, GreenToken, NodeOrToken};
 
-/// Whether these bytes stand in a node's text behind the first `skip`. Goes down only where they
+/// Whether these bytes stand in a node's text after the first `skip`. Goes down only where they
 /// would stand.
 fn has_bytes(node: &GreenNode, skip: usize, bytes: &[u8]) -> bool
     ensures { result ≡ bytes_eq (take (length bytes.now) (drop skip (tree_text node.now))) bytes.now }
 {
-    let mut ahead = skip;
+    let mut offset = skip;
     let mut left = bytes;
     for child in node.children() {
         if left.is_empty() {
             return true;
         }
         let size = child.text_len().0 as usize;
-        if size <= ahead {
-            ahead -= size;
+        if size <= offset {
+            offset -= size;
             continue;
         }
-        let (here, behind) = left.split_at(left.len().min(size - ahead));
+        let (here, after) = left.split_at(left.len().min(size - offset));
         let same = match child {
-            NodeOrToken::Node(node) => has_bytes(node, ahead, here),
+            NodeOrToken::Node(node) => has_bytes(node, offset, here),
             NodeOrToken::Token(token) => {
-                &token.text().as_bytes()[ahead..ahead + here.len()] == here
+                &token.text().as_bytes()[offset..offset + here.len()] == here
             }
         };
         if !same {
             return false;
         }
-        ahead = 0;
-        left = behind;
+        offset = 0;
+        left = after;
     }
     left.is_empty()
 }
 
-/// A stretch of a node's text, read from its front: `left` bytes that begin `ahead` bytes behind the
+/// A stretch of a node's text, read from its front: `left` bytes that begin `before` bytes after the
 /// begin of the child of number `index`.
 #[derive(Drop)]
 struct Stretch<'a> {
     node: &'a GreenNode,
     index: usize,
-    ahead: u32,
+    offset: u32,
     left: u32,
 }
 
@@ -64,7 +64,7 @@ impl<'a> Stretch<'a> {
         Stretch {
             node: part.node,
             index: 0,
-            ahead: part.start,
+            offset: part.start,
             left: part.len,
         }
     }
@@ -80,10 +80,10 @@ impl<'a> Stretch<'a> {
         'elements: while self.index < count && self.left > 0 {
             let child = self.node.child(self.index)?;
             let size = child.text_len().0;
-            if self.ahead < size {
+            if self.offset < size {
                 return Some(child);
             }
-            self.ahead -= size;
+            self.offset -= size;
             self.index += 1;
         }
         None
@@ -95,7 +95,7 @@ impl<'a> Stretch<'a> {
         requires enough { count ≤ self.old.left }
         ensures { Passes count self.old self.new }
     {
-        self.ahead += count;
+        self.offset += count;
         self.left -= count;
     }
 }
@@ -114,11 +114,11 @@ fn same_tokens(
     ensures same { OnTrue result (PassesBoth a.old b.old a.new b.new × (a.new.left < a.old.left)) }
     ensures differ { result ≡ false → Differ (bytes_left a.old) (bytes_left b.old) }
 {
-    let here_left = a.left.min(here.text_len().0 - a.ahead);
-    let there_left = b.left.min(there.text_len().0 - b.ahead);
+    let here_left = a.left.min(here.text_len().0 - a.offset);
+    let there_left = b.left.min(there.text_len().0 - b.offset);
     let count = here_left.min(there_left);
-    let front = &here.text().as_bytes()[a.ahead as usize..(a.ahead + count) as usize];
-    let other = &there.text().as_bytes()[b.ahead as usize..(b.ahead + count) as usize];
+    let front = &here.text().as_bytes()[a.offset as usize..(a.offset + count) as usize];
+    let other = &there.text().as_bytes()[b.offset as usize..(b.offset + count) as usize];
     if front != other {
         return false;
     }
@@ -137,11 +137,11 @@ fn same_within(a: &mut Stretch<'_>, node: &GreenNode, b: &mut Stretch<'_>) -> bo
     ensures same { OnTrue result (PassesBoth a.old b.old a.new b.new × (a.new.left < a.old.left)) }
     ensures differ { result ≡ false → Differ (bytes_left a.old) (bytes_left b.old) }
 {
-    let size = a.left.min(node.text_len().0 - a.ahead);
+    let size = a.left.min(node.text_len().0 - a.offset);
     let mut inner = Stretch {
         node,
         index: 0,
-        ahead: a.ahead,
+        offset: a.offset,
         left: size,
     };
     if !same_front(&mut inner, b) {
@@ -189,7 +189,7 @@ fn same_heads(
         (NodeOrToken::Node(here), NodeOrToken::Token(_)) => same_within(a, here, b),
         (NodeOrToken::Token(_), NodeOrToken::Node(there)) => same_within(b, there, a),
         (NodeOrToken::Node(here), NodeOrToken::Node(there)) => {
-            if here.text_len().0 - a.ahead >= there.text_len().0 - b.ahead {
+            if here.text_len().0 - a.offset >= there.text_len().0 - b.offset {
                 same_within(a, here, b)
             } else {
                 same_within(b, there, a)

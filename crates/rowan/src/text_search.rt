@@ -20,7 +20,11 @@ impl ChunkReader for CharSearch {
     ghost use Rattle.std.specs.Prelude.{⊤};
     ghost use Rattle.rowan.specs.Reading.{Finds, finds_nothing, finds_further, finds_stopped};
 
-    ghost can_read = { λ _. ⊤ };
+    ghost can_read = { λ _ _. ⊤ };
+
+    ghost begins = { λ _ _ _ _. tt };
+
+    ghost goes_on = { λ _ _ _ _ _ _ _. tt };
 
     ghost reads = { Finds (λ s. s.wanted) };
 
@@ -58,7 +62,7 @@ impl SyntaxText {
     }
 
     /// The character that begins at this byte of the text, if one does: none begins at the text's
-    /// end, behind it, or inside another. Goes down one path.
+    /// end, after it, or inside another. Goes down one path.
     pub fn char_at(&self, offset: TextSize) -> Option<char>
         ensures { IsCharAt self.now offset.0 result }
     {
@@ -77,18 +81,18 @@ fn char_in(node: &GreenNode, byte: u32, end: u32) -> Option<char>
     requires before { byte < end }
     ensures { IsCharAt (take end (tree_text node.now)) byte result }
 {
-    let mut ahead = byte;
+    let mut offset = byte;
     let mut left = end;
     for child in node.children() {
         let size = child.text_len().0;
-        if ahead < size {
+        if offset < size {
             let within = left.min(size);
             return match child {
-                NodeOrToken::Node(node) => char_in(node, ahead, within),
-                NodeOrToken::Token(token) => char_of(&token.text()[..within as usize], ahead),
+                NodeOrToken::Node(node) => char_in(node, offset, within),
+                NodeOrToken::Token(token) => char_of(&token.text()[..within as usize], offset),
             };
         }
-        ahead -= size;
+        offset -= size;
         left -= size;
     }
     None

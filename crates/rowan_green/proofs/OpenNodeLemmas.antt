@@ -14,7 +14,7 @@ pub IsNested-more : (os : List OpenNode) (n m : ℕ) → n ≤ m → IsNested os
 IsNested-more [] n m h s = tt
 IsNested-more (o ∷ os) n m h s = (omega (arith, s.0), s.1)
 
--- terms behind all open nodes add their word
+-- terms after all open nodes add their word
 pub word_in-append : (os : List OpenNode) (es xs : List Term) → IsNested os (length es) → word_in os (es ++ xs) ≡ word_in os es ++ words xs
 word_in-append [] es xs n = words-append es xs
 word_in-append (o ∷ os) es xs n =
@@ -138,7 +138,7 @@ complete_built b os es n t e w =
     let f = finished (reverse os) es t (ap (λ v. v.word) e ∙ w) in
     (reversed_to_none os f.0, f.1)
 
--- ---- the same where one more node was opened, or none for want of memory
+-- ---- the same where one more node was opened, or none where memory was refused
 
 pub nested_after : {T E : Type 0} (r : Result T E) (os new : List OpenNode) (o : OpenNode) (es : List Term) → OnOk r (new ≡ os ++ o ∷ []) → OnErr r (new ≡ os) → o.first ≤ length es → base_of (reverse os) ≤ o.first → IsNested (reverse os) (length es) → IsNested (reverse new) (length es)
 nested_after (Ok x) os new o es p q h k s =

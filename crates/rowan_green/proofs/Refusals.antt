@@ -4,7 +4,7 @@ use Rattle.rowan_green.specs.Refusal.{RefusesUnless}
 use Rattle.rowan_green.specs.declared.error.GreenError.{GreenError}
 use Rattle.rowan_green.specs.declared.error.GreenError.TheVariants.{TooLong, Unbalanced, NoMemory}
 
--- a value that fits is refused for want of memory alone
+-- a value that fits is refused as out of memory alone
 pub memory_alone : {T : Type 0} (r : Result T GreenError) (Fits : Type 0) → Fits → IfErr r (RefusesUnless Fits) → IsOkUnless r NoMemory
 memory_alone (Ok x) Fits f h = tt
 memory_alone (Err TooLong) Fits f h = absurd (h f)

@@ -181,7 +181,7 @@ impl<'c> GreenNodeBuilder<'c> {
         Ok(())
     }
 
-    /// The place behind all children that the innermost open node has now.
+    /// The place after all children that the innermost open node has now.
     pub fn checkpoint(&self) -> Checkpoint
         ensures number { result.number ≡ first_or_zero self.now.open_numbers }
         ensures count { result.count ≡ length (current_children self.now) }

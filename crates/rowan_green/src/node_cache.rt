@@ -1,7 +1,7 @@
 //! A cache of tokens and of small nodes, so that equal ones are shared.
 //!
 //! A cache changes no tree: what it gives was compared with what was asked for. A slot is taken
-//! over by the token or node that was made last, and want of memory for the slots only means that
+//! over by the token or node that was made last, and memory refused for the slots only means that
 //! less is shared.
 ghost use Rattle.std.specs.Prelude.{◌≡◌, IfOk, IfErr, IfSome, OnOk, OnSome};
 ghost use Rattle.rowan_green.specs.Term.{tree_of, FitsToken, FitsNode};

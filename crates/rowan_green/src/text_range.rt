@@ -46,13 +46,15 @@ impl TextRange {
     pub fn start(self) -> TextSize
         ensures { result ≡ self.start }
     {
-        self.start
+        let TextRange { start, .. } = self;
+        start
     }
 
     pub fn end(self) -> TextSize
         ensures { result ≡ self.end }
     {
-        self.end
+        let TextRange { end, .. } = self;
+        end
     }
 
     pub fn len(self) -> TextSize

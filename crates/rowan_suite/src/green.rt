@@ -179,7 +179,7 @@ fn a_length_past_u32_is_too_long(rt: HostRuntime) -> Result<(), Fail> {
     Ok(())
 }
 
-/// Opens a node 1 with a token `a`, and a node 4 around the token `b` behind it.
+/// Opens a node 1 with a token `a`, and a node 4 around the token `b` after it.
 fn wrapped(alloc: Global) -> Result<GreenNode, GreenError> {
     let mut builder = GreenNodeBuilder::new(alloc);
     builder.start_node(SyntaxKind(1))?;

@@ -27,7 +27,7 @@ type Element = SyntaxElement<Lists>;
 /// `ab`, a list of `,`, an empty list and `cd`, then `;`, a list of `e`, an empty list.
 const SAMPLE: &str = "{ ab ( , ( ) cd ) ; ( e ) ( ) }";
 
-/// The elements that the words stand for, put behind those of a builder.
+/// The elements that the words stand for, put after those of a builder.
 fn put_all(builder: &mut GreenNodeBuilder<'_>, words: &str) -> Result<(), GreenError> {
     for word in words.split(' ') {
         put(builder, word)?;

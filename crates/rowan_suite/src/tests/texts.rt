@@ -81,7 +81,7 @@ fn show_test(alloc: Global, holds: bool) -> Result<String, AllocError> {
     String::from_str(alloc, if holds { "yes" } else { "no" })
 }
 
-/// The pieces, each behind a bar.
+/// The pieces, each after a bar.
 fn show_pieces(alloc: Global, text: &SyntaxText) -> Result<String, AllocError> {
     let mut out = String::new(alloc);
     text.try_for_each_chunk(|piece| {

@@ -26,7 +26,7 @@ fn asked(ask: Ask, answer: &'static str) -> Row {
     Row { ask, answer }
 }
 
-/// A walk from behind the subtree of the second element on.
+/// A walk from after the subtree of the second element on.
 fn behind_second(
     mut walk: PreorderWithTokens<Lists>,
 ) -> Result<PreorderWithTokens<Lists>, AllocError> {

@@ -10,9 +10,9 @@ decreases-read_part g l = tree_count l.node.now
 -- what comes of the rest is what comes of all
 abbrev pub invariant-loop-child : goal.invariant-loop-child
 invariant-loop-child g l = record {
-  can : g.R.ChunkReader.can_read l.reader;
-  part : IsPart (texts_of l.child-iterator) l.ahead (l.ahead + l.left);
+  can : g.R.ChunkReader.can_read l.reader (take l.left (drop l.offset (texts_of l.child-iterator)));
+  part : IsPart (texts_of l.child-iterator) l.offset (l.offset + l.left);
   below : forest_count (forest_of l.child-iterator) + 1 ≤ tree_count l.node;
   place : l.place + l.left ≡ l.at + l.len;
-  rest : (x : _) → g.R.ChunkReader.reads l.reader l.place (take l.left (drop l.ahead (texts_of l.child-iterator))) x → g.R.ChunkReader.reads l.initial.reader l.at (take l.len (drop l.skip (tree_text l.node))) x;
+  rest : (x : _) → g.R.ChunkReader.reads l.reader l.place (take l.left (drop l.offset (texts_of l.child-iterator))) x → g.R.ChunkReader.reads l.initial.reader l.at (take l.len (drop l.skip (tree_text l.node))) x;
 }

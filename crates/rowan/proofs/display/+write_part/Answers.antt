@@ -3,7 +3,7 @@ use Rattle.std.proofs.Output.{has_written_append, has_written_of_eq}
 use Rattle.rowan_green.specs.Forest.{tree_text, forest_count}
 use Rattle.rowan_green.specs.Term.{text_of, texts_of, forest_of, children_of}
 use Rattle.rowan.specs.Text.{IsPart}
-use Rattle.rowan.proofs.Parts.{whole_text, whole_count, count_falls, passed_part, passed_text, read_behind, read_split}
+use Rattle.rowan.proofs.Parts.{whole_text, whole_count, count_falls, passed_part, passed_text, read_after, read_split}
 use Rattle.rowan.proofs.display.+write_part.Goals as goal
 use Rattle.rowan.proofs.display.+write_part.Goals.{in-Node+in_ok-write_part-in-Node, in-Token+in_ok-write_str-in-Token}
 
@@ -16,32 +16,32 @@ loop-child-init g t c =
       done = ([], ap (λ v. take c.args.len (drop c.args.skip v)) w, search rules);
     }
 
-pub loop-child-preserved-then-size-ahead : goal.loop-child-preserved-then-size-ahead
-loop-child-preserved-then-size-ahead g t c =
+pub loop-child-preserved-then-size-offset : goal.loop-child-preserved-then-size-offset
+loop-child-preserved-then-size-offset g t c =
     let s = c.in-Some.ensures.steps in
     let i = c.loop-child.invariant in record {
-      part = passed_part _ _ _ s _ _ _ c.text_len-size.ensures i.part c.if-size-ahead.true;
+      part = passed_part _ _ _ s _ _ _ c.text_len-size.ensures i.part c.if-size-offset.true;
       below = omega (arith, count_falls _ _ _ s, i.below);
-      done = (i.done.0, ap (λ v. i.done.0 ++ v) (sym (passed_text _ _ _ s _ _ _ c.text_len-size.ensures i.part c.if-size-ahead.true)) ∙ i.done.1, i.done.2);
+      done = (i.done.0, ap (λ v. i.done.0 ++ v) (sym (passed_text _ _ _ s _ _ _ c.text_len-size.ensures i.part c.if-size-offset.true)) ∙ i.done.1, i.done.2);
     }
 
 pub loop-child-preserved : goal.loop-child-preserved
 loop-child-preserved g t c =
     let s = c.in-Some.ensures.steps in
     let i = c.loop-child.invariant in
-    let m : c.loop-child.ahead + c.min-taken.result - c.loop-child.ahead ≡ c.min-taken.result = omega arith in
-    let piece = take c.min-taken.result (drop c.loop-child.ahead (text_of c.in-Some.child.now)) in
+    let m : c.loop-child.offset + c.min-taken.result - c.loop-child.offset ≡ c.min-taken.result = omega arith in
+    let piece = take c.min-taken.result (drop c.loop-child.offset (text_of c.in-Some.child.now)) in
     let others = take (c.loop-child.left - c.min-taken.result) (texts_of c.next.new.self) in record {
-      part = read_behind _ _ _ s _ _ _ c.text_len-size.ensures i.part _ c.min-taken.ensures c.if-size-ahead.false;
+      part = read_after _ _ _ s _ _ _ c.text_len-size.ensures i.part _ c.min-taken.ensures c.if-size-offset.false;
       below = omega (arith, count_falls _ _ _ s, i.below);
       done = (
         i.done.0 ++ piece,
-        append_assoc i.done.0 piece others ∙ ap (λ v. i.done.0 ++ v) (sym (read_split _ _ _ s _ _ _ c.text_len-size.ensures i.part _ c.min-taken.ensures c.if-size-ahead.false)) ∙ i.done.1,
+        append_assoc i.done.0 piece others ∙ ap (λ v. i.done.0 ++ v) (sym (read_split _ _ _ s _ _ _ c.text_len-size.ensures i.part _ c.min-taken.ensures c.if-size-offset.false)) ∙ i.done.1,
         λ p.
             let h = i.done.2 p in
             has_written_append _ _ _ _ _ _ h (elim c.match-child.branch [
-              | in-Node+in_ok-write_part-in-Node w ↦ has_written_of_eq _ _ _ _ _ (ap (λ v. take c.min-taken.result (drop c.loop-child.ahead (text_of v))) (sym w.in-Node.is)) (search rules)
-              | in-Token+in_ok-write_str-in-Token w ↦ has_written_of_eq _ _ _ _ _ (w.range.ensures.value ∙ ap (λ n. take n (drop c.loop-child.ahead w.text.result.now)) m ∙ ap (λ v. take c.min-taken.result (drop c.loop-child.ahead v)) (w.text.ensures ∙ sym (ap text_of w.in-Token.is))) (search rules)
+              | in-Node+in_ok-write_part-in-Node w ↦ has_written_of_eq _ _ _ _ _ (ap (λ v. take c.min-taken.result (drop c.loop-child.offset (text_of v))) (sym w.in-Node.is)) (search rules)
+              | in-Token+in_ok-write_str-in-Token w ↦ has_written_of_eq _ _ _ _ _ (w.range.ensures.value ∙ ap (λ n. take n (drop c.loop-child.offset w.text.result.now)) m ∙ ap (λ v. take c.min-taken.result (drop c.loop-child.offset v)) (w.text.ensures ∙ sym (ap text_of w.in-Token.is))) (search rules)
             ]),
       );
     }

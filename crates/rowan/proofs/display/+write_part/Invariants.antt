@@ -11,7 +11,7 @@ decreases-write_part g l = tree_count l.node.now
 -- what is written and what is left are all
 abbrev pub invariant-loop-child : goal.invariant-loop-child
 invariant-loop-child g l = record {
-  part : IsPart (texts_of l.child-iterator) l.ahead (l.ahead + l.left);
+  part : IsPart (texts_of l.child-iterator) l.offset (l.offset + l.left);
   below : forest_count (forest_of l.child-iterator) + 1 ≤ tree_count l.node;
-  done : (done : List ℕ) × (done ++ take l.left (drop l.ahead (texts_of l.child-iterator)) ≡ take l.len (drop l.skip (tree_text l.node))) × (IsPlainFormatter l.initial.f → HasWritten g.W.Write.write_str_gives l.initial.f done l.f);
+  done : (done : List ℕ) × (done ++ take l.left (drop l.offset (texts_of l.child-iterator)) ≡ take l.len (drop l.skip (tree_text l.node))) × (IsPlainFormatter l.initial.f → HasWritten g.W.Write.write_str_gives l.initial.f done l.f);
 }

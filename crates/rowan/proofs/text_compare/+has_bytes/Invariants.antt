@@ -11,5 +11,5 @@ decreases-has_bytes l = tree_count l.node.now
 abbrev pub invariant-loop-child : goal.invariant-loop-child
 invariant-loop-child l = record {
   below : forest_count (forest_of l.child-iterator) + 1 ≤ tree_count l.node;
-  rest : bytes_eq (take (length l.left) (drop l.ahead (texts_of l.child-iterator))) l.left ≡ bytes_eq (take (length l.bytes) (drop l.skip (tree_text l.node))) l.bytes;
+  rest : bytes_eq (take (length l.left) (drop l.offset (texts_of l.child-iterator))) l.left ≡ bytes_eq (take (length l.bytes) (drop l.skip (tree_text l.node))) l.bytes;
 }

@@ -21,10 +21,10 @@ loop-child-preserved t c =
     let s = c.in-Some.ensures.steps in
     let z = c.text_len-size.ensures in
     let i = c.loop-child.invariant in record {
-      cut = passed_cut _ _ _ s _ _ z i.cut (omega (arith, i.inside, c.if-ahead-size.false));
-      inside = omega (arith, i.inside, c.if-ahead-size.false);
+      cut = passed_cut _ _ _ s _ _ z i.cut (omega (arith, i.inside, c.if-offset-size.false));
+      inside = omega (arith, i.inside, c.if-offset-size.false);
       below = omega (arith, count_falls _ _ _ s, i.below);
-      rest = λ r h. i.rest r (passed_char _ _ _ s _ _ z i.cut c.loop-child.ahead r c.if-ahead-size.false i.inside h);
+      rest = λ r h. i.rest r (passed_char _ _ _ s _ _ z i.cut c.loop-child.offset r c.if-offset-size.false i.inside h);
     }
 
 pub returns-in-Node : goal.returns-in-Node
@@ -32,8 +32,8 @@ returns-in-Node t c =
     let s = c.in-Some.ensures.steps in
     let z = c.text_len-size.ensures in
     let i = c.loop-child.invariant in
-    let h : IsCharAt (take c.min-within.result (text_of c.in-Some.child.now)) c.loop-child.ahead c.char_in.result = subst (λ v. IsCharAt (take c.min-within.result (text_of v)) c.loop-child.ahead c.char_in.result) (sym c.in-Node.is) c.char_in.ensures in
-    i.rest _ (within_char _ _ _ s _ _ z i.cut c.loop-child.ahead _ c.if-ahead-size.true i.inside (subst (λ k. IsCharAt (take k (text_of c.in-Some.child.now)) c.loop-child.ahead c.char_in.result) c.min-within.ensures h))
+    let h : IsCharAt (take c.min-within.result (text_of c.in-Some.child.now)) c.loop-child.offset c.char_in.result = subst (λ v. IsCharAt (take c.min-within.result (text_of v)) c.loop-child.offset c.char_in.result) (sym c.in-Node.is) c.char_in.ensures in
+    i.rest _ (within_char _ _ _ s _ _ z i.cut c.loop-child.offset _ c.if-offset-size.true i.inside (subst (λ k. IsCharAt (take k (text_of c.in-Some.child.now)) c.loop-child.offset c.char_in.result) c.min-within.ensures h))
 
 pub returns-in-Token : goal.returns-in-Token
 returns-in-Token t c =
@@ -42,5 +42,5 @@ returns-in-Token t c =
     let i = c.loop-child.invariant in
     let m : c.min-within.result - 0 ≡ c.min-within.result = omega arith in
     let e : c.range.result.now ≡ take c.min-within.result (text_of c.in-Some.child.now) = c.range.ensures.value ∙ ap (λ k. take k c.text.result.now) m ∙ ap (λ v. take c.min-within.result v) (c.text.ensures ∙ sym (ap text_of c.in-Token.is)) in
-    let h : IsCharAt (take c.min-within.result (text_of c.in-Some.child.now)) c.loop-child.ahead c.char_of.result = subst (λ v. IsCharAt v c.loop-child.ahead c.char_of.result) e c.char_of.ensures in
-    i.rest _ (within_char _ _ _ s _ _ z i.cut c.loop-child.ahead _ c.if-ahead-size.true i.inside (subst (λ k. IsCharAt (take k (text_of c.in-Some.child.now)) c.loop-child.ahead c.char_of.result) c.min-within.ensures h))
+    let h : IsCharAt (take c.min-within.result (text_of c.in-Some.child.now)) c.loop-child.offset c.char_of.result = subst (λ v. IsCharAt v c.loop-child.offset c.char_of.result) e c.char_of.ensures in
+    i.rest _ (within_char _ _ _ s _ _ z i.cut c.loop-child.offset _ c.if-offset-size.true i.inside (subst (λ k. IsCharAt (take k (text_of c.in-Some.child.now)) c.loop-child.offset c.char_of.result) c.min-within.ensures h))

@@ -11,7 +11,7 @@ decreases-char_in l = tree_count l.node.now
 abbrev pub invariant-loop-child : goal.invariant-loop-child
 invariant-loop-child l = record {
   cut : IsCut (texts_of l.child-iterator) l.left;
-  inside : l.ahead < l.left;
+  inside : l.offset < l.left;
   below : forest_count (forest_of l.child-iterator) + 1 ≤ tree_count l.node;
-  rest : (r : _) → IsCharAt (take l.left (texts_of l.child-iterator)) l.ahead r → IsCharAt (take l.end (tree_text l.node)) l.byte r;
+  rest : (r : _) → IsCharAt (take l.left (texts_of l.child-iterator)) l.offset r → IsCharAt (take l.end (tree_text l.node)) l.byte r;
 }

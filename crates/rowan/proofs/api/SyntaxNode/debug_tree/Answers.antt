@@ -1,13 +1,11 @@
-use Rattle.std.proofs.Common.{◌≡◌, ℕ, List, ◌+◌, ◌<◌, ◌^◌, Some, ap, subst, refl, ◌∙◌}
+use Rattle.std.proofs.Common.{ℕ, List, ap, refl, ◌∙◌}
 use Rattle.std.specs.Prelude.{string_bytes}
-use Rattle.std.specs.Option.{SomeIff}
-use Rattle.std.specs.Result.{result_ok}
 use Rattle.rowan_green.specs.declared.utility_types.NodeOrToken.TheVariants.{Node}
 use Rattle.rowan.specs.Walk.{walk}
 use Rattle.rowan.specs.Debug.{lines_of}
 use Rattle.rowan.proofs.Printing.{prints_entered, prints_left}
 use Rattle.rowan.proofs.api.SyntaxNode.debug_tree.Goals as goal
-use Rattle.rowan.proofs.api.SyntaxNode.debug_tree.Goals.{in-Enter+in_ok-push_line-in-Enter+in_ok-depth-in-Enter, in-Leave}
+use Rattle.rowan.proofs.api.SyntaxNode.debug_tree.Goals.{in-Enter+in_ok-push_line-in-Enter, in-Leave}
 
 pub events-preserved : goal.events-preserved
 events-preserved g c =
@@ -21,11 +19,8 @@ events-preserved g c =
       can = tt;
       finite = tt;
       text = elim c.match-branch-3.branch [
-        | in-Enter+in_ok-push_line-in-Enter+in_ok-depth-in-Enter w ↦
-            let is : w.checked_add.result ≡ Some w.in_ok-depth-in-Enter.depth = w.ok_or.ensures.ok_part ∙ ap result_ok w.in_ok-depth-in-Enter.was in
-            let below = subst (λ o. SomeIff o (c.events.depth + 1 < 2 ^ 64) (c.events.depth + 1)) is w.checked_add.ensures in
-            let d : c.match-branch-3.depth ≡ c.events.depth + 1 = w.depth-is ∙ below.1 in
-            prints_entered name all c.events.walk c.next.new.self c.in-Some.event c.in_ok-element.field-0 a (string_bytes w.push_line.new.to) to c.events.depth c.match-branch-3.depth i s was (ap string_bytes w.text-is) w.in-Enter.element w.in-Enter.is w.in_ok-push_line-in-Enter.ensures d
+        | in-Enter+in_ok-push_line-in-Enter w ↦
+            prints_entered name all c.events.walk c.next.new.self c.in-Some.event c.in_ok-element.field-0 a (string_bytes w.push_line.new.to) to c.events.depth c.match-branch-3.depth i s was (ap string_bytes w.text-is) w.in-Enter.element w.in-Enter.is w.in_ok-push_line-in-Enter.ensures.line w.depth-is
         | in-Leave w ↦
             prints_left name all c.events.walk c.next.new.self c.in-Some.event c.in_ok-element.field-0 a a to c.events.depth c.match-branch-3.depth i s was (ap string_bytes w.text-is) _ w.in-Leave.is refl (w.depth-is ∙ w.saturating_sub-depth.ensures)
       ];

@@ -12,7 +12,7 @@ pub loop-index-preserved : goal.loop-index-preserved
 loop-index-preserved c =
     let o = over_child c.args.self.now _ c.loop-index.index c.green-green.ensures _ _ _ c.in-Some.ensures c.text_len.ensures c.loop-index.invariant.at_offset in record {
       at_offset = o.0;
-      behind = omega (arith, c.loop-index.invariant.behind);
+      siblings_after = omega (arith, c.loop-index.invariant.siblings_after);
       none_so_far =
           c.loop-index.invariant.none_so_far
           ∙ spans_later c.args.self.now _ c.loop-index.index c.args.range.start.0 c.args.range.end.0 c.loop-index.offset _ _ c.green-green.ensures c.in-Some.ensures c.loop-index.invariant.at_offset o.0 c.in_default-spanning.ensures;

@@ -8,7 +8,7 @@ use Rattle.rowan.proofs.cursor.SyntaxNode.node_spanning.Given as goal
 abbrev pub invariant-loop-index : goal.invariant-loop-index
 invariant-loop-index l = record {
   at_offset : l.offset ≡ start_of (below l.self l.index);
-  behind : l.fn.from ≤ l.index;
+  siblings_after : l.fn.from ≤ l.index;
   none_so_far : first (filter (spans l.range.start.0 l.range.end.0) (nodes (children_from l.self l.fn.from))) ≡ first (filter (spans l.range.start.0 l.range.end.0) (nodes (children_from l.self l.index)));
 }
 

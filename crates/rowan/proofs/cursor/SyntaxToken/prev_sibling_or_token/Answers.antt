@@ -1,4 +1,4 @@
-use Rattle.rowan.proofs.Steps.{start_here, within_here, ahead_here}
+use Rattle.rowan.proofs.Steps.{start_here, within_here, siblings_before_here}
 use Rattle.rowan.proofs.cursor.SyntaxToken.prev_sibling_or_token.Goals as goal
 
 pub child_before-requires : goal.child_before-requires
@@ -8,4 +8,4 @@ child_before-requires c = record {
 }
 
 pub returns : goal.returns
-returns c = rw (ahead_here c.args.self.now c.parent-parent.result.now _ c.parent-parent.ensures c.index.ensures) c.child_before.ensures
+returns c = rw (siblings_before_here c.args.self.now c.parent-parent.result.now _ c.parent-parent.ensures c.index.ensures) c.child_before.ensures

@@ -1,15 +1,21 @@
-use Rattle.std.proofs.Common.{refl, subst}
-use Rattle.std.specs.Fn.{Called}
-use Rattle.rowan.specs.Pieces.{VisitCall}
-use Rattle.rowan.specs.Reading.{text_ok, text_err}
+use Rattle.std.proofs.Common.{subst}
+use Rattle.std.proofs.lemmas.Result.{err_from_is_err_and}
+use Rattle.std.specs.Fn.{CalledAt}
+use Rattle.rowan.specs.Pieces.{VisitCall, ChunkTakes}
+use Rattle.rowan.specs.Reading.{takes_whole, text_ok, text_err}
 use Rattle.rowan.proofs.text_chunks.VisitingChunkReader.read.Goals as goal
 
-pub returns-in-Ok-clause-read : goal.returns-in-Ok-clause-read
-returns-in-Ok-clause-read g c =
-    let k = subst (λ u. Called g.F.FnMut c.args.self.call (c.args.chunk, tt) u c.call.new.self) c.in-Ok.is c.call.ensures in
-    text_ok (VisitCall g.F.FnMut) c.args.self.call c.call.new.self tt tt c.args.chunk.now c.requires.some (record { shown = c.args.chunk; shows = refl; called = k })
+pub call_at-requires : goal.call_at-requires
+call_at-requires g c =
+    takes_whole (VisitCall g.F.FnMut) (ChunkTakes g.F.FnMut) c.args.self.call tt c.args.chunk.now c.requires.some c.requires.can
 
-pub returns-in-Err-clause-read : goal.returns-in-Err-clause-read
-returns-in-Err-clause-read g c =
-    let k = subst (λ u. Called g.F.FnMut c.args.self.call (c.args.chunk, tt) u c.call.new.self) c.in-Err.is c.call.ensures in
-    (c.call.new.self, text_err (VisitCall g.F.FnMut) c.args.self.call c.call.new.self tt c.in-Err.error c.args.chunk.now c.requires.some (record { shown = c.args.chunk; shows = refl; called = k }))
+pub returns-in_err-call_at : goal.returns-in_err-call_at
+returns-in_err-call_at g c =
+    let k = subst (λ u. CalledAt g.F.FnMut c.args.self.call c.args.chunk.now u c.call_at.new.call) c.in_err-call_at.was c.call_at.ensures in
+    let p = err_from_is_err_and c.from_residual.result c.from_residual.ensures.1 in
+    rw (p.1, p.2) (c.call_at.new.call, text_err (VisitCall g.F.FnMut) c.args.self.call c.call_at.new.call tt c.in_err-call_at.field-0.0 c.args.chunk.now c.requires.some k)
+
+pub returns : goal.returns
+returns g c =
+    let k = subst (λ u. CalledAt g.F.FnMut c.args.self.call c.args.chunk.now u c.call_at.new.call) c.in_ok-call_at.was c.call_at.ensures in
+    text_ok (VisitCall g.F.FnMut) c.args.self.call c.call_at.new.call tt tt c.args.chunk.now c.requires.some k

@@ -5,7 +5,7 @@ use Rattle.rowan.proofs.text_compare.Stretch.head.Goals as goal
 
 pub returns-then-self-size-clause-head : goal.returns-then-self-size-clause-head
 returns-then-self-size-clause-head c = record {
-  behind = drop (c.elements.self.index + 1) (children_of c.elements.self.node.now);
+  after = drop (c.elements.self.index + 1) (children_of c.elements.self.node.now);
   terms = next_terms (children_of c.elements.self.node.now) c.elements.self.index c.in_ok-child.child.now (sym c.in_ok-child.ensures);
   inside = omega (arith, c.text_len-size.ensures);
   some = c.if-self-gt0.true;

@@ -8,4 +8,4 @@ returns-clause-sound c = whole_stretch _ refl c.requires.part.ends.0 c.requires.
 
 pub returns-clause-bytes : goal.returns-clause-bytes
 returns-clause-bytes c =
-    let s : Stretch = record { node = c.args.part.node; index = 0; ahead = c.args.part.start; left = c.args.part.len } in whole_bytes s refl
+    let s : Stretch = record { node = c.args.part.node; index = 0; offset = c.args.part.start; left = c.args.part.len } in whole_bytes s refl
