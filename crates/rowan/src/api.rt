@@ -233,7 +233,8 @@ impl<L: Language> SyntaxNode<L> {
 
     /// The root of a tree of its own, with this green node.
     pub fn clone_subtree(&self, alloc: Global) -> Result<SyntaxNode<L>, AllocError>
-        ensures { IfOk result (λ n. (g : Tree) × (term_at self.now ≡ Some (Node g)) × (n ≡ record { root = g; up = [] })) }
+        ensures { IfOk result
+            (λ n. (g : Tree) × (term_at self.now ≡ Some (Node g)) × (n ≡ record { root = g; up = [] })) }
     {
         SyntaxNode::new_root(alloc, self.green().clone()?)
     }

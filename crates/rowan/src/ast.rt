@@ -40,7 +40,8 @@ pub trait AstNode: Sized {
 
     /// The same node as the root of a tree of its own.
     fn clone_subtree(&self, alloc: Global) -> Result<Self, AllocError>
-        ensures { IfOk result (λ x. (g : Tree) × (term_at (place self.now) ≡ Some (Node g)) × (place x ≡ record { root = g; up = [] })) }
+        ensures { IfOk result (λ x. (g : Tree) × (term_at (place self.now) ≡ Some (Node g)) ×
+            (place x ≡ record { root = g; up = [] })) }
     {
         let copy = self.syntax().clone_subtree(alloc)?;
         Ok(Self::cast(copy).unwrap())

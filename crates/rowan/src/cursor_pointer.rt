@@ -23,7 +23,8 @@ impl SyntaxNode {
         range: TextRange,
     ) -> Result<Option<SyntaxNode>, AllocError>
         requires { offset ≡ start_of (below self.now from) }
-        ensures ok { IfOk result (λ r. r ≡ first (filter (spans range.start.0 range.end.0) (nodes (children_from self.now from)))) }
+        ensures ok { IfOk result (λ r. r ≡ first
+            (filter (spans range.start.0 range.end.0) (nodes (children_from self.now from)))) }
         ensures child { IfOk result (λ r. IfSome r (λ q. Some (Node q) ≡ cursor_at (below self.now (index_of q)))) }
         ensures siblings_after { IfOk result (λ r. IfSome r (λ q. from ≤ index_of q)) }
     {
@@ -51,7 +52,8 @@ impl SyntaxNode {
 /// The node of an element, if it is one and the bytes from `start` to just before `end` contain the
 /// range.
 fn spanning(element: &GreenElement, start: u32, end: u32, range: TextRange) -> Option<&GreenNode>
-    ensures { option_copied result ≡ cond (nat_le start range.start.0 && nat_le range.end.0 end) (node_part element.now) None }
+    ensures { option_copied result ≡ cond (nat_le start range.start.0 && nat_le range.end.0 end)
+        (node_part element.now) None }
 {
     if start <= range.start.0 && range.end.0 <= end {
         return element.as_node();

@@ -76,7 +76,8 @@ fn push_line<L: Language>(
     depth: u64,
     to: &mut String,
 ) -> Result<(), AllocError>
-    ensures line { OnOk result (AppendsText (string_bytes to.old) (string_bytes to.new) (line_of (λ raw. L.name_of (L.from_raw raw)) depth element.now)) }
+    ensures line { OnOk result (AppendsText (string_bytes to.old) (string_bytes to.new)
+        (line_of (λ raw. L.name_of (L.from_raw raw)) depth element.now)) }
     ensures fits { OnOk result (depth + 1 < 2 ^ 64) }
 {
     let name = L::kind_name(element.kind());
@@ -94,7 +95,9 @@ impl<L: Language> SyntaxNode<L> {
     /// the range, and after a token's its text, quoted. A text of 25 bytes or more is cut at its
     /// first character boundary from byte 21 on, and ` ...` stands after it.
     pub fn debug_tree(&self, alloc: Global) -> Result<String, AllocError>
-        ensures { IfOk result (λ s. IfSome (lines_of (λ raw. L.name_of (L.from_raw raw)) 0 (walk (Node self.now))) (λ t. string_bytes s ≡ t)) }
+        ensures { IfOk result (λ s. IfSome
+            (lines_of (λ raw. L.name_of (L.from_raw raw)) 0 (walk (Node self.now)))
+            (λ t. string_bytes s ≡ t)) }
     {
         let mut text = String::new(alloc);
         let mut depth: u64 = 0;

@@ -58,7 +58,8 @@ impl<'a> Stretch<'a> {
         requires part { IsPart (tree_text part.node.now) part.start (part.start + part.len) }
         requires fits { part.start + part.len < 2 ^ 32 }
         ensures sound { IsStretch result }
-        ensures bytes { bytes_left result ≡ take part.entry.len (drop part.entry.start (tree_text part.entry.node.now)) }
+        ensures bytes { bytes_left result ≡ take part.entry.len
+            (drop part.entry.start (tree_text part.entry.node.now)) }
         ensures left { result.left ≡ part.entry.len }
     {
         Stretch {
@@ -212,7 +213,8 @@ impl SyntaxText {
 /// Whether two texts of one length stand in the same place of equal trees, which the trees tell
 /// without a look at their texts.
 fn stands_alike(a: Part<'_>, b: Part<'_>) -> bool
-    ensures { result ≡ true → take a.entry.len (drop a.entry.start (tree_text a.entry.node.now)) ≡ take a.entry.len (drop b.entry.start (tree_text b.entry.node.now)) }
+    ensures { result ≡ true → take a.entry.len (drop a.entry.start (tree_text a.entry.node.now))
+        ≡ take a.entry.len (drop b.entry.start (tree_text b.entry.node.now)) }
 {
     a.start == b.start && *a.node == *b.node
 }

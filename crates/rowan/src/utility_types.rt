@@ -17,7 +17,8 @@ impl<T> WalkEvent<T> {
     /// The same event of what `f` makes of its element.
     pub fn map<U, F: FnOnce(T) -> U>(self, f: F) -> WalkEvent<U>
         requires { MatchEvent self (F.pre f) (F.pre f) }
-        ensures { MatchEvent self (λ x. MatchEvent result (F.post f x) (λ _. ⊥)) (λ x. MatchEvent result (λ _. ⊥) (F.post f x)) }
+        ensures { MatchEvent self (λ x. MatchEvent result (F.post f x) (λ _. ⊥))
+            (λ x. MatchEvent result (λ _. ⊥) (F.post f x)) }
     {
         match self {
             WalkEvent::Enter(element) => WalkEvent::Enter(f(element)),

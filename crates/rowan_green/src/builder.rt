@@ -216,7 +216,8 @@ impl<'c> GreenNodeBuilder<'c> {
         ensures ok { OnOk result (OpensAround self.old self.new kind.0 checkpoint.count) }
         ensures fits { OnOk result (self.old.started + 1 < 2 ^ 64) }
         ensures too_long { result ≡ Err GreenError.TooLong → 2 ^ 64 ≤ self.old.started + 1 }
-        ensures unbalanced { (result ≡ Err GreenError.Unbalanced) ↔ (IsCurrent self.old checkpoint.number checkpoint.count → ⊥) }
+        ensures unbalanced { (result ≡ Err GreenError.Unbalanced) ↔
+            (IsCurrent self.old checkpoint.number checkpoint.count → ⊥) }
         ensures err { OnErr result (self.new ≡ self.old) }
     {
         let now = self.checkpoint();
@@ -276,7 +277,8 @@ fn push_open(
     kind: SyntaxKind,
     first: usize,
 ) -> Result<(), GreenError>
-    ensures opened { OnOk result (open_nodes.new.items ≡ open_nodes.old.items ++ record { kind = kind.0; first = first; number = started.old + 1 } ∷ []) }
+    ensures opened { OnOk result (open_nodes.new.items ≡ open_nodes.old.items ++
+        record { kind = kind.0; first = first; number = started.old + 1 } ∷ []) }
     ensures counted { OnOk result (started.new ≡ started.old + 1) }
     ensures fits { OnOk result (started.old + 1 < 2 ^ 64) }
     ensures refused { IfErr result (RefusesUnless (started.old + 1 < 2 ^ 64)) }
@@ -304,7 +306,8 @@ fn close(
     first: usize,
 ) -> Result<(), GreenError>
     requires { first ≤ length done.old.items }
-    ensures ok { OnOk result (done.new.items ≡ take first done.old.items ++ NodeOrToken.Node (tree_of kind.0 (drop first done.old.items)) ∷ []) }
+    ensures ok { OnOk result (done.new.items ≡ take first done.old.items ++ NodeOrToken.Node
+        (tree_of kind.0 (drop first done.old.items)) ∷ []) }
     ensures fits { OnOk result (FitsNode (drop first done.old.items)) }
     ensures refused { IfErr result (RefusesUnless (FitsNode (drop first done.old.items))) }
     ensures err { OnErr result (done.new.items ≡ done.old.items) }

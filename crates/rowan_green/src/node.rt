@@ -73,8 +73,10 @@ impl GreenNode {
     ) -> Result<GreenNode, GreenError>
         requires can { I.can_next children }
         requires ends { IsFinite (I.remaining children) }
-        ensures ok { IfOk result (λ n. (es : List Term) × Drains I.next_gives children es × FitsNode es × (n ≡ tree_of kind.0 es)) }
-        ensures refused { IfErr result (RefusesUnless ((es : List Term) → Drains I.next_gives children es → FitsNode es)) }
+        ensures ok { IfOk result (λ n. (es : List Term) × Drains I.next_gives children es
+            × FitsNode es × (n ≡ tree_of kind.0 es)) }
+        ensures refused { IfErr result
+            (RefusesUnless ((es : List Term) → Drains I.next_gives children es → FitsNode es)) }
     {
         let children = collected(alloc, children)?;
         match GreenNode::from_vec(alloc, kind, children) {
@@ -171,9 +173,11 @@ impl GreenNode {
         new_child: GreenElement,
     ) -> Result<GreenNode, GreenError>
         requires { index < length (children_of self.now) }
-        ensures ok { IfOk result (λ n. n ≡ tree_of self.now.kind (spliced (children_of self.now) index (index + 1) (new_child ∷ []))) }
+        ensures ok { IfOk result (λ n. n ≡ tree_of self.now.kind
+            (spliced (children_of self.now) index (index + 1) (new_child ∷ []))) }
         ensures fits { OnOk result (FitsNode (spliced (children_of self.now) index (index + 1) (new_child ∷ []))) }
-        ensures refused { IfErr result (RefusesUnless (FitsNode (spliced (children_of self.now) index (index + 1) (new_child ∷ [])))) }
+        ensures refused { IfErr result (RefusesUnless
+            (FitsNode (spliced (children_of self.now) index (index + 1) (new_child ∷ [])))) }
     {
         prove!(index < self.elements().len());
         let new_children = vec![in alloc; new_child]?;
@@ -188,9 +192,11 @@ impl GreenNode {
         new_child: GreenElement,
     ) -> Result<GreenNode, GreenError>
         requires { index ≤ length (children_of self.now) }
-        ensures ok { IfOk result (λ n. n ≡ tree_of self.now.kind (spliced (children_of self.now) index index (new_child ∷ []))) }
+        ensures ok { IfOk result (λ n. n ≡ tree_of self.now.kind
+            (spliced (children_of self.now) index index (new_child ∷ []))) }
         ensures fits { OnOk result (FitsNode (spliced (children_of self.now) index index (new_child ∷ []))) }
-        ensures refused { IfErr result (RefusesUnless (FitsNode (spliced (children_of self.now) index index (new_child ∷ [])))) }
+        ensures refused { IfErr result
+            (RefusesUnless (FitsNode (spliced (children_of self.now) index index (new_child ∷ [])))) }
     {
         let new_children = vec![in alloc; new_child]?;
         self.splice(alloc, index, index, new_children)
@@ -199,7 +205,8 @@ impl GreenNode {
     /// This node without one of its children.
     pub fn remove_child(&self, alloc: Global, index: usize) -> Result<GreenNode, GreenError>
         requires { index < length (children_of self.now) }
-        ensures ok { IfOk result (λ n. n ≡ tree_of self.now.kind (spliced (children_of self.now) index (index + 1) [])) }
+        ensures ok { IfOk result
+            (λ n. n ≡ tree_of self.now.kind (spliced (children_of self.now) index (index + 1) [])) }
         ensures refused { IsOkUnless result GreenError.NoMemory }
     {
         prove!(index < self.elements().len());
@@ -217,8 +224,12 @@ impl GreenNode {
         requires in_bounds { range.end ≤ length (children_of self.now) }
         requires can { I.can_next new_children }
         requires ends { IsFinite (I.remaining new_children) }
-        ensures ok { let old = children_of self.now in IfOk result (λ n. (es : List Term) × Drains I.next_gives new_children es × FitsNode (spliced old range.start range.end es) × (n ≡ tree_of self.now.kind (spliced old range.start range.end es))) }
-        ensures refused { let old = children_of self.now in IfErr result (RefusesUnless ((es : List Term) → Drains I.next_gives new_children es → FitsNode (spliced old range.start range.end es))) }
+        ensures ok { let old = children_of self.now in IfOk result (λ n. (es : List Term)
+            × Drains I.next_gives new_children es × FitsNode (spliced old range.start range.end es)
+            × (n ≡ tree_of self.now.kind (spliced old range.start range.end es))) }
+        ensures refused { let old = children_of self.now in IfErr result (RefusesUnless
+            ((es : List Term) → Drains I.next_gives new_children es → FitsNode
+            (spliced old range.start range.end es))) }
     {
         let new_children = collected(alloc, new_children)?;
         self.splice(alloc, range.start, range.end, new_children)
@@ -233,9 +244,11 @@ impl GreenNode {
     ) -> Result<GreenNode, GreenError>
         requires ordered { start ≤ end }
         requires in_bounds { end ≤ length (children_of self.now) }
-        ensures ok { IfOk result (λ n. n ≡ tree_of self.now.kind (spliced (children_of self.now) start end new_children.items)) }
+        ensures ok { IfOk result (λ n. n ≡ tree_of self.now.kind
+            (spliced (children_of self.now) start end new_children.items)) }
         ensures fits { OnOk result (FitsNode (spliced (children_of self.now) start end new_children.items)) }
-        ensures refused { IfErr result (RefusesUnless (FitsNode (spliced (children_of self.now) start end new_children.items))) }
+        ensures refused { IfErr result
+            (RefusesUnless (FitsNode (spliced (children_of self.now) start end new_children.items))) }
     {
         let old = self.elements();
         let count = (old.len() - (end - start)).saturating_add(new_children.len());

@@ -16,7 +16,8 @@ pub fn child<N: AstNode + Drop>(
     alloc: Global,
     parent: &SyntaxNode<N::Language>,
 ) -> Result<Option<N>, AllocError>
-    ensures { IfOk result (λ r. option_map N.place r ≡ first (filter (can N.Language.from_raw N.casts) (nodes (children parent.now)))) }
+    ensures { IfOk result (λ r. option_map N.place r ≡ first
+        (filter (can N.Language.from_raw N.casts) (nodes (children parent.now)))) }
 {
     let mut found = children::<N>(alloc, parent)?;
     match found.next() {
@@ -42,7 +43,8 @@ pub fn token<L: Language>(
     parent: &SyntaxNode<L>,
     kind: L::Kind,
 ) -> Result<Option<SyntaxToken<L>>, AllocError>
-    ensures { IfOk result (λ r. r ≡ first (filter (λ p. L.Kind.eq (L.from_raw (kind_at p)) kind) (tokens (children parent.now)))) }
+    ensures { IfOk result (λ r. r ≡ first
+        (filter (λ p. L.Kind.eq (L.from_raw (kind_at p)) kind) (tokens (children parent.now)))) }
 {
     for element in parent.children_with_tokens(alloc)? {
         if let NodeOrToken::Token(token) = element? {
