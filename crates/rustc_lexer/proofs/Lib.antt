@@ -25,3 +25,7 @@ pub mod Lines
 pub mod StringEnds
 pub mod RawEnds
 pub mod CommentEnds
+pub mod LongestRuns
+pub mod NumberParts
+pub mod CharacterEnds
+pub mod LifetimeEnds

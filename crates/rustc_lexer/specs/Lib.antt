@@ -6,5 +6,6 @@ pub mod Plain
 pub mod Tokens
 pub mod Shebang
 pub mod Endings
+pub mod Numbers
 pub mod Reads
 pub mod Laws
