@@ -18,3 +18,8 @@ mod parser_token;
 mod scanner;
 pub mod syntax_kind;
 mod word_table;
+
+pub use edition::Edition;
+pub use input::Input;
+pub use lexed_str::LexedStr;
+pub use syntax_kind::SyntaxKind;
