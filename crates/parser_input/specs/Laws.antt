@@ -15,7 +15,8 @@ use Rattle.parser_input.specs.declared.edition.Edition.{Edition}
 -- without a preface, and without a guarded prefix before 2024, each token is one leaf
 abbrev pub LexedIsLeaves : Type 0
 LexedIsLeaves =
-    (edition : Edition) (text : List ℕ) → preface text ≡ [] → content text ≡ text → All (λ l. is_split edition l.kind ≡ false) (lexer.tokens text) → leaves_of (lexed edition text) ≡ leaves edition text
+    (edition : Edition) (text : List ℕ) → preface text ≡ [] → content text ≡ text →
+    All (λ l. is_split edition l.kind ≡ false) (lexer.tokens text) → leaves_of (lexed edition text) ≡ leaves edition text
 
 -- the leaves of a text, joined, are the text
 abbrev pub LeavesAreTheText : Type 0
@@ -29,7 +30,8 @@ LeavesAreSlices =
 
 -- so is each piece that a text is told apart into
 abbrev pub PiecesAreSlices : Type 0
-PiecesAreSlices = (text : List ℕ) (parts : Source) → IsUtf8 text → source (chars text) ≡ Ok parts → AreSlices text parts
+PiecesAreSlices =
+    (text : List ℕ) (parts : Source) → IsUtf8 text → source (chars text) ≡ Ok parts → AreSlices text parts
 
 -- the lines of a text, joined, are the text
 abbrev pub LinesJoin : Type 0
@@ -57,10 +59,12 @@ pub record FencedLines (text : List ℕ) (parts : Source) : Type 0 where
 -- the closing line is the first fence among the lines after the opening one; the content is what follows it
 abbrev pub FirstFenceCloses : Type 0
 FirstFenceCloses =
-    (text : List ℕ) (parts : Source) → source text ≡ Ok parts → 3 ≤ dashes (opening_line text) → FencedLines text parts
+    (text : List ℕ) (parts : Source) → source text ≡ Ok parts → 3 ≤ dashes (opening_line text) →
+    FencedLines text parts
 
 -- where none is a fence, and there only, the frontmatter is unclosed
 abbrev pub NoFenceIsUnclosed : Type 0
 NoFenceIsUnclosed =
     (text : List ℕ) → 3 ≤ dashes (opening_line text) →
-    (source text ≡ Err (unclosed text (dashes (opening_line text)))) ↔ All (IsNoFence (dashes (opening_line text))) (drop 1 (lines (opening_line text)))
+    (source text ≡ Err (unclosed text (dashes (opening_line text))))
+    ↔ All (IsNoFence (dashes (opening_line text))) (drop 1 (lines (opening_line text)))

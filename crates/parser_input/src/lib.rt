@@ -15,7 +15,7 @@ pub mod lexed_str;
 mod literals;
 mod message;
 mod parser_token;
-mod scanner;
+mod steps;
 pub mod syntax_kind;
 mod word_table;
 

@@ -25,13 +25,16 @@ prefix Hexadecimal = 48 ∷ letter_x ∷ []
 -- the exponent at the front of a text, by its digits, and what it leaves: `e` or `E`, a sign or none, digits and `_`
 pub data ExponentPart : List ℕ → Option (List ℕ) → List ℕ → Type 0 where
   no_exponent : {text : List ℕ} → is_exponent (peek 0 text) ≡ false → ExponentPart text None text
-  unsigned : {e : ℕ} {text run rest : List ℕ} → is_exponent e ≡ true → is_sign (peek 0 text) ≡ false → LongestRun digit_or_underscore text run rest → ExponentPart (e ∷ text) (Some run) rest
-  signed : {e s : ℕ} {text run rest : List ℕ} → is_exponent e ≡ true → is_sign s ≡ true → LongestRun digit_or_underscore text run rest → ExponentPart (e ∷ s ∷ text) (Some run) rest
+  unsigned : {e : ℕ} {text run rest : List ℕ} → is_exponent e ≡ true → is_sign (peek 0 text) ≡ false →
+      LongestRun digit_or_underscore text run rest → ExponentPart (e ∷ text) (Some run) rest
+  signed : {e s : ℕ} {text run rest : List ℕ} → is_exponent e ≡ true → is_sign s ≡ true →
+      LongestRun digit_or_underscore text run rest → ExponentPart (e ∷ s ∷ text) (Some run) rest
 
 -- whether a dot stands at the front of a text, and what it leaves, with the digits and `_` behind it
 pub data PointPart : List ℕ → Bool → List ℕ → Type 0 where
   no_point : {text : List ℕ} → is_point (peek 0 text) (peek 1 text) ≡ false → PointPart text false text
-  point : {text run rest : List ℕ} → is_point dot (peek 0 text) ≡ true → LongestRun digit_or_underscore text run rest → PointPart (dot ∷ text) true rest
+  point : {text run rest : List ℕ} → is_point dot (peek 0 text) ≡ true →
+      LongestRun digit_or_underscore text run rest → PointPart (dot ∷ text) true rest
 
 -- a number with a dot or an exponent is a float; an exponent without a digit is empty
 abbrev pub number_kind : Base → Bool → Option (List ℕ) → LiteralKind
