@@ -5,9 +5,7 @@
 //! what; and the tokens, by kind and contextual kind, with `joint` where one touches the next. An empty line ends each of the three.
 #![tactic(auto)]
 
-use parser_input::edition::Edition;
-use parser_input::input::Input;
-use parser_input::lexed_str::LexedStr;
+use parser_input::{Edition, Input, LexedStr};
 use std::alloc::Global;
 use std::io;
 use std::io::{BufWriter, Write};

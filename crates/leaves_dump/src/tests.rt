@@ -3,13 +3,10 @@
 ghost use Rattle.std.specs.Prelude.{◌≡◌, IfOk, chars};
 ghost use Rattle.rustc_lexer.specs.Tokens.{token_list};
 
-use parser_input::edition::Edition;
 use parser_input::frontmatter::{ScriptSource, is_rust_whitespace};
 use parser_input::frontmatter_error::FrontmatterError;
-use parser_input::input::Input;
-use parser_input::keywords::{contextual_keyword, keyword};
-use parser_input::lexed_str::LexedStr;
-use parser_input::syntax_kind::SyntaxKind;
+use parser_input::keywords::{contextual_keyword, keyword, word_kind};
+use parser_input::{Edition, Input, LexedStr, SyntaxKind};
 use rustc_lexer::{Token, tokenize};
 use std::alloc::{AllocError, Global};
 use std::ops::Range;
@@ -144,6 +141,19 @@ fn words_by_their_texts(rt: HostRuntime) {
             assert_eq!(rt; keyword(edition, text), None, "at {text}");
             assert_eq!(rt; contextual_keyword(edition, text), None, "at {text}");
         }
+    }
+}
+
+#[test]
+fn kinds_of_words(rt: HostRuntime) {
+    for (edition, text, kind) in [
+        (Edition::Edition2015, "async", SyntaxKind::IDENT),
+        (Edition::Edition2018, "async", SyntaxKind::ASYNC_KW),
+        (Edition::Edition2021, "union", SyntaxKind::IDENT),
+        (Edition::Edition2021, "_", SyntaxKind::UNDERSCORE),
+        (Edition::Edition2024, "gen", SyntaxKind::GEN_KW),
+    ] {
+        assert_eq!(rt; word_kind(edition, text), kind, "at {text}");
     }
 }
 

@@ -20,3 +20,6 @@ pub mod TokenSteps
 pub mod Words
 pub mod WordKinds
 pub mod WordPlaces
+pub mod LineSteps
+pub mod FenceLaw
+pub mod SliceLaws

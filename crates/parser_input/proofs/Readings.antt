@@ -82,7 +82,7 @@ pub record Front (bs : List ℕ) (x y : List ℕ) : Type 0 where
   pub left : chars (drop (size x) bs) ≡ y
   pub left_utf8 : IsUtf8 (drop (size x) bs)
 
-front-at : (bs x y : List ℕ) → IsUtf8 bs → chars bs ≡ x ++ y → Front bs x y
+pub front-at : (bs x y : List ℕ) → IsUtf8 bs → chars bs ≡ x ++ y → Front bs x y
 front-at bs x y u e =
     let n = length x in
     let a = at-size bs n u in
@@ -114,7 +114,7 @@ take-split ls (suc a) zero n h = absurd (omega arith)
 take-split [] (suc a) (suc b) n h = none_taken n [] refl
 take-split (l ∷ ls) (suc a) (suc b) n h = ap (λ (x : List Lexed). l ∷ x) (take-split ls a b n (omega arith))
 
-range-of : (text : List ℕ) (ls : List Lexed) (a b : ℕ) → IsUtf8 text → chars text ≡ texts ls → a ≤ b → Range text ls a b
+pub range-of : (text : List ℕ) (ls : List Lexed) (a b : ℕ) → IsUtf8 text → chars text ≡ texts ls → a ≤ b → Range text ls a b
 range-of text ls a b u e order =
     let x = texts (take a ls) in
     let y = texts (slice_range ls a b) in

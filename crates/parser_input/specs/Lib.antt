@@ -6,6 +6,8 @@ pub mod Leaf
 pub mod Lines
 pub mod Lexed
 pub mod Laws
+pub mod LineList
+pub mod Slices
 pub mod Stored
 pub mod Escapes
 pub mod Messages

@@ -1,7 +1,11 @@
 -- The input as it is recorded, token by token.
-use Rattle.std.specs.Prelude.{ℕ, true, false, List, slice_index_or}
+use Rattle.std.specs.Prelude.{ℕ, Bool, true, false, List, [], ◌∷◌, ◌++◌, slice_index_or, if◌then◌else◌}
 use Rattle.parser_input.specs.Kinds.{EOF, IDENT}
 use Rattle.parser_input.specs.Input.{Token}
+
+-- a token with all that is known of it
+abbrev pub token : ℕ → ℕ → Bool → Token
+token kind contextual joint = record { kind = kind; contextual = contextual; joint = joint }
 
 -- a token that is no identifier
 abbrev pub plain : ℕ → Token
@@ -14,6 +18,10 @@ identifier contextual = record { kind = IDENT; contextual = contextual; joint = 
 -- the same token, which touches the next one
 abbrev pub touching : Token → Token
 touching t = record { kind = t.kind; contextual = t.contextual; joint = true }
+
+-- tokens, and one more where there was room
+abbrev pub tokens_with : Bool → List Token → Token → List Token
+tokens_with room tokens token = if room then tokens ++ token ∷ [] else tokens
 
 -- the token at a place; past the end it is one of kind `EOF`
 abbrev pub token_at : List Token → ℕ → Token

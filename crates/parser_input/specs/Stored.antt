@@ -19,6 +19,10 @@ pub record Whole : Type 0 where
   pub text : List ℕ
   pub leaves : List Lexed
 
+-- a text with the leaves that it has in an edition
+abbrev pub whole_of : Edition → List ℕ → Whole
+whole_of edition text = record { edition = edition; text = text; leaves = lexed edition text }
+
 -- a stored leaf of a text, by where it starts
 abbrev pub seen : List ℕ → ℕ → StoredLeaf → Lexed
 seen text start p =

@@ -23,7 +23,7 @@ ghost use Rattle.parser_input.specs.Escapes.{
   unit,
 };
 
-use crate::scanner::Scanner;
+use rustc_lexer::Cursor;
 
 /// What may stand in a kind of literal.
 #[derive(Clone, Copy)]
@@ -135,7 +135,7 @@ fn is_byte(rules: Rules, first: char, second: char) -> bool
 }
 
 // Passes over digits among which `_` may stand, and gives what they stand for. None where they are more than six.
-fn eat_digits(rest: &mut Scanner) -> Option<u32>
+fn eat_digits(rest: &mut Cursor) -> Option<u32>
     ensures { MatchOption result (6 < length (digits_of rest.old)) (λ value. (length (digits_of rest.old) ≤ 6) × (value ≡ hex_value 0 (digits_of rest.old)) × (rest.new ≡ drop (run_len hex_or_underscore rest.old) rest.old)) }
 {
     let mut value: u32 = 0;
@@ -156,7 +156,7 @@ fn eat_digits(rest: &mut Scanner) -> Option<u32>
 }
 
 // Passes over the digits and the `}` of a Unicode escape, behind its `{`; no where they are not right.
-fn eat_unicode(rules: Rules, rest: &mut Scanner) -> bool
+fn eat_unicode(rules: Rules, rest: &mut Cursor) -> bool
     ensures told { result ≡ is_unicode rules rest.old }
     ensures behind { result ≡ true → rest.new ≡ drop 1 (drop (run_len hex_or_underscore rest.old) rest.old) }
 {
@@ -176,7 +176,7 @@ fn eat_unicode(rules: Rules, rest: &mut Scanner) -> bool
 }
 
 // Passes over an escape, behind its `\`; no where there is none.
-fn eat_escape(rules: Rules, rest: &mut Scanner) -> bool
+fn eat_escape(rules: Rules, rest: &mut Cursor) -> bool
     ensures { Passes (escape rules rest.old) rest.old result rest.new }
 {
     let first = rest.first();
@@ -202,7 +202,7 @@ fn eat_escape(rules: Rules, rest: &mut Scanner) -> bool
 }
 
 // Passes over a character that is allowed, or an escape; no where neither is next.
-fn eat_unit(rules: Rules, rest: &mut Scanner) -> bool
+fn eat_unit(rules: Rules, rest: &mut Cursor) -> bool
     ensures { Passes (unit rules rest.old) rest.old result rest.new }
 {
     if rest.is_empty() {
@@ -217,7 +217,7 @@ fn eat_unit(rules: Rules, rest: &mut Scanner) -> bool
 }
 
 /// Whether each `\` begins an escape, and no NUL stands where none may.
-pub(crate) fn is_sound(rules: Rules, mut rest: Scanner) -> bool
+pub(crate) fn is_sound(rules: Rules, mut rest: Cursor) -> bool
     ensures { result ≡ is_sound rules 0 rest.entry }
 {
     'units: while !rest.is_empty() {
@@ -229,7 +229,7 @@ pub(crate) fn is_sound(rules: Rules, mut rest: Scanner) -> bool
 }
 
 /// Whether a text is one character or one escape.
-pub(crate) fn is_one(rules: Rules, mut text: Scanner) -> bool
+pub(crate) fn is_one(rules: Rules, mut text: Cursor) -> bool
     ensures { result ≡ is_one rules text.entry }
 {
     if !eat_unit(rules, &mut text) {

@@ -21,8 +21,8 @@ ghost use Rattle.parser_input.specs.Stored.{frontmatter_end};
 ghost use Rattle.parser_input.specs.Spans.{chars_of, end_of, range_of, span_of, text_of};
 
 use crate::frontmatter_error::FrontmatterError;
-use crate::scanner::Scanner;
-use rustc_lexer::{is_horizontal_whitespace, strip_shebang};
+use crate::steps::{eat_blank_lines, eat_dashes, eat_solid, eat_whole_line};
+use rustc_lexer::{Cursor, is_horizontal_whitespace, strip_shebang};
 use std::marker::Model;
 use std::ops::Range;
 
@@ -69,7 +69,7 @@ impl<'s> Piece<'s> {
     }
 
     // What stands from one place of a text up to a later one.
-    fn between(text: &Scanner<'s>, from: &Scanner<'s>, until: &Scanner<'s>) -> Piece<'s>
+    fn between(text: &Cursor<'s>, from: &Cursor<'s>, until: &Cursor<'s>) -> Piece<'s>
         requires inside { size from.now ≤ size text.now }
         requires order { (n : ℕ) × (until.now ≡ drop n from.now) }
         ensures { (n : ℕ) → until.now ≡ drop n from.now → result ≡ piece text.now from.now n }
@@ -81,7 +81,7 @@ impl<'s> Piece<'s> {
     }
 
     // What stands from a place of a text up to its end.
-    fn remainder(text: &Scanner<'s>, from: &Scanner<'s>) -> Piece<'s>
+    fn remainder(text: &Cursor<'s>, from: &Cursor<'s>) -> Piece<'s>
         requires { size from.now ≤ size text.now }
         ensures { result ≡ remainder text.now from.now }
     {
@@ -103,49 +103,49 @@ impl<'s> Piece<'s> {
 }
 
 // What is left behind the shebang.
-fn behind_shebang<'s>(text: &Scanner<'s>) -> Scanner<'s>
+fn behind_shebang<'s>(text: &Cursor<'s>) -> Cursor<'s>
     ensures rest { result ≡ behind_shebang text.now }
     ensures inside { size result ≤ size text.now }
 {
     let mut rest = text.here();
     if strip_shebang(text.as_str()).is_some() {
-        rest.eat_line();
+        rest.eat_first_line();
     }
     rest
 }
 
-fn shebang_piece<'s>(text: &Scanner<'s>) -> Option<Piece<'s>>
+fn shebang_piece<'s>(text: &Cursor<'s>) -> Option<Piece<'s>>
     ensures { result ≡ shebang_piece text.now }
 {
     if strip_shebang(text.as_str()).is_some() {
         let mut end = text.here();
-        end.eat_line();
+        end.eat_first_line();
         return Some(Piece::between(text, text, &end));
     }
     None
 }
 
 // The first line that is not passed over.
-fn opening_line<'s>(text: &Scanner<'s>) -> Scanner<'s>
+fn opening_line<'s>(text: &Cursor<'s>) -> Cursor<'s>
     ensures line { result ≡ opening_line text.now }
     ensures inside { size result ≤ size text.now }
 {
     let mut rest = behind_shebang(text);
-    rest.eat_blank_lines();
+    eat_blank_lines(&mut rest);
     rest
 }
 
 // What is left of the first line.
-fn first_line<'s>(rest: &Scanner<'s>) -> Scanner<'s>
+fn first_line<'s>(rest: &Cursor<'s>) -> Cursor<'s>
     ensures { result ≡ first_line rest.now }
 {
     let mut end = rest.here();
-    end.eat_line();
+    end.eat_first_line();
     rest.until(&end)
 }
 
 // What is left of the first line, without the white space at both its ends.
-fn info_piece<'s>(text: &Scanner<'s>, after: &Scanner<'s>) -> Option<Piece<'s>>
+fn info_piece<'s>(text: &Cursor<'s>, after: &Cursor<'s>) -> Option<Piece<'s>>
     requires { size after.now ≤ size text.now }
     ensures { result ≡ info_piece text.now after.now }
 {
@@ -153,7 +153,7 @@ fn info_piece<'s>(text: &Scanner<'s>, after: &Scanner<'s>) -> Option<Piece<'s>>
     let mut solid = line.here();
     solid.eat_whitespace();
     let mut end = solid.here();
-    end.eat_solid();
+    eat_solid(&mut end);
     let info = solid.until(&end);
     if info.is_empty() {
         return None;
@@ -163,18 +163,18 @@ fn info_piece<'s>(text: &Scanner<'s>, after: &Scanner<'s>) -> Option<Piece<'s>>
 }
 
 // Whether the first line has so many dashes and nothing else but tabs and spaces.
-fn is_fence(rest: &Scanner, count: usize) -> bool
+fn is_fence(rest: &Cursor, count: usize) -> bool
     ensures { result ≡ is_fence count (first_line rest.now) }
 {
     let mut line = first_line(rest);
-    if line.eat_dashes() != count {
+    if eat_dashes(&mut line) != count {
         return false;
     }
     line.as_str().chars().all(|c| is_horizontal_whitespace(c))
 }
 
 // The first line with so many dashes and nothing else but tabs and spaces.
-fn closing_line<'s>(mut rest: Scanner<'s>, count: usize) -> Option<Scanner<'s>>
+fn closing_line<'s>(mut rest: Cursor<'s>, count: usize) -> Option<Cursor<'s>>
     ensures line { result ≡ closing_line count true rest.entry }
     ensures behind { IfSome result (λ line. (n : ℕ) × (line ≡ drop n rest.entry)) }
 {
@@ -182,7 +182,7 @@ fn closing_line<'s>(mut rest: Scanner<'s>, count: usize) -> Option<Scanner<'s>>
         if is_fence(&rest, count) {
             return Some(rest);
         }
-        rest.eat_whole_line();
+        eat_whole_line(&mut rest);
     }
     None
 }
@@ -231,7 +231,7 @@ fn text_of<'s>(piece: &Option<Piece<'s>>) -> Option<&'s str>
 
 impl<'s> ScriptSource<'s> {
     // A text without frontmatter.
-    fn bare(text: &Scanner<'s>) -> ScriptSource<'s>
+    fn bare(text: &Cursor<'s>) -> ScriptSource<'s>
         ensures { result ≡ bare text.now }
     {
         ScriptSource {
@@ -245,19 +245,19 @@ impl<'s> ScriptSource<'s> {
     }
 
     // A text with a frontmatter between the lines that start at these places.
-    fn fenced(text: &Scanner<'s>, opening: &Scanner<'s>, closing: &Scanner<'s>) -> ScriptSource<'s>
+    fn fenced(text: &Cursor<'s>, opening: &Cursor<'s>, closing: &Cursor<'s>) -> ScriptSource<'s>
         requires inside { size opening.now ≤ size text.now }
         requires order { (n : ℕ) × (closing.now ≡ drop n (behind_line opening.now)) }
         ensures { result ≡ fenced text.now opening.now closing.now }
     {
         let mut after = opening.here();
-        after.eat_dashes();
+        eat_dashes(&mut after);
         let mut inside = opening.here();
-        inside.eat_whole_line();
+        eat_whole_line(&mut inside);
         let mut closed = closing.here();
-        closed.eat_dashes();
+        eat_dashes(&mut closed);
         let mut content = closing.here();
-        content.eat_whole_line();
+        eat_whole_line(&mut content);
         ScriptSource {
             shebang: shebang_piece(text),
             opening: Some(Piece::between(text, opening, &after)),
@@ -273,9 +273,9 @@ impl<'s> ScriptSource<'s> {
     pub fn parse(raw: &'s str) -> Result<ScriptSource<'s>, FrontmatterError>
         ensures { result ≡ source (chars raw.now) }
     {
-        let text = Scanner::new(raw);
+        let text = Cursor::new(raw);
         let opening = opening_line(&text);
-        let count = opening.here().eat_dashes();
+        let count = eat_dashes(&mut opening.here());
         if count == 0 {
             return Ok(ScriptSource::bare(&text));
         }
@@ -285,7 +285,7 @@ impl<'s> ScriptSource<'s> {
             return Err(FrontmatterError::TooFewDashes { start, end });
         }
         let mut inside = opening.here();
-        inside.eat_whole_line();
+        eat_whole_line(&mut inside);
         match closing_line(inside, count) {
             Some(closing) => Ok(ScriptSource::fenced(&text, &opening, &closing)),
             None => Err(FrontmatterError::Unclosed { start, end }),

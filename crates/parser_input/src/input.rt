@@ -1,10 +1,10 @@
 //! What the parser sees of a text: its tokens without their texts.
 
-ghost use Rattle.std.specs.Prelude.{◌≡◌, ◌≢◌, ◌<◌, [], ◌∷◌, ◌++◌, List, length, is_ok, if◌then◌else◌, IfOk};
+ghost use Rattle.std.specs.Prelude.{◌≡◌, ◌≢◌, ◌<◌, [], ◌∷◌, ◌++◌, List, length, is_ok, IfOk};
 ghost use Rattle.parser_input.specs.Input.{Token};
 ghost use Rattle.parser_input.specs.Kind.{raw_of};
 ghost use Rattle.parser_input.specs.Kinds as kinds;
-ghost use Rattle.parser_input.specs.Recorded.{plain, identifier, touching, token_at};
+ghost use Rattle.parser_input.specs.Recorded.{plain, identifier, token, tokens_with, touching, token_at};
 
 use crate::syntax_kind::SyntaxKind;
 use std::alloc::{AllocError, Global};
@@ -43,7 +43,7 @@ impl Model for Input {
 }
 
 impl Input {
-    /// An input without tokens, with room for so many.
+    /// An input without tokens. The capacity is only a hint of how many tokens are to come.
     pub fn with_capacity(alloc: Global, capacity: usize) -> Result<Input, AllocError>
         ensures { IfOk result (λ input. input ≡ []) }
     {
@@ -59,7 +59,7 @@ impl Input {
         joint: bool,
     ) -> Result<(), AllocError>
         requires { raw_of kind ≢ kinds.EOF }
-        ensures { self.new ≡ (if is_ok result then self.old ++ record { kind = raw_of kind; contextual = raw_of contextual_kind; joint = joint } ∷ [] else self.old) }
+        ensures { self.new ≡ tokens_with (is_ok result) self.old (token (raw_of kind) (raw_of contextual_kind) joint) }
     {
         let token = InputToken {
             kind,
@@ -73,14 +73,14 @@ impl Input {
     /// Adds a token that is no identifier. It does not touch the next one.
     pub fn push(&mut self, kind: SyntaxKind) -> Result<(), AllocError>
         requires { raw_of kind ≢ kinds.EOF }
-        ensures { self.new ≡ (if is_ok result then self.old ++ plain (raw_of kind) ∷ [] else self.old) }
+        ensures { self.new ≡ tokens_with (is_ok result) self.old (plain (raw_of kind)) }
     {
         self.push_token(kind, SyntaxKind::EOF, false)
     }
 
     /// Adds an identifier, with the kind that its word has as a contextual keyword. It does not touch the next token.
     pub fn push_ident(&mut self, contextual_kind: SyntaxKind) -> Result<(), AllocError>
-        ensures { self.new ≡ (if is_ok result then self.old ++ identifier (raw_of contextual_kind) ∷ [] else self.old) }
+        ensures { self.new ≡ tokens_with (is_ok result) self.old (identifier (raw_of contextual_kind)) }
     {
         self.push_token(SyntaxKind::IDENT, contextual_kind, false)
     }

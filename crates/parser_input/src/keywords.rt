@@ -1,7 +1,7 @@
 //! The kinds of words: keywords and contextual keywords, by their texts.
 
 ghost use Rattle.std.specs.Option.{option_copied, option_map};
-ghost use Rattle.std.specs.Prelude.{◌≡◌, IfSome, IsTrue, slice_get, slice_index};
+ghost use Rattle.std.specs.Prelude.{◌≡◌, IfSome, IsTrue, chars, slice_get, slice_index};
 ghost use Rattle.parser_input.specs.Keywords.{
   contextual_kind,
   is_keyword,
@@ -11,6 +11,7 @@ ghost use Rattle.parser_input.specs.Keywords.{
   words,
 };
 ghost use Rattle.parser_input.specs.Kind.{raw_of};
+ghost use Rattle.parser_input.specs.Leaf.{word_kind};
 ghost use Rattle.parser_input.specs.WordTable.{row_of};
 
 use crate::edition::Edition;
@@ -38,6 +39,19 @@ pub fn keyword(edition: Edition, text: &str) -> Option<SyntaxKind>
         Some(word.kind)
     } else {
         None
+    }
+}
+
+/// The kind of a word: that of `_`, of a keyword of the edition, or else of a name.
+pub fn word_kind(edition: Edition, text: &str) -> SyntaxKind
+    ensures { raw_of result ≡ word_kind edition (chars text.now) }
+{
+    if text == "_" {
+        return SyntaxKind::UNDERSCORE;
+    }
+    match keyword(edition, text) {
+        Some(kind) => kind,
+        None => SyntaxKind::IDENT,
     }
 }
 

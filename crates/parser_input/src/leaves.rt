@@ -6,24 +6,11 @@ ghost use Rattle.parser_input.specs.Leaf.{kind_of, literal_kind, word_kind};
 ghost use Rattle.parser_input.specs.Messages.{message_of};
 
 use crate::edition::Edition;
-use crate::keywords::keyword;
+use crate::keywords::word_kind;
 use crate::literals::{literal_message, when};
 use crate::message::Message;
 use crate::syntax_kind::SyntaxKind;
 use rustc_lexer::{LiteralKind, TokenKind};
-
-// The kind of a word: `_`, a keyword of the edition, or a name.
-fn word_kind(edition: Edition, text: &str) -> SyntaxKind
-    ensures { raw_of result ≡ word_kind edition (chars text.now) }
-{
-    if text == "_" {
-        return SyntaxKind::UNDERSCORE;
-    }
-    match keyword(edition, text) {
-        Some(kind) => kind,
-        None => SyntaxKind::IDENT,
-    }
-}
 
 // The kind of a literal; raw strings are strings.
 #[tactic(auto, unfolding(crate::specs::Leaf::literal_kind))]

@@ -8,11 +8,11 @@ ghost use Rattle.rustc_lexer.specs.Tokens as lexer;
 ghost use Rattle.parser_input.specs.Kind.{raw_of};
 ghost use Rattle.parser_input.specs.Input.{input, touches};
 ghost use Rattle.parser_input.specs.Kinds.{EOF};
-ghost use Rattle.parser_input.specs.Lexed.{content, is_split, leaves_of, lexed};
+ghost use Rattle.parser_input.specs.Lexed.{content, is_split, leaves_of};
 ghost use Rattle.parser_input.specs.Faults.{faults};
 ghost use Rattle.parser_input.specs.Messages.{wording};
 ghost use Rattle.parser_input.specs.Single.{read, single, told};
-ghost use Rattle.parser_input.specs.Stored.{AreSpans, Begun, Found, Opened, bytes_of, frontmatter_end, leaf_at, leaf_next, offset, seen_from};
+ghost use Rattle.parser_input.specs.Stored.{AreSpans, Begun, Found, Opened, bytes_of, frontmatter_end, leaf_at, leaf_next, offset, seen_from, whole_of};
 
 use crate::edition::Edition;
 use crate::errors::Errors;
@@ -21,7 +21,6 @@ use crate::input::Input;
 use crate::leaves::{kind_of, message_of};
 use crate::message::Message;
 use crate::parser_token::{contextual_kind, is_joint};
-use crate::scanner::Scanner;
 use crate::syntax_kind::SyntaxKind;
 use rustc_lexer::{Cursor, Token, TokenKind, strip_shebang};
 use std::alloc::{AllocError, Global};
@@ -93,7 +92,7 @@ fn next_leaf(edition: Edition, rest: &str) -> NextLeaf
         return NextLeaf {
             kind: SyntaxKind::POUND,
             message: None,
-            len: Scanner::new(rest).first().len_utf8(),
+            len: Cursor::new(rest).first().len_utf8(),
         };
     }
     leaf_of(edition, token, rest)
@@ -265,7 +264,7 @@ impl<'a> Model for LexedStr<'a> {
 impl<'a> LexedStr<'a> {
     /// Reads a text: tells its first lines apart, and cuts the rest into tokens.
     pub fn new(alloc: Global, edition: Edition, text: &'a str) -> Result<LexedStr<'a>, AllocError>
-        ensures { IfOk result (λ whole. whole ≡ record { edition = edition; text = chars text.now; leaves = lexed edition (chars text.now) }) }
+        ensures { IfOk result (λ whole. whole ≡ whole_of edition (chars text.now)) }
     {
         let mut leaves = Vec::new(alloc);
         let start = push_shebang(text, &mut leaves)?;
@@ -288,7 +287,7 @@ impl<'a> LexedStr<'a> {
     ) -> Result<LexedStr<'a>, AllocError>
         requires tokens { tokens.now ≡ lexer.token_list (content (chars text.now)) }
         requires whole { All (λ t. is_split edition t.kind ≡ false) tokens.now }
-        ensures { IfOk result (λ whole. whole ≡ record { edition = edition; text = chars text.now; leaves = lexed edition (chars text.now) }) }
+        ensures { IfOk result (λ whole. whole ≡ whole_of edition (chars text.now)) }
     {
         let mut leaves = Vec::new(alloc);
         let start = push_shebang(text, &mut leaves)?;
@@ -360,8 +359,8 @@ impl<'a> LexedStr<'a> {
         Errors::of(&self.leaves)
     }
 
-    // Where a leaf starts, in bytes; behind the last one, where the text ends.
-    fn offset(&self, i: usize) -> usize
+    /// Where a leaf starts, in bytes; for the number of leaves, where the text ends.
+    pub fn text_start(&self, i: usize) -> usize
         requires { i ≤ length self.now.leaves }
         ensures { result ≡ offset self.now.leaves i }
     {
@@ -371,28 +370,13 @@ impl<'a> LexedStr<'a> {
         self.leaves[i - 1].end
     }
 
-    // Where a leaf ends, in bytes.
-    fn end(&self, i: usize) -> usize
-        requires { i < length self.now.leaves }
-        ensures { result ≡ offset self.now.leaves (i + 1) }
-    {
-        self.leaves[i].end
-    }
-
-    /// Where a leaf starts, in bytes.
-    pub fn text_start(&self, i: usize) -> usize
-        requires { i < length self.now.leaves }
-        ensures { result ≡ offset self.now.leaves i }
-    {
-        self.offset(i)
-    }
-
     /// How many bytes a leaf has.
     pub fn text_len(&self, i: usize) -> usize
         requires { i < length self.now.leaves }
         ensures { result ≡ size (leaf_at self.now.leaves i).leaf.text }
     {
-        self.end(i) - self.text_start(i)
+        let range = self.text_range(i);
+        range.end - range.start
     }
 
     /// Where a leaf stands, in bytes.
@@ -401,7 +385,7 @@ impl<'a> LexedStr<'a> {
         ensures start { result.start ≡ offset self.now.leaves i }
         ensures end { result.end ≡ offset self.now.leaves i + size (leaf_at self.now.leaves i).leaf.text }
     {
-        self.text_start(i)..self.end(i)
+        self.text_start(i)..self.leaves[i].end
     }
 
     /// The text of a leaf.
@@ -409,7 +393,7 @@ impl<'a> LexedStr<'a> {
         requires { i < length self.now.leaves }
         ensures { chars result.now ≡ (leaf_at self.now.leaves i).leaf.text }
     {
-        &self.text[self.offset(i)..self.end(i)]
+        &self.text[self.text_range(i)]
     }
 
     /// The text of a row of leaves, given by their numbers.
@@ -418,7 +402,7 @@ impl<'a> LexedStr<'a> {
         requires within { leaves.end ≤ length self.now.leaves }
         ensures { chars result.now ≡ flat_map (λ l. l.leaf.text) (slice_range self.now.leaves leaves.start leaves.end) }
     {
-        &self.text[self.offset(leaves.start)..self.offset(leaves.end)]
+        &self.text[self.text_start(leaves.start)..self.text_start(leaves.end)]
     }
 
     /// What the parser sees of the text: its leaves without white space and comments.

@@ -15,6 +15,11 @@ pub mod lexed_str;
 mod literals;
 mod message;
 mod parser_token;
-mod scanner;
+mod steps;
 pub mod syntax_kind;
 mod word_table;
+
+pub use edition::Edition;
+pub use input::Input;
+pub use lexed_str::LexedStr;
+pub use syntax_kind::SyntaxKind;

@@ -16,8 +16,7 @@ ghost use Rattle.parser_input.specs.Messages.{
 
 use crate::escapes::{Rules, is_one, is_sound};
 use crate::message::Message;
-use crate::scanner::Scanner;
-use rustc_lexer::LiteralKind;
+use rustc_lexer::{Cursor, LiteralKind};
 
 /// A kind of literals with quotes.
 #[derive(Clone, Copy)]
@@ -92,7 +91,7 @@ const C_STR: Quoted = Quoted {
 };
 
 // The characters of the first `end` bytes: a literal without its suffix.
-fn front<'a>(text: &Scanner<'a>, end: usize) -> Scanner<'a>
+fn front<'a>(text: &Cursor<'a>, end: usize) -> Cursor<'a>
     ensures { result ≡ front end text.now }
 {
     let mut rest = text.here();
@@ -109,7 +108,7 @@ fn front<'a>(text: &Scanner<'a>, end: usize) -> Scanner<'a>
 }
 
 // All but the last character.
-fn but_last<'a>(text: &Scanner<'a>) -> Scanner<'a>
+fn but_last<'a>(text: &Cursor<'a>) -> Cursor<'a>
     ensures { result ≡ but_last text.now }
 {
     let mut end = text.here();
@@ -124,7 +123,7 @@ fn but_last<'a>(text: &Scanner<'a>) -> Scanner<'a>
 
 // What stands between the quotes of a closed literal.
 #[tactic(auto, unfolding(crate::specs::Messages::between_quotes))]
-fn between_quotes<'a>(quoted: &Quoted, literal: &Scanner<'a>) -> Scanner<'a>
+fn between_quotes<'a>(quoted: &Quoted, literal: &Cursor<'a>) -> Cursor<'a>
     ensures { result ≡ between_quotes quoted.now literal.now }
 {
     let mut inside = literal.here();
@@ -137,27 +136,27 @@ fn between_quotes<'a>(quoted: &Quoted, literal: &Scanner<'a>) -> Scanner<'a>
 }
 
 // Whether a character is past ASCII.
-fn is_wide(text: &Scanner) -> bool
+fn is_wide(text: &Cursor) -> bool
     ensures { result ≡ is_wide text.now }
 {
     text.as_str().chars().any(|c| c >= '\u{80}')
 }
 
-fn has_nul(text: &Scanner) -> bool
+fn has_nul(text: &Cursor) -> bool
     ensures { result ≡ has_nul text.now }
 {
     text.as_str().chars().any(|c| c == '\0')
 }
 
 // Whether a character stands in a literal that may not hold it.
-fn is_past_ascii(quoted: &Quoted, text: &Scanner) -> bool
+fn is_past_ascii(quoted: &Quoted, text: &Cursor) -> bool
     ensures { result ≡ (quoted.now.is_ascii && is_wide text.now) }
 {
     quoted.is_ascii && is_wide(text)
 }
 
 // Whether a literal is not of one character.
-fn is_bad_length(quoted: &Quoted, text: &Scanner) -> bool
+fn is_bad_length(quoted: &Quoted, text: &Cursor) -> bool
     ensures { result ≡ (quoted.now.is_single && not (is_one quoted.now.rules (between_quotes quoted.now text.now))) }
 {
     quoted.is_single && !is_one(quoted.rules, between_quotes(quoted, text))
@@ -171,7 +170,7 @@ pub(crate) fn when(fits: bool, message: Message) -> Option<Message>
 }
 
 // The message of a literal with quotes, without its suffix.
-fn quoted_message(quoted: &Quoted, terminated: bool, text: &Scanner) -> Option<Message>
+fn quoted_message(quoted: &Quoted, terminated: bool, text: &Cursor) -> Option<Message>
     ensures { result ≡ quoted_message quoted.now terminated text.now }
 {
     if !terminated {
@@ -198,7 +197,7 @@ fn raw_message(n_hashes: Option<u8>, fails: bool, message: Message) -> Option<Me
 
 // The message of a literal without its suffix.
 #[tactic(auto, unfolding(crate::specs::Messages::literal_message))]
-fn unsuffixed_message(kind: LiteralKind, text: &Scanner) -> Option<Message>
+fn unsuffixed_message(kind: LiteralKind, text: &Cursor) -> Option<Message>
     ensures { result ≡ literal_message kind text.now }
 {
     match kind {
@@ -226,5 +225,5 @@ fn unsuffixed_message(kind: LiteralKind, text: &Scanner) -> Option<Message>
 pub(crate) fn literal_message(kind: LiteralKind, suffix_start: usize, text: &str) -> Option<Message>
     ensures { result ≡ literal_message kind (front suffix_start (chars text.now)) }
 {
-    unsuffixed_message(kind, &front(&Scanner::new(text), suffix_start))
+    unsuffixed_message(kind, &front(&Cursor::new(text), suffix_start))
 }

@@ -15,7 +15,7 @@ pub first-false : {A : Type 0} {t : Bool} (x : A) (rs : List (Row A)) (d : A) �
 unfolding first_fit
 first-false {A} {t} x rs d h = ap (λ b. first_fit (row b x ∷ rs) d) h
 
-first-none : {A : Type 0} (d : A) → first_fit [] d ≡ d
+pub first-none : {A : Type 0} (d : A) → first_fit [] d ≡ d
 unfolding first_fit
 first-none d = refl
 

@@ -21,7 +21,7 @@ further : (d c : ℕ) (cs rest : List ℕ) → mark c (peek 0 cs) ≡ Neither �
 further zero c cs rest h p = other h p
 further (suc d) c cs rest h p = (p.0, other h p.1, p.2)
 
-both : (a b x y : ℕ) → ((a == x) && (b == y)) ≡ true → (a ≡ x) × (b ≡ y)
+pub both : (a b x y : ℕ) → ((a == x) && (b == y)) ≡ true → (a ≡ x) × (b ≡ y)
 both a b x y h =
     elim (bool_cases (a == x)) [
       | inl g ↦ (eqb-true a x g, eqb-true b y (sym (ap (λ t. t && (b == y)) g) ∙ h))

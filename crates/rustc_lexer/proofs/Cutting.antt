@@ -11,9 +11,8 @@ use Rattle.rustc_lexer.specs.Tokens.{Lexeme, first_lexeme, cut, tokens, joined, 
 use Rattle.rustc_lexer.specs.declared.token.TokenKind.{TokenKind}
 use Rattle.rustc_lexer.specs.declared.token.TokenKind.TheVariants.{Eof}
 use Rattle.rustc_lexer.proofs.Agree.{fewer, behind}
-use Rattle.rustc_lexer.proofs.LexemesLocal.{lexeme-local, lexeme-takes}
+use Rattle.rustc_lexer.proofs.LexemesLocal.{lexeme-local, lexeme-fits, lexeme-takes}
 use Rattle.rustc_lexer.proofs.Sizes.{size-append, length-size}
-use Rattle.rustc_lexer.proofs.LexemesFit.{lexeme-fits}
 
 -- the characters that belong to the lexeme before are passed over
 cut-past : (n : ℕ) (xs : List ℕ) → cut n xs ≡ cut 0 (drop n xs)

@@ -101,7 +101,7 @@ other-case Tick xs h = lifetime-other xs
 other-case Guard xs h = refl
 other-case Single xs h = sign-other (peek 0 xs)
 
-run-all : (p : ℕ → Bool) (xs : List ℕ) → list_all p (take (run_len p xs) xs) ≡ true
+pub run-all : (p : ℕ → Bool) (xs : List ℕ) → list_all p (take (run_len p xs) xs) ≡ true
 unfolding run_len
 run-all p [] = refl
 run-all p (x ∷ xs) = elim (bool_cases (p x)) [

@@ -1,131 +1,129 @@
--- Each lexeme is local and takes at least one character.
+-- Each lexeme is local, takes no more than there is, and at least one character.
 use Rattle.std.proofs.Common.{ℕ, suc, Bool, true, false, ◌==◌, Option, Some, None}
 use Rattle.rustc_lexer.specs.Characters.{tick}
-use Rattle.rustc_lexer.specs.Scan.{Scan, begin, quoted}
+use Rattle.rustc_lexer.specs.Scan.{Scan, begin}
 use Rattle.rustc_lexer.specs.Lexeme.{Case, Blank, ToLineEnd, ToPartner, RawName, RawText, Quoted, Ticked, Name, Number, Tick, Guard, Single, case_of, line_comment, block_comment, suffix, literal, string, character_end, character, raw_end, raw_string, digits, exponent, fraction, based, number, identifier, raw_identifier, is_raw, named, lifetime, lexeme_in, lexeme}
 use Rattle.rustc_lexer.proofs.Takes.{Takes, takes-skip, takes-first, takes-look, takes-spelled}
-use Rattle.rustc_lexer.proofs.Local.{Local, local-give, local-skip, local-look, local-next, local-spelled, local-if, local-begin}
-use Rattle.rustc_lexer.proofs.Leaves.{local-run, local-name, local-near, near-quoted, near-block, near-raw, local-ticked}
+use Rattle.rustc_lexer.proofs.Fits.{Fits}
+use Rattle.rustc_lexer.proofs.Local.{Local}
+use Rattle.rustc_lexer.proofs.Sound.{Sound, sound-give, sound-skip, sound-look, sound-next, sound-spelled, sound-if, sound-begin, sound-run, sound-name, sound-quoted, sound-block, sound-raw, sound-ticked}
 use Rattle.rustc_lexer.specs.declared.token.Base.{Base}
 use Rattle.rustc_lexer.specs.declared.token.Base.TheVariants.{Decimal}
 use Rattle.rustc_lexer.specs.declared.token.LiteralKind.{LiteralKind}
 use Rattle.rustc_lexer.specs.declared.literals.Body.{Body}
 
-local-quoted : Local (quoted false)
-local-quoted = local-near (quoted false) (near-quoted false)
-
-local-line_comment : Local line_comment
+sound-line_comment : Sound line_comment
 unfolding line_comment
-local-line_comment = local-next _ _ (local-spelled _ (local-next _ _ (local-skip 2) (λ _. local-run _))) (λ s. local-give _)
+sound-line_comment = sound-next _ _ (sound-spelled _ (sound-next _ _ (sound-skip 2) (λ _. sound-run _))) (λ s. sound-give _)
 
-local-block_comment : Local block_comment
+sound-block_comment : Sound block_comment
 unfolding block_comment
-local-block_comment = local-next _ _ (local-spelled _ (local-next _ _ (local-skip 2) (λ _. local-near _ (near-block 0)))) (λ s. local-give _)
+sound-block_comment = sound-next _ _ (sound-spelled _ (sound-next _ _ (sound-skip 2) (λ _. sound-block 0))) (λ s. sound-give _)
 
-local-suffix : (b : Bool) → Local (suffix b)
+sound-suffix : (b : Bool) → Sound (suffix b)
 unfolding suffix
-local-suffix true = local-name
-local-suffix false = local-give 0
+sound-suffix true = sound-name
+sound-suffix false = sound-give 0
 
-local-literal : (f : Scan Body) → Local f → Local (literal f)
+sound-literal : (f : Scan Body) → Sound f → Sound (literal f)
 unfolding literal
-local-literal f p = local-next _ _ (local-spelled f p) (λ s. local-next _ _ (local-suffix s.0.ends) (λ _. local-give _))
+sound-literal f p = sound-next _ _ (sound-spelled f p) (λ s. sound-next _ _ (sound-suffix s.0.ends) (λ _. sound-give _))
 
-local-string : (more : ℕ) (kind : Bool → LiteralKind) → Local (string more kind)
+sound-string : (more : ℕ) (kind : Bool → LiteralKind) → Sound (string more kind)
 unfolding string
-local-string more kind = local-next _ _ (local-skip (suc more)) (λ _. local-next _ _ local-quoted (λ closed. local-give _))
+sound-string more kind = sound-next _ _ (sound-skip (suc more)) (λ _. sound-next _ _ (sound-quoted false) (λ closed. sound-give _))
 
-local-character_end : Local character_end
+sound-character_end : Sound character_end
 unfolding character_end
-local-character_end =
-    local-next _ _ (local-look _) (λ single. local-if single _ _ (local-next _ _ (local-skip 2) (λ _. local-give _)) (local-ticked false))
+sound-character_end =
+    sound-next _ _ (sound-look _) (λ single. sound-if single _ _ (sound-next _ _ (sound-skip 2) (λ _. sound-give _)) (sound-ticked false))
 
-local-character : (more : ℕ) (kind : Bool → LiteralKind) → Local (character more kind)
+sound-character : (more : ℕ) (kind : Bool → LiteralKind) → Sound (character more kind)
 unfolding character
-local-character more kind =
-    local-next _ _ (local-skip (suc more)) (λ _. local-next _ _ local-character_end (λ closed. local-give _))
+sound-character more kind =
+    sound-next _ _ (sound-skip (suc more)) (λ _. sound-next _ _ sound-character_end (λ closed. sound-give _))
 
-local-raw_end : Local raw_end
+sound-raw_end : Sound raw_end
 unfolding raw_end
-local-raw_end =
-    local-next _ _ (local-run _) (λ hashes. local-next _ _ (local-look _) (λ quote. local-next _ _ (local-skip 1) (λ _.
-    local-if quote _ _ (local-next _ _ (local-near _ (near-raw hashes)) (λ closed. local-give _)) (local-give _))))
+sound-raw_end =
+    sound-next _ _ (sound-run _) (λ hashes. sound-next _ _ (sound-look _) (λ quote. sound-next _ _ (sound-skip 1) (λ _.
+    sound-if quote _ _ (sound-next _ _ (sound-raw hashes) (λ closed. sound-give _)) (sound-give _))))
 
-local-raw_string : (more : ℕ) (kind : Option ℕ → LiteralKind) → Local (raw_string more kind)
+sound-raw_string : (more : ℕ) (kind : Option ℕ → LiteralKind) → Sound (raw_string more kind)
 unfolding raw_string
-local-raw_string more kind =
-    local-next _ _ (local-skip (suc more)) (λ _. local-next _ _ local-raw_end (λ hashes. local-give _))
+sound-raw_string more kind =
+    sound-next _ _ (sound-skip (suc more)) (λ _. sound-next _ _ sound-raw_end (λ hashes. sound-give _))
 
-local-digits : (p : ℕ → Bool) → Local (digits p)
+sound-digits : (p : ℕ → Bool) → Sound (digits p)
 unfolding digits
-local-digits p = local-next _ _ (local-spelled _ (local-run p)) (λ s. local-give _)
+sound-digits p = sound-next _ _ (sound-spelled _ (sound-run p)) (λ s. sound-give _)
 
-local-exponent : Local exponent
+sound-exponent : Sound exponent
 unfolding exponent
-local-exponent =
-    local-next _ _ (local-look _) (λ there. local-if there _ _
-    (local-next _ _ (local-skip 1) (λ _. local-next _ _ (local-look _) (λ signed. local-next _ _ (local-if signed _ _ (local-skip 1) (local-give 0)) (λ _.
-    local-next _ _ (local-digits _) (λ has. local-give _)))))
-    (local-give _))
+sound-exponent =
+    sound-next _ _ (sound-look _) (λ there. sound-if there _ _
+    (sound-next _ _ (sound-skip 1) (λ _. sound-next _ _ (sound-look _) (λ signed. sound-next _ _ (sound-if signed _ _ (sound-skip 1) (sound-give 0)) (λ _.
+    sound-next _ _ (sound-digits _) (λ has. sound-give _)))))
+    (sound-give _))
 
-local-fraction : (b : Base) → Local (fraction b)
+sound-fraction : (b : Base) → Sound (fraction b)
 unfolding fraction
-local-fraction base =
-    local-next _ _ (local-look _) (λ dotted. local-if dotted _ _
-    (local-next _ _ (local-skip 1) (λ _. local-next _ _ (local-look _) (λ more. local-if more _ _
-    (local-next _ _ (local-digits _) (λ _. local-next _ _ local-exponent (λ e. local-give _)))
-    (local-give _))))
-    (local-next _ _ local-exponent (λ e. local-give _)))
+sound-fraction base =
+    sound-next _ _ (sound-look _) (λ dotted. sound-if dotted _ _
+    (sound-next _ _ (sound-skip 1) (λ _. sound-next _ _ (sound-look _) (λ more. sound-if more _ _
+    (sound-next _ _ (sound-digits _) (λ _. sound-next _ _ sound-exponent (λ e. sound-give _)))
+    (sound-give _))))
+    (sound-next _ _ sound-exponent (λ e. sound-give _)))
 
-local-based : (b : Option Base) → Local (based b)
+sound-based : (b : Option Base) → Sound (based b)
 unfolding based
-local-based None = local-next _ _ (local-skip 1) (λ _. local-next _ _ (local-digits _) (λ _. local-fraction Decimal))
-local-based (Some base) = local-next _ _ (local-skip 2) (λ _. local-next _ _ (local-digits _) (λ has. local-if has _ _ (local-fraction base) (local-give _)))
+sound-based None = sound-next _ _ (sound-skip 1) (λ _. sound-next _ _ (sound-digits _) (λ _. sound-fraction Decimal))
+sound-based (Some base) = sound-next _ _ (sound-skip 2) (λ _. sound-next _ _ (sound-digits _) (λ has. sound-if has _ _ (sound-fraction base) (sound-give _)))
 
-local-number : Local number
+sound-number : Sound number
 unfolding number
-local-number = local-next _ _ (local-look _) (λ base. local-based base)
+sound-number = sound-next _ _ (sound-look _) (λ base. sound-based base)
 
-local-identifier : Local identifier
+sound-identifier : Sound identifier
 unfolding identifier
-local-identifier =
-    local-next _ _ (local-skip 1) (λ _. local-next _ _ (local-run _) (λ _. local-next _ _ (local-look _) (λ prefix. local-give _)))
+sound-identifier =
+    sound-next _ _ (sound-skip 1) (λ _. sound-next _ _ (sound-run _) (λ _. sound-next _ _ (sound-look _) (λ prefix. sound-give _)))
 
-local-raw_identifier : Local raw_identifier
+sound-raw_identifier : Sound raw_identifier
 unfolding raw_identifier
-local-raw_identifier = local-next _ _ (local-skip 2) (λ _. local-next _ _ local-name (λ _. local-give _))
+sound-raw_identifier = sound-next _ _ (sound-skip 2) (λ _. sound-next _ _ sound-name (λ _. sound-give _))
 
-local-named : (b : Bool) → Local (named b)
+sound-named : (b : Bool) → Sound (named b)
 unfolding named
-local-named true = local-next _ _ (local-skip 2) (λ _. local-next _ _ local-name (λ _. local-give _))
-local-named false =
-    local-next _ _ (local-look _) (λ digit. local-next _ _ (local-skip 1) (λ _. local-next _ _ (local-run _) (λ _. local-next _ _ (local-look _) (λ next.
-    local-if (next == tick) _ _ (local-next _ _ (local-skip 1) (λ _. local-give _)) (local-give _)))))
+sound-named true = sound-next _ _ (sound-skip 2) (λ _. sound-next _ _ sound-name (λ _. sound-give _))
+sound-named false =
+    sound-next _ _ (sound-look _) (λ digit. sound-next _ _ (sound-skip 1) (λ _. sound-next _ _ (sound-run _) (λ _. sound-next _ _ (sound-look _) (λ next.
+    sound-if (next == tick) _ _ (sound-next _ _ (sound-skip 1) (λ _. sound-give _)) (sound-give _)))))
 
 takes-named : (b : Bool) → Takes (named b)
 unfolding named
 takes-named true = takes-first _ _ (takes-skip 1)
 takes-named false = takes-look _ _ (λ digit. takes-first _ _ (takes-skip 0))
 
-local-lifetime : Local lifetime
+sound-lifetime : Sound lifetime
 unfolding lifetime
-local-lifetime =
-    local-next _ _ (local-spelled _ (local-next _ _ (local-skip 1) (λ _. local-begin is_raw named takes-named local-named))) (λ s. local-give _)
+sound-lifetime =
+    sound-next _ _ (sound-spelled _ (sound-next _ _ (sound-skip 1) (λ _. sound-begin is_raw named takes-named sound-named))) (λ s. sound-give _)
 
-pub local-lexeme_in : (c : Case) → Local (lexeme_in c)
+sound-lexeme_in : (c : Case) → Sound (lexeme_in c)
 unfolding lexeme_in
-local-lexeme_in Blank = local-next _ _ (local-skip 1) (λ _. local-next _ _ (local-run _) (λ _. local-give _))
-local-lexeme_in ToLineEnd = local-line_comment
-local-lexeme_in ToPartner = local-block_comment
-local-lexeme_in RawName = local-raw_identifier
-local-lexeme_in (RawText more kind) = local-literal _ (local-raw_string more kind)
-local-lexeme_in (Quoted more kind) = local-literal _ (local-string more kind)
-local-lexeme_in (Ticked more kind) = local-literal _ (local-character more kind)
-local-lexeme_in Name = local-identifier
-local-lexeme_in Number = local-literal _ local-number
-local-lexeme_in Tick = local-lifetime
-local-lexeme_in Guard = local-next _ _ (local-skip 2) (λ _. local-give _)
-local-lexeme_in Single = local-next _ _ (local-look _) (λ kind. local-next _ _ (local-skip 1) (λ _. local-give _))
+sound-lexeme_in Blank = sound-next _ _ (sound-skip 1) (λ _. sound-next _ _ (sound-run _) (λ _. sound-give _))
+sound-lexeme_in ToLineEnd = sound-line_comment
+sound-lexeme_in ToPartner = sound-block_comment
+sound-lexeme_in RawName = sound-raw_identifier
+sound-lexeme_in (RawText more kind) = sound-literal _ (sound-raw_string more kind)
+sound-lexeme_in (Quoted more kind) = sound-literal _ (sound-string more kind)
+sound-lexeme_in (Ticked more kind) = sound-literal _ (sound-character more kind)
+sound-lexeme_in Name = sound-identifier
+sound-lexeme_in Number = sound-literal _ sound-number
+sound-lexeme_in Tick = sound-lifetime
+sound-lexeme_in Guard = sound-next _ _ (sound-skip 2) (λ _. sound-give _)
+sound-lexeme_in Single = sound-next _ _ (sound-look _) (λ kind. sound-next _ _ (sound-skip 1) (λ _. sound-give _))
 
 takes-literal : (f : Scan Body) → Takes f → Takes (literal f)
 unfolding literal
@@ -136,7 +134,7 @@ unfolding based
 takes-based None = takes-first _ _ (takes-skip 0)
 takes-based (Some base) = takes-first _ _ (takes-skip 1)
 
-pub takes-lexeme_in : (c : Case) → Takes (lexeme_in c)
+takes-lexeme_in : (c : Case) → Takes (lexeme_in c)
 unfolding lexeme_in line_comment block_comment raw_identifier raw_string string character identifier number lifetime
 takes-lexeme_in Blank = takes-first _ _ (takes-skip 0)
 takes-lexeme_in ToLineEnd = takes-first _ _ (takes-spelled _ (takes-first _ _ (takes-skip 1)))
@@ -151,10 +149,17 @@ takes-lexeme_in Tick = takes-first _ _ (takes-spelled _ (takes-first _ _ (takes-
 takes-lexeme_in Guard = takes-first _ _ (takes-skip 1)
 takes-lexeme_in Single = takes-look _ _ (λ kind. takes-first _ _ (takes-skip 0))
 
+sound-lexeme : Sound lexeme
+unfolding lexeme
+sound-lexeme = sound-begin case_of lexeme_in takes-lexeme_in sound-lexeme_in
+
 -- what a lexeme is depends on nothing past two characters behind it
 pub lexeme-local : Local lexeme
-unfolding lexeme
-lexeme-local = local-begin case_of lexeme_in takes-lexeme_in local-lexeme_in
+lexeme-local = sound-lexeme.local
+
+-- a lexeme takes no more than there is
+pub lexeme-fits : Fits lexeme
+lexeme-fits = sound-lexeme.fits
 
 pub lexeme-takes : Takes lexeme
 unfolding lexeme begin

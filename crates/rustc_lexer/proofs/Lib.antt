@@ -4,9 +4,9 @@ pub mod Steps
 pub mod Takes
 pub mod Local
 pub mod Leaves
-pub mod LexemesLocal
 pub mod Fits
-pub mod LexemesFit
+pub mod Sound
+pub mod LexemesLocal
 pub mod Cutting
 pub mod Runs
 pub mod Sizes
@@ -25,3 +25,7 @@ pub mod Lines
 pub mod StringEnds
 pub mod RawEnds
 pub mod CommentEnds
+pub mod LongestRuns
+pub mod NumberParts
+pub mod CharacterEnds
+pub mod LifetimeEnds

@@ -92,6 +92,12 @@ reads-name e = record { value_is = refl; rest_is = e }
 pub reads-two : {old mid new : List ℕ} → mid ≡ drop 1 old → new ≡ drop 1 mid → Reads (skip 2) old (length (take 2 old)) new
 reads-two {old} {mid} {new} e g = reads-skip 2 (g ∙ ap (λ z. drop 1 z) e ∙ drop-drop 1 1 old)
 
+-- so many, and one more
+pub reads-more : (n : ℕ) {old mid new : List ℕ} → mid ≡ drop n old → new ≡ drop 1 mid → Reads (skip (suc n)) old (length (take (suc n) old)) new
+reads-more n {old} {mid} {new} e g =
+    let more : n + 1 ≡ suc n = omega arith in
+    reads-skip (suc n) (g ∙ ap (λ z. drop 1 z) e ∙ drop-drop 1 n old ∙ ap (λ k. drop k old) more)
+
 pub reads-spelled : {A : Type 0} {f : Scan A} {old new : List ℕ} {a : A} → Reads f old a new → Reads (spelled f) old (a, take (f old).taken old) new
 unfolding spelled
 reads-spelled {A} {f} {old} {new} {a} p =
@@ -130,6 +136,9 @@ reads-shorter {A} {f} {old} p = rw p.rest_is (size-drop (f old).taken old)
 -- a scan by a value that is known otherwise
 pub reads-along : {A B : Type 0} (g : A → Scan B) {x y : A} {old new : List ℕ} {b : B} → x ≡ y → Reads (g y) old b new → Reads (g x) old b new
 reads-along {A} {B} g {x} {y} {old} {new} {b} e p = let P : A → Type 0 = λ c. Reads (g c) old b new in subst P (sym e) p
+
+pub more-shorter : (n : ℕ) (xs : List ℕ) {ys : List ℕ} → ys ≡ drop n xs → size ys ≤ size xs
+more-shorter n xs e = rw e (size-drop n xs)
 
 pub one-shorter : (xs : List ℕ) {ys : List ℕ} → ys ≡ drop 1 xs → size ys ≤ size xs
 one-shorter xs e = rw e (size-drop 1 xs)

@@ -15,7 +15,7 @@ Ends text n r =
     MatchBool r.value ((k : ℕ) × (n + r.taken ≡ suc k) × ClosesAt text k × ((j : ℕ) → n ≤ j → j < k → ClosesAt text j → ⊥)) ((n + r.taken ≡ length text) × ((j : ℕ) → n ≤ j → ClosesAt text j → ⊥))
 
 -- the parity goes on by one character
-parity : (text : List ℕ) (n c : ℕ) (odd : Bool) → get_or text n 0 ≡ c → not (is_even (backslashes_before n text)) ≡ odd → not (is_even (backslashes_before (suc n) text)) ≡ ((c == backslash) && not odd)
+pub parity : (text : List ℕ) (n c : ℕ) (odd : Bool) → get_or text n 0 ≡ c → not (is_even (backslashes_before n text)) ≡ odd → not (is_even (backslashes_before (suc n) text)) ≡ ((c == backslash) && not odd)
 parity text n c odd at run =
     elim (bool_cases (c == backslash)) [
       | inl h ↦
@@ -26,11 +26,11 @@ parity text n c odd at run =
           ap (λ t. not (is_even (if t then suc (backslashes_before n text) else 0))) here ∙ sym (ap (λ t. t && not odd) h)
     ]
 
-at_place : (text : List ℕ) (n c : ℕ) (cs : List ℕ) → drop n text ≡ c ∷ cs → get_or text n 0 ≡ c
+pub at_place : (text : List ℕ) (n c : ℕ) (cs : List ℕ) → drop n text ≡ c ∷ cs → get_or text n 0 ≡ c
 at_place text n c cs e =
     ap (λ k. get_or text k 0) (let z : n ≡ n + 0 = omega arith in z) ∙ sym (get_or-drop n text 0 0) ∙ ap (λ z. get_or z 0 0) e
 
-behind_place : (text : List ℕ) (n c : ℕ) (cs : List ℕ) → drop n text ≡ c ∷ cs → drop (suc n) text ≡ cs
+pub behind_place : (text : List ℕ) (n c : ℕ) (cs : List ℕ) → drop n text ≡ c ∷ cs → drop (suc n) text ≡ cs
 behind_place text n c cs e =
     ap (λ k. drop k text) (let z : suc n ≡ n + 1 = omega arith in z) ∙ sym (drop-drop 1 n text) ∙ ap (λ z. drop 1 z) e
 

@@ -1,7 +1,9 @@
 -- Where strings and comments end, in words of their own.
-use Rattle.std.specs.Prelude.{◌≡◌, ℕ, zero, suc, ◌<◌, Bool, true, not, ◌==◌, List, ◌∷◌, length, drop, get_or, if◌then◌else◌}
-use Rattle.rustc_lexer.specs.Characters.{double_quote, backslash, star, slash}
-use Rattle.rustc_lexer.specs.Scan.{peek, hashes_follow, mark, Neither}
+use Rattle.std.specs.Prelude.{◌≡◌, ℕ, zero, suc, ◌<◌, Bool, true, not, ◌&&◌, ◌||◌, ◌==◌, List, ◌∷◌, length, drop, get_or, if◌then◌else◌}
+use Rattle.rustc_lexer.specs.Characters.{double_quote, hash, tick, backslash, star, slash}
+use Rattle.rustc_lexer.specs.Scan.{peek, hashes_follow, mark, Neither, stops_character}
+use Rattle.rustc_lexer.specs.declared.token.TokenKind.{TokenKind}
+use Rattle.rustc_lexer.specs.declared.token.TokenKind.TheVariants.{UnknownPrefixLifetime, Lifetime}
 
 -- the number of `\` directly before a place
 abbrev pub backslashes_before : ℕ → List ℕ → ℕ
@@ -30,3 +32,20 @@ pub data Nested : List ℕ → List ℕ → Type 0 where
   closes : {cs : List ℕ} → Nested (star ∷ slash ∷ cs) cs
   inner : {cs mid rest : List ℕ} → Nested cs mid → Nested mid rest → Nested (slash ∷ star ∷ cs) rest
   other : {c : ℕ} {cs rest : List ℕ} → mark c (peek 0 cs) ≡ Neither → Nested cs rest → Nested (c ∷ cs) rest
+
+-- at place k behind the first `'` of a character stands what ends it, with an even run of `\` before it: a `'`, a `/`, or a
+-- line feed that no `'` follows
+pub record EndsCharacterAt (text : List ℕ) (k : ℕ) : Type 0 where
+  pub inside : k < length text
+  pub mark : (get_or text k 0 == tick || stops_character (get_or text k 0) (get_or text (suc k) 0)) ≡ true
+  pub even : is_even (backslashes_before k text) ≡ true
+
+-- k is the first such place
+pub record FirstEnd (text : List ℕ) (k : ℕ) : Type 0 where
+  pub here : EndsCharacterAt text k
+  pub none_before : (j : ℕ) → j < k → EndsCharacterAt text j → ⊥
+
+-- the kind of a lifetime that `next` follows
+abbrev pub lifetime_kind : Bool → ℕ → TokenKind
+lifetime_kind starts_with_number next =
+    if next == hash && not starts_with_number then UnknownPrefixLifetime else Lifetime starts_with_number

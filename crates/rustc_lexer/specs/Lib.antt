@@ -6,5 +6,7 @@ pub mod Plain
 pub mod Tokens
 pub mod Shebang
 pub mod Endings
+pub mod Strings
+pub mod Numbers
 pub mod Reads
 pub mod Laws

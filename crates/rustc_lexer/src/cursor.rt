@@ -51,7 +51,7 @@ impl<'a> Cursor<'a> {
     }
 
     /// The character behind the next one, `'\0'` past the end.
-    pub(crate) fn second(&self) -> char
+    pub fn second(&self) -> char
         ensures { result ≡ peek 1 self.now }
     {
         self.behind().first()
@@ -72,14 +72,14 @@ impl<'a> Cursor<'a> {
     }
 
     /// The same place, to be kept while this cursor moves on.
-    pub(crate) fn here(&self) -> Cursor<'a>
+    pub fn here(&self) -> Cursor<'a>
         ensures { result ≡ self.now }
     {
         Cursor { rest: self.rest }
     }
 
     /// The text from here up to a later place.
-    pub(crate) fn until(&self, later: &Cursor<'a>) -> Cursor<'a>
+    pub fn until(&self, later: &Cursor<'a>) -> Cursor<'a>
         requires { (n : ℕ) × (later.now ≡ drop n self.now) }
         ensures { (n : ℕ) → later.now ≡ drop n self.now → result ≡ take n self.now }
     {
@@ -102,7 +102,7 @@ impl<'a> Cursor<'a> {
     }
 
     /// Passes over a character, if one is left.
-    pub(crate) fn bump(&mut self)
+    pub fn bump(&mut self)
         ensures { self.new ≡ drop 1 self.old }
     {
         let mut rest = self.rest.chars();
@@ -122,21 +122,21 @@ impl<'a> Cursor<'a> {
     }
 
     /// The bytes that are left.
-    pub(crate) fn remaining(&self) -> usize
+    pub fn remaining(&self) -> usize
         ensures { result ≡ size self.now }
     {
         self.rest.len()
     }
 
     /// Whether no text is left.
-    pub(crate) fn is_empty(&self) -> bool
+    pub fn is_empty(&self) -> bool
         ensures { IsTrue result ↔ (self.now ≡ []) }
     {
         self.rest.is_empty()
     }
 
     /// Passes over the white space that is next.
-    pub(crate) fn eat_whitespace(&mut self)
+    pub fn eat_whitespace(&mut self)
         ensures { self.new ≡ drop (run_len is_whitespace self.old) self.old }
     {
         let rest = self.rest;

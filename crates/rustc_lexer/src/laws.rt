@@ -1,6 +1,27 @@
 //! Laws of the definitions, each the contract of a function that makes no call.
 
-ghost use Rattle.rustc_lexer.specs.Laws.{LexemeIsLocal, FrontIsKept, TokensGoOn, BoundariesCut, TokensJoin, EachTakesOne, EachHasLength, LengthsSum, IdentsAreIdents, StringsClose, RawStringsClose, CommentsNest};
+ghost use Rattle.rustc_lexer.specs.Laws.{
+  LexemeIsLocal,
+  FrontIsKept,
+  TokensGoOn,
+  BoundariesCut,
+  TokensJoin,
+  EachTakesOne,
+  EachHasLength,
+  LengthsSum,
+  IdentsAreIdents,
+  StringsClose,
+  RawStringsClose,
+  CommentsNest,
+  NumbersAreRead,
+  NumbersHaveParts,
+  OneCharacterCloses,
+  CharactersEnd,
+  CharactersStayOpen,
+  LifetimesEnd,
+  QuotedNamesAreCharacters,
+  RawLifetimesEnd,
+};
 
 /// What is lexed at a place depends on nothing past two characters behind the token's end.
 pub fn lexeme_is_local()
@@ -49,4 +70,27 @@ pub fn strings_close()
 /// A block comment is closed just where the comments inside it nest.
 pub fn comments_nest()
     ensures { CommentsNest }
+{}
+
+/// A number is the prefix of a base and digits, then a dot with digits, then an exponent, as far as these are there; it is
+/// what has these parts, each as long as it can be, and nothing else.
+pub fn numbers_have_parts()
+    ensures read { NumbersAreRead }
+    ensures parts { NumbersHaveParts }
+{}
+
+/// A character ends with the `'` behind its only character, or at the first `'`, `/` or line feed that no `\` takes away; else
+/// it runs to the end.
+pub fn characters_end()
+    ensures one { OneCharacterCloses }
+    ensures first { CharactersEnd }
+    ensures open { CharactersStayOpen }
+{}
+
+/// A lifetime is a `'` and a word, which may begin with a digit or with `r#`, and ends where that word does; before a `'` it is
+/// a character.
+pub fn lifetimes_end()
+    ensures plain { LifetimesEnd }
+    ensures quoted { QuotedNamesAreCharacters }
+    ensures raw { RawLifetimesEnd }
 {}

@@ -6,10 +6,11 @@ ghost use Rattle.rustc_lexer.specs.Scan.{peek};
 ghost use Rattle.rustc_lexer.specs.Lexeme.{Blank, Single, opens_raw, sign, literal, string, character, raw_string, number, lexeme_in, lexeme};
 ghost use Rattle.rustc_lexer.specs.Plain.{begins_plain_name, is_plain_sign};
 ghost use Rattle.rustc_lexer.specs.Reads.{Reads};
+ghost use Rattle.rustc_lexer.specs.Strings.{letters, quoted_kind, raw_kind};
 
 use crate::classes::{is_digit, is_id_start, is_whitespace};
 use crate::cursor::Cursor;
-use crate::literals::Body;
+use crate::literals::{Body, StringKind};
 use crate::token::{LiteralKind, TokenKind};
 
 fn opens_raw(c: char) -> bool
@@ -145,7 +146,7 @@ impl<'a> Cursor<'a> {
             return self.tick();
         }
         if first == '"' {
-            return self.str_literal();
+            return self.string_literal(StringKind::Str);
         }
         if first == '#' {
             return self.hash();
@@ -196,7 +197,7 @@ impl<'a> Cursor<'a> {
             return self.raw_identifier();
         }
         if opens_raw(second) {
-            return self.raw_str_literal();
+            return self.raw_string_literal(StringKind::Str);
         }
         self.identifier()
     }
@@ -208,13 +209,13 @@ impl<'a> Cursor<'a> {
     {
         let (second, third) = (self.second(), self.third());
         if begins_raw_string(second, third) {
-            return self.raw_byte_str_literal();
+            return self.raw_string_literal(StringKind::ByteStr);
         }
         if second == '\'' {
             return self.byte_literal();
         }
         if second == '"' {
-            return self.byte_str_literal();
+            return self.string_literal(StringKind::ByteStr);
         }
         self.identifier()
     }
@@ -226,10 +227,10 @@ impl<'a> Cursor<'a> {
     {
         let (second, third) = (self.second(), self.third());
         if begins_raw_string(second, third) {
-            return self.raw_c_str_literal();
+            return self.raw_string_literal(StringKind::CStr);
         }
         if second == '"' {
-            return self.c_str_literal();
+            return self.string_literal(StringKind::CStr);
         }
         self.identifier()
     }
@@ -267,46 +268,32 @@ impl<'a> Cursor<'a> {
         self.end_literal(start, body)
     }
 
-    // `"text"`
-    fn str_literal(&mut self) -> TokenKind
-        ensures { Reads (literal (string 0 (λ t. LiteralKind.Str t))) self.old result self.new }
+    // A string in quotes, with the letter before them.
+    fn string_literal(&mut self, kind: StringKind) -> TokenKind
+        ensures { Reads (literal (string (letters kind) (quoted_kind kind))) self.old result self.new }
     {
         let start = self.remaining();
+        self.eat_letter(kind);
         self.bump();
         let terminated = self.eat_quoted();
         let body = Body {
-            kind: LiteralKind::Str { terminated },
+            kind: kind.quoted(terminated),
             ends: terminated,
         };
         self.end_literal(start, body)
     }
 
-    // `b"text"`
-    fn byte_str_literal(&mut self) -> TokenKind
-        ensures { Reads (literal (string 1 (λ t. LiteralKind.ByteStr t))) self.old result self.new }
+    // A raw string, with the letters before its hashes.
+    fn raw_string_literal(&mut self, kind: StringKind) -> TokenKind
+        ensures { Reads (literal (raw_string (letters kind) (raw_kind kind))) self.old result self.new }
     {
         let start = self.remaining();
+        self.eat_letter(kind);
         self.bump();
-        self.bump();
-        let terminated = self.eat_quoted();
+        let n_hashes = self.eat_raw_string();
         let body = Body {
-            kind: LiteralKind::ByteStr { terminated },
-            ends: terminated,
-        };
-        self.end_literal(start, body)
-    }
-
-    // `c"text"`
-    fn c_str_literal(&mut self) -> TokenKind
-        ensures { Reads (literal (string 1 (λ t. LiteralKind.CStr t))) self.old result self.new }
-    {
-        let start = self.remaining();
-        self.bump();
-        self.bump();
-        let terminated = self.eat_quoted();
-        let body = Body {
-            kind: LiteralKind::CStr { terminated },
-            ends: terminated,
+            kind: kind.raw(n_hashes),
+            ends: n_hashes.is_some(),
         };
         self.end_literal(start, body)
     }
@@ -336,50 +323,6 @@ impl<'a> Cursor<'a> {
         let body = Body {
             kind: LiteralKind::Byte { terminated },
             ends: terminated,
-        };
-        self.end_literal(start, body)
-    }
-
-    // `r"text"`
-    fn raw_str_literal(&mut self) -> TokenKind
-        ensures { Reads (literal (raw_string 0 (λ n. LiteralKind.RawStr n))) self.old result self.new }
-    {
-        let start = self.remaining();
-        self.bump();
-        let n_hashes = self.eat_raw_string();
-        let body = Body {
-            kind: LiteralKind::RawStr { n_hashes },
-            ends: n_hashes.is_some(),
-        };
-        self.end_literal(start, body)
-    }
-
-    // `br"text"`
-    fn raw_byte_str_literal(&mut self) -> TokenKind
-        ensures { Reads (literal (raw_string 1 (λ n. LiteralKind.RawByteStr n))) self.old result self.new }
-    {
-        let start = self.remaining();
-        self.bump();
-        self.bump();
-        let n_hashes = self.eat_raw_string();
-        let body = Body {
-            kind: LiteralKind::RawByteStr { n_hashes },
-            ends: n_hashes.is_some(),
-        };
-        self.end_literal(start, body)
-    }
-
-    // `cr"text"`
-    fn raw_c_str_literal(&mut self) -> TokenKind
-        ensures { Reads (literal (raw_string 1 (λ n. LiteralKind.RawCStr n))) self.old result self.new }
-    {
-        let start = self.remaining();
-        self.bump();
-        self.bump();
-        let n_hashes = self.eat_raw_string();
-        let body = Body {
-            kind: LiteralKind::RawCStr { n_hashes },
-            ends: n_hashes.is_some(),
         };
         self.end_literal(start, body)
     }

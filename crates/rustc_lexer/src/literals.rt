@@ -5,6 +5,7 @@ ghost use Rattle.rustc_lexer.specs.Characters.{size};
 ghost use Rattle.rustc_lexer.specs.Scan.{quoted, hashes_follow, raw, stops_character, ticked};
 ghost use Rattle.rustc_lexer.specs.Lexeme.{is_single, suffix, character_end, counted, raw_end};
 ghost use Rattle.rustc_lexer.specs.Reads.{Reads};
+ghost use Rattle.rustc_lexer.specs.Strings.{letters, quoted_kind, raw_kind};
 
 use crate::cursor::Cursor;
 use crate::token::{LiteralKind, TokenKind};
@@ -14,6 +15,38 @@ use crate::token::{LiteralKind, TokenKind};
 pub(crate) struct Body {
     pub kind: LiteralKind,
     pub ends: bool,
+}
+
+/// What a string is made of, by the letter before its quotes or before its `r`: none, `b` or `c`.
+#[derive(Clone, Copy)]
+pub(crate) enum StringKind {
+    Str,
+    ByteStr,
+    CStr,
+}
+
+impl StringKind {
+    /// The kind of such a string in plain quotes.
+    pub(crate) fn quoted(self, terminated: bool) -> LiteralKind
+        ensures { result ≡ quoted_kind self terminated }
+    {
+        match self {
+            StringKind::Str => LiteralKind::Str { terminated },
+            StringKind::ByteStr => LiteralKind::ByteStr { terminated },
+            StringKind::CStr => LiteralKind::CStr { terminated },
+        }
+    }
+
+    /// The kind of such a raw string.
+    pub(crate) fn raw(self, n_hashes: Option<u8>) -> LiteralKind
+        ensures { result ≡ raw_kind self n_hashes }
+    {
+        match self {
+            StringKind::Str => LiteralKind::RawStr { n_hashes },
+            StringKind::ByteStr => LiteralKind::RawByteStr { n_hashes },
+            StringKind::CStr => LiteralKind::RawCStr { n_hashes },
+        }
+    }
 }
 
 fn is_single(a: char, b: char) -> bool
@@ -54,6 +87,16 @@ impl<'a> Cursor<'a> {
         TokenKind::Literal {
             kind: body.kind,
             suffix_start,
+        }
+    }
+
+    /// Passes over the letter that tells the kind of a string, where it has one.
+    pub(crate) fn eat_letter(&mut self, kind: StringKind)
+        ensures { self.new ≡ drop (letters kind) self.old }
+    {
+        match kind {
+            StringKind::Str => {}
+            StringKind::ByteStr | StringKind::CStr => self.bump(),
         }
     }
 

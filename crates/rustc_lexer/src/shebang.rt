@@ -71,8 +71,8 @@ fn opens_attribute(mut tokens: Tokens) -> bool
 }
 
 impl<'a> Cursor<'a> {
-    // On to the end of the first line.
-    fn eat_first_line(&mut self)
+    /// On to the end of the line: its line feed, or a carriage return before that.
+    pub fn eat_first_line(&mut self)
         ensures { self.new ≡ drop (line_len self.old) self.old }
     {
         'line: while !self.is_empty() {

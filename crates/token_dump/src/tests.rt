@@ -184,6 +184,29 @@ fn moves_a_cursor(rt: HostRuntime) {
 }
 
 #[test]
+fn steps_over_a_line(rt: HostRuntime) {
+    let mut cursor = Cursor::new("é \u{2028}b\r\nc");
+    assert_eq!(rt; cursor.remaining(), 10);
+    assert_eq!(rt; cursor.second(), ' ');
+    cursor.bump();
+    cursor.eat_whitespace();
+    assert_eq!(rt; cursor.first(), 'b');
+    cursor.eat_first_line();
+    assert_eq!(rt; cursor.as_str(), "\r\nc");
+    assert!(rt; !cursor.is_empty());
+}
+
+#[test]
+fn keeps_what_stands_between_two_places(rt: HostRuntime) {
+    let start = Cursor::new("ab c");
+    let mut end = start.here();
+    end.bump();
+    end.bump();
+    assert_eq!(rt; start.until(&end).as_str(), "ab");
+    assert!(rt; start.until(&start).is_empty());
+}
+
+#[test]
 fn states_laws() {
     laws::lexeme_is_local();
     laws::front_is_kept();
@@ -192,4 +215,9 @@ fn states_laws() {
     laws::tokens_join();
     laws::lengths_sum();
     laws::idents_are_idents();
+    laws::strings_close();
+    laws::characters_end();
+    laws::lifetimes_end();
+    laws::numbers_have_parts();
+    laws::comments_nest();
 }

@@ -10,7 +10,7 @@ pub returns-then-begins_raw_string : goal.returns-then-begins_raw_string
 unfolding lexeme_in
 returns-then-begins_raw_string c =
     let raw : (get_or c.args.self.now 1 0 == letter_r && opens_raw (get_or c.args.self.now 2 0)) ≡ true = cc in
-    reads-first letter_b c.requires (raw_byte_str-case _ _ raw) c.raw_byte_str_literal.ensures
+    reads-first letter_b c.requires (raw_byte_str-case _ _ raw) c.raw_string_literal.ensures
 
 pub returns-then-second-eq39 : goal.returns-then-second-eq39
 unfolding lexeme_in
@@ -22,7 +22,7 @@ pub returns-then-second-eq34 : goal.returns-then-second-eq34
 unfolding lexeme_in
 returns-then-second-eq34 c =
     let raw : (get_or c.args.self.now 1 0 == letter_r && opens_raw (get_or c.args.self.now 2 0)) ≡ false = cc in
-    reads-first letter_b c.requires (byte_str-case _ _ raw (ap (λ z. z == tick) (sym c.second-second.ensures) ∙ ne_eqb _ _ c.if-second-eq39.false) (ap (λ z. z == double_quote) (sym c.second-second.ensures ∙ c.if-second-eq34.true))) c.byte_str_literal.ensures
+    reads-first letter_b c.requires (byte_str-case _ _ raw (ap (λ z. z == tick) (sym c.second-second.ensures) ∙ ne_eqb _ _ c.if-second-eq39.false) (ap (λ z. z == double_quote) (sym c.second-second.ensures ∙ c.if-second-eq34.true))) c.string_literal.ensures
 
 pub returns : goal.returns
 unfolding lexeme_in

@@ -10,13 +10,13 @@ pub returns-then-begins_raw_string : goal.returns-then-begins_raw_string
 unfolding lexeme_in
 returns-then-begins_raw_string c =
     let raw : (get_or c.args.self.now 1 0 == letter_r && opens_raw (get_or c.args.self.now 2 0)) ≡ true = cc in
-    reads-first letter_c c.requires (raw_c_str-case _ _ raw) c.raw_c_str_literal.ensures
+    reads-first letter_c c.requires (raw_c_str-case _ _ raw) c.raw_string_literal.ensures
 
 pub returns-then-second-eq34 : goal.returns-then-second-eq34
 unfolding lexeme_in
 returns-then-second-eq34 c =
     let raw : (get_or c.args.self.now 1 0 == letter_r && opens_raw (get_or c.args.self.now 2 0)) ≡ false = cc in
-    reads-first letter_c c.requires (c_str-case _ _ raw (ap (λ z. z == double_quote) (sym c.second-second.ensures ∙ c.if-second-eq34.true))) c.c_str_literal.ensures
+    reads-first letter_c c.requires (c_str-case _ _ raw (ap (λ z. z == double_quote) (sym c.second-second.ensures ∙ c.if-second-eq34.true))) c.string_literal.ensures
 
 pub returns : goal.returns
 unfolding lexeme_in

@@ -16,7 +16,7 @@ unfolding lexeme_in
 returns-then-opens_raw c =
     let other : (get_or c.args.self.now 1 0 == hash && is_id_start (get_or c.args.self.now 2 0)) ≡ false = cc in
     let opens : opens_raw (get_or c.args.self.now 1 0) ≡ true = cc in
-    reads-first letter_r c.requires (raw_str-case _ _ other opens) c.raw_str_literal.ensures
+    reads-first letter_r c.requires (raw_str-case _ _ other opens) c.raw_string_literal.ensures
 
 pub returns : goal.returns
 unfolding lexeme_in

@@ -41,7 +41,7 @@ returns-then-is_digit c =
 
 pub returns-then-first-eq34 : goal.returns-then-first-eq34
 unfolding lexeme_in
-returns-then-first-eq34 c = reads-first double_quote (sym c.requires.first ∙ c.if-first-eq34.true) (str-case _ _) c.str_literal.ensures
+returns-then-first-eq34 c = reads-first double_quote (sym c.requires.first ∙ c.if-first-eq34.true) (str-case _ _) c.string_literal.ensures
 
 pub returns : goal.returns
 returns c =

@@ -1,9 +1,0 @@
-use Rattle.std.proofs.Common.{◌≡◌, length}
-use Rattle.parser_input.specs.Lines.{behind_line}
-use Rattle.parser_input.proofs.scanner.Scanner.eat_whole_line.Given as goal
-
-abbrev pub invariant-line : goal.invariant-line
-invariant-line l = behind_line l.self ≡ behind_line l.initial.self
-
-abbrev pub decreases-line : goal.decreases-line
-decreases-line l = length l.self
