@@ -10,7 +10,8 @@ use std::marker::Model;
 
 // The next leaf that something is wrong with, from a number on.
 fn next_fault(leaves: &[StoredLeaf], start: usize) -> Option<(usize, Message)>
-    ensures { MatchOption result (faults_from start leaves.now ≡ []) (λ f. (f.0 < length leaves.now) × (faults_from start leaves.now ≡ (f.0, wording f.1) ∷ faults_from (f.0 + 1) leaves.now)) }
+    ensures { MatchOption result (faults_from start leaves.now ≡ []) (λ f. (f.0 < length leaves.now)
+        × (faults_from start leaves.now ≡ (f.0, wording f.1) ∷ faults_from (f.0 + 1) leaves.now)) }
 {
     for i in start..leaves.len() {
         if let Some(message) = leaves[i].message {

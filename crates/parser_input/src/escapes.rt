@@ -136,7 +136,9 @@ fn is_byte(rules: Rules, first: char, second: char) -> bool
 
 // Passes over digits among which `_` may stand, and gives what they stand for. None where they are more than six.
 fn eat_digits(rest: &mut Cursor) -> Option<u32>
-    ensures { MatchOption result (6 < length (digits_of rest.old)) (λ value. (length (digits_of rest.old) ≤ 6) × (value ≡ hex_value 0 (digits_of rest.old)) × (rest.new ≡ drop (run_len hex_or_underscore rest.old) rest.old)) }
+    ensures { MatchOption result (6 < length (digits_of rest.old)) (λ value.
+        (length (digits_of rest.old) ≤ 6) × (value ≡ hex_value 0 (digits_of rest.old)) ×
+        (rest.new ≡ drop (run_len hex_or_underscore rest.old) rest.old)) }
 {
     let mut value: u32 = 0;
     let mut count: u32 = 0;

@@ -59,7 +59,8 @@ impl Input {
         joint: bool,
     ) -> Result<(), AllocError>
         requires { raw_of kind ≢ kinds.EOF }
-        ensures { self.new ≡ tokens_with (is_ok result) self.old (token (raw_of kind) (raw_of contextual_kind) joint) }
+        ensures { self.new ≡ tokens_with (is_ok result) self.old
+            (token (raw_of kind) (raw_of contextual_kind) joint) }
     {
         let token = InputToken {
             kind,
@@ -88,7 +89,8 @@ impl Input {
     /// Says that the token that was added last touches the next one. There must be one.
     pub fn was_joint(&mut self)
         requires { 0 < length self.old }
-        ensures { (front : List Token) (last : Token) → self.old ≡ front ++ last ∷ [] → self.new ≡ front ++ touching last ∷ [] }
+        ensures { (front : List Token) (last : Token) → self.old ≡ front ++ last ∷ [] → self.new
+            ≡ front ++ touching last ∷ [] }
     {
         let last = self.tokens.len() - 1;
         self.tokens[last].joint = true;

@@ -400,7 +400,8 @@ impl<'a> LexedStr<'a> {
     pub fn range_text(&self, leaves: Range<usize>) -> &'a str
         requires order { leaves.start ≤ leaves.end }
         requires within { leaves.end ≤ length self.now.leaves }
-        ensures { chars result.now ≡ flat_map (λ l. l.leaf.text) (slice_range self.now.leaves leaves.start leaves.end) }
+        ensures { chars result.now ≡ flat_map (λ l. l.leaf.text)
+            (slice_range self.now.leaves leaves.start leaves.end) }
     {
         &self.text[self.text_start(leaves.start)..self.text_start(leaves.end)]
     }

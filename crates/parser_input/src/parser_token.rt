@@ -13,7 +13,8 @@ use crate::syntax_kind::SyntaxKind;
 
 /// The kind that the word of an identifier has as a contextual keyword, or `IDENT`. `EOF` for any other leaf.
 pub(crate) fn contextual_kind(edition: Edition, kind: SyntaxKind, text: &str) -> SyntaxKind
-    ensures { raw_of result ≡ (if raw_of kind == kinds.IDENT then unwrap_or (contextual_kind edition (chars text.now)) kinds.IDENT else kinds.EOF) }
+    ensures { raw_of result ≡ (if raw_of kind == kinds.IDENT then unwrap_or
+        (contextual_kind edition (chars text.now)) kinds.IDENT else kinds.EOF) }
 {
     match kind {
         SyntaxKind::IDENT => match contextual_keyword(edition, text) {
@@ -32,7 +33,8 @@ fn ends_in_dot(text: &str) -> bool
 
 /// Whether a leaf touches the token behind it; `is_followed` says that the next leaf is one that the parser sees.
 pub(crate) fn is_joint(kind: SyntaxKind, text: &str, is_followed: bool) -> bool
-    ensures { (next : List Leaf) → is_followed ≡ touches next → result ≡ is_joint record { kind = raw_of kind; text = chars text.now } next }
+    ensures { (next : List Leaf) → is_followed ≡ touches next → result ≡ is_joint
+        record { kind = raw_of kind; text = chars text.now } next }
 {
     match kind {
         SyntaxKind::FLOAT_NUMBER => !ends_in_dot(text),

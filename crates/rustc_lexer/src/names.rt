@@ -26,7 +26,8 @@ fn is_raw(a: char, b: char, c: char) -> bool
 
 // The kind of a lifetime before a character.
 fn lifetime_kind(next: char, starts_with_number: bool) -> TokenKind
-    ensures { result ≡ (if next == hash && not starts_with_number then TokenKind.UnknownPrefixLifetime else TokenKind.Lifetime starts_with_number) }
+    ensures { result ≡ (if next == hash && not starts_with_number
+        then TokenKind.UnknownPrefixLifetime else TokenKind.Lifetime starts_with_number) }
 {
     if next == '#' && !starts_with_number {
         TokenKind::UnknownPrefixLifetime
