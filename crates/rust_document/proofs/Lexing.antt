@@ -15,7 +15,6 @@ use Rattle.rustc_lexer.proofs.Cutting.{tokens-cons, first-length}
 use Rattle.rustc_lexer.proofs.LexemesLocal.{lexeme-takes}
 use Rattle.rustc_lexer.proofs.Seams.{front-until}
 use Rattle.std.proofs.lemmas.List.{length-drop}
-use Rattle.rust_document.proofs.Words.{keyword-bytes, underscore-bytes}
 use Rattle.parser_input.specs.Kinds.{UNDERSCORE, IDENT}
 use Rattle.parser_input.specs.Keywords.{keyword_kind}
 use Rattle.parser_input.specs.Leaf as leaves
@@ -161,16 +160,3 @@ piece-is bs ls ps xs u v e f is =
     let n = length (next_lexeme xs).text in
     let front = front-until bs ls n u v (f ∙ ap (λ (r : List ℕ). drop n r) (sym e)) in
     ap (λ (r : List ℕ). chars r) (is ∙ slice-front (length bs - length ls) bs) ∙ front.front ∙ ap (λ (r : List ℕ). take n r) e ∙ own-text xs
-
--- the kind of a word by its bytes
-pub word-underscore : (edition : Edition) (bs : List ℕ) → IsUtf8 bs → true ≡ bytes_eq bs (95 ∷ []) → UNDERSCORE ≡ word_kind edition (chars bs)
-unfolding word_kind
-word-underscore edition bs u e =
-    let same : bytes_eq (chars bs) (95 ∷ []) ≡ true = sym (underscore-bytes bs u) ∙ sym e in
-    rw same refl
-
-pub word-other : (edition : Edition) (bs : List ℕ) → IsUtf8 bs → false ≡ bytes_eq bs (95 ∷ []) → (o : Option ℕ) → o ≡ keyword_kind edition bs → unwrap_or o IDENT ≡ word_kind edition (chars bs)
-unfolding word_kind
-word-other edition bs u e o f =
-    let same : bytes_eq (chars bs) (95 ∷ []) ≡ false = sym (underscore-bytes bs u) ∙ sym e in
-    rw same (ap (λ (p : Option ℕ). unwrap_or p IDENT) (f ∙ keyword-bytes edition bs u))

@@ -1,4 +1,3 @@
-pub mod Words
 pub mod Lexing
 pub mod Sizes
 pub mod Whole

@@ -1,34 +1,19 @@
 //! Which texts are read so far.
 ghost use Rattle.std.specs.Prelude.{◌≡◌, drop, length, chars};
-ghost use Rattle.parser_input.specs.Kind.{raw_of};
-ghost use Rattle.parser_input.specs.Leaf.{word_kind};
 ghost use Rattle.rustc_lexer.specs.Tokens.{next_lexeme};
 ghost use Rattle.rust_document.specs.Thin.{is_thin_token, is_thin};
 
 use parser_input::edition::Edition;
-use parser_input::keywords::keyword;
+use parser_input::keywords::word_kind;
 use parser_input::syntax_kind::SyntaxKind;
 use rustc_lexer::{Cursor, TokenKind};
-
-/// The kind of a word: `_`, a keyword of the edition, or a name.
-fn word(edition: Edition, text: &str) -> SyntaxKind
-    ensures { raw_of result ≡ word_kind edition (chars text.now) }
-{
-    if text == "_" {
-        return SyntaxKind::UNDERSCORE;
-    }
-    match keyword(edition, text) {
-        Some(kind) => kind,
-        None => SyntaxKind::IDENT,
-    }
-}
 
 /// Whether a word is `struct` or a name.
 #[tactic(auto, unfolding(crate::specs::Thin::is_thin_token))]
 fn is_thin_word(edition: Edition, text: &str) -> bool
     ensures { result ≡ is_thin_token edition TokenKind.Ident (chars text.now) }
 {
-    let kind = word(edition, text).to_raw();
+    let kind = word_kind(edition, text).to_raw();
     kind == SyntaxKind::STRUCT_KW.to_raw() || kind == SyntaxKind::IDENT.to_raw()
 }
 
