@@ -165,9 +165,9 @@ def main():
             status, last, all_passed = run_all(copied, tried)
             bring_back(copied)
         if asked.record and all_passed:
-            # (what a record by shares, whole or not, found before stands as long as its sum does)
-            stands = {path for path, key in ledger.recorded(TOP).items() if sums.get(path) == key}
-            ledger.record(TOP, {path: sums[path] for path in stands | tried})
+            # (what other runs recorded stays, also of what was changed meanwhile; a sum that is no edit's any more is met by none)
+            others = {path: key for path, key in ledger.recorded(TOP).items() if os.path.isfile(f"{TOP}/{path}")}
+            ledger.record(TOP, {**others, **{path: sums[path] for path in tried}})
         elif asked.record:
             print("test: not all passed, so nothing is recorded")
         print(last, end="", flush=True)

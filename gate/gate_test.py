@@ -175,6 +175,15 @@ class Gate(unittest.TestCase):
         self.assertEqual((shares[0] | shares[1], shares[0] & shares[1]), (of("apart"), set()))
         self.assertEqual(self.run_gate("--record"), of("low", "middle"))
 
+    def test_a_record_keeps_what_others_recorded(self):
+        self.record()
+        os.remove(f"{self.top}/crates/low/must-fail/e1.edit")
+        write(f"{self.top}/crates/apart/src/lib.rt", "x", "a")
+        self.run_gate("--edits", "apart", "--record", "--share", "1/2")
+        with open(self.ledger) as file:
+            self.assertEqual(len(file.readlines()), len(ALL))
+        self.assertEqual(len(self.run_gate("--record", FAIL="1")), 5)
+
     def test_edits_that_are_not_refused_are_not_recorded(self):
         for turned in ({"FAIL": "1"}, {"MISS": "1"}):
             self.run_gate("--edits", "apart", "--record", **turned)
