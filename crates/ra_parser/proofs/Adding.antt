@@ -21,7 +21,7 @@ use Rattle.parser_input.specs.Input.{Token}
 use Rattle.parser_input.specs.Recorded.{token_at, plain}
 
 -- what a call makes of the open nodes, unless a growth is refused
-becomes : (f : List Marked → List Marked) (old new : Option (List Marked)) (nodes : List Marked) → Becomes f old new → Holds old nodes → Holds new (f nodes)
+pub becomes : (f : List Marked → List Marked) (old new : Option (List Marked)) (nodes : List Marked) → Becomes f old new → Holds old nodes → Holds new (f nodes)
 becomes f None None nodes b h = tt
 becomes f None (Some new) nodes b h = absurd b
 becomes f (Some old) None nodes b h = tt

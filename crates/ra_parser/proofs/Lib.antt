@@ -8,3 +8,6 @@ pub mod Adding
 pub mod Fitting
 pub mod Lengths
 pub mod Examples
+pub mod ByHand
+pub mod Moves
+pub mod Turns

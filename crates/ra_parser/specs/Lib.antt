@@ -18,4 +18,5 @@ pub mod Fine
 pub mod Left
 pub mod Adds
 pub mod Pieces
+pub mod Stands
 pub mod Laws
