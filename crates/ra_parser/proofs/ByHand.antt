@@ -1,5 +1,5 @@
 -- How what functions do goes together to what rules say.
-use Rattle.std.proofs.Common.{◌≡◌, ℕ, suc, Bool, true, false, List, ◌∷◌, refl, sym, ap, subst, ◌∙◌}
+use Rattle.std.proofs.Common.{◌≡◌, ℕ, suc, Bool, true, false, List, ◌∷◌, length, refl, sym, ap, subst, ◌∙◌}
 use Rattle.parser_events.specs.Forest as forest
 use Rattle.parser_events.specs.Forest.{Forest, Message, ◌then◌}
 use Rattle.parser_events.specs.Marked as marks
@@ -9,8 +9,8 @@ use Rattle.parser_events.specs.View.{View}
 use Rattle.parser_events.proofs.Forests.{marked-then}
 use Rattle.ra_parser.specs.Adds.{Holds}
 use Rattle.ra_parser.specs.Left.{left}
-use Rattle.ra_parser.specs.Rule.{Production, Look, Rule, Nothing, Then, Near, Or, Opt, Node, Wrap, Want, Say, Skip, When, Unless, Call, Continue, Mode, begins}
-use Rattle.ra_parser.specs.Meaning.{Reading, fresh, behind, node, wrapped, say, skip, read, look_of, meaning}
+use Rattle.ra_parser.specs.Rule.{Production, Look, Spelling, Rule, Nothing, One, Then, Near, Or, Opt, Node, Wrap, Want, Say, Skip, When, Unless, Call, Continue, Mode, begins}
+use Rattle.ra_parser.specs.Meaning.{Reading, fresh, behind, node, wrapped, say, skip, leaf, read, look_of, meaning}
 use Rattle.ra_parser.specs.Whole.{rule, whole}
 use Rattle.ra_parser.specs.Stands.{Does, Gives, Goes, Reads, Saw}
 use Rattle.ra_parser.proofs.WholeTable.{whole-means}
@@ -142,6 +142,14 @@ module _ (c : Bool) where
   pub reads-unless : {l : Look} {a : Rule} {old new : View} → Reads c a old new → Reads c (Unless l a) old new
   unfolding read
   reads-unless p = record { does = does-as (λ s e. refl) p.does }
+
+  pub reads-leaf : {x : Spelling} {old new : View} → Does (leaf x.kind (length x.parts)) old new → Reads c (One x) old new
+  unfolding read
+  reads-leaf p = record { does = does-as (λ s e. refl) p }
+
+  -- a look before it
+  pub behind-look : {a : Rule} {old mid new : View} → Does (λ s. s) old mid → Reads c a mid new → Reads c a old new
+  behind-look p q = record { does = does-then p q.does }
 
   pub reads-say : {m : Message} {old new : View} → Does (say m) old new → Reads c (Say m) old new
   unfolding read

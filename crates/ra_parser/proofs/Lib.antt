@@ -11,3 +11,5 @@ pub mod Examples
 pub mod ByHand
 pub mod Moves
 pub mod Turns
+pub mod Prefixes
+pub mod Rows

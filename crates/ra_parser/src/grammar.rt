@@ -2,12 +2,14 @@
 //!
 //! A contract says which trees the function puts into the innermost open node, and how many tokens these take.
 
-ghost use Rattle.std.specs.Prelude.{◌≡◌};
+ghost use Rattle.std.specs.Prelude.{◌≡◌, Bool};
 ghost use Rattle.parser_input.specs.Kinds as kinds;
 ghost use Rattle.parser_events.specs.Forest.{End, Leaf, Node};
 ghost use Rattle.ra_parser.specs.Adds.{Adds};
 ghost use Rattle.ra_parser.specs.Left.{left, is_next};
 ghost use Rattle.ra_parser.specs.Meaning.{ahead};
+ghost use Rattle.ra_parser.specs.Rule as rules;
+ghost use Rattle.ra_parser.specs.Stands.{Gives};
 ghost use Rattle.ra_parser.specs.Pieces.{name_part, semicolon_part};
 ghost use Rattle.parser_input.specs.Kind.{raw_of};
 
@@ -29,7 +31,8 @@ fn at(p: &mut Parser<'_>, kind: SyntaxKind) -> bool
 /// A name, which is next.
 fn name(p: &mut Parser<'_>)
     requires { (ahead 0 (left p.old)).kind ≡ kinds.IDENT }
-    ensures { Adds (Node kinds.NAME (Leaf kinds.IDENT 1 End) End) 1 p.old p.new }
+    ensures adds { Adds (Node kinds.NAME (Leaf kinds.IDENT 1 End) End) 1 p.old p.new }
+    ensures gives { (c : Bool) → Gives rules.name c p.old p.new }
 {
     let name = p.start();
     p.token(SyntaxKind::IDENT, 1);

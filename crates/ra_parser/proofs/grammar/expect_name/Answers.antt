@@ -7,7 +7,7 @@ use Rattle.ra_parser.specs.Pieces.{name_part}
 use Rattle.ra_parser.proofs.grammar.expect_name.Goals as goal
 
 pub returns-then-at : goal.returns-then-at
-returns-then-at c = as-piece (ap name_part (sym c.if-at.true ∙ c.at.ensures.at)) (adds-then c.at.ensures.same c.name.ensures)
+returns-then-at c = as-piece (ap name_part (sym c.if-at.true ∙ c.at.ensures.at)) (adds-then c.at.ensures.same c.name.ensures.adds)
 
 pub returns : goal.returns
 returns c =
