@@ -13,3 +13,4 @@ pub mod Moves
 pub mod Turns
 pub mod Prefixes
 pub mod Rows
+pub mod Looking

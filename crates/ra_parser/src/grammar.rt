@@ -4,12 +4,13 @@
 
 ghost use Rattle.std.specs.Prelude.{◌≡◌, Bool};
 ghost use Rattle.parser_input.specs.Kinds as kinds;
-ghost use Rattle.parser_events.specs.Forest.{End, Leaf, Node};
+ghost use Rattle.parser_events.specs.Forest.{End, Leaf, Node, Expected};
 ghost use Rattle.ra_parser.specs.Adds.{Adds};
 ghost use Rattle.ra_parser.specs.Left.{left, is_next};
 ghost use Rattle.ra_parser.specs.Meaning.{ahead};
 ghost use Rattle.ra_parser.specs.Rule as rules;
-ghost use Rattle.ra_parser.specs.Stands.{Gives};
+ghost use Rattle.ra_parser.specs.Rule.{Want, Call};
+ghost use Rattle.ra_parser.specs.Stands.{Does, Gives, Reads};
 ghost use Rattle.ra_parser.specs.Pieces.{name_part, semicolon_part};
 ghost use Rattle.parser_input.specs.Kind.{raw_of};
 
@@ -24,6 +25,7 @@ mod paths;
 fn at(p: &mut Parser<'_>, kind: SyntaxKind) -> bool
     ensures at { result ≡ is_next (raw_of kind) (left p.old) }
     ensures same { Adds End 0 p.old p.new }
+    ensures look { Does (λ s. s) p.old p.new }
 {
     p.kind_at(0).to_raw() == kind.to_raw()
 }
@@ -51,7 +53,8 @@ fn name_ref(p: &mut Parser<'_>)
 
 /// A name, or the message that it is missing.
 fn expect_name(p: &mut Parser<'_>)
-    ensures { let part = name_part (is_next kinds.IDENT (left p.old)) in Adds part.tree part.count p.old p.new }
+    ensures adds { let part = name_part (is_next kinds.IDENT (left p.old)) in Adds part.tree part.count p.old p.new }
+    ensures reads { (c : Bool) → Reads c (Want (Call rules.name) (Expected kinds.NAME)) p.old p.new }
 {
     if at(p, SyntaxKind::IDENT) {
         name(p);

@@ -3,6 +3,7 @@ use Rattle.std.proofs.Common.{ℕ, nat_eq, ap, ◌∙◌}
 use Rattle.ra_parser.proofs.Adding.{seen, adds-look}
 use Rattle.ra_parser.specs.Meaning.{ahead}
 use Rattle.ra_parser.specs.Left.{left}
+use Rattle.ra_parser.proofs.Moves.{does-look}
 use Rattle.ra_parser.proofs.grammar.at.Goals as goal
 
 pub returns-clause-at : goal.returns-clause-at
@@ -12,3 +13,6 @@ returns-clause-at c =
 
 pub returns-clause-same : goal.returns-clause-same
 returns-clause-same c = adds-look c.args.p.now c.kind_at.new.self _ c.kind_at.ensures.same
+
+pub returns-clause-look : goal.returns-clause-look
+returns-clause-look c = does-look c.args.p.now c.kind_at.new.self _ c.kind_at.ensures.same
