@@ -1,5 +1,6 @@
 -- How what functions do goes together to what rules say.
-use Rattle.std.proofs.Common.{◌≡◌, ℕ, suc, Bool, true, false, List, ◌∷◌, length, refl, sym, ap, subst, ◌∙◌}
+use Rattle.std.proofs.Common.{◌≡◌, ℕ, suc, Bool, true, false, List, [], ◌∷◌, length, refl, sym, ap, subst, ◌∙◌}
+use Rattle.parser_input.specs.Kinds.{ERROR}
 use Rattle.parser_events.specs.Forest as forest
 use Rattle.parser_events.specs.Forest.{Forest, Message, ◌then◌}
 use Rattle.parser_events.specs.Marked as marks
@@ -9,32 +10,11 @@ use Rattle.parser_events.specs.View.{View}
 use Rattle.parser_events.proofs.Forests.{marked-then}
 use Rattle.ra_parser.specs.Adds.{Holds}
 use Rattle.ra_parser.specs.Left.{left}
-use Rattle.ra_parser.specs.Rule.{Production, Look, Spelling, Rule, Nothing, One, Then, Near, Or, Opt, Node, Wrap, Want, Say, Skip, When, Unless, Call, Continue, Mode, begins}
-use Rattle.ra_parser.specs.Meaning.{Reading, fresh, behind, node, wrapped, say, skip, leaf, read, look_of, meaning}
+use Rattle.ra_parser.specs.Rule.{Production, Look, Spelling, Rule, Nothing, One, Any, Then, Near, Or, Opt, Node, Wrap, Want, Say, Skip, When, Unless, Call, Continue, Mode, begins}
+use Rattle.ra_parser.specs.Meaning.{Reading, ahead, fresh, behind, node, wrapped, say, skip, leaf, read, look_of, meaning}
 use Rattle.ra_parser.specs.Whole.{rule, whole}
-use Rattle.ra_parser.specs.Stands.{Does, Gives, Goes, Reads, Saw}
+use Rattle.ra_parser.specs.Stands.{looks, Opens, Closes, Leaves, Does, Gives, Goes, Reads, Completes, Saw}
 use Rattle.ra_parser.proofs.WholeTable.{whole-means}
-
-abbrev pub looks : Production → Look
-looks = look_of whole
-
--- a node is opened in the innermost one
-pub record Opens (old new : View) : Type 0 where
-  pub rest : left new ≡ left old
-  pub nodes : (given : Marked) (below : List Marked) → Holds old.nodes (given ∷ below) → Holds new.nodes (marks.End ∷ given ∷ below)
-  pub innermost : (around : ℕ) → IsInnermost around old.nodes → IsInnermost (suc around) new.nodes
-
--- the innermost node is closed as one of this kind
-pub record Closes (kind : ℕ) (old new : View) : Type 0 where
-  pub rest : left new ≡ left old
-  pub nodes : (inside given : Marked) (below : List Marked) → Holds old.nodes (inside ∷ given ∷ below) → Holds new.nodes ((given beside marks.Node kind inside marks.End) ∷ below)
-  pub innermost : (around : ℕ) → IsInnermost (suc around) old.nodes → IsInnermost around new.nodes
-
--- the innermost node is left out
-pub record Leaves (old new : View) : Type 0 where
-  pub rest : left new ≡ left old
-  pub nodes : (inside given : Marked) (below : List Marked) → Holds old.nodes (inside ∷ given ∷ below) → Holds new.nodes ((given beside inside) ∷ below)
-  pub innermost : (around : ℕ) → IsInnermost (suc around) old.nodes → IsInnermost around new.nodes
 
 -- nothing is done
 pub does-nothing : (v : View) → Does (λ s. s) v v
@@ -107,6 +87,10 @@ module _ (c : Bool) where
   unfolding read
   reads-miss saw p = record { does = does-as (λ s e. rw (saw.at s e) refl) p }
 
+  pub reads-missing : {a : Rule} {m : Message} {old new : View} → Saw c (begins looks a) old false → Reads c (Say m) old new → Reads c (Want a m) old new
+  unfolding read
+  reads-missing saw p = record { does = does-as (λ s e. rw (saw.at s e) refl) p.does }
+
   pub reads-opt : {a : Rule} {old new : View} → Saw c (begins looks a) old true → Reads c a old new → Reads c (Opt a) old new
   unfolding read
   reads-opt saw p = record { does = does-as (λ s e. rw (saw.at s e) refl) p.does }
@@ -147,6 +131,26 @@ module _ (c : Bool) where
   unfolding read
   reads-leaf p = record { does = does-as (λ s e. refl) p }
 
+  -- the next token, whatever it is
+  pub reads-any : {kind : ℕ} {old mid new : View} → ((s : Reading) → left old ≡ s.rest → (ahead 0 s.rest).kind ≡ kind) → Does (λ s. s) old mid → Reads c (One (record { kind = kind; parts = kind ∷ [] })) mid new → Reads c Any old new
+  unfolding read
+  reads-any next p q = record { does = does-as (λ s e. ap (λ (k : ℕ). leaf k 1 s) (sym (next s e))) (does-then p q.does) }
+
+  -- a message and the next token in an error
+  pub reads-error : {m : Message} {old mid end new : View} → Opens old mid → Reads c (Then (Say m) Any) mid end → Closes ERROR end new → Reads c (Skip m) old new
+  unfolding read skip node leaf say fresh marked
+  reads-error {m} {old} {mid} {end} {new} o p q = record {
+    does = record {
+      rest = (does-node ERROR o p.does q).rest;
+      nodes = λ s below e h.
+          subst (λ (t : Marked). Holds new.nodes (t ∷ below))
+          (marked-then s.given (forest.Node ERROR (forest.Said m (forest.Leaf (ahead 0 s.rest).kind 1 forest.End)) forest.End)
+          ∙ sym (marked-then s.given (forest.ErrorLeaf m (ahead 0 s.rest).kind forest.End)))
+          ((does-node ERROR o p.does q).nodes s below e h);
+      innermost = (does-node ERROR o p.does q).innermost;
+    };
+  }
+
   -- a look before it
   pub behind-look : {a : Rule} {old mid new : View} → Does (λ s. s) old mid → Reads c a mid new → Reads c a old new
   behind-look p q = record { does = does-then p q.does }
@@ -166,3 +170,49 @@ gives x c o p q = record { does = does-as (λ s e. ap (λ (t : Reading). behind 
 -- and one that continues
 pub goes : (x : Production) (c : Bool) {old new : View} → Reads c (rule x) old new → Goes x c old new
 goes x c p = record { does = does-as (λ s e. sym (whole-means x c s)) p.does }
+
+-- A node that is closed at the end of what is read in it.
+module _ {c : Bool} where
+  pub completes-then : {a b : Rule} {old mid new : View} → Reads c a old mid → Completes c b mid new → Completes c (Then a b) old new
+  unfolding read
+  completes-then {a} p q = record {
+    rest = λ s e. q.rest (read looks (meaning whole) c a s) (p.does.rest s e);
+    nodes = λ s around below e h. q.nodes (read looks (meaning whole) c a s) around below (p.does.rest s e) (p.does.nodes s (around ∷ below) e h);
+    innermost = λ level i. q.innermost level (p.does.innermost (suc level) i);
+  }
+
+  -- as one of this kind
+  pub completes-wrap : {k : ℕ} {a : Rule} {old mid new : View} → Reads c a old mid → Closes k mid new → Completes c (Wrap k a) old new
+  unfolding read wrapped marked
+  completes-wrap {k} {a} p q = record {
+    rest = λ s e. q.rest ∙ p.does.rest s e;
+    nodes = λ s around below e h. q.nodes (marked (read looks (meaning whole) c a s).given) around below (p.does.nodes s (around ∷ below) e h);
+    innermost = λ level i. q.innermost level (p.does.innermost (suc level) i);
+  }
+
+  -- or left out
+  pub completes-leave : {a : Rule} {old mid new : View} → Reads c a old mid → Leaves mid new → Completes c a old new
+  completes-leave {a} p q = record {
+    rest = λ s e. q.rest ∙ p.does.rest s e;
+    nodes = λ s around below e h. q.nodes (marked (read looks (meaning whole) c a s).given) around below (p.does.nodes s (around ∷ below) e h);
+    innermost = λ level i. q.innermost level (p.does.innermost (suc level) i);
+  }
+
+  pub completes-look : {a : Rule} {old mid new : View} → Does (λ s. s) old mid → Completes c a mid new → Completes c a old new
+  completes-look p q = record {
+    rest = λ s e. q.rest s (p.rest s e);
+    nodes = λ s around below e h. q.nodes s around below (p.rest s e) (p.nodes s (around ∷ below) e h);
+    innermost = λ level i. q.innermost level (p.innermost (suc level) i);
+  }
+
+  pub completes-as : {a b : Rule} {old new : View} → ((s : Reading) → left old ≡ s.rest → read looks (meaning whole) c a s ≡ read looks (meaning whole) c b s) → Completes c a old new → Completes c b old new
+  completes-as {a} {b} {old} {new} same p = record {
+    rest = λ s e. p.rest s e ∙ ap (λ (t : Reading). t.rest) (same s e);
+    nodes = λ s around below e h. subst (λ (t : Reading). Holds new.nodes ((around beside marked t.given) ∷ below)) (same s e) (p.nodes s around below e h);
+    innermost = p.innermost;
+  }
+
+  -- what continues the present production, by its row
+  pub completes-more : {x : Production} {old new : View} → Completes c (rule x) old new → Completes c (Continue x) old new
+  unfolding read
+  completes-more {x} p = completes-as (λ s e. sym (whole-means x c s)) p

@@ -12,5 +12,6 @@ pub mod ByHand
 pub mod Moves
 pub mod Turns
 pub mod Prefixes
-pub mod Rows
 pub mod Looking
+pub mod Productions
+pub mod Choices

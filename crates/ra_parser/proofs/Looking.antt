@@ -1,17 +1,99 @@
--- What looks tell of the tokens left.
-use Rattle.std.proofs.Common.{◌≡◌, ℕ, Bool, List, sym, ap, subst, ◌∙◌}
+-- What looks tell of the tokens left, and what they and tokens cost.
+use Rattle.std.proofs.Common.{◌≡◌, ◌≢◌, ℕ, zero, suc, ◌+◌, ◌*◌, ◌^◌, ◌-◌, ◌≤◌, ◌<◌, ◌==◌, Bool, true, false, IsTrue, List, [], ◌∷◌, Option, drop, length, min, nat_eq, sym, ap, subst, refl, ◌∙◌, arith}
+use Rattle.std.proofs.lemmas.Bool.{eqb-true, eq-eqb}
+use Rattle.std.proofs.lemmas.List.{length-drop}
 use Rattle.parser_input.specs.Input.{Token}
+use Rattle.parser_input.specs.Kind.{raw_of}
+use Rattle.parser_input.specs.Kinds.{EOF}
+use Rattle.parser_input.specs.Recorded.{token_at}
+use Rattle.parser_input.specs.declared.syntax_kind.SyntaxKind.{SyntaxKind}
+use Rattle.parser_input.proofs.KindTable.{slice_get-kinds}
+use Rattle.parser_events.specs.Marked.{Marked}
 use Rattle.parser_events.specs.View.{View}
-use Rattle.ra_parser.specs.Left.{left, is_next}
-use Rattle.ra_parser.specs.Rule.{Look, Kind}
-use Rattle.ra_parser.specs.Meaning.{sees, ahead}
-use Rattle.ra_parser.specs.Stands.{Saw}
+use Rattle.ra_parser.specs.Left.{left}
+use Rattle.ra_parser.specs.Looks.{tokens, spent}
+use Rattle.ra_parser.specs.Rule.{Look, Kind, Joint}
+use Rattle.ra_parser.specs.Meaning.{Reading, sees, ahead}
+use Rattle.ra_parser.specs.Stands.{Does, Saw}
+use Rattle.ra_parser.proofs.Adding.{seen, seen-token}
 
--- whether the next token is of a kind
-pub saw-kind : (c : Bool) (kind : ℕ) (v : View) (answer : Bool) → answer ≡ is_next kind (left v) → Saw c (Kind 0 kind) v answer
+-- a look at a token ahead
+pub saw-next : (c : Bool) (n : ℕ) (v : View) (kind : ℕ) (answer : Bool) → answer ≡ nat_eq (token_at v.input (v.position + n)).kind kind → Saw c (Kind n kind) v answer
 unfolding sees
-saw-kind c kind v answer is = record { at = λ s e. sym (is ∙ ap (λ (ts : List Token). is_next kind ts) e) }
+saw-next c n v kind answer is = record {
+  at = λ s e. ap (λ (ts : List Token). (ahead n ts).kind == kind) (sym e) ∙ ap (λ (k : ℕ). nat_eq k kind) (sym (seen v n)) ∙ sym is;
+}
 
--- a look by another name
-pub saw-as : {c : Bool} {l m : Look} {v : View} {answer : Bool} → m ≡ l → Saw c l v answer → Saw c m v answer
-saw-as {c} {l} {m} {v} {answer} same s = subst (λ (k : Look). Saw c k v answer) (sym same) s
+-- the same, by raw numbers
+pub saw-kind : (c : Bool) (n : ℕ) (v : View) (seen_kind raw kind : ℕ) → seen_kind ≡ (token_at v.input (v.position + n)).kind → raw ≡ kind → Saw c (Kind n kind) v (nat_eq seen_kind raw)
+saw-kind c n v seen_kind raw kind is same = saw-next c n v kind _ (ap (λ (n : ℕ). nat_eq seen_kind n) same ∙ ap (λ (n : ℕ). nat_eq n kind) is)
+
+pub saw-joint : (c : Bool) (n : ℕ) (v : View) (answer : Bool) → answer ≡ (token_at v.input (v.position + n)).joint → Saw c (Joint n) v answer
+unfolding sees
+saw-joint c n v answer is = record {
+  at = λ s e. ap (λ (ts : List Token). (ahead n ts).joint) (sym e) ∙ ap (λ (t : Token). t.joint) (sym (seen-token v n)) ∙ sym is;
+}
+
+-- a token of a kind is next
+pub saw-arm : {c : Bool} {n : ℕ} {v : View} {result kind : SyntaxKind} → result ≡ kind → ((k : ℕ) → Saw c (Kind n k) v (raw_of result == k)) → Saw c (Kind n (raw_of kind)) v true
+saw-arm {c} {n} {v} {result} {kind} is saw = subst (λ (b : Bool). Saw c (Kind n (raw_of kind)) v b) (eq-eqb (raw_of result) (raw_of kind) (ap raw_of is)) (saw (raw_of kind))
+
+raw_of-injective : (a b : SyntaxKind) → raw_of a ≡ raw_of b → a ≡ b
+raw_of-injective a b e = let f = slice_get-kinds a in let g = slice_get-kinds b in cc
+
+-- none of that kind is
+pub saw-not : {c : Bool} {n : ℕ} {v : View} {result kind : SyntaxKind} → (result ≡ kind → ⊥) → ((k : ℕ) → Saw c (Kind n k) v (raw_of result == k)) → Saw c (Kind n (raw_of kind)) v false
+saw-not {c} {n} {v} {result} {kind} differs saw = subst (λ (b : Bool). Saw c (Kind n (raw_of kind)) v b) (unequal (raw_of result == raw_of kind) refl) (saw (raw_of kind))
+  where
+    unequal : (b : Bool) → (raw_of result == raw_of kind) ≡ b → b ≡ false
+    unequal true e = absurd (differs (raw_of-injective result kind (eqb-true _ _ e)))
+    unequal false e = refl
+
+few-left : (n : ℕ) (ts : List Token) (k : ℕ) → (ahead n ts).kind ≡ k → k ≢ EOF → n + 1 ≤ length ts
+unfolding ahead
+few-left n [] k e some = absurd (some (sym e))
+few-left zero (t ∷ ts) k e some = omega arith
+few-left (suc n) (t ∷ ts) k e some = omega (arith, few-left n ts k e some)
+
+-- so many tokens are left where one is ahead
+pub left-next : (v : View) (kind : ℕ) → kind ≡ (token_at v.input (v.position + 0)).kind → kind ≢ EOF → 1 ≤ tokens v
+unfolding tokens
+left-next v kind is some = few-left 0 (left v) kind (sym (is ∙ seen v 0)) some
+
+pub some-ahead : (n : ℕ) (v : View) (seen_kind kind raw : ℕ) → seen_kind ≡ (token_at v.input (v.position + n)).kind → nat_eq seen_kind raw ≡ true → raw ≡ kind → kind ≢ EOF → n + 1 ≤ tokens v
+unfolding tokens
+some-ahead n v seen_kind kind raw is same e some =
+    few-left n (left v) seen_kind (sym (is ∙ seen v n)) (λ z. some (sym e ∙ sym (eqb-true seen_kind raw same) ∙ z))
+
+-- the kind of the next token
+pub kind-of-next : {v : View} (kind : SyntaxKind) → ((c : Bool) (k : ℕ) → Saw c (Kind 0 k) v (raw_of kind == k)) → (s : Reading) → left v ≡ s.rest → (ahead 0 s.rest).kind ≡ raw_of kind
+unfolding sees
+kind-of-next kind saw s e = eqb-true _ _ ((saw true (raw_of kind)).at s e ∙ eq-eqb (raw_of kind) (raw_of kind) refl)
+
+-- a look takes no token
+pub same-tokens : (old new : View) (looks : ℕ) → new ≡ record old { looks = looks } → tokens new ≡ tokens old
+unfolding tokens
+same-tokens old new looks same = ap (λ (v : View). length (left v)) same
+
+-- neither do open nodes that change
+pub same-left : (old new : View) (nodes : Option (List Marked)) → new ≡ record old { nodes = nodes } → tokens new ≡ tokens old
+unfolding tokens
+same-left old new nodes same = ap (λ (v : View). length (left v)) same
+
+pub same-spent : (old new : View) (nodes : Option (List Marked)) → new ≡ record old { nodes = nodes } → spent new ≡ spent old
+same-spent old new nodes same = omega (arith, same-left old new nodes same, ap (λ (v : View). v.looks) same)
+
+pub one-look : (old new : View) → new ≡ record old { looks = min (old.looks + 1) (2 ^ 64 - 1) } → spent new ≤ spent old + 1
+one-look old new same = omega (arith, same-tokens old new _ same, ap (λ (v : View). v.looks) same)
+
+-- a token that is left can be taken
+pub enough-left : (n : ℕ) (v : View) → n ≤ tokens v → 1 ≤ n → v.position + n ≤ length v.input
+unfolding tokens
+enough-left n v some one = omega (arith, some, one, length-drop v.position v.input)
+
+pub fewer-tokens : (n : ℕ) (old new : View) {nodes : Option (List Marked)} → new ≡ record old { position = old.position + n; nodes = nodes } → n ≤ tokens old → tokens new + n ≡ tokens old
+unfolding tokens
+fewer-tokens n old new same some = omega (arith, some, ap (λ (v : View). length (left v)) same, length-drop old.position old.input, length-drop (old.position + n) old.input)
+
+pub paid-looks : (n : ℕ) (old new : View) {nodes : Option (List Marked)} → new ≡ record old { position = old.position + n; nodes = nodes } → n ≤ tokens old → spent new + 4096 * n ≡ spent old
+paid-looks n old new same some = omega (arith, fewer-tokens n old new same some, ap (λ (v : View). v.looks) same)

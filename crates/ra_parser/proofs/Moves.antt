@@ -13,9 +13,8 @@ use Rattle.parser_events.proofs.Stacks.{front-beside, behind-beside}
 use Rattle.ra_parser.specs.Adds.{Holds}
 use Rattle.ra_parser.specs.Left.{left}
 use Rattle.ra_parser.specs.Meaning.{Reading, leaf, say, wrapped}
-use Rattle.ra_parser.specs.Stands.{Does}
+use Rattle.ra_parser.specs.Stands.{Opens, Closes, Leaves, Does}
 use Rattle.ra_parser.proofs.Adding.{becomes}
-use Rattle.ra_parser.proofs.ByHand.{Opens, Closes, Leaves}
 
 -- a tree more leaves the innermost node the innermost one
 grown : (tree : Marked) (around : ℕ) (old new : Option (List Marked)) → Becomes (with_tree tree) old new → IsInnermost around old → IsInnermost around new

@@ -7,8 +7,8 @@ use Rattle.parser_events.specs.View.{View}
 use Rattle.ra_parser.specs.Rule.{Production, Look, Always, Never, Kind, Contextual, Joint, Left, InCondition, Given, Both, Either, Not, Rule, Nothing, One, Any, Then, Near, Or, Opt, Star, Node, Wrap, Want, Say, Skip, Split, When, Unless, Call, Continue, Mode, begins}
 use Rattle.ra_parser.specs.Meaning.{Reading, Calls, ahead, sees, fresh, behind, node, say, skip, leaf, turns, read, look_of, meaning}
 use Rattle.ra_parser.specs.Whole.{rule, whole}
-use Rattle.ra_parser.specs.Stands.{Gives, Reads}
-use Rattle.ra_parser.proofs.ByHand.{looks, does-as}
+use Rattle.ra_parser.specs.Stands.{looks, Gives, Reads}
+use Rattle.ra_parser.proofs.ByHand.{does-as}
 use Rattle.ra_parser.proofs.Items.{then-end, then-assoc}
 use Rattle.ra_parser.proofs.WholeTable.{whole-means}
 
@@ -120,18 +120,9 @@ read-after f call c (Call x) g s e = let t = call x c (fresh s) in grown g s.giv
 read-after f call c (Continue x) g s e = absurd (let z : false ≡ true = e in cc)
 read-after f call c (Mode d a) g s e = read-after f call d a g s e
 
--- a production whose rule stands behind what was given needs no node of its own
-pub gives-behind : (x : Production) (c : Bool) {old new : View} → is_behind looks (rule x) ≡ true → Reads c (rule x) old new → Gives x c old new
+-- such a rule reads the same behind what was given
+pub reads-anew : (c : Bool) (r : Rule) (s : Reading) → is_behind looks r ≡ true → read (look_of whole) (meaning whole) c r s ≡ behind s (read (look_of whole) (meaning whole) c r (fresh s))
 unfolding behind fresh
-gives-behind x c plain p = record { does = does-as (λ s e. same s) p.does }
-  where
-    same : (s : Reading) → read (look_of whole) (meaning whole) c (rule x) s ≡ behind s (meaning whole x c (fresh s))
-    same s =
-        ap (λ (g : Forest). read (look_of whole) (meaning whole) c (rule x) (record { given = g; rest = s.rest })) (sym (then-end s.given))
-        ∙ read-after (look_of whole) (meaning whole) c (rule x) s.given (fresh s) plain
-        ∙ ap (λ (t : Reading). after s.given t) (sym (whole-means x c (fresh s)))
-
--- the same, told the row
-pub gives-row : (x : Production) (c : Bool) (r : Rule) {old new : View} → rule x ≡ r → is_behind looks r ≡ true → Reads c r old new → Gives x c old new
-gives-row x c r {old} {new} row plain p =
-    gives-behind x c (ap (is_behind looks) row ∙ plain) (subst (λ (q : Rule). Reads c q old new) (sym row) p)
+reads-anew c r s plain =
+    ap (λ (g : Forest). read (look_of whole) (meaning whole) c r (record { given = g; rest = s.rest })) (sym (then-end s.given))
+    ∙ read-after (look_of whole) (meaning whole) c r s.given (fresh s) plain

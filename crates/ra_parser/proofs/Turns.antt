@@ -6,8 +6,8 @@ use Rattle.ra_parser.specs.Left.{left}
 use Rattle.ra_parser.specs.Rule.{Rule, Star, begins}
 use Rattle.ra_parser.specs.Meaning.{Reading, sees, read, look_of, meaning, turns}
 use Rattle.ra_parser.specs.Whole.{whole}
-use Rattle.ra_parser.specs.Stands.{Does, Reads, Saw}
-use Rattle.ra_parser.proofs.ByHand.{looks, does-then, does-as}
+use Rattle.ra_parser.specs.Stands.{looks, Does, Reads, Saw}
+use Rattle.ra_parser.proofs.ByHand.{does-then, does-as}
 
 module _ (test : Reading → Bool) (turn : Reading → Reading) (ends : (t : Reading) → length t.rest ≡ 0 → test t ≡ false) where
   stays : (n : ℕ) (s : Reading) → test s ≡ false → turns n test turn s ≡ s

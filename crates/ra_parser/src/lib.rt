@@ -7,3 +7,4 @@
 mod grammar;
 pub mod laws;
 pub mod parse;
+mod small;
