@@ -1,7 +1,8 @@
 -- What is known of a place decides which alternatives of a rule are read there.
-use Rattle.std.proofs.Common.{◌≡◌, ℕ, zero, suc, Bool, true, false, not, ◌&&◌, ◌==◌, List, [], ◌∷◌, length, Option, Some, None, IfSome, refl, sym, ap, subst, ◌∙◌, if◌then◌else◌, nat_eq}
+use Rattle.std.proofs.Common.{◌≡◌, ℕ, zero, suc, Bool, true, false, not, ◌&&◌, ◌==◌, List, [], ◌∷◌, length, Option, Some, None, IfSome, refl, sym, ap, subst, ◌∙◌, if◌then◌else◌, nat_eq, nat_lt}
 use Rattle.std.proofs.lemmas.Bool.{eqb-true}
 use Rattle.parser_input.specs.Input.{Token}
+use Rattle.parser_input.specs.Kinds.{EOF}
 use Rattle.parser_events.specs.Forest as forest
 use Rattle.parser_events.specs.Forest.{Message}
 use Rattle.parser_events.specs.Marked.{Marked, marked}
@@ -590,3 +591,29 @@ begins-else x y {c} {fs} {v} known saw not_else = record { at = λ s e. one s (s
     one s false is h begins_there =
         let no : sees c s (begins looks (rule y)) ≡ false = subst (λ (o : Option Bool). Right c s (begins looks (rule y)) o) not_else (is_start c s (Begins x false ∷ fs) (is, h) (rule y)) in
         absurd (let z : true ≡ false = sym begins_there ∙ ap (λ (l : Look). sees c s l) (whole-begins y) ∙ no in cc)
+
+pub saw-behind : {c : Bool} {l : Look} {b : Bool} {old mid : View} → Does (λ s. s) old mid → Saw c l old b → Saw c l mid b
+saw-behind p saw = record { at = λ s e. saw.at s (sym (still-left p) ∙ e) }
+
+-- no token is left
+abbrev at_the_end : List Fact
+at_the_end = Answers (Kind 0 EOF) true ∷ Answers Left false ∷ []
+
+-- a rule that does not begin where no token is left
+pub ends-at-end : (c : Bool) (a : Rule) → starts at_the_end a ≡ Some false → (t : Reading) → length t.rest ≡ 0 → sees c t (begins looks a) ≡ false
+unfolding sees ahead
+ends-at-end c a is t none = subst (λ (o : Option Bool). Right c t (begins looks a) o) is (is_start c t at_the_end (known t.rest none) a)
+  where
+    known : (ts : List Token) → length ts ≡ 0 → ((ahead 0 ts).kind == EOF) ≡ true × (nat_lt 0 (length ts) ≡ false × Unit {0})
+    known [] e = (refl, (refl, tt))
+    known (x ∷ ts) e = absurd (let z : suc (length ts) ≡ 0 = e in cc)
+
+-- the same, by its row
+pub begins-row : (x : Production) {c : Bool} {fs : List Fact} {b : Bool} {v : View} → Known c fs v → starts fs (rule x) ≡ Some b → Saw c (looks x) v b
+begins-row x {c} {fs} {b} {v} known is = record {
+  at = λ s e. ap (λ (l : Look). sees c s l) (whole-begins x) ∙ subst (λ (o : Option Bool). Right c s (begins looks (rule x)) o) is (is_start c s fs (known.at s e) (rule x));
+}
+
+-- what a rule begins with, where what is known tells it
+pub starts-here : (r : Rule) {c : Bool} {fs : List Fact} {b : Bool} {v : View} → Known c fs v → starts fs r ≡ Some b → Saw c (begins looks r) v b
+starts-here r {c} {fs} {b} {v} known is = record { at = λ s e. subst (λ (o : Option Bool). Right c s (begins looks r) o) is (is_start c s fs (known.at s e) r) }

@@ -1,18 +1,19 @@
 -- What looks tell of the tokens left, and what they and tokens cost.
-use Rattle.std.proofs.Common.{◌≡◌, ◌≢◌, ℕ, zero, suc, ◌+◌, ◌*◌, ◌^◌, ◌-◌, ◌≤◌, ◌<◌, ◌==◌, Bool, true, false, IsTrue, List, [], ◌∷◌, Option, drop, length, min, nat_eq, sym, ap, subst, refl, ◌∙◌, arith}
-use Rattle.std.proofs.lemmas.Bool.{eqb-true, eq-eqb}
+use Rattle.std.proofs.Common.{◌≡◌, ◌≢◌, ℕ, zero, suc, ◌+◌, ◌*◌, ◌^◌, ◌-◌, ◌≤◌, ◌<◌, ◌==◌, Bool, true, false, not, nat_lt, IsTrue, List, [], ◌∷◌, Option, drop, length, min, nat_eq, sym, ap, subst, refl, ◌∙◌, arith}
+use Rattle.std.proofs.lemmas.Bool.{eqb-true, eq-eqb, lt-ltb}
 use Rattle.std.proofs.lemmas.List.{length-drop}
 use Rattle.parser_input.specs.Input.{Token}
 use Rattle.parser_input.specs.Kind.{raw_of}
 use Rattle.parser_input.specs.Kinds.{EOF}
 use Rattle.parser_input.specs.Recorded.{token_at}
 use Rattle.parser_input.specs.declared.syntax_kind.SyntaxKind.{SyntaxKind}
+use Rattle.parser_input.specs.declared.syntax_kind.SyntaxKind.TheVariants as kinds
 use Rattle.parser_input.proofs.KindTable.{slice_get-kinds}
 use Rattle.parser_events.specs.Marked.{Marked}
 use Rattle.parser_events.specs.View.{View}
 use Rattle.ra_parser.specs.Left.{left}
 use Rattle.ra_parser.specs.Looks.{tokens, spent}
-use Rattle.ra_parser.specs.Rule.{Look, Kind, Joint}
+use Rattle.ra_parser.specs.Rule.{Look, Kind, Joint, Left}
 use Rattle.ra_parser.specs.Meaning.{Reading, sees, ahead}
 use Rattle.ra_parser.specs.Stands.{Does, Saw}
 use Rattle.ra_parser.proofs.Adding.{seen, seen-token}
@@ -69,6 +70,32 @@ some-ahead n v seen_kind kind raw is same e some =
 pub kind-of-next : {v : View} (kind : SyntaxKind) → ((c : Bool) (k : ℕ) → Saw c (Kind 0 k) v (raw_of kind == k)) → (s : Reading) → left v ≡ s.rest → (ahead 0 s.rest).kind ≡ raw_of kind
 unfolding sees
 kind-of-next kind saw s e = eqb-true _ _ ((saw true (raw_of kind)).at s e ∙ eq-eqb (raw_of kind) (raw_of kind) refl)
+
+-- whether a token is left
+pub saw-some : (c : Bool) (v : View) (kind : SyntaxKind) → raw_of kind ≡ (token_at v.input (v.position + 0)).kind → (v.position + 0 < length v.input → raw_of kind ≢ EOF) → Saw c Left v (not (raw_of kind == EOF))
+unfolding sees ahead
+saw-some c v kind is some = record { at = λ s e. ap (λ (ts : List Token). nat_lt 0 (length ts)) (sym e) ∙ end (left v) refl (raw_of kind == EOF) refl }
+  where
+    end : (ts : List Token) → left v ≡ ts → (b : Bool) → (raw_of kind == EOF) ≡ b → nat_lt 0 (length ts) ≡ not b
+    end [] e true f = refl
+    end [] e false f =
+        let next : raw_of kind ≡ EOF = is ∙ seen v 0 ∙ ap (λ (us : List Token). (ahead 0 us).kind) e in
+        absurd (let z : true ≡ false = sym (eq-eqb (raw_of kind) EOF next) ∙ f in cc)
+    end (t ∷ ts) e true f =
+        let long : 0 < length (t ∷ ts) = omega arith in
+        absurd (some (omega (arith, long, ap (λ (us : List Token). length us) e, length-drop v.position v.input)) (eqb-true _ _ f))
+    end (t ∷ ts) e false f = lt-ltb 0 (length (t ∷ ts)) (omega arith)
+
+-- from what the next token is
+pub left-arm : {c : Bool} {v : View} {result kind : SyntaxKind} → result ≡ kind → Saw c Left v (not (raw_of result == EOF)) → Saw c Left v (not (raw_of kind == EOF))
+left-arm {c} {v} is saw = subst (λ (k : SyntaxKind). Saw c Left v (not (raw_of k == EOF))) is saw
+
+pub left-not : {c : Bool} {v : View} {result : SyntaxKind} → (result ≡ kinds.EOF → ⊥) → Saw c Left v (not (raw_of result == EOF)) → Saw c Left v true
+left-not {c} {v} {result} differs saw = subst (λ (b : Bool). Saw c Left v (not b)) (unequal (raw_of result == EOF) refl) saw
+  where
+    unequal : (b : Bool) → (raw_of result == EOF) ≡ b → b ≡ false
+    unequal true e = absurd (differs (raw_of-injective result kinds.EOF (eqb-true _ _ e)))
+    unequal false e = refl
 
 -- a look takes no token
 pub same-tokens : (old new : View) (looks : ℕ) → new ≡ record old { looks = looks } → tokens new ≡ tokens old

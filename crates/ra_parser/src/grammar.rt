@@ -3,14 +3,14 @@
 //! A contract names the production, or the rule, that the function reads, and says how many looks it makes at most: where it
 //! takes tokens these pay for the looks.
 
-ghost use Rattle.std.specs.Prelude.{◌≡◌, ◌≢◌, ◌+◌, ◌*◌, ◌≤◌, ◌==◌, Bool, ℕ, IsTrue, [], ◌∷◌};
+ghost use Rattle.std.specs.Prelude.{◌≡◌, ◌≢◌, ◌+◌, ◌*◌, ◌≤◌, ◌==◌, Bool, not, ℕ, IsTrue, [], ◌∷◌};
 ghost use Rattle.parser_input.specs.Kind.{raw_of};
 ghost use Rattle.parser_input.specs.Kinds as kinds;
 ghost use Rattle.parser_events.specs.Forest.{Expected};
 ghost use Rattle.parser_events.specs.Seen.{message_of};
 ghost use Rattle.parser_events.specs.Stack.{IsInnermost};
 ghost use Rattle.ra_parser.specs.Looks.{tokens, spent};
-ghost use Rattle.ra_parser.specs.Rule.{Kind, Say, Skip, Any, Want, Opt, there_at};
+ghost use Rattle.ra_parser.specs.Rule.{Kind, Left, Say, Skip, Any, Want, Opt, there_at};
 ghost use Rattle.ra_parser.specs.Meaning.{wrapped};
 ghost use Rattle.ra_parser.specs.Words.{one, joined};
 ghost use Rattle.ra_parser.specs.Stands.{Opens, Closes, Leaves, Does, Reads, Saw};
@@ -20,16 +20,29 @@ use parser_events::parser::{Marker, Parser};
 use parser_input::syntax_kind::SyntaxKind;
 
 pub(crate) mod names;
+pub(crate) mod paths;
+pub(crate) mod token_trees;
 
 /// The kind of the next token.
 fn current(p: &mut Parser<'_>) -> SyntaxKind
     ensures sees { (c : Bool) (kind : ℕ) → Saw c (Kind 0 kind) p.old (raw_of result == kind) }
+    ensures end { (c : Bool) → Saw c Left p.old (not (raw_of result == kinds.EOF)) }
     ensures some { raw_of result ≢ kinds.EOF → 1 ≤ tokens p.old }
     ensures same { Does (λ s. s) p.old p.new }
     ensures left { tokens p.new ≡ tokens p.old }
     ensures looks { spent p.new ≤ spent p.old + 1 }
 {
     p.kind_at(0)
+}
+
+/// The kind of the token so far ahead.
+fn nth(p: &mut Parser<'_>, n: usize) -> SyntaxKind
+    ensures sees { (c : Bool) (kind : ℕ) → Saw c (Kind n kind) p.old (raw_of result == kind) }
+    ensures same { Does (λ s. s) p.old p.new }
+    ensures left { tokens p.new ≡ tokens p.old }
+    ensures looks { spent p.new ≤ spent p.old + 1 }
+{
+    p.kind_at(n)
 }
 
 /// Whether the next token is of this kind.

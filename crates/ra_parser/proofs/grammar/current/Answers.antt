@@ -1,11 +1,14 @@
 -- The look is at the tokens left.
 use Rattle.std.proofs.Common.{◌≡◌, ℕ, nat_eq, ap, ◌∙◌, arith}
-use Rattle.ra_parser.proofs.Looking.{saw-next, left-next, same-tokens, one-look}
+use Rattle.ra_parser.proofs.Looking.{saw-next, saw-some, left-next, same-tokens, one-look}
 use Rattle.ra_parser.proofs.Moves.{does-look}
 use Rattle.ra_parser.proofs.grammar.current.Goals as goal
 
 pub returns-clause-sees : goal.returns-clause-sees
 returns-clause-sees c cond kind = saw-next cond 0 c.args.p.now _ _ (ap (λ (n : ℕ). nat_eq n kind) c.kind_at.ensures.kind)
+
+pub returns-clause-end : goal.returns-clause-end
+returns-clause-end c cond = saw-some cond c.args.p.now c.kind_at.result c.kind_at.ensures.kind c.kind_at.ensures.token
 
 pub returns-clause-some : goal.returns-clause-some
 returns-clause-some c some = left-next c.args.p.now _ c.kind_at.ensures.kind some

@@ -1,0 +1,29 @@
+-- Each path reads what the rule comes to there.
+use Rattle.std.proofs.Common.{true}
+use Rattle.ra_parser.specs.Expressions.{expressions}
+use Rattle.ra_parser.specs.Items.{items}
+use Rattle.ra_parser.specs.Meaning.{begins_below, look_of}
+use Rattle.ra_parser.specs.Notation.{any_of, expected, is_longer, no_longer, one_of, op, row, wanted}
+use Rattle.ra_parser.specs.Paths.{paths}
+use Rattle.ra_parser.specs.Patterns.{patterns}
+use Rattle.ra_parser.specs.Rule.{begins, in_mode, is_silent, passes, shift, there_at, width}
+use Rattle.ra_parser.specs.Statements.{statements}
+use Rattle.ra_parser.specs.Types.{types}
+use Rattle.ra_parser.specs.Whole.{rule, whole}
+use Rattle.ra_parser.proofs.ByHand.{completes-leave, completes-then}
+use Rattle.ra_parser.proofs.Choices.{anew-completes, gives-anew, saw-inside}
+use Rattle.ra_parser.proofs.Moves.{leaves, opens}
+use Rattle.ra_parser.proofs.grammar.paths.path.Goals as goal
+
+pub first_segment-requires-clause-begins : goal.first_segment-requires-clause-begins
+first_segment-requires-clause-begins c cond = saw-inside c.start-frame.ensures.opens (c.requires.begins cond)
+
+pub next_segments-frame-requires : goal.next_segments-frame-requires
+next_segments-frame-requires c = (c.first_segment.ensures.reads true).does.innermost _ (c.start-frame.ensures.marker)
+
+pub abandon-requires : goal.abandon-requires
+abandon-requires c = c.next_segments-frame.ensures.marker
+
+pub returns-clause-gives : goal.returns-clause-gives
+unfolding look_of begins_below whole rule items statements expressions patterns types paths there_at shift width passes is_silent begins in_mode row one_of any_of expected wanted op no_longer is_longer
+returns-clause-gives c cond = gives-anew (anew-completes c.start-frame.ensures.opens (completes-then ((c.first_segment.ensures.reads cond)) (completes-leave ((c.next_segments-frame.ensures.reads cond)) c.abandon.ensures.leaves)))
