@@ -17,7 +17,7 @@ abbrev items_in_braces : Rule
 items_in_braces = 'l_curly' ▸ off (items_until (until 'r_curly')) ▸ 'r_curly' !
 
 -- where a bracket behind `pub` belongs to it, and is not the type of a field
-abbrev visibility_goes_on : Look
+abbrev pub visibility_goes_on : Look
 visibility_goes_on =
     any_of
     ('l_paren' before 'in'

@@ -22,6 +22,7 @@ use parser_input::syntax_kind::SyntaxKind;
 pub(crate) mod names;
 pub(crate) mod paths;
 pub(crate) mod token_trees;
+pub(crate) mod visibility;
 
 /// The kind of the next token.
 fn current(p: &mut Parser<'_>) -> SyntaxKind
@@ -65,6 +66,17 @@ fn at_second(p: &mut Parser<'_>, kind: SyntaxKind) -> bool
     ensures looks { spent p.new ≤ spent p.old + 1 }
 {
     p.kind_at(1).to_raw() == kind.to_raw()
+}
+
+/// Whether the third token from here is of this kind.
+fn at_third(p: &mut Parser<'_>, kind: SyntaxKind) -> bool
+    ensures sees { (c : Bool) → Saw c (Kind 2 (raw_of kind)) p.old result }
+    ensures some { IsTrue result → raw_of kind ≢ kinds.EOF → 3 ≤ tokens p.old }
+    ensures same { Does (λ s. s) p.old p.new }
+    ensures left { tokens p.new ≡ tokens p.old }
+    ensures looks { spent p.new ≤ spent p.old + 1 }
+{
+    p.kind_at(2).to_raw() == kind.to_raw()
 }
 
 /// Whether tokens of these kinds are next, which touch each other.
