@@ -171,7 +171,7 @@ starts fs (Then a b) =
     let second = starts fs b in
     let sure = if passes a then either first second else first in
     if is_silent a then second else sure
-starts fs (Near a b) = both (starts fs a) (tells fs (shift (width a) (begins looks b)))
+starts fs (Near a b) = of_look fs (Both (begins looks a) (shift (width a) (begins looks b))) (both (starts fs a) (tells fs (shift (width a) (begins looks b))))
 starts fs (Or a b) = either (starts fs a) (starts fs b)
 starts fs (When l a) = tells fs l
 starts fs (Unless l a) = both (neither (tells fs l)) (starts fs a)
@@ -396,7 +396,9 @@ module _ (c : Bool) (s : Reading) where
       then_start i j true pass = j
       then_start i j false true = is_either (begins looks a) (begins looks b) (starts fs a) (starts fs b) i j
       then_start i j false false = i
-  is_start fs h (Near a b) = is_both (begins looks a) (shift (width a) (begins looks b)) (starts fs a) _ (is_start fs h a) (is_told fs h (shift (width a) (begins looks b)))
+  is_start fs h (Near a b) =
+      is_of_look fs h (Both (begins looks a) (shift (width a) (begins looks b))) _
+      (is_both (begins looks a) (shift (width a) (begins looks b)) (starts fs a) _ (is_start fs h a) (is_told fs h (shift (width a) (begins looks b))))
   is_start fs h (Or a b) = is_either (begins looks a) (begins looks b) (starts fs a) (starts fs b) (is_start fs h a) (is_start fs h b)
   is_start fs h (When l a) = is_told fs h l
   is_start fs h (Unless l a) = is_both (Not l) (begins looks a) _ (starts fs a) (is_neither l (tells fs l) (is_told fs h l)) (is_start fs h a)

@@ -15,3 +15,4 @@ pub mod Prefixes
 pub mod Looking
 pub mod Productions
 pub mod Choices
+pub mod Begins

@@ -13,7 +13,7 @@ use Rattle.parser_events.specs.Marked.{Marked}
 use Rattle.parser_events.specs.View.{View}
 use Rattle.ra_parser.specs.Left.{left}
 use Rattle.ra_parser.specs.Looks.{tokens, spent}
-use Rattle.ra_parser.specs.Rule.{Look, Kind, Joint, Left}
+use Rattle.ra_parser.specs.Rule.{Look, Kind, Contextual, Joint, Left}
 use Rattle.ra_parser.specs.Meaning.{Reading, sees, ahead}
 use Rattle.ra_parser.specs.Stands.{Does, Saw}
 use Rattle.ra_parser.proofs.Adding.{seen, seen-token}
@@ -34,6 +34,23 @@ unfolding sees
 saw-joint c n v answer is = record {
   at = λ s e. ap (λ (ts : List Token). (ahead n ts).joint) (sym e) ∙ ap (λ (t : Token). t.joint) (sym (seen-token v n)) ∙ sym is;
 }
+
+pub saw-contextual : (c : Bool) (n : ℕ) (v : View) (seen_kind raw kind : ℕ) → seen_kind ≡ (token_at v.input (v.position + n)).contextual → raw ≡ kind → Saw c (Contextual n kind) v (nat_eq seen_kind raw)
+unfolding sees
+saw-contextual c n v seen_kind raw kind is same = record {
+  at = λ s e.
+      ap (λ (ts : List Token). (ahead n ts).contextual == kind) (sym e) ∙ ap (λ (t : Token). t.contextual == kind) (sym (seen-token v n))
+      ∙ sym (ap (λ (n : ℕ). nat_eq seen_kind n) same ∙ ap (λ (n : ℕ). nat_eq n kind) is);
+}
+
+pub some-contextual : (v : View) (seen_kind kind raw : ℕ) → seen_kind ≡ (token_at v.input (v.position + 0)).contextual → nat_eq seen_kind raw ≡ true → raw ≡ kind → kind ≢ EOF → 1 ≤ tokens v
+unfolding tokens ahead
+some-contextual v seen_kind kind raw is same e some =
+    some-word (left v) (sym (is ∙ ap (λ (t : Token). t.contextual) (seen-token v 0))) (λ z. some (sym e ∙ sym (eqb-true seen_kind raw same) ∙ z))
+  where
+    some-word : (ts : List Token) → (ahead 0 ts).contextual ≡ seen_kind → seen_kind ≢ EOF → 1 ≤ length ts
+    some-word [] e some = absurd (some (sym e))
+    some-word (t ∷ ts) e some = omega arith
 
 -- a token of a kind is next
 pub saw-arm : {c : Bool} {n : ℕ} {v : View} {result kind : SyntaxKind} → result ≡ kind → ((k : ℕ) → Saw c (Kind n k) v (raw_of result == k)) → Saw c (Kind n (raw_of kind)) v true

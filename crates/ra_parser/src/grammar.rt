@@ -10,7 +10,7 @@ ghost use Rattle.parser_events.specs.Forest.{Expected};
 ghost use Rattle.parser_events.specs.Seen.{message_of};
 ghost use Rattle.parser_events.specs.Stack.{IsInnermost};
 ghost use Rattle.ra_parser.specs.Looks.{tokens, spent};
-ghost use Rattle.ra_parser.specs.Rule.{Kind, Left, Say, Skip, Any, Want, Opt, there_at};
+ghost use Rattle.ra_parser.specs.Rule.{Kind, Contextual, Left, Say, Skip, Any, Want, Opt, there_at};
 ghost use Rattle.ra_parser.specs.Meaning.{wrapped};
 ghost use Rattle.ra_parser.specs.Words.{one, joined};
 ghost use Rattle.ra_parser.specs.Stands.{Opens, Closes, Leaves, Does, Reads, Saw};
@@ -19,9 +19,12 @@ use parser_events::message::Message;
 use parser_events::parser::{Marker, Parser};
 use parser_input::syntax_kind::SyntaxKind;
 
+pub(crate) mod expressions;
 pub(crate) mod names;
 pub(crate) mod paths;
+pub(crate) mod patterns;
 pub(crate) mod token_trees;
+pub(crate) mod types;
 pub(crate) mod visibility;
 
 /// The kind of the next token.
@@ -77,6 +80,17 @@ fn at_third(p: &mut Parser<'_>, kind: SyntaxKind) -> bool
     ensures looks { spent p.new ≤ spent p.old + 1 }
 {
     p.kind_at(2).to_raw() == kind.to_raw()
+}
+
+/// Whether the next token is a word that is of this kind as a contextual keyword.
+fn at_contextual(p: &mut Parser<'_>, kind: SyntaxKind) -> bool
+    ensures sees { (c : Bool) → Saw c (Contextual 0 (raw_of kind)) p.old result }
+    ensures some { IsTrue result → raw_of kind ≢ kinds.EOF → 1 ≤ tokens p.old }
+    ensures same { Does (λ s. s) p.old p.new }
+    ensures left { tokens p.new ≡ tokens p.old }
+    ensures looks { spent p.new ≡ spent p.old }
+{
+    p.contextual_at(0).to_raw() == kind.to_raw()
 }
 
 /// Whether tokens of these kinds are next, which touch each other.
