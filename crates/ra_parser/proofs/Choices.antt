@@ -619,3 +619,29 @@ begins-row x {c} {fs} {b} {v} known is = record {
 -- what a rule begins with, where what is known tells it
 pub starts-here : (r : Rule) {c : Bool} {fs : List Fact} {b : Bool} {v : View} → Known c fs v → starts fs r ≡ Some b → Saw c (begins looks r) v b
 starts-here r {c} {fs} {b} {v} known is = record { at = λ s e. subst (λ (o : Option Bool). Right c s (begins looks r) o) is (is_start c s fs (known.at s e) r) }
+
+pub saw-always : {c : Bool} {l : Look} {b : Bool} {v : View} → Saw c l v b → Saw c (Both l Always) v b
+unfolding sees
+saw-always {c} {l} f = record { at = λ s e. alone (sees c s l) ∙ f.at s e }
+  where
+    alone : (a : Bool) → (if a then true else false) ≡ a
+    alone true = refl
+    alone false = refl
+
+pub saw-either-left : {c : Bool} {l m : Look} {v : View} → Saw c l v true → Saw c (Either l m) v true
+unfolding sees
+saw-either-left f = record { at = λ s e. rw (f.at s e) refl }
+
+pub saw-either-right : {c : Bool} {l m : Look} {b : Bool} {v : View} → Saw c l v false → Saw c m v b → Saw c (Either l m) v b
+unfolding sees
+saw-either-right f g = record { at = λ s e. rw (f.at s e) (g.at s e) }
+
+-- Where a look is there, and would not be if another one were not, that other one is.
+pub saw-else : (l m : Look) {c : Bool} {fs : List Fact} {v : View} → Known c fs v → Saw c m v true → tells (Answers l false ∷ fs) m ≡ Some false → Saw c l v true
+saw-else l m {c} {fs} {v} known saw not_else = record { at = λ s e. one s (sees c s l) refl (known.at s e) (saw.at s e) }
+  where
+    one : (s : Reading) (b : Bool) → sees c s l ≡ b → HoldAll c s fs → sees c s m ≡ true → sees c s l ≡ true
+    one s true is h there = is
+    one s false is h there =
+        let no : sees c s m ≡ false = subst (λ (o : Option Bool). Right c s m o) not_else (is_told c s (Answers l false ∷ fs) (is, h) m) in
+        absurd (let z : true ≡ false = sym there ∙ no in cc)

@@ -20,6 +20,7 @@ use parser_events::parser::{Marker, Parser};
 use parser_input::syntax_kind::SyntaxKind;
 
 pub(crate) mod expressions;
+pub(crate) mod lists;
 pub(crate) mod names;
 pub(crate) mod paths;
 pub(crate) mod patterns;
