@@ -1,5 +1,5 @@
 -- What is known of a place decides which alternatives of a rule are read there.
-use Rattle.std.proofs.Common.{◌≡◌, ℕ, zero, suc, Bool, true, false, not, ◌&&◌, ◌==◌, List, [], ◌∷◌, length, Option, Some, None, IfSome, refl, sym, ap, subst, ◌∙◌, if◌then◌else◌, nat_eq, nat_lt}
+use Rattle.std.proofs.Common.{◌≡◌, ℕ, zero, suc, ◌+◌, Bool, true, false, not, ◌&&◌, ◌==◌, List, [], ◌∷◌, length, drop, arith, Option, Some, None, IfSome, refl, sym, ap, subst, ◌∙◌, if◌then◌else◌, nat_eq, nat_lt}
 use Rattle.std.proofs.lemmas.Bool.{eqb-true}
 use Rattle.parser_input.specs.Input.{Token}
 use Rattle.parser_input.specs.Kinds.{EOF}
@@ -10,8 +10,8 @@ use Rattle.parser_events.specs.View.{View}
 use Rattle.parser_events.proofs.Forests.{marked-then}
 use Rattle.ra_parser.specs.Adds as adds
 use Rattle.ra_parser.specs.Left.{left}
-use Rattle.ra_parser.specs.Rule.{Production, Look, Always, Never, Kind, Contextual, Joint, Left, InCondition, Given, Both, Either, Not, Rule, Nothing, One, Any, Then, Near, Or, Opt, Star, Node, Wrap, Want, Say, Skip, Split, When, Unless, Call, Continue, Mode, begins, there_at, shift, width, passes, is_silent}
-use Rattle.ra_parser.specs.Meaning.{Reading, ahead, sees, fresh, behind, node, wrapped, say, turns, read, look_of, meaning}
+use Rattle.ra_parser.specs.Rule.{Production, Spelling, Look, Always, Never, Kind, Contextual, Joint, Left, InCondition, Given, Both, Either, Not, Rule, Nothing, One, Any, Then, Near, Or, Opt, Star, Node, Wrap, Want, Say, Skip, Split, When, Unless, Call, Continue, Mode, begins, there_at, shift, width, passes, is_silent}
+use Rattle.ra_parser.specs.Meaning.{Reading, ahead, sees, leaf, fresh, behind, node, wrapped, say, turns, read, look_of, meaning}
 use Rattle.ra_parser.specs.Whole.{rule, whole}
 use Rattle.ra_parser.specs.Stands.{looks, Opens, Closes, Leaves, Does, Gives, Goes, Reads, Completes, Saw}
 use Rattle.ra_parser.proofs.ByHand.{does-as, does-inside, does-then, goes, completes-as}
@@ -645,3 +645,41 @@ saw-else l m {c} {fs} {v} known saw not_else = record { at = λ s e. one s (sees
     one s false is h there =
         let no : sees c s m ≡ false = subst (λ (o : Option Bool). Right c s m o) not_else (is_told c s (Answers l false ∷ fs) (is, h) m) in
         absurd (let z : true ≡ false = sym there ∙ no in cc)
+
+-- a look that asks nothing but of tokens
+abbrev is_ahead : Look → Bool
+is_ahead Left = false
+is_ahead Given = false
+is_ahead (Both a b) = is_ahead a && is_ahead b
+is_ahead (Either a b) = is_ahead a && is_ahead b
+is_ahead (Not a) = is_ahead a
+is_ahead l = true
+
+ahead-drop : (m n : ℕ) (ts : List Token) → ahead n (drop m ts) ≡ ahead (n + m) ts
+unfolding ahead
+ahead-drop zero n ts = ap (λ (k : ℕ). ahead k ts) (omega arith)
+ahead-drop (suc m) n [] = refl
+ahead-drop (suc m) n (t ∷ ts) = ahead-drop m n ts ∙ ap (λ (k : ℕ). ahead k (t ∷ ts)) (omega arith)
+
+sees-ahead : (c : Bool) (m : ℕ) (l : Look) (s t : Reading) → is_ahead l ≡ true → t.rest ≡ drop m s.rest → sees c t l ≡ sees c s (shift m l)
+unfolding sees shift
+sees-ahead c m Always s t a e = refl
+sees-ahead c m Never s t a e = refl
+sees-ahead c m (Kind n k) s t a e = ap (λ (ts : List Token). (ahead n ts).kind == k) e ∙ ap (λ (u : Token). u.kind == k) (ahead-drop m n s.rest)
+sees-ahead c m (Contextual n k) s t a e = ap (λ (ts : List Token). (ahead n ts).contextual == k) e ∙ ap (λ (u : Token). u.contextual == k) (ahead-drop m n s.rest)
+sees-ahead c m (Joint n) s t a e = ap (λ (ts : List Token). (ahead n ts).joint) e ∙ ap (λ (u : Token). u.joint) (ahead-drop m n s.rest)
+sees-ahead c m Left s t a e = absurd (let z : false ≡ true = a in cc)
+sees-ahead c m InCondition s t a e = refl
+sees-ahead c m Given s t a e = absurd (let z : false ≡ true = a in cc)
+sees-ahead c m (Both x y) s t a e = rw (sees-ahead c m x s t (and_l (is_ahead x) (is_ahead y) a) e, sees-ahead c m y s t (and_r (is_ahead x) (is_ahead y) a) e) refl
+sees-ahead c m (Either x y) s t a e = rw (sees-ahead c m x s t (and_l (is_ahead x) (is_ahead y) a) e, sees-ahead c m y s t (and_r (is_ahead x) (is_ahead y) a) e) refl
+sees-ahead c m (Not x) s t a e = ap not (sees-ahead c m x s t a e)
+
+-- what was seen behind a leaf is seen once that is taken
+pub saw-taken : {c d : Bool} {x : Spelling} {b : Bool} {old new : View} (l : Look) → is_ahead l ≡ true → Reads d (One x) old new → Saw c (shift (length x.parts) l) old b → Saw c l new b
+unfolding read leaf
+saw-taken {c} {d} {x} {b} {old} {new} l plain p saw = record {
+  at = λ s e.
+      let was : Reading = record { given = forest.End; rest = left old } in
+      sees-ahead c (length x.parts) l was s plain (sym e ∙ p.does.rest was refl) ∙ saw.at was refl;
+}
