@@ -657,9 +657,9 @@ is_ahead l = true
 
 ahead-drop : (m n : ℕ) (ts : List Token) → ahead n (drop m ts) ≡ ahead (n + m) ts
 unfolding ahead
-ahead-drop zero n ts = ap (λ (k : ℕ). ahead k ts) (omega arith)
+ahead-drop zero n ts = let none : n ≡ n + 0 = omega arith in ap (λ (k : ℕ). ahead k ts) none
 ahead-drop (suc m) n [] = refl
-ahead-drop (suc m) n (t ∷ ts) = ahead-drop m n ts ∙ ap (λ (k : ℕ). ahead k (t ∷ ts)) (omega arith)
+ahead-drop (suc m) n (t ∷ ts) = let more : suc (n + m) ≡ n + suc m = omega arith in ahead-drop m n ts ∙ ap (λ (k : ℕ). ahead k (t ∷ ts)) more
 
 sees-ahead : (c : Bool) (m : ℕ) (l : Look) (s t : Reading) → is_ahead l ≡ true → t.rest ≡ drop m s.rest → sees c t l ≡ sees c s (shift m l)
 unfolding sees shift
