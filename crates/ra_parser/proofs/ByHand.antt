@@ -1,17 +1,15 @@
 -- How what functions do goes together to what rules say.
-use Rattle.std.proofs.Common.{◌≡◌, ℕ, suc, Bool, true, false, List, [], ◌∷◌, length, refl, sym, ap, subst, ◌∙◌}
+use Rattle.std.proofs.Common.{◌≡◌, ℕ, suc, Bool, true, false, [], ◌∷◌, length, refl, sym, ap, subst, ◌∙◌}
 use Rattle.parser_input.specs.Kinds.{ERROR}
 use Rattle.parser_events.specs.Forest as forest
 use Rattle.parser_events.specs.Forest.{Forest, Message, ◌then◌}
-use Rattle.parser_events.specs.Marked as marks
 use Rattle.parser_events.specs.Marked.{Marked, ◌beside◌, marked}
-use Rattle.parser_events.specs.Stack.{IsInnermost}
 use Rattle.parser_events.specs.View.{View}
 use Rattle.parser_events.proofs.Forests.{marked-then}
 use Rattle.ra_parser.specs.Adds.{Holds}
 use Rattle.ra_parser.specs.Left.{left}
 use Rattle.ra_parser.specs.Rule.{Production, Look, Spelling, Rule, Nothing, One, Any, Then, Near, Or, Opt, Node, Wrap, Want, Say, Skip, When, Unless, Call, Continue, Mode, begins}
-use Rattle.ra_parser.specs.Meaning.{Reading, ahead, fresh, behind, node, wrapped, say, skip, leaf, read, look_of, meaning}
+use Rattle.ra_parser.specs.Meaning.{Reading, ahead, fresh, behind, node, wrapped, say, skip, leaf, read, meaning}
 use Rattle.ra_parser.specs.Whole.{rule, whole}
 use Rattle.ra_parser.specs.Stands.{looks, Opens, Closes, Leaves, Does, Gives, Goes, Reads, Completes, Saw}
 use Rattle.ra_parser.proofs.WholeTable.{whole-means}

@@ -11,10 +11,10 @@ use Rattle.parser_events.proofs.Forests.{marked-then}
 use Rattle.ra_parser.specs.Adds as adds
 use Rattle.ra_parser.specs.Left.{left}
 use Rattle.ra_parser.specs.Rule.{Production, Spelling, Look, Always, Never, Kind, Contextual, Joint, Left, InCondition, Given, Both, Either, Not, Rule, Nothing, One, Any, Then, Near, Or, Opt, Star, Node, Wrap, Want, Say, Skip, Split, When, Unless, Call, Continue, Mode, begins, there_at, shift, width, passes, is_silent}
-use Rattle.ra_parser.specs.Meaning.{Reading, ahead, sees, leaf, fresh, behind, node, wrapped, say, turns, read, look_of, meaning}
+use Rattle.ra_parser.specs.Meaning.{Reading, ahead, sees, leaf, fresh, behind, node, wrapped, say, turns, read, meaning}
 use Rattle.ra_parser.specs.Whole.{rule, whole}
-use Rattle.ra_parser.specs.Stands.{looks, Opens, Closes, Leaves, Does, Gives, Goes, Reads, Completes, Saw}
-use Rattle.ra_parser.proofs.ByHand.{does-as, does-inside, does-then, goes, completes-as}
+use Rattle.ra_parser.specs.Stands.{looks, Opens, Leaves, Does, Gives, Reads, Completes, Saw}
+use Rattle.ra_parser.proofs.ByHand.{does-as, does-inside, does-then, completes-as}
 use Rattle.ra_parser.proofs.Prefixes.{is_behind, reads-anew}
 use Rattle.ra_parser.proofs.WholeTable.{whole-means, whole-begins}
 use Rattle.ra_parser.proofs.Productions.{same_production, same_production-true}
@@ -683,3 +683,16 @@ saw-taken {c} {d} {x} {b} {old} {new} l plain p saw = record {
       let was : Reading = record { given = forest.End; rest = left old } in
       sees-ahead c (length x.parts) l was s plain (sym e ∙ p.does.rest was refl) ∙ saw.at was refl;
 }
+
+pub saw-left-out : {c : Bool} {l : Look} {b : Bool} {old new : View} → Leaves old new → Saw c l old b → Saw c l new b
+saw-left-out o saw = record { at = λ s e. saw.at s (sym o.rest ∙ e) }
+
+-- Where a look is not there, and would be if another one were, that other one is not.
+pub saw-none : (l m : Look) {c : Bool} {fs : List Fact} {v : View} → Known c fs v → Saw c m v false → tells (Answers l true ∷ fs) m ≡ Some true → Saw c l v false
+saw-none l m {c} {fs} {v} known saw then_so = record { at = λ s e. one s (sees c s l) refl (known.at s e) (saw.at s e) }
+  where
+    one : (s : Reading) (b : Bool) → sees c s l ≡ b → HoldAll c s fs → sees c s m ≡ false → sees c s l ≡ false
+    one s false is h none = is
+    one s true is h none =
+        let so : sees c s m ≡ true = subst (λ (o : Option Bool). Right c s m o) then_so (is_told c s (Answers l true ∷ fs) (is, h) m) in
+        absurd (let z : true ≡ false = sym so ∙ none in cc)

@@ -1,5 +1,5 @@
 -- What looks tell of the tokens left, and what they and tokens cost.
-use Rattle.std.proofs.Common.{◌≡◌, ◌≢◌, ℕ, zero, suc, ◌+◌, ◌*◌, ◌^◌, ◌-◌, ◌≤◌, ◌<◌, ◌==◌, Bool, true, false, not, nat_lt, IsTrue, List, [], ◌∷◌, Option, drop, length, min, nat_eq, sym, ap, subst, refl, ◌∙◌, arith}
+use Rattle.std.proofs.Common.{◌≡◌, ◌≢◌, ℕ, zero, suc, ◌+◌, ◌*◌, ◌^◌, ◌-◌, ◌≤◌, ◌<◌, ◌==◌, Bool, true, false, not, nat_lt, List, [], ◌∷◌, Option, length, min, nat_eq, sym, ap, subst, refl, ◌∙◌, arith}
 use Rattle.std.proofs.lemmas.Bool.{eqb-true, eq-eqb, lt-ltb}
 use Rattle.std.proofs.lemmas.List.{length-drop}
 use Rattle.parser_input.specs.Input.{Token}
@@ -13,9 +13,9 @@ use Rattle.parser_events.specs.Marked.{Marked}
 use Rattle.parser_events.specs.View.{View}
 use Rattle.ra_parser.specs.Left.{left}
 use Rattle.ra_parser.specs.Looks.{tokens, spent}
-use Rattle.ra_parser.specs.Rule.{Look, Kind, Contextual, Joint, Left}
+use Rattle.ra_parser.specs.Rule.{Kind, Contextual, Joint, Left}
 use Rattle.ra_parser.specs.Meaning.{Reading, sees, ahead}
-use Rattle.ra_parser.specs.Stands.{Does, Saw}
+use Rattle.ra_parser.specs.Stands.{Saw}
 use Rattle.ra_parser.proofs.Adding.{seen, seen-token}
 
 -- a look at a token ahead

@@ -1,16 +1,13 @@
 -- What a rule gives stands behind what was given before, whatever that is, where no part of it wraps that or asks for it.
-use Rattle.std.proofs.Common.{◌≡◌, ℕ, zero, suc, Bool, true, false, ◌&&◌, length, drop, nat_lt, not, List, refl, sym, ap, ◌∙◌, subst, if◌then◌else◌}
+use Rattle.std.proofs.Common.{◌≡◌, ℕ, zero, suc, Bool, true, false, ◌&&◌, length, drop, nat_lt, not, List, refl, sym, ap, ◌∙◌, if◌then◌else◌}
 use Rattle.parser_input.specs.Input.{Token}
 use Rattle.parser_events.specs.Forest as forest
 use Rattle.parser_events.specs.Forest.{Forest, End, ◌then◌}
-use Rattle.parser_events.specs.View.{View}
 use Rattle.ra_parser.specs.Rule.{Production, Look, Always, Never, Kind, Contextual, Joint, Left, InCondition, Given, Both, Either, Not, Rule, Nothing, One, Any, Then, Near, Or, Opt, Star, Node, Wrap, Want, Say, Skip, Split, When, Unless, Call, Continue, Mode, begins}
 use Rattle.ra_parser.specs.Meaning.{Reading, Calls, ahead, sees, fresh, behind, node, say, skip, leaf, turns, read, look_of, meaning}
-use Rattle.ra_parser.specs.Whole.{rule, whole}
-use Rattle.ra_parser.specs.Stands.{looks, Gives, Reads}
-use Rattle.ra_parser.proofs.ByHand.{does-as}
+use Rattle.ra_parser.specs.Whole.{whole}
+use Rattle.ra_parser.specs.Stands.{looks}
 use Rattle.ra_parser.proofs.Items.{then-end, then-assoc}
-use Rattle.ra_parser.proofs.WholeTable.{whole-means}
 
 -- a look that does not ask what was given
 abbrev pub no_given : Look → Bool

@@ -26,6 +26,7 @@ pub(crate) mod paths;
 pub(crate) mod patterns;
 pub(crate) mod token_trees;
 pub(crate) mod types;
+pub(crate) mod use_trees;
 pub(crate) mod visibility;
 
 /// The kind of the next token.

@@ -1,6 +1,6 @@
 //! Paths.
 
-ghost use Rattle.std.specs.Prelude.{◌≡◌, ◌+◌, ◌*◌, ◌≤◌, Bool, true, IsTrue};
+ghost use Rattle.std.specs.Prelude.{◌≡◌, ◌+◌, ◌*◌, ◌≤◌, Bool, true, false, IsTrue};
 ghost use Rattle.parser_input.specs.Kinds as kinds;
 ghost use Rattle.parser_input.specs.Kinds.{PATH, PATH_SEGMENT};
 ghost use Rattle.parser_events.specs.Stack.{IsInnermost};
@@ -128,6 +128,7 @@ fn next_segment(p: &mut Parser<'_>, path: Marker) -> Marker
 fn next_segments(p: &mut Parser<'_>, path: Marker) -> Marker
     requires { IsInnermost path p.old.nodes }
     ensures reads { (c : Bool) → Reads c ((Unless colons_before_more (PATH <⟨ '::' ▸ (PATH_SEGMENT ⟨ Ref ▸ Nothing ⟩) ! ⟩)) *) p.old p.new }
+    ensures ends { (c : Bool) → Saw c (Both (Not colons_before_more) (Both (Kind 0 kinds.COLON) (Both (Joint 0) (Kind 1 kinds.COLON)))) p.new false }
     ensures marker { IsInnermost result p.new.nodes }
     ensures left { tokens p.new ≤ tokens p.old }
     ensures looks { spent p.new ≤ spent p.old + 3 }
@@ -144,6 +145,7 @@ pub(crate) fn path(p: &mut Parser<'_>)
     requires begins { (c : Bool) → Saw c (looks rules.path) p.old true }
     requires some { 1 ≤ tokens p.old }
     ensures gives { (c : Bool) → Gives rules.path c p.old p.new }
+    ensures ends { (c : Bool) → Saw c (Both (Not colons_before_more) (Both (Kind 0 kinds.COLON) (Both (Joint 0) (Kind 1 kinds.COLON)))) p.new false }
     ensures left { tokens p.new + 1 ≤ tokens p.old }
     ensures looks { spent p.new + 4000 ≤ spent p.old }
 {

@@ -1,6 +1,5 @@
 -- The look is at the tokens left.
-use Rattle.std.proofs.Common.{◌≡◌, ℕ, nat_eq, ap, ◌∙◌, arith}
-use Rattle.parser_input.specs.Kind.{raw_of}
+use Rattle.std.proofs.Common.{◌∙◌}
 use Rattle.ra_parser.proofs.Looking.{saw-kind, some-ahead, same-tokens, one-look}
 use Rattle.ra_parser.proofs.Moves.{does-look}
 use Rattle.ra_parser.proofs.grammar.at.Goals as goal

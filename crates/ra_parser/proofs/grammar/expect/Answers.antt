@@ -1,5 +1,4 @@
 -- The token is taken where it is there.
-use Rattle.ra_parser.specs.Meaning.{read}
 use Rattle.ra_parser.specs.Rule.{begins, there_at}
 use Rattle.ra_parser.proofs.ByHand.{reads-want, reads-missing, behind-look}
 use Rattle.ra_parser.proofs.Choices.{saw-so}

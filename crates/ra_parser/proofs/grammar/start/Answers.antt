@@ -1,5 +1,4 @@
 -- Only the open nodes change.
-use Rattle.std.proofs.Common.{ap, ◌∙◌, arith}
 use Rattle.ra_parser.proofs.Looking.{same-left, same-spent}
 use Rattle.ra_parser.proofs.Moves.{opens}
 use Rattle.ra_parser.proofs.grammar.start.Goals as goal

@@ -1,5 +1,5 @@
 -- A leaf over the next token.
-use Rattle.std.proofs.Common.{◌≡◌, ℕ, ap, ◌∙◌, arith}
+use Rattle.std.proofs.Common.{arith}
 use Rattle.ra_parser.proofs.ByHand.{reads-leaf}
 use Rattle.ra_parser.proofs.Looking.{enough-left, fewer-tokens, paid-looks}
 use Rattle.ra_parser.proofs.Moves.{does-token}

@@ -12,7 +12,6 @@ use Rattle.ra_parser.specs.Types.{types}
 use Rattle.ra_parser.specs.Whole.{rule, whole}
 use Rattle.ra_parser.proofs.ByHand.{reads-node}
 use Rattle.ra_parser.proofs.Choices.{anew-behind, gives-anew}
-use Rattle.ra_parser.proofs.Moves.{closes, opens}
 use Rattle.ra_parser.proofs.grammar.names.lifetime.Goals as goal
 
 pub complete-requires : goal.complete-requires

@@ -1,5 +1,5 @@
 -- Each path reads what the rule comes to there.
-use Rattle.std.proofs.Common.{false, inl, inr, refl, true}
+use Rattle.std.proofs.Common.{inl, inr, refl}
 use Rattle.ra_parser.specs.Expressions.{expressions}
 use Rattle.ra_parser.specs.Items.{items}
 use Rattle.ra_parser.specs.Meaning.{begins_below, look_of}

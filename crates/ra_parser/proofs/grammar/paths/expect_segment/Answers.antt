@@ -1,5 +1,5 @@
 -- Each path reads what the rule comes to there.
-use Rattle.std.proofs.Common.{false, true}
+use Rattle.std.proofs.Common.{true}
 use Rattle.ra_parser.specs.Expressions.{expressions}
 use Rattle.ra_parser.specs.Items.{items}
 use Rattle.ra_parser.specs.Meaning.{begins_below, look_of}
@@ -13,7 +13,6 @@ use Rattle.ra_parser.specs.Whole.{rule, whole}
 use Rattle.ra_parser.specs.Rule as rules
 use Rattle.ra_parser.proofs.ByHand.{behind-look, does-nothing, reads-call, reads-node, reads-nothing, reads-then}
 use Rattle.ra_parser.proofs.Choices.{begun, nothing, reads-here, saw-so}
-use Rattle.ra_parser.proofs.Moves.{closes, opens}
 use Rattle.ra_parser.proofs.grammar.paths.expect_segment.Goals as goal
 
 pub complete-requires : goal.complete-requires

@@ -1,14 +1,12 @@
 -- Turn by turn.
 use Rattle.std.proofs.Common.{refl, arith}
 use Rattle.ra_parser.specs.Looks.{tokens}
-use Rattle.parser_input.specs.Kinds as kinds
 use Rattle.parser_input.specs.Kinds.{PATH, PATH_SEGMENT}
-use Rattle.ra_parser.specs.Notation.{◌▸◌, ⁅◌⁆, ◌*, ◌!, ◌⟨◌⟩, ◌<⟨◌⟩}
+use Rattle.ra_parser.specs.Notation.{◌▸◌, ◌!, ◌⟨◌⟩, ◌<⟨◌⟩}
 use Rattle.ra_parser.specs.Words.{'::'}
-use Rattle.ra_parser.specs.Calls.{Ref, Path}
+use Rattle.ra_parser.specs.Calls.{Ref}
 use Rattle.ra_parser.specs.Shared.{colons_before_more}
-use Rattle.ra_parser.specs.Rule as rules
-use Rattle.ra_parser.specs.Rule.{Kind, Joint, Both, Not, Nothing, Unless}
+use Rattle.ra_parser.specs.Rule.{Nothing, Unless}
 use Rattle.ra_parser.specs.Expressions.{expressions}
 use Rattle.ra_parser.specs.Items.{items}
 use Rattle.ra_parser.specs.Meaning.{begins_below, look_of}
@@ -19,8 +17,8 @@ use Rattle.ra_parser.specs.Rule.{begins, in_mode, is_silent, passes, shift, ther
 use Rattle.ra_parser.specs.Statements.{statements}
 use Rattle.ra_parser.specs.Types.{types}
 use Rattle.ra_parser.specs.Whole.{rule, whole}
-use Rattle.ra_parser.proofs.ByHand.{behind-look, reads-unless, reads-when, reads-call, reads-more}
-use Rattle.ra_parser.proofs.Choices.{saw-so}
+use Rattle.ra_parser.proofs.ByHand.{behind-look, reads-unless}
+use Rattle.ra_parser.proofs.Choices.{saw-so, saw-behind}
 use Rattle.ra_parser.proofs.Turns.{first-turn, next-turn, last-turn}
 use Rattle.ra_parser.proofs.Choices.{ends-at-end}
 use Rattle.ra_parser.proofs.grammar.paths.next_segments.Goals as goal
@@ -44,3 +42,6 @@ returns-clause-marker c = c.at_next_segment.ensures.same.innermost _ c.turns.inv
 
 pub next_segment-path-requires-clause-some : goal.next_segment-path-requires-clause-some
 next_segment-path-requires-clause-some c = omega (arith, c.at_next_segment.ensures.some c.turns-test.true, c.at_next_segment.ensures.left)
+
+pub returns-clause-ends : goal.returns-clause-ends
+returns-clause-ends c cond = saw-behind c.at_next_segment.ensures.same (saw-so (c.at_next_segment.ensures.sees cond) c.turns-test.false)

@@ -1,16 +1,13 @@
 -- What the repetition keeps.
-use Rattle.std.specs.Prelude.{◌≡◌, ◌+◌, ◌*◌, ◌≤◌, Bool, true, IsTrue}
-use Rattle.parser_input.specs.Kinds as kinds
+use Rattle.std.specs.Prelude.{◌≤◌, Bool}
 use Rattle.parser_input.specs.Kinds.{PATH, PATH_SEGMENT}
 use Rattle.parser_events.specs.Stack.{IsInnermost}
 use Rattle.ra_parser.specs.Looks.{tokens, spent}
-use Rattle.ra_parser.specs.Notation.{◌▸◌, ⁅◌⁆, ◌*, ◌!, ◌⟨◌⟩, ◌<⟨◌⟩}
+use Rattle.ra_parser.specs.Notation.{◌▸◌, ◌!, ◌⟨◌⟩, ◌<⟨◌⟩}
 use Rattle.ra_parser.specs.Words.{'::'}
-use Rattle.ra_parser.specs.Calls.{Ref, Path}
+use Rattle.ra_parser.specs.Calls.{Ref}
 use Rattle.ra_parser.specs.Shared.{colons_before_more}
-use Rattle.ra_parser.specs.Rule as rules
-use Rattle.ra_parser.specs.Rule.{Kind, Joint, Both, Not, Nothing, Unless}
-use Rattle.ra_parser.specs.Stands.{looks, Does, Gives, Reads, Saw}
+use Rattle.ra_parser.specs.Rule.{Nothing, Unless}
 use Rattle.ra_parser.proofs.Turns.{TurnsFrom}
 use Rattle.ra_parser.proofs.grammar.paths.next_segments.Given as goal
 

@@ -11,8 +11,7 @@ use Rattle.ra_parser.specs.Statements.{statements}
 use Rattle.ra_parser.specs.Types.{types}
 use Rattle.ra_parser.specs.Whole.{rule, whole}
 use Rattle.ra_parser.proofs.ByHand.{completes-leave, completes-then}
-use Rattle.ra_parser.proofs.Choices.{anew-completes, gives-anew, saw-inside}
-use Rattle.ra_parser.proofs.Moves.{leaves, opens}
+use Rattle.ra_parser.proofs.Choices.{anew-completes, gives-anew, saw-inside, saw-left-out}
 use Rattle.ra_parser.proofs.grammar.paths.path.Goals as goal
 
 pub first_segment-requires-clause-begins : goal.first_segment-requires-clause-begins
@@ -27,3 +26,7 @@ abandon-requires c = c.next_segments-frame.ensures.marker
 pub returns-clause-gives : goal.returns-clause-gives
 unfolding look_of begins_below whole rule items statements expressions patterns types paths there_at shift width passes is_silent begins in_mode row one_of any_of expected wanted op no_longer is_longer
 returns-clause-gives c cond = gives-anew (anew-completes c.start-frame.ensures.opens (completes-then ((c.first_segment.ensures.reads cond)) (completes-leave ((c.next_segments-frame.ensures.reads cond)) c.abandon.ensures.leaves)))
+
+pub returns-clause-ends : goal.returns-clause-ends
+unfolding look_of begins_below whole rule items statements expressions patterns types paths there_at shift width passes is_silent begins in_mode row one_of any_of expected wanted op no_longer is_longer
+returns-clause-ends c cond = saw-left-out c.abandon.ensures.leaves (c.next_segments-frame.ensures.ends cond)

@@ -1,11 +1,9 @@
 -- Each path reads what the rule comes to there.
-use Rattle.parser_input.specs.Kinds as kinds
-use Rattle.parser_input.specs.Kinds.{TOKEN_TREE}
-use Rattle.ra_parser.specs.Notation.{◌or◌, ◌▸◌, ◌*, ◌!, ◌⟨◌⟩, one_of}
-use Rattle.ra_parser.specs.Words.{one, 'r_paren', 'r_curly', ']'}
+use Rattle.ra_parser.specs.Notation.{◌or◌, one_of}
+use Rattle.ra_parser.specs.Words.{'r_paren', 'r_curly', ']'}
 use Rattle.ra_parser.specs.Calls.{TokenTree}
 use Rattle.ra_parser.specs.Rule.{Left, Both, Either, Not, When, Want, Any}
-use Rattle.std.proofs.Common.{[], arith, false, refl, true, ◌∷◌}
+use Rattle.std.proofs.Common.{[], arith, refl, true, ◌∷◌}
 use Rattle.ra_parser.specs.Expressions.{expressions}
 use Rattle.ra_parser.specs.Items.{items}
 use Rattle.ra_parser.specs.Looks.{tokens}
@@ -21,7 +19,6 @@ use Rattle.ra_parser.specs.Rule as rules
 use Rattle.ra_parser.proofs.ByHand.{behind-look, reads-call, reads-node, reads-then}
 use Rattle.ra_parser.proofs.Choices.{anew-behind, anew-here, begun, ends-at-end, gives-anew, nothing, reads-here, saw-so, ◌and◌}
 use Rattle.ra_parser.proofs.Looking.{left-arm, saw-arm, saw-not}
-use Rattle.ra_parser.proofs.Moves.{closes, opens}
 use Rattle.ra_parser.proofs.Turns.{first-turn, last-turn, next-turn}
 use Rattle.ra_parser.proofs.grammar.token_trees.+token_trees.Goals as goal
 

@@ -1,16 +1,10 @@
 -- What is left shrinks from call to call, and what repetitions keep.
-use Rattle.std.specs.Prelude.{◌≡◌, ◌≢◌, ◌+◌, ◌*◌, ◌≤◌, Bool, true, IsTrue, [], ◌∷◌}
-use Rattle.parser_input.specs.Kind.{raw_of}
-use Rattle.parser_input.specs.Kinds as kinds
-use Rattle.parser_input.specs.Kinds.{TOKEN_TREE}
-use Rattle.parser_events.specs.Forest.{Expected}
+use Rattle.std.specs.Prelude.{◌+◌, ◌*◌, ◌≤◌, Bool, [], ◌∷◌}
 use Rattle.ra_parser.specs.Looks.{tokens, spent}
-use Rattle.ra_parser.specs.Notation.{◌or◌, ◌▸◌, ◌*, ◌!, ◌⟨◌⟩, one_of}
-use Rattle.ra_parser.specs.Words.{one, 'r_paren', 'r_curly', ']'}
+use Rattle.ra_parser.specs.Notation.{◌or◌, ◌*, one_of}
+use Rattle.ra_parser.specs.Words.{'r_paren', 'r_curly', ']'}
 use Rattle.ra_parser.specs.Calls.{TokenTree}
-use Rattle.ra_parser.specs.Rule as rules
-use Rattle.ra_parser.specs.Rule.{Left, Both, Either, Not, When, Want, Any}
-use Rattle.ra_parser.specs.Stands.{looks, Does, Gives, Reads, Saw}
+use Rattle.ra_parser.specs.Rule.{Left, Both, Not, When, Any}
 use Rattle.ra_parser.proofs.Turns.{TurnsFrom}
 use Rattle.ra_parser.proofs.grammar.token_trees.+token_trees.Given as goal
 
