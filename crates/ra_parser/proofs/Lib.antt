@@ -14,5 +14,7 @@ pub mod Turns
 pub mod Prefixes
 pub mod Looking
 pub mod Productions
+pub mod Facts
 pub mod Choices
+pub mod Seen
 pub mod Begins

@@ -1,7 +1,8 @@
 -- The first is next and touches the second.
 use Rattle.ra_parser.specs.Rule.{there_at}
 use Rattle.ra_parser.proofs.ByHand.{does-then}
-use Rattle.ra_parser.proofs.Choices.{saw-no-left, saw-no-right, saw-so, saw-before, saw-pair}
+use Rattle.ra_parser.proofs.Facts.{saw-so}
+use Rattle.ra_parser.proofs.Seen.{saw-no-left, saw-no-right, saw-before, saw-pair}
 use Rattle.ra_parser.proofs.Looking.{saw-joint}
 use Rattle.ra_parser.proofs.grammar.at_pair.Goals as goal
 

@@ -1,7 +1,7 @@
 -- The token is taken where it is there.
 use Rattle.ra_parser.specs.Rule.{begins, there_at}
 use Rattle.ra_parser.proofs.ByHand.{reads-opt, reads-none, behind-look}
-use Rattle.ra_parser.proofs.Choices.{saw-so}
+use Rattle.ra_parser.proofs.Facts.{saw-so}
 use Rattle.ra_parser.proofs.grammar.eat.Goals as goal
 
 pub returns-then-at-clause-reads : goal.returns-then-at-clause-reads

@@ -10,7 +10,8 @@ use Rattle.ra_parser.specs.Rule.{begins, in_mode, is_silent, passes, shift, ther
 use Rattle.ra_parser.specs.Statements.{statements}
 use Rattle.ra_parser.specs.Types.{types}
 use Rattle.ra_parser.specs.Whole.{rule, whole}
-use Rattle.ra_parser.proofs.Choices.{nothing, saw-condition, saw-told, ◌and◌}
+use Rattle.ra_parser.proofs.Facts.{nothing, ◌and◌}
+use Rattle.ra_parser.proofs.Seen.{saw-condition, saw-told}
 use Rattle.ra_parser.proofs.Looking.{left-arm, saw-arm, saw-not}
 use Rattle.ra_parser.proofs.grammar.expressions.at_let.Goals as goal
 

@@ -2,7 +2,8 @@
 use Rattle.ra_parser.specs.Notation.{row}
 use Rattle.ra_parser.specs.Rule.{there_at}
 use Rattle.ra_parser.proofs.ByHand.{does-then}
-use Rattle.ra_parser.proofs.Choices.{saw-so, saw-before, saw-either-left, saw-either-right, saw-always}
+use Rattle.ra_parser.proofs.Facts.{saw-so}
+use Rattle.ra_parser.proofs.Seen.{saw-before, saw-either-left, saw-either-right, saw-always}
 use Rattle.ra_parser.proofs.grammar.lists.at_list_end.Goals as goal
 
 pub returns-then-at_end-clause-sees : goal.returns-then-at_end-clause-sees

@@ -2,7 +2,8 @@
 use Rattle.ra_parser.specs.Notation.{row}
 use Rattle.ra_parser.specs.Rule.{begins, there_at}
 use Rattle.ra_parser.proofs.ByHand.{reads-or, reads-else, reads-when, reads-nothing, behind-look}
-use Rattle.ra_parser.proofs.Choices.{saw-so, saw-always}
+use Rattle.ra_parser.proofs.Facts.{saw-so}
+use Rattle.ra_parser.proofs.Seen.{saw-always}
 use Rattle.ra_parser.proofs.grammar.lists.comma.Goals as goal
 
 pub returns-then-at-clause-reads : goal.returns-then-at-clause-reads

@@ -11,7 +11,8 @@ use Rattle.ra_parser.specs.Types.{types}
 use Rattle.ra_parser.specs.Whole.{rule, whole}
 use Rattle.ra_parser.specs.Rule as rules
 use Rattle.ra_parser.proofs.ByHand.{behind-look, reads-call}
-use Rattle.ra_parser.proofs.Choices.{begun, nothing, reads-here, saw-so}
+use Rattle.ra_parser.proofs.Choices.{reads-here}
+use Rattle.ra_parser.proofs.Facts.{begun, nothing, saw-so}
 use Rattle.ra_parser.proofs.grammar.names.expect_literal.Goals as goal
 
 pub returns-then-at_literal-clause-reads : goal.returns-then-at_literal-clause-reads

@@ -10,7 +10,8 @@ use Rattle.ra_parser.specs.Statements.{statements}
 use Rattle.ra_parser.specs.Types.{types}
 use Rattle.ra_parser.specs.Whole.{rule, whole}
 use Rattle.ra_parser.proofs.ByHand.{behind-look}
-use Rattle.ra_parser.proofs.Choices.{nothing, reads-here, ◌and◌}
+use Rattle.ra_parser.proofs.Choices.{reads-here}
+use Rattle.ra_parser.proofs.Facts.{nothing, ◌and◌}
 use Rattle.ra_parser.proofs.Looking.{left-arm, saw-arm, saw-not}
 use Rattle.ra_parser.proofs.grammar.names.take_word.Goals as goal
 

@@ -12,7 +12,8 @@ use Rattle.ra_parser.specs.Types.{types}
 use Rattle.ra_parser.specs.Whole.{rule, whole}
 use Rattle.ra_parser.specs.Rule as rules
 use Rattle.ra_parser.proofs.ByHand.{does-then}
-use Rattle.ra_parser.proofs.Choices.{begins-row, begun, nothing, saw-before, saw-so, ◌and◌}
+use Rattle.ra_parser.proofs.Facts.{begun, nothing, saw-so, ◌and◌}
+use Rattle.ra_parser.proofs.Seen.{begins-row, saw-before}
 use Rattle.ra_parser.proofs.grammar.paths.at_path.Goals as goal
 
 pub returns-then-at_name_ref-clause-sees : goal.returns-then-at_name_ref-clause-sees

@@ -13,7 +13,9 @@ use Rattle.ra_parser.specs.Whole.{rule, whole}
 use Rattle.ra_parser.specs.Rule as rules
 use Rattle.ra_parser.proofs.Begins.{saw-expr-path, saw-type-path}
 use Rattle.ra_parser.proofs.ByHand.{behind-look, reads-call}
-use Rattle.ra_parser.proofs.Choices.{begins-here, begun, nothing, reads-here, saw-behind, saw-so}
+use Rattle.ra_parser.proofs.Choices.{reads-here}
+use Rattle.ra_parser.proofs.Facts.{begun, nothing, saw-so}
+use Rattle.ra_parser.proofs.Seen.{begins-here, saw-behind}
 use Rattle.ra_parser.proofs.grammar.paths.expect_path.Goals as goal
 
 pub path-requires-clause-begins : goal.path-requires-clause-begins

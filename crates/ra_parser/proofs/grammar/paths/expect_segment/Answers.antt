@@ -12,7 +12,8 @@ use Rattle.ra_parser.specs.Types.{types}
 use Rattle.ra_parser.specs.Whole.{rule, whole}
 use Rattle.ra_parser.specs.Rule as rules
 use Rattle.ra_parser.proofs.ByHand.{behind-look, does-nothing, reads-call, reads-node, reads-nothing, reads-then}
-use Rattle.ra_parser.proofs.Choices.{begun, nothing, reads-here, saw-so}
+use Rattle.ra_parser.proofs.Choices.{reads-here}
+use Rattle.ra_parser.proofs.Facts.{begun, nothing, saw-so}
 use Rattle.ra_parser.proofs.grammar.paths.expect_segment.Goals as goal
 
 pub complete-requires : goal.complete-requires

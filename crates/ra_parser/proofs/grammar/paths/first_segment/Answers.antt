@@ -11,7 +11,7 @@ use Rattle.ra_parser.specs.Statements.{statements}
 use Rattle.ra_parser.specs.Types.{types}
 use Rattle.ra_parser.specs.Whole.{rule, whole}
 use Rattle.ra_parser.proofs.ByHand.{reads-node}
-use Rattle.ra_parser.proofs.Choices.{saw-inside}
+use Rattle.ra_parser.proofs.Seen.{saw-inside}
 use Rattle.ra_parser.proofs.grammar.paths.first_segment.Goals as goal
 
 pub first_word-requires-clause-begins : goal.first_word-requires-clause-begins

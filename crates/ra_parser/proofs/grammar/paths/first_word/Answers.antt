@@ -12,7 +12,9 @@ use Rattle.ra_parser.specs.Types.{types}
 use Rattle.ra_parser.specs.Whole.{rule, whole}
 use Rattle.ra_parser.specs.Rule as rules
 use Rattle.ra_parser.proofs.ByHand.{behind-look, does-nothing, reads-call, reads-nothing, reads-then}
-use Rattle.ra_parser.proofs.Choices.{begins-else, begun, nothing, reads-here, saw-so, ◌and◌}
+use Rattle.ra_parser.proofs.Choices.{reads-here}
+use Rattle.ra_parser.proofs.Facts.{begun, nothing, saw-so, ◌and◌}
+use Rattle.ra_parser.proofs.Seen.{begins-else}
 use Rattle.ra_parser.proofs.grammar.paths.first_word.Goals as goal
 
 pub returns-then-at_colons-clause-reads : goal.returns-then-at_colons-clause-reads

@@ -11,7 +11,8 @@ use Rattle.ra_parser.specs.Statements.{statements}
 use Rattle.ra_parser.specs.Types.{types}
 use Rattle.ra_parser.specs.Whole.{rule, whole}
 use Rattle.ra_parser.proofs.ByHand.{completes-leave, completes-then}
-use Rattle.ra_parser.proofs.Choices.{anew-completes, gives-anew, saw-inside, saw-left-out}
+use Rattle.ra_parser.proofs.Choices.{anew-completes, gives-anew}
+use Rattle.ra_parser.proofs.Seen.{saw-inside, saw-left-out}
 use Rattle.ra_parser.proofs.grammar.paths.path.Goals as goal
 
 pub first_segment-requires-clause-begins : goal.first_segment-requires-clause-begins

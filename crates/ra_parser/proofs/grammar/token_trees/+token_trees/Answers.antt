@@ -17,7 +17,9 @@ use Rattle.ra_parser.specs.Types.{types}
 use Rattle.ra_parser.specs.Whole.{rule, whole}
 use Rattle.ra_parser.specs.Rule as rules
 use Rattle.ra_parser.proofs.ByHand.{behind-look, reads-call, reads-node, reads-then}
-use Rattle.ra_parser.proofs.Choices.{anew-behind, anew-here, begun, ends-at-end, gives-anew, nothing, reads-here, saw-so, ◌and◌}
+use Rattle.ra_parser.proofs.Choices.{anew-behind, anew-here, gives-anew, reads-here}
+use Rattle.ra_parser.proofs.Facts.{begun, nothing, saw-so, ◌and◌}
+use Rattle.ra_parser.proofs.Seen.{ends-at-end}
 use Rattle.ra_parser.proofs.Looking.{left-arm, saw-arm, saw-not}
 use Rattle.ra_parser.proofs.Turns.{first-turn, last-turn, next-turn}
 use Rattle.ra_parser.proofs.grammar.token_trees.+token_trees.Goals as goal

@@ -10,7 +10,8 @@ use Rattle.ra_parser.specs.Rule.{begins, in_mode, is_silent, passes, shift, ther
 use Rattle.ra_parser.specs.Statements.{statements}
 use Rattle.ra_parser.specs.Types.{types}
 use Rattle.ra_parser.specs.Whole.{rule, whole}
-use Rattle.ra_parser.proofs.Choices.{nothing, saw-told, ◌and◌}
+use Rattle.ra_parser.proofs.Facts.{nothing, ◌and◌}
+use Rattle.ra_parser.proofs.Seen.{saw-told}
 use Rattle.ra_parser.proofs.Looking.{left-arm, left-not, saw-arm, saw-not}
 use Rattle.ra_parser.proofs.grammar.token_trees.at_inner.Goals as goal
 

@@ -21,7 +21,9 @@ use Rattle.ra_parser.specs.Types.{types}
 use Rattle.ra_parser.specs.Whole.{rule, whole}
 use Rattle.ra_parser.specs.Rule as rules
 use Rattle.ra_parser.proofs.ByHand.{behind-look, does-then, reads-call, reads-mode, reads-node, reads-nothing, reads-then, reads-unless}
-use Rattle.ra_parser.proofs.Choices.{anew-behind, begins-else, begun, ends-at-end, gives-anew, nothing, reads-here, saw-before, saw-behind, saw-else, saw-inside, saw-left, saw-none, saw-right, saw-so, saw-taken, ◌and◌}
+use Rattle.ra_parser.proofs.Choices.{anew-behind, gives-anew, reads-here}
+use Rattle.ra_parser.proofs.Facts.{begun, nothing, saw-so, ◌and◌}
+use Rattle.ra_parser.proofs.Seen.{begins-else, ends-at-end, saw-before, saw-behind, saw-else, saw-inside, saw-left, saw-none, saw-right, saw-taken}
 use Rattle.ra_parser.proofs.Looking.{left-arm, saw-arm, saw-not}
 use Rattle.ra_parser.proofs.Turns.{first-turn, last-turn, next-turn}
 use Rattle.ra_parser.proofs.grammar.use_trees.+use_trees.Goals as goal

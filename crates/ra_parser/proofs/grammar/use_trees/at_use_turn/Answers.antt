@@ -12,7 +12,8 @@ use Rattle.ra_parser.specs.Types.{types}
 use Rattle.ra_parser.specs.Whole.{rule, whole}
 use Rattle.ra_parser.specs.Rule as rules
 use Rattle.ra_parser.proofs.ByHand.{does-then}
-use Rattle.ra_parser.proofs.Choices.{begun, nothing, saw-before, saw-so, saw-told, ◌and◌}
+use Rattle.ra_parser.proofs.Facts.{begun, nothing, saw-so, ◌and◌}
+use Rattle.ra_parser.proofs.Seen.{saw-before, saw-told}
 use Rattle.ra_parser.proofs.grammar.use_trees.at_use_turn.Goals as goal
 
 pub returns-then-at_list_end-clause-sees : goal.returns-then-at_list_end-clause-sees

@@ -10,7 +10,8 @@ use Rattle.ra_parser.specs.Statements.{statements}
 use Rattle.ra_parser.specs.Types.{types}
 use Rattle.ra_parser.specs.Whole.{rule, whole}
 use Rattle.ra_parser.proofs.ByHand.{behind-look, reads-nothing, reads-then}
-use Rattle.ra_parser.proofs.Choices.{nothing, reads-here, saw-so, ◌and◌}
+use Rattle.ra_parser.proofs.Choices.{reads-here}
+use Rattle.ra_parser.proofs.Facts.{nothing, saw-so, ◌and◌}
 use Rattle.ra_parser.proofs.grammar.visibility.opt_scope.Goals as goal
 
 pub returns-then-at_scope-clause-reads : goal.returns-then-at_scope-clause-reads
