@@ -20,8 +20,10 @@ use parser_events::parser::{Marker, Parser};
 use parser_input::syntax_kind::SyntaxKind;
 
 pub(crate) mod expressions;
+pub(crate) mod generic_params;
 pub(crate) mod lists;
 pub(crate) mod names;
+pub(crate) mod params;
 pub(crate) mod paths;
 pub(crate) mod patterns;
 pub(crate) mod token_trees;

@@ -106,3 +106,20 @@ pub(crate) fn at_atom(p: &mut Parser<'_>, condition: bool) -> bool
         _ => false,
     }
 }
+
+/// Whether an operand begins here.
+pub(crate) fn at_operand(p: &mut Parser<'_>, condition: bool) -> bool
+    ensures sees { Saw condition (looks rules.prefixed) p.old result }
+    ensures some { IsTrue result → 1 ≤ tokens p.old }
+    ensures same { Does (λ s. s) p.old p.new }
+    ensures left { tokens p.new ≡ tokens p.old }
+    ensures looks { spent p.new ≤ spent p.old + 11 }
+{
+    if at_atom(p, condition) {
+        return true;
+    }
+    match current(p) {
+        SyntaxKind::MINUS | SyntaxKind::BANG | SyntaxKind::STAR | SyntaxKind::AMP => true,
+        _ => false,
+    }
+}

@@ -4,9 +4,9 @@ ghost use Rattle.std.specs.Prelude.{◌≡◌, ◌+◌, ◌*◌, ◌≤◌, Bool
 ghost use Rattle.parser_input.specs.Kinds as kinds;
 ghost use Rattle.parser_events.specs.Forest.{Expected};
 ghost use Rattle.ra_parser.specs.Looks.{tokens, spent};
-ghost use Rattle.ra_parser.specs.Notation.{◌or◌, ◌! };
+ghost use Rattle.ra_parser.specs.Notation.{◌or◌, ⁅◌⁆, ◌! };
 ghost use Rattle.ra_parser.specs.Words.{'crate', 'self', 'Self', 'super', 'ident', 'int', 'float', 'char', 'byte', 'string', 'byte_string', 'c_string', 'true', 'false'};
-ghost use Rattle.ra_parser.specs.Calls.{Name, Ref, Literal};
+ghost use Rattle.ra_parser.specs.Calls.{Name, Lifetime, Ref, Literal};
 ghost use Rattle.ra_parser.specs.Rule as rules;
 ghost use Rattle.ra_parser.specs.Stands.{looks, Does, Gives, Reads, Saw};
 
@@ -50,6 +50,17 @@ pub(crate) fn lifetime(p: &mut Parser<'_>)
     let lifetime = start(p);
     take(p, SyntaxKind::LIFETIME_IDENT);
     complete(p, lifetime, SyntaxKind::LIFETIME);
+}
+
+/// A lifetime, where there is one.
+pub(crate) fn opt_lifetime(p: &mut Parser<'_>)
+    ensures reads { (c : Bool) → Reads c ⁅ Lifetime ⁆ p.old p.new }
+    ensures left { tokens p.new ≤ tokens p.old }
+    ensures looks { spent p.new ≤ spent p.old + 1 }
+{
+    if at(p, SyntaxKind::LIFETIME_IDENT) {
+        lifetime(p);
+    }
 }
 
 /// The word of a path's segment.

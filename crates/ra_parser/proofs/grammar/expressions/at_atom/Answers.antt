@@ -14,8 +14,8 @@ use Rattle.ra_parser.specs.Rule as rules
 use Rattle.ra_parser.proofs.Begins.{saw-expr-path, saw-type-path}
 use Rattle.ra_parser.proofs.ByHand.{does-then}
 use Rattle.ra_parser.proofs.Facts.{begun, nothing, saw-so, ◌and◌}
-use Rattle.ra_parser.proofs.Seen.{begins-row, saw-before}
 use Rattle.ra_parser.proofs.Looking.{left-arm, saw-arm, saw-not}
+use Rattle.ra_parser.proofs.Seen.{begins-row, saw-before}
 use Rattle.ra_parser.proofs.grammar.expressions.at_atom.Goals as goal
 
 pub returns-then-at_path-clause-sees : goal.returns-then-at_path-clause-sees

@@ -11,8 +11,8 @@ use Rattle.ra_parser.specs.Statements.{statements}
 use Rattle.ra_parser.specs.Types.{types}
 use Rattle.ra_parser.specs.Whole.{rule, whole}
 use Rattle.ra_parser.proofs.Facts.{nothing, ◌and◌}
-use Rattle.ra_parser.proofs.Seen.{saw-condition, saw-told}
 use Rattle.ra_parser.proofs.Looking.{left-arm, saw-arm, saw-not}
+use Rattle.ra_parser.proofs.Seen.{saw-condition, saw-told}
 use Rattle.ra_parser.proofs.grammar.expressions.at_let.Goals as goal
 
 pub returns-then-not-condition-clause-sees : goal.returns-then-not-condition-clause-sees

@@ -11,8 +11,8 @@ use Rattle.ra_parser.specs.Statements.{statements}
 use Rattle.ra_parser.specs.Types.{types}
 use Rattle.ra_parser.specs.Whole.{rule, whole}
 use Rattle.ra_parser.proofs.Facts.{nothing, ◌and◌}
-use Rattle.ra_parser.proofs.Seen.{saw-told}
 use Rattle.ra_parser.proofs.Looking.{left-arm, left-not, saw-arm, saw-not}
+use Rattle.ra_parser.proofs.Seen.{saw-told}
 use Rattle.ra_parser.proofs.grammar.lists.at_end.Goals as goal
 
 pub returns-in-EOF-clause-sees : goal.returns-in-EOF-clause-sees

@@ -12,8 +12,8 @@ use Rattle.ra_parser.specs.Types.{types}
 use Rattle.ra_parser.specs.Whole.{rule, whole}
 use Rattle.ra_parser.specs.Rule as rules
 use Rattle.ra_parser.proofs.Facts.{nothing, ◌and◌}
-use Rattle.ra_parser.proofs.Seen.{begins-row}
 use Rattle.ra_parser.proofs.Looking.{left-arm, saw-arm, saw-not}
+use Rattle.ra_parser.proofs.Seen.{begins-row}
 use Rattle.ra_parser.proofs.grammar.names.at_name_ref.Goals as goal
 
 pub returns-in-IDENT-clause-sees : goal.returns-in-IDENT-clause-sees

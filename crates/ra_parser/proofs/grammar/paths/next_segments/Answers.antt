@@ -19,9 +19,8 @@ use Rattle.ra_parser.specs.Types.{types}
 use Rattle.ra_parser.specs.Whole.{rule, whole}
 use Rattle.ra_parser.proofs.ByHand.{behind-look, reads-unless}
 use Rattle.ra_parser.proofs.Facts.{saw-so}
-use Rattle.ra_parser.proofs.Seen.{saw-behind}
+use Rattle.ra_parser.proofs.Seen.{saw-behind, ends-at-end}
 use Rattle.ra_parser.proofs.Turns.{first-turn, next-turn, last-turn}
-use Rattle.ra_parser.proofs.Seen.{ends-at-end}
 use Rattle.ra_parser.proofs.grammar.paths.next_segments.Goals as goal
 
 pub turns-init : goal.turns-init

@@ -12,8 +12,8 @@ use Rattle.ra_parser.specs.Types.{types}
 use Rattle.ra_parser.specs.Whole.{rule, whole}
 use Rattle.ra_parser.proofs.ByHand.{does-then}
 use Rattle.ra_parser.proofs.Facts.{nothing, saw-so, ◌and◌}
-use Rattle.ra_parser.proofs.Seen.{saw-before, saw-told}
 use Rattle.ra_parser.proofs.Looking.{left-arm, saw-arm, saw-not}
+use Rattle.ra_parser.proofs.Seen.{saw-before, saw-told}
 use Rattle.ra_parser.proofs.grammar.patterns.at_named_field.Goals as goal
 
 pub returns-then-not-at_second-clause-sees : goal.returns-then-not-at_second-clause-sees

@@ -13,8 +13,8 @@ use Rattle.ra_parser.specs.Whole.{rule, whole}
 use Rattle.ra_parser.specs.Rule as rules
 use Rattle.ra_parser.proofs.ByHand.{does-then}
 use Rattle.ra_parser.proofs.Facts.{begun, nothing, saw-so, ◌and◌}
-use Rattle.ra_parser.proofs.Seen.{begins-row, saw-before}
 use Rattle.ra_parser.proofs.Looking.{left-arm, saw-arm, saw-not}
+use Rattle.ra_parser.proofs.Seen.{begins-row, saw-before}
 use Rattle.ra_parser.proofs.grammar.patterns.at_pattern.Goals as goal
 
 pub returns-then-at_single_pattern-clause-sees : goal.returns-then-at_single_pattern-clause-sees

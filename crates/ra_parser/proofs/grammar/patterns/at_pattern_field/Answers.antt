@@ -13,8 +13,8 @@ use Rattle.ra_parser.specs.Whole.{rule, whole}
 use Rattle.ra_parser.specs.Rule as rules
 use Rattle.ra_parser.proofs.ByHand.{does-then}
 use Rattle.ra_parser.proofs.Facts.{nothing, saw-so, ◌and◌}
-use Rattle.ra_parser.proofs.Seen.{begins-row, saw-before, saw-left, saw-right}
 use Rattle.ra_parser.proofs.Looking.{left-arm, saw-arm, saw-not}
+use Rattle.ra_parser.proofs.Seen.{begins-row, saw-before, saw-left, saw-right}
 use Rattle.ra_parser.proofs.grammar.patterns.at_pattern_field.Goals as goal
 
 pub returns-then-at_pair-clause-sees : goal.returns-then-at_pair-clause-sees

@@ -19,8 +19,8 @@ use Rattle.ra_parser.specs.Rule as rules
 use Rattle.ra_parser.proofs.ByHand.{behind-look, reads-call, reads-node, reads-then}
 use Rattle.ra_parser.proofs.Choices.{anew-behind, anew-here, gives-anew, reads-here}
 use Rattle.ra_parser.proofs.Facts.{begun, nothing, saw-so, ◌and◌}
-use Rattle.ra_parser.proofs.Seen.{ends-at-end}
 use Rattle.ra_parser.proofs.Looking.{left-arm, saw-arm, saw-not}
+use Rattle.ra_parser.proofs.Seen.{ends-at-end}
 use Rattle.ra_parser.proofs.Turns.{first-turn, last-turn, next-turn}
 use Rattle.ra_parser.proofs.grammar.token_trees.+token_trees.Goals as goal
 

@@ -23,8 +23,8 @@ use Rattle.ra_parser.specs.Rule as rules
 use Rattle.ra_parser.proofs.ByHand.{behind-look, does-then, reads-call, reads-mode, reads-node, reads-nothing, reads-then, reads-unless}
 use Rattle.ra_parser.proofs.Choices.{anew-behind, gives-anew, reads-here}
 use Rattle.ra_parser.proofs.Facts.{begun, nothing, saw-so, ◌and◌}
-use Rattle.ra_parser.proofs.Seen.{begins-else, ends-at-end, saw-before, saw-behind, saw-else, saw-inside, saw-left, saw-none, saw-right, saw-taken}
 use Rattle.ra_parser.proofs.Looking.{left-arm, saw-arm, saw-not}
+use Rattle.ra_parser.proofs.Seen.{begins-else, ends-at-end, saw-before, saw-behind, saw-else, saw-inside, saw-left, saw-none, saw-right, saw-taken}
 use Rattle.ra_parser.proofs.Turns.{first-turn, last-turn, next-turn}
 use Rattle.ra_parser.proofs.grammar.use_trees.+use_trees.Goals as goal
 
@@ -47,6 +47,9 @@ behind_path-returns-then-at-clause-reads t c cond = reads-here (saw-so (c.at_col
 pub behind_path-returns-else-at-clause-reads : goal.behind_path-returns-else-at-clause-reads
 unfolding look_of begins_below whole rule items statements expressions patterns types paths there_at shift width passes is_silent begins in_mode row one_of any_of expected wanted op no_longer is_longer
 behind_path-returns-else-at-clause-reads t c cond = reads-here (saw-none (Both (Kind 0 COLON) (Both (Joint 0) (Kind 1 COLON))) (Both (Not colons_before_more) (Both (Kind 0 COLON) (Both (Joint 0) (Kind 1 COLON)))) (saw-so (c.at_colons_before_more.ensures.sees cond) c.if-at_colons_before_more.false and nothing) (c.requires.ends cond) refl and saw-before c.at_colons_before_more.ensures.same (saw-so (c.at.ensures.sees cond) c.if-at.false) and nothing) (reads-nothing cond (does-then c.at_colons_before_more.ensures.same c.at.ensures.same))
+
+pub path_tree-path-requires-clause-begins : goal.path_tree-path-requires-clause-begins
+path_tree-path-requires-clause-begins t c cond = c.requires.begins cond
 
 pub path_tree-returns-clause-reads : goal.path_tree-returns-clause-reads
 unfolding look_of begins_below whole rule items statements expressions patterns types paths there_at shift width passes is_silent begins in_mode row one_of any_of expected wanted op no_longer is_longer

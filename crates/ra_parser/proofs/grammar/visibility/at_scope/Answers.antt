@@ -12,8 +12,8 @@ use Rattle.ra_parser.specs.Types.{types}
 use Rattle.ra_parser.specs.Whole.{rule, whole}
 use Rattle.ra_parser.proofs.ByHand.{does-then}
 use Rattle.ra_parser.proofs.Facts.{nothing, saw-so, ◌and◌}
-use Rattle.ra_parser.proofs.Seen.{saw-before, saw-told}
 use Rattle.ra_parser.proofs.Looking.{saw-arm, saw-not}
+use Rattle.ra_parser.proofs.Seen.{saw-before, saw-told}
 use Rattle.ra_parser.proofs.grammar.visibility.at_scope.Goals as goal
 
 pub returns-then-not-at-clause-sees : goal.returns-then-not-at-clause-sees
