@@ -3,7 +3,7 @@
 //! A contract names the production, or the rule, that the function reads, and says how many looks it makes at most: where it
 //! takes tokens these pay for the looks.
 
-ghost use Rattle.std.specs.Prelude.{◌≡◌, ◌≢◌, ◌+◌, ◌*◌, ◌≤◌, ◌==◌, Bool, not, ℕ, IsTrue, [], ◌∷◌};
+ghost use Rattle.std.specs.Prelude.{◌≡◌, ◌≢◌, ◌+◌, ◌≤◌, ◌==◌, Bool, not, ℕ, IsTrue, [], ◌∷◌};
 ghost use Rattle.parser_input.specs.Kind.{raw_of};
 ghost use Rattle.parser_input.specs.Kinds as kinds;
 ghost use Rattle.parser_events.specs.Forest.{Expected};

@@ -8,9 +8,9 @@ ghost use Rattle.ra_parser.specs.Looks.{tokens, spent};
 ghost use Rattle.ra_parser.specs.Notation.{◌▸◌, ⁅◌⁆, ◌*, ◌!, ◌⟨◌⟩, ◌<⟨◌⟩};
 ghost use Rattle.ra_parser.specs.Words.{'::'};
 ghost use Rattle.ra_parser.specs.Calls.{Ref, Path};
-ghost use Rattle.ra_parser.specs.Shared.{colons_before_more};
+ghost use Rattle.ra_parser.specs.Shared.{colons_before_more, path_goes_on};
 ghost use Rattle.ra_parser.specs.Rule as rules;
-ghost use Rattle.ra_parser.specs.Rule.{Kind, Joint, Both, Not, Nothing, Unless};
+ghost use Rattle.ra_parser.specs.Rule.{Kind, Joint, Both, Nothing, Unless};
 ghost use Rattle.ra_parser.specs.Stands.{looks, Does, Gives, Reads, Saw};
 
 use crate::grammar::names::{at_name_ref, expect_name_ref, name_ref};
@@ -80,7 +80,7 @@ fn first_segment(p: &mut Parser<'_>)
 
 /// Whether a path goes on here: at a `::` with neither `*` nor `{` behind it.
 pub(crate) fn at_next_segment(p: &mut Parser<'_>) -> bool
-    ensures sees { (c : Bool) → Saw c (Both (Not colons_before_more) (Both (Kind 0 kinds.COLON) (Both (Joint 0) (Kind 1 kinds.COLON)))) p.old result }
+    ensures sees { (c : Bool) → Saw c path_goes_on p.old result }
     ensures some { IsTrue result → 2 ≤ tokens p.old }
     ensures same { Does (λ s. s) p.old p.new }
     ensures left { tokens p.new ≡ tokens p.old }
@@ -128,7 +128,7 @@ fn next_segment(p: &mut Parser<'_>, path: Marker) -> Marker
 fn next_segments(p: &mut Parser<'_>, path: Marker) -> Marker
     requires { IsInnermost path p.old.nodes }
     ensures reads { (c : Bool) → Reads c ((Unless colons_before_more (PATH <⟨ '::' ▸ (PATH_SEGMENT ⟨ Ref ▸ Nothing ⟩) ! ⟩)) *) p.old p.new }
-    ensures ends { (c : Bool) → Saw c (Both (Not colons_before_more) (Both (Kind 0 kinds.COLON) (Both (Joint 0) (Kind 1 kinds.COLON)))) p.new false }
+    ensures ends { (c : Bool) → Saw c path_goes_on p.new false }
     ensures marker { IsInnermost result p.new.nodes }
     ensures left { tokens p.new ≤ tokens p.old }
     ensures looks { spent p.new ≤ spent p.old + 3 }
@@ -145,7 +145,7 @@ pub(crate) fn path(p: &mut Parser<'_>)
     requires begins { (c : Bool) → Saw c (looks rules.path) p.old true }
     requires some { 1 ≤ tokens p.old }
     ensures gives { (c : Bool) → Gives rules.path c p.old p.new }
-    ensures ends { (c : Bool) → Saw c (Both (Not colons_before_more) (Both (Kind 0 kinds.COLON) (Both (Joint 0) (Kind 1 kinds.COLON)))) p.new false }
+    ensures ends { (c : Bool) → Saw c path_goes_on p.new false }
     ensures left { tokens p.new + 1 ≤ tokens p.old }
     ensures looks { spent p.new + 4000 ≤ spent p.old }
 {

@@ -8,9 +8,9 @@ ghost use Rattle.parser_events.specs.Forest.{Expected};
 ghost use Rattle.ra_parser.specs.Looks.{tokens, spent};
 ghost use Rattle.ra_parser.specs.Notation.{◌or◌, ◌▸◌, ◌*, ◌!, ◌⟨◌⟩, one_of};
 ghost use Rattle.ra_parser.specs.Words.{one, 'r_paren', 'r_curly', ']'};
-ghost use Rattle.ra_parser.specs.Calls.{TokenTree};
+ghost use Rattle.ra_parser.specs.Items.{inner_token};
 ghost use Rattle.ra_parser.specs.Rule as rules;
-ghost use Rattle.ra_parser.specs.Rule.{Left, Both, Either, Not, When, Want, Any};
+ghost use Rattle.ra_parser.specs.Rule.{Left, Both, Either, Not, Want};
 ghost use Rattle.ra_parser.specs.Stands.{looks, Does, Gives, Reads, Saw};
 
 use crate::grammar::{complete, current, expect, start, take, take_any};
@@ -49,7 +49,7 @@ fn at_inner(p: &mut Parser<'_>) -> bool
 #[cycle(token_trees)]
 fn inner(p: &mut Parser<'_>)
     requires { 1 ≤ tokens p.old }
-    ensures reads { (c : Bool) → Reads c (TokenTree or When (Both Left (Not (one_of 0 ('r_paren' ∷ 'r_curly' ∷ ']' ∷ [])))) Any) p.old p.new }
+    ensures reads { (c : Bool) → Reads c inner_token p.old p.new }
     ensures left { tokens p.new + 1 ≤ tokens p.old }
     ensures looks { spent p.new + 4000 ≤ spent p.old }
 {
@@ -63,7 +63,7 @@ fn inner(p: &mut Parser<'_>)
 /// What stands in a token tree.
 #[cycle(token_trees)]
 fn inner_tokens(p: &mut Parser<'_>)
-    ensures reads { (c : Bool) → Reads c ((TokenTree or When (Both Left (Not (one_of 0 ('r_paren' ∷ 'r_curly' ∷ ']' ∷ [])))) Any) *) p.old p.new }
+    ensures reads { (c : Bool) → Reads c (inner_token *) p.old p.new }
     ensures left { tokens p.new ≤ tokens p.old }
     ensures looks { spent p.new ≤ spent p.old + 1 }
 {
@@ -80,7 +80,7 @@ fn bracketed(p: &mut Parser<'_>, opening: SyntaxKind, closing: SyntaxKind)
     ensures reads { (c : Bool) → Reads c
         (TOKEN_TREE
         ⟨ one (raw_of opening)
-        ▸ (TokenTree or When (Both Left (Not (one_of 0 ('r_paren' ∷ 'r_curly' ∷ ']' ∷ [])))) Any) *
+        ▸ inner_token *
         ▸ Want (one (raw_of closing)) (Expected (raw_of closing)) ⟩) p.old p.new }
     ensures left { tokens p.new + 1 ≤ tokens p.old }
     ensures looks { spent p.new + 4080 ≤ spent p.old }

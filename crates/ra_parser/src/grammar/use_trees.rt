@@ -2,15 +2,16 @@
 
 ghost use Rattle.std.specs.Prelude.{◌≡◌, ◌+◌, ◌*◌, ◌≤◌, Bool, true, false, IsTrue, [], ◌∷◌};
 ghost use Rattle.parser_input.specs.Kinds as kinds;
-ghost use Rattle.parser_input.specs.Kinds.{COMMA, COLON, USE_TREE, USE_TREE_LIST, RENAME};
+ghost use Rattle.parser_input.specs.Kinds.{COMMA, USE_TREE, USE_TREE_LIST, RENAME};
 ghost use Rattle.parser_events.specs.Forest.{Expected, UnexpectedIn};
 ghost use Rattle.ra_parser.specs.Looks.{tokens, spent};
-ghost use Rattle.ra_parser.specs.Notation.{◌or◌, ◌▸◌, ⁅◌⁆, ◌*, ◌!, ◌⟨◌⟩, next, one_of, stops, until, rest_listed};
+ghost use Rattle.ra_parser.specs.Notation.{◌or◌, ◌▸◌, ⁅◌⁆, ◌*, ◌!, ◌⟨◌⟩, next, one_of, stops, until};
 ghost use Rattle.ra_parser.specs.Words.{'::', 'comma', 'l_curly', 'r_curly', '*', 'as', '_'};
 ghost use Rattle.ra_parser.specs.Calls.{Name, Path, UseTree, UseList};
-ghost use Rattle.ra_parser.specs.Shared.{colons_before_more};
+ghost use Rattle.ra_parser.specs.Items.{behind_use};
+ghost use Rattle.ra_parser.specs.Shared.{colons_before_more, path_goes_on};
 ghost use Rattle.ra_parser.specs.Rule as rules;
-ghost use Rattle.ra_parser.specs.Rule.{Kind, Joint, Left, Both, Either, Not, Nothing, Say, Skip, When, Unless};
+ghost use Rattle.ra_parser.specs.Rule.{Left, Both, Either, Not, Nothing, Say, Skip, When, Unless};
 ghost use Rattle.ra_parser.specs.Stands.{looks, Does, Gives, Reads, Saw};
 
 use crate::grammar::lists::{at_list_end, at_unexpected, comma};
@@ -105,8 +106,8 @@ fn star_or_list(p: &mut Parser<'_>)
 /// What stands behind the path of a use tree, where that is more or a new name.
 #[cycle(use_trees)]
 fn behind_path(p: &mut Parser<'_>)
-    requires ends { (c : Bool) → Saw c (Both (Not colons_before_more) (Both (Kind 0 COLON) (Both (Joint 0) (Kind 1 COLON)))) p.old false }
-    ensures reads { (c : Bool) → Reads c ⁅ '::' ▸ ('*' or UseList) or RENAME ⟨ 'as' ▸ ('_' or Name !) ⟩ ⁆ p.old p.new }
+    requires ends { (c : Bool) → Saw c path_goes_on p.old false }
+    ensures reads { (c : Bool) → Reads c behind_use p.old p.new }
     ensures left { tokens p.new ≤ tokens p.old }
     ensures looks { spent p.new ≤ spent p.old + 5 }
 {
@@ -125,7 +126,7 @@ fn behind_path(p: &mut Parser<'_>)
 fn path_tree(p: &mut Parser<'_>)
     requires begins { (c : Bool) → Saw c (looks rules.path) p.old true }
     requires some { 1 ≤ tokens p.old }
-    ensures reads { (c : Bool) → Reads c (Path ▸ ⁅ '::' ▸ ('*' or UseList) or RENAME ⟨ 'as' ▸ ('_' or Name !) ⟩ ⁆) p.old p.new }
+    ensures reads { (c : Bool) → Reads c (Path ▸ behind_use) p.old p.new }
     ensures left { tokens p.new + 1 ≤ tokens p.old }
     ensures looks { spent p.new + 3900 ≤ spent p.old }
 {
@@ -138,7 +139,7 @@ fn path_tree(p: &mut Parser<'_>)
 fn behind_colons(p: &mut Parser<'_>)
     requires next { (c : Bool) → Saw c (one_of 0 ('*' ∷ 'l_curly' ∷ [])) p.old true }
     requires some { 1 ≤ tokens p.old }
-    ensures reads { (c : Bool) → Reads c ('*' or UseList or Path ▸ ⁅ '::' ▸ ('*' or UseList) or RENAME ⟨ 'as' ▸ ('_' or Name !) ⟩ ⁆) p.old p.new }
+    ensures reads { (c : Bool) → Reads c ('*' or UseList or Path ▸ behind_use) p.old p.new }
     ensures left { tokens p.new + 1 ≤ tokens p.old }
     ensures looks { spent p.new + 3900 ≤ spent p.old }
 {
@@ -156,7 +157,7 @@ fn inside(p: &mut Parser<'_>)
     requires some { 1 ≤ tokens p.old }
     ensures reads { (c : Bool) → Reads c
         (⁅ When colons_before_more '::' ⁆
-        ▸ ('*' or UseList or Path ▸ ⁅ '::' ▸ ('*' or UseList) or RENAME ⟨ 'as' ▸ ('_' or Name !) ⟩ ⁆)) p.old p.new }
+        ▸ ('*' or UseList or Path ▸ behind_use)) p.old p.new }
     ensures left { tokens p.new + 1 ≤ tokens p.old }
     ensures looks { spent p.new + 3890 ≤ spent p.old }
 {
