@@ -21,7 +21,7 @@ use Rattle.parser_input.specs.Input.{Token}
 use Rattle.parser_input.specs.Recorded.{token_at, plain}
 
 -- what a call makes of the open nodes, unless a growth is refused
-becomes : (f : List Marked → List Marked) (old new : Option (List Marked)) (nodes : List Marked) → Becomes f old new → Holds old nodes → Holds new (f nodes)
+pub becomes : (f : List Marked → List Marked) (old new : Option (List Marked)) (nodes : List Marked) → Becomes f old new → Holds old nodes → Holds new (f nodes)
 becomes f None None nodes b h = tt
 becomes f None (Some new) nodes b h = absurd b
 becomes f (Some old) None nodes b h = tt
@@ -137,15 +137,18 @@ pub counted : {f : Forest} {m n : ℕ} {old new : View} → m ≡ n → Adds f m
 counted {f} {m} {n} {old} {new} e a = subst (λ k. Adds f k old new) e a
 
 -- a look at a token ahead
-pub seen : (v : View) (n : ℕ) → (token_at v.input (v.position + n)).kind ≡ (ahead n (left v)).kind
+pub seen-token : (v : View) (n : ℕ) → token_at v.input (v.position + n) ≡ ahead n (left v)
 unfolding ahead
-seen v n = ap (λ (t : Token). t.kind) (sym (get_or-drop v.position v.input n (plain EOF)) ∙ look n (left v))
+seen-token v n = sym (get_or-drop v.position v.input n (plain EOF)) ∙ look n (left v)
   where
     look : (n : ℕ) (ts : List Token) → get_or ts n (plain EOF) ≡ ahead n ts
     look zero [] = refl
     look (suc n) [] = refl
     look zero (t ∷ ts) = refl
     look (suc n) (t ∷ ts) = look n ts
+
+pub seen : (v : View) (n : ℕ) → (token_at v.input (v.position + n)).kind ≡ (ahead n (left v)).kind
+seen v n = ap (λ (t : Token). t.kind) (seen-token v n)
 
 -- The items that a parser reads are the pieces of its tokens.
 pub struct-at : (a : Bool) (ts rest : List Token) → rest ≡ drop (name_part a).count ts → struct_piece a (is_next SEMICOLON rest) ≡ struct_at a ts

@@ -80,7 +80,7 @@ pub item-means : (ts : List Token) → meaning grammar item false (record { give
 unfolding rule read
 item-means ts = grammar-means item false (record { given = End; rest = ts }) ∙ body-means ts
 
-then-end : (f : Forest) → f then End ≡ f
+pub then-end : (f : Forest) → f then End ≡ f
 then-end End = refl
 then-end (Leaf k n f) = ap (λ (g : Forest). Leaf k n g) (then-end f)
 then-end (Said m f) = ap (λ (g : Forest). Said m g) (then-end f)
@@ -88,7 +88,7 @@ then-end (ErrorLeaf m k f) = ap (λ (g : Forest). ErrorLeaf m k g) (then-end f)
 then-end (Node k c f) = ap (λ (g : Forest). Node k c g) (then-end f)
 then-end (Float e c f) = ap (λ (g : Forest). Float e c g) (then-end f)
 
-then-assoc : (f g h : Forest) → (f then g) then h ≡ f then (g then h)
+pub then-assoc : (f g h : Forest) → (f then g) then h ≡ f then (g then h)
 then-assoc End g h = refl
 then-assoc (Leaf k n f) g h = ap (λ (x : Forest). Leaf k n x) (then-assoc f g h)
 then-assoc (Said m f) g h = ap (λ (x : Forest). Said m x) (then-assoc f g h)

@@ -8,3 +8,13 @@ pub mod Adding
 pub mod Fitting
 pub mod Lengths
 pub mod Examples
+pub mod ByHand
+pub mod Moves
+pub mod Turns
+pub mod Prefixes
+pub mod Looking
+pub mod Productions
+pub mod Facts
+pub mod Choices
+pub mod Seen
+pub mod Begins

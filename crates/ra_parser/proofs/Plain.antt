@@ -234,7 +234,7 @@ module _ (g : Table) (f : Production → Bool) (x : Production) (n : ℕ) where
   fails-nil (Either a b) c v e = rw (fails-nil a c v (and_l _ _ e)) (fails-nil b c v (and_r _ _ e))
   fails-nil (Not a) c v e = absurd (true≢false (sym e))
 
-  fails-sound : (l : Look) (c : Bool) (s : Reading) → length s.rest ≤ 0 → fails l ≡ true → sees c s l ≡ false
+  pub fails-sound : (l : Look) (c : Bool) (s : Reading) → length s.rest ≤ 0 → fails l ≡ true → sees c s l ≡ false
   fails-sound l c s h e = subst (λ (ts : List Token). sees c (record { given = s.given; rest = ts }) l ≡ false) (sym (none_left s.rest h)) (fails-nil l c s.given e)
 
   ends-then : (a b : Rule) (c : Bool) (s : Reading) → length s.rest ≤ 0 → Same c a s →

@@ -1,7 +1,7 @@
 -- Inputs, and the trees that the whole grammar gives them.
-use Rattle.std.specs.Prelude.{if◌then◌else◌, ℕ, ◌==◌, true, false, List, [], ◌∷◌, ◌≡◌}
+use Rattle.std.specs.Prelude.{if◌then◌else◌, ℕ, ◌==◌, Bool, true, false, List, [], ◌∷◌, ◌≡◌}
 use Rattle.parser_input.specs.Kinds.{EOF, ERROR, SEMICOLON, COMMA, DOT, L_PAREN, R_PAREN, L_CURLY, R_CURLY, L_BRACK, R_BRACK, AT, POUND, QUESTION, COLON, EQ, L_ANGLE, R_ANGLE, MINUS, AMP, PIPE, PLUS, STAR, DOT2, DOT2EQ, COLON2, EQ2, FAT_ARROW, INT_NUMBER, FLOAT_NUMBER, IDENT, UNDERSCORE, AS_KW, FN_KW, IF_KW, LET_KW, MATCH_KW, PUB_KW, STRUCT_KW, USE_KW, WHERE_KW, DYN_KW, SOURCE_FILE, MACRO_ITEMS, MACRO_STMTS, USE, USE_TREE, USE_TREE_LIST, RENAME, STRUCT, RECORD_FIELD_LIST, RECORD_FIELD, FN, PARAM_LIST, PARAM, VISIBILITY, ATTR, META, NAME, NAME_REF, PATH, PATH_SEGMENT, GENERIC_ARG_LIST, ASSOC_TYPE_ARG, CONST_ARG, TYPE_ARG, TYPE_BOUND_LIST, TYPE_BOUND, PATH_TYPE, REF_TYPE, DYN_TRAIT_TYPE, LITERAL_PAT, WILDCARD_PAT, IDENT_PAT, STMT_LIST, LET_STMT, EXPR_STMT, LITERAL, BLOCK_EXPR, RANGE_EXPR, BIN_EXPR, CALL_EXPR, ARG_LIST, METHOD_CALL_EXPR, FIELD_EXPR, RECORD_EXPR, RECORD_EXPR_FIELD_LIST, RECORD_EXPR_FIELD, PATH_EXPR, TUPLE_EXPR, PAREN_EXPR, CLOSURE_EXPR, LET_EXPR, IF_EXPR, MATCH_EXPR, MATCH_ARM_LIST, MATCH_ARM, MATCH_GUARD}
-use Rattle.parser_events.specs.Forest.{Expected, UnexpectedIn, ExpectedType, ExpectedExpression, ExpectedPattern, ExpectedItem, ExpectedStatement, ExpectedField, UnexpectedTokens, Forest, End, Leaf, Said, ErrorLeaf, Node, Float}
+use Rattle.parser_events.specs.Forest.{Expected, UnexpectedIn, ExpectedType, ExpectedExpression, ExpectedPattern, ExpectedItem, ExpectedStatement, ExpectedField, UnexpectedTokens, Message, Forest, End, Leaf, Said, ErrorLeaf, Node, Float, ◌then◌}
 use Rattle.ra_parser.specs.Rule.{source_file, macro_items, macro_statements, meta, any_type, pattern, expression, Production}
 use Rattle.parser_input.specs.Input.{Token}
 use Rattle.ra_parser.specs.Entry.{entry}
@@ -14,6 +14,62 @@ touching k = record { kind = k; contextual = if k == IDENT then IDENT else EOF; 
 abbrev pub apart : ℕ → Token
 apart k = record { kind = k; contextual = if k == IDENT then IDENT else EOF; joint = false }
 
+-- The writing of trees: a leaf over one token, one over several, a message, an error with the token that it takes, a float
+-- behind a dot; `a · b` stands side by side, `N ⟪ a ⟫` is a node.
+infixr 50 ◌·◌
+infixl 80 ◌⟪◌⟫
+abbrev ◌·◌ : Forest → Forest → Forest
+a · b = a then b
+
+abbrev ◌⟪◌⟫ : ℕ → Forest → Forest
+k ⟪ a ⟫ = Node k a End
+
+abbrev leaf : ℕ → Forest
+leaf k = Leaf k 1 End
+
+abbrev joined : ℕ → ℕ → Forest
+joined k n = Leaf k n End
+
+abbrev said : Message → Forest
+said m = Said m End
+
+abbrev skipped : Message → ℕ → Forest
+skipped m k = ErrorLeaf m k End
+
+abbrev float : Bool → Forest → Forest
+float ends_in_dot a = Float ends_in_dot a End
+
+-- trees that come often
+abbrev a_name : Forest
+a_name = NAME ⟪ leaf IDENT ⟫
+
+abbrev a_path : Forest
+a_path = PATH ⟪ PATH_SEGMENT ⟪ NAME_REF ⟪ leaf IDENT ⟫ ⟫ ⟫
+
+abbrev a_path_expr : Forest
+a_path_expr = PATH_EXPR ⟪ a_path ⟫
+
+abbrev a_path_type : Forest
+a_path_type = PATH_TYPE ⟪ a_path ⟫
+
+abbrev a_name_pat : Forest
+a_name_pat = IDENT_PAT ⟪ a_name ⟫
+
+abbrev a_number : Forest
+a_number = LITERAL ⟪ leaf INT_NUMBER ⟫
+
+abbrev no_statements : Forest
+no_statements = STMT_LIST ⟪ leaf L_CURLY · leaf R_CURLY ⟫
+
+abbrev an_empty_block : Forest
+an_empty_block = BLOCK_EXPR ⟪ no_statements ⟫
+
+abbrev no_params : Forest
+no_params = PARAM_LIST ⟪ leaf L_PAREN · leaf R_PAREN ⟫
+
+abbrev an_empty_tuple : Forest
+an_empty_tuple = TUPLE_EXPR ⟪ leaf L_PAREN · leaf R_PAREN ⟫
+
 -- what is asked for, the tokens, and the tree
 pub record Example : Type 0 where
   pub asked : Production
@@ -23,87 +79,251 @@ pub record Example : Type 0 where
 abbrev pub examples : List Example
 examples =
     -- expression `1 2`
-    record { asked = expression; tokens = apart INT_NUMBER ∷ apart INT_NUMBER ∷ []; tree = Node ERROR (Node LITERAL (Leaf INT_NUMBER 1 End) (Said UnexpectedTokens (Leaf INT_NUMBER 1 End))) End }
+    record {
+      asked = expression;
+      tokens = apart INT_NUMBER ∷ apart INT_NUMBER ∷ [];
+      tree = ERROR ⟪ a_number · said UnexpectedTokens · leaf INT_NUMBER ⟫;
+    }
     -- expression `.. + 1`
-    ∷ record { asked = expression; tokens = touching DOT ∷ apart DOT ∷ apart PLUS ∷ apart INT_NUMBER ∷ []; tree = Node ERROR (Node RANGE_EXPR (Leaf DOT2 2 End) (Said UnexpectedTokens (Leaf PLUS 1 (Leaf INT_NUMBER 1 End)))) End }
+    ∷ record {
+      asked = expression;
+      tokens = touching DOT ∷ apart DOT ∷ apart PLUS ∷ apart INT_NUMBER ∷ [];
+      tree = ERROR ⟪ RANGE_EXPR ⟪ joined DOT2 2 ⟫ · said UnexpectedTokens · leaf PLUS · leaf INT_NUMBER ⟫;
+    }
     -- expression `x.1e0`
-    ∷ record { asked = expression; tokens = touching IDENT ∷ touching DOT ∷ touching FLOAT_NUMBER ∷ []; tree = Float false (Node PATH_EXPR (Node PATH (Node PATH_SEGMENT (Node NAME_REF (Leaf IDENT 1 End) End) End) End) (Leaf DOT 1 End)) End }
+    ∷ record {
+      asked = expression;
+      tokens = touching IDENT ∷ touching DOT ∷ touching FLOAT_NUMBER ∷ [];
+      tree = float false (a_path_expr · leaf DOT);
+    }
     -- type `;`
-    ∷ record { asked = any_type; tokens = apart SEMICOLON ∷ []; tree = Node ERROR (Said ExpectedType (Leaf SEMICOLON 1 End)) End }
+    ∷ record {
+      asked = any_type;
+      tokens = apart SEMICOLON ∷ [];
+      tree = ERROR ⟪ said ExpectedType · leaf SEMICOLON ⟫;
+    }
     -- expression ``
-    ∷ record { asked = expression; tokens = []; tree = Node ERROR (Said ExpectedExpression End) End }
+    ∷ record {
+      asked = expression;
+      tokens = [];
+      tree = ERROR ⟪ said ExpectedExpression ⟫;
+    }
     -- pattern `= ..] where`
-    ∷ record { asked = pattern; tokens = apart EQ ∷ touching DOT ∷ touching DOT ∷ apart R_BRACK ∷ apart WHERE_KW ∷ []; tree = Node ERROR (Said ExpectedPattern (Leaf EQ 1 (Leaf DOT 1 (Leaf DOT 1 (Leaf R_BRACK 1 (Leaf WHERE_KW 1 End)))))) End }
+    ∷ record {
+      asked = pattern;
+      tokens = apart EQ ∷ touching DOT ∷ touching DOT ∷ apart R_BRACK ∷ apart WHERE_KW ∷ [];
+      tree = ERROR ⟪ said ExpectedPattern · leaf EQ · leaf DOT · leaf DOT · leaf R_BRACK · leaf WHERE_KW ⟫;
+    }
     -- attribute's inside `a b`
-    ∷ record { asked = meta; tokens = apart IDENT ∷ apart IDENT ∷ []; tree = Node ERROR (Node META (Node PATH (Node PATH_SEGMENT (Node NAME_REF (Leaf IDENT 1 End) End) End) End) (Said UnexpectedTokens (Leaf IDENT 1 End))) End }
+    ∷ record {
+      asked = meta;
+      tokens = apart IDENT ∷ apart IDENT ∷ [];
+      tree = ERROR ⟪ META ⟪ a_path ⟫ · said UnexpectedTokens · leaf IDENT ⟫;
+    }
     -- expression `2 + 2 == 5`
-    ∷ record { asked = expression; tokens = apart INT_NUMBER ∷ apart PLUS ∷ apart INT_NUMBER ∷ touching EQ ∷ apart EQ ∷ apart INT_NUMBER ∷ []; tree = Node BIN_EXPR (Node BIN_EXPR (Node LITERAL (Leaf INT_NUMBER 1 End) (Leaf PLUS 1 (Node LITERAL (Leaf INT_NUMBER 1 End) End))) (Leaf EQ2 2 (Node LITERAL (Leaf INT_NUMBER 1 End) End))) End }
+    ∷ record {
+      asked = expression;
+      tokens = apart INT_NUMBER ∷ apart PLUS ∷ apart INT_NUMBER ∷ touching EQ ∷ apart EQ ∷ apart INT_NUMBER ∷ [];
+      tree = BIN_EXPR ⟪ BIN_EXPR ⟪ a_number · leaf PLUS · a_number ⟫ · joined EQ2 2 · a_number ⟫;
+    }
     -- expression ` ;`
-    ∷ record { asked = expression; tokens = apart SEMICOLON ∷ []; tree = Node ERROR (Said ExpectedExpression (Leaf SEMICOLON 1 End)) End }
+    ∷ record {
+      asked = expression;
+      tokens = apart SEMICOLON ∷ [];
+      tree = ERROR ⟪ said ExpectedExpression · leaf SEMICOLON ⟫;
+    }
     -- type `&a`
-    ∷ record { asked = any_type; tokens = touching AMP ∷ apart IDENT ∷ []; tree = Node REF_TYPE (Leaf AMP 1 (Node PATH_TYPE (Node PATH (Node PATH_SEGMENT (Node NAME_REF (Leaf IDENT 1 End) End) End) End) End)) End }
+    ∷ record {
+      asked = any_type;
+      tokens = touching AMP ∷ apart IDENT ∷ [];
+      tree = REF_TYPE ⟪ leaf AMP · a_path_type ⟫;
+    }
     -- file `struct S;`
-    ∷ record { asked = source_file; tokens = apart STRUCT_KW ∷ touching IDENT ∷ apart SEMICOLON ∷ []; tree = Node SOURCE_FILE (Node STRUCT (Leaf STRUCT_KW 1 (Node NAME (Leaf IDENT 1 End) (Leaf SEMICOLON 1 End))) End) End }
+    ∷ record {
+      asked = source_file;
+      tokens = apart STRUCT_KW ∷ touching IDENT ∷ apart SEMICOLON ∷ [];
+      tree = SOURCE_FILE ⟪ STRUCT ⟪ leaf STRUCT_KW · a_name · leaf SEMICOLON ⟫ ⟫;
+    }
     -- expression `a = b = c`
-    ∷ record { asked = expression; tokens = apart IDENT ∷ apart EQ ∷ apart IDENT ∷ apart EQ ∷ apart IDENT ∷ []; tree = Node BIN_EXPR (Node PATH_EXPR (Node PATH (Node PATH_SEGMENT (Node NAME_REF (Leaf IDENT 1 End) End) End) End) (Leaf EQ 1 (Node BIN_EXPR (Node PATH_EXPR (Node PATH (Node PATH_SEGMENT (Node NAME_REF (Leaf IDENT 1 End) End) End) End) (Leaf EQ 1 (Node PATH_EXPR (Node PATH (Node PATH_SEGMENT (Node NAME_REF (Leaf IDENT 1 End) End) End) End) End))) End))) End }
+    ∷ record {
+      asked = expression;
+      tokens = apart IDENT ∷ apart EQ ∷ apart IDENT ∷ apart EQ ∷ apart IDENT ∷ [];
+      tree = BIN_EXPR ⟪ a_path_expr · leaf EQ · BIN_EXPR ⟪ a_path_expr · leaf EQ · a_path_expr ⟫ ⟫;
+    }
     -- expression `a - b - c`
-    ∷ record { asked = expression; tokens = apart IDENT ∷ apart MINUS ∷ apart IDENT ∷ apart MINUS ∷ apart IDENT ∷ []; tree = Node BIN_EXPR (Node BIN_EXPR (Node PATH_EXPR (Node PATH (Node PATH_SEGMENT (Node NAME_REF (Leaf IDENT 1 End) End) End) End) (Leaf MINUS 1 (Node PATH_EXPR (Node PATH (Node PATH_SEGMENT (Node NAME_REF (Leaf IDENT 1 End) End) End) End) End))) (Leaf MINUS 1 (Node PATH_EXPR (Node PATH (Node PATH_SEGMENT (Node NAME_REF (Leaf IDENT 1 End) End) End) End) End))) End }
+    ∷ record {
+      asked = expression;
+      tokens = apart IDENT ∷ apart MINUS ∷ apart IDENT ∷ apart MINUS ∷ apart IDENT ∷ [];
+      tree = BIN_EXPR ⟪ BIN_EXPR ⟪ a_path_expr · leaf MINUS · a_path_expr ⟫ · leaf MINUS · a_path_expr ⟫;
+    }
     -- file `struct S { a b: c }`
-    ∷ record { asked = source_file; tokens = apart STRUCT_KW ∷ apart IDENT ∷ apart L_CURLY ∷ apart IDENT ∷ touching IDENT ∷ apart COLON ∷ apart IDENT ∷ apart R_CURLY ∷ []; tree = Node SOURCE_FILE (Node STRUCT (Leaf STRUCT_KW 1 (Node NAME (Leaf IDENT 1 End) (Node RECORD_FIELD_LIST (Leaf L_CURLY 1 (Node RECORD_FIELD (Node NAME (Leaf IDENT 1 End) (Said (Expected COLON) (Node PATH_TYPE (Node PATH (Node PATH_SEGMENT (Node NAME_REF (Leaf IDENT 1 End) End) End) End) End))) (Said (Expected COMMA) (ErrorLeaf (UnexpectedIn RECORD_FIELD_LIST) COLON (Node RECORD_FIELD (Node NAME (Leaf IDENT 1 End) (Said (Expected COLON) (Said ExpectedType End))) (Leaf R_CURLY 1 End)))))) End))) End) End }
+    ∷ record {
+      asked = source_file;
+      tokens = apart STRUCT_KW ∷ apart IDENT ∷ apart L_CURLY ∷ apart IDENT ∷ touching IDENT ∷ apart COLON ∷ apart IDENT ∷ apart R_CURLY ∷ [];
+      tree = SOURCE_FILE ⟪ STRUCT ⟪ leaf STRUCT_KW · a_name · RECORD_FIELD_LIST ⟪ leaf L_CURLY · RECORD_FIELD ⟪ a_name · said (Expected COLON) · a_path_type ⟫ · said (Expected COMMA) · skipped (UnexpectedIn RECORD_FIELD_LIST) COLON · RECORD_FIELD ⟪ a_name · said (Expected COLON) · said ExpectedType ⟫ · leaf R_CURLY ⟫ ⟫ ⟫;
+    }
     -- file `fn f( {}`
-    ∷ record { asked = source_file; tokens = apart FN_KW ∷ touching IDENT ∷ apart L_PAREN ∷ touching L_CURLY ∷ apart R_CURLY ∷ []; tree = Node SOURCE_FILE (Node FN (Leaf FN_KW 1 (Node NAME (Leaf IDENT 1 End) (Node PARAM_LIST (Leaf L_PAREN 1 (Said (Expected R_PAREN) End)) (Node BLOCK_EXPR (Node STMT_LIST (Leaf L_CURLY 1 (Leaf R_CURLY 1 End)) End) End)))) End) End }
+    ∷ record {
+      asked = source_file;
+      tokens = apart FN_KW ∷ touching IDENT ∷ apart L_PAREN ∷ touching L_CURLY ∷ apart R_CURLY ∷ [];
+      tree = SOURCE_FILE ⟪ FN ⟪ leaf FN_KW · a_name · PARAM_LIST ⟪ leaf L_PAREN · said (Expected R_PAREN) ⟫ · an_empty_block ⟫ ⟫;
+    }
     -- file `@error@`
-    ∷ record { asked = source_file; tokens = touching AT ∷ touching IDENT ∷ apart AT ∷ []; tree = Node SOURCE_FILE (ErrorLeaf ExpectedItem AT (Node ERROR (Node PATH (Node PATH_SEGMENT (Node NAME_REF (Leaf IDENT 1 End) End) End) (Said ExpectedItem End)) (ErrorLeaf ExpectedItem AT End))) End }
+    ∷ record {
+      asked = source_file;
+      tokens = touching AT ∷ touching IDENT ∷ apart AT ∷ [];
+      tree = SOURCE_FILE ⟪ skipped ExpectedItem AT · ERROR ⟪ a_path · said ExpectedItem ⟫ · skipped ExpectedItem AT ⟫;
+    }
     -- file `fn f() { let x = a * 2; }`
-    ∷ record { asked = source_file; tokens = apart FN_KW ∷ touching IDENT ∷ touching L_PAREN ∷ apart R_PAREN ∷ apart L_CURLY ∷ apart LET_KW ∷ apart IDENT ∷ apart EQ ∷ apart IDENT ∷ apart STAR ∷ touching INT_NUMBER ∷ apart SEMICOLON ∷ apart R_CURLY ∷ []; tree = Node SOURCE_FILE (Node FN (Leaf FN_KW 1 (Node NAME (Leaf IDENT 1 End) (Node PARAM_LIST (Leaf L_PAREN 1 (Leaf R_PAREN 1 End)) (Node BLOCK_EXPR (Node STMT_LIST (Leaf L_CURLY 1 (Node LET_STMT (Leaf LET_KW 1 (Node IDENT_PAT (Node NAME (Leaf IDENT 1 End) End) (Leaf EQ 1 (Node BIN_EXPR (Node PATH_EXPR (Node PATH (Node PATH_SEGMENT (Node NAME_REF (Leaf IDENT 1 End) End) End) End) (Leaf STAR 1 (Node LITERAL (Leaf INT_NUMBER 1 End) End))) (Leaf SEMICOLON 1 End))))) (Leaf R_CURLY 1 End))) End) End)))) End) End }
+    ∷ record {
+      asked = source_file;
+      tokens = apart FN_KW ∷ touching IDENT ∷ touching L_PAREN ∷ apart R_PAREN ∷ apart L_CURLY ∷ apart LET_KW ∷ apart IDENT ∷ apart EQ ∷ apart IDENT ∷ apart STAR ∷ touching INT_NUMBER ∷ apart SEMICOLON ∷ apart R_CURLY ∷ [];
+      tree = SOURCE_FILE ⟪ FN ⟪ leaf FN_KW · a_name · no_params · BLOCK_EXPR ⟪ STMT_LIST ⟪ leaf L_CURLY · LET_STMT ⟪ leaf LET_KW · a_name_pat · leaf EQ · BIN_EXPR ⟪ a_path_expr · leaf STAR · a_number ⟫ · leaf SEMICOLON ⟫ · leaf R_CURLY ⟫ ⟫ ⟫ ⟫;
+    }
     -- file `fn f() { x.0.1; }`
-    ∷ record { asked = source_file; tokens = apart FN_KW ∷ touching IDENT ∷ touching L_PAREN ∷ apart R_PAREN ∷ apart L_CURLY ∷ touching IDENT ∷ touching DOT ∷ touching FLOAT_NUMBER ∷ apart SEMICOLON ∷ apart R_CURLY ∷ []; tree = Node SOURCE_FILE (Node FN (Leaf FN_KW 1 (Node NAME (Leaf IDENT 1 End) (Node PARAM_LIST (Leaf L_PAREN 1 (Leaf R_PAREN 1 End)) (Node BLOCK_EXPR (Node STMT_LIST (Leaf L_CURLY 1 (Node EXPR_STMT (Float false (Node PATH_EXPR (Node PATH (Node PATH_SEGMENT (Node NAME_REF (Leaf IDENT 1 End) End) End) End) (Leaf DOT 1 End)) (Leaf SEMICOLON 1 End)) (Leaf R_CURLY 1 End))) End) End)))) End) End }
+    ∷ record {
+      asked = source_file;
+      tokens = apart FN_KW ∷ touching IDENT ∷ touching L_PAREN ∷ apart R_PAREN ∷ apart L_CURLY ∷ touching IDENT ∷ touching DOT ∷ touching FLOAT_NUMBER ∷ apart SEMICOLON ∷ apart R_CURLY ∷ [];
+      tree = SOURCE_FILE ⟪ FN ⟪ leaf FN_KW · a_name · no_params · BLOCK_EXPR ⟪ STMT_LIST ⟪ leaf L_CURLY · EXPR_STMT ⟪ float false (a_path_expr · leaf DOT) · leaf SEMICOLON ⟫ · leaf R_CURLY ⟫ ⟫ ⟫ ⟫;
+    }
     -- file `fn f() { g(()1, ()2); }`
-    ∷ record { asked = source_file; tokens = apart FN_KW ∷ touching IDENT ∷ touching L_PAREN ∷ apart R_PAREN ∷ apart L_CURLY ∷ touching IDENT ∷ touching L_PAREN ∷ touching L_PAREN ∷ touching R_PAREN ∷ touching INT_NUMBER ∷ apart COMMA ∷ touching L_PAREN ∷ touching R_PAREN ∷ touching INT_NUMBER ∷ touching R_PAREN ∷ apart SEMICOLON ∷ apart R_CURLY ∷ []; tree = Node SOURCE_FILE (Node FN (Leaf FN_KW 1 (Node NAME (Leaf IDENT 1 End) (Node PARAM_LIST (Leaf L_PAREN 1 (Leaf R_PAREN 1 End)) (Node BLOCK_EXPR (Node STMT_LIST (Leaf L_CURLY 1 (Node EXPR_STMT (Node CALL_EXPR (Node PATH_EXPR (Node PATH (Node PATH_SEGMENT (Node NAME_REF (Leaf IDENT 1 End) End) End) End) (Node ARG_LIST (Leaf L_PAREN 1 (Node TUPLE_EXPR (Leaf L_PAREN 1 (Leaf R_PAREN 1 End)) (Said (Expected COMMA) (Node LITERAL (Leaf INT_NUMBER 1 End) (Leaf COMMA 1 (Node TUPLE_EXPR (Leaf L_PAREN 1 (Leaf R_PAREN 1 End)) (Said (Expected COMMA) (Node LITERAL (Leaf INT_NUMBER 1 End) (Leaf R_PAREN 1 End))))))))) End)) (Leaf SEMICOLON 1 End)) (Leaf R_CURLY 1 End))) End) End)))) End) End }
+    ∷ record {
+      asked = source_file;
+      tokens = apart FN_KW ∷ touching IDENT ∷ touching L_PAREN ∷ apart R_PAREN ∷ apart L_CURLY ∷ touching IDENT ∷ touching L_PAREN ∷ touching L_PAREN ∷ touching R_PAREN ∷ touching INT_NUMBER ∷ apart COMMA ∷ touching L_PAREN ∷ touching R_PAREN ∷ touching INT_NUMBER ∷ touching R_PAREN ∷ apart SEMICOLON ∷ apart R_CURLY ∷ [];
+      tree = SOURCE_FILE ⟪ FN ⟪ leaf FN_KW · a_name · no_params · BLOCK_EXPR ⟪ STMT_LIST ⟪ leaf L_CURLY · EXPR_STMT ⟪ CALL_EXPR ⟪ a_path_expr · ARG_LIST ⟪ leaf L_PAREN · an_empty_tuple · said (Expected COMMA) · a_number · leaf COMMA · an_empty_tuple · said (Expected COMMA) · a_number · leaf R_PAREN ⟫ ⟫ · leaf SEMICOLON ⟫ · leaf R_CURLY ⟫ ⟫ ⟫ ⟫;
+    }
     -- expression `match a { b => c, _ if x => {} 1 => 2 }`
-    ∷ record { asked = expression; tokens = apart MATCH_KW ∷ apart IDENT ∷ apart L_CURLY ∷ apart IDENT ∷ touching EQ ∷ apart R_ANGLE ∷ touching IDENT ∷ apart COMMA ∷ apart UNDERSCORE ∷ apart IF_KW ∷ apart IDENT ∷ touching EQ ∷ apart R_ANGLE ∷ touching L_CURLY ∷ apart R_CURLY ∷ apart INT_NUMBER ∷ touching EQ ∷ apart R_ANGLE ∷ apart INT_NUMBER ∷ apart R_CURLY ∷ []; tree = Node MATCH_EXPR (Leaf MATCH_KW 1 (Node PATH_EXPR (Node PATH (Node PATH_SEGMENT (Node NAME_REF (Leaf IDENT 1 End) End) End) End) (Node MATCH_ARM_LIST (Leaf L_CURLY 1 (Node MATCH_ARM (Node IDENT_PAT (Node NAME (Leaf IDENT 1 End) End) (Leaf FAT_ARROW 2 (Node PATH_EXPR (Node PATH (Node PATH_SEGMENT (Node NAME_REF (Leaf IDENT 1 End) End) End) End) (Leaf COMMA 1 End)))) (Node MATCH_ARM (Node WILDCARD_PAT (Leaf UNDERSCORE 1 End) (Node MATCH_GUARD (Leaf IF_KW 1 (Node PATH_EXPR (Node PATH (Node PATH_SEGMENT (Node NAME_REF (Leaf IDENT 1 End) End) End) End) End)) (Leaf FAT_ARROW 2 (Node BLOCK_EXPR (Node STMT_LIST (Leaf L_CURLY 1 (Leaf R_CURLY 1 End)) End) End)))) (Node MATCH_ARM (Node LITERAL_PAT (Node LITERAL (Leaf INT_NUMBER 1 End) End) (Leaf FAT_ARROW 2 (Node LITERAL (Leaf INT_NUMBER 1 End) End))) (Leaf R_CURLY 1 End))))) End))) End }
+    ∷ record {
+      asked = expression;
+      tokens = apart MATCH_KW ∷ apart IDENT ∷ apart L_CURLY ∷ apart IDENT ∷ touching EQ ∷ apart R_ANGLE ∷ touching IDENT ∷ apart COMMA ∷ apart UNDERSCORE ∷ apart IF_KW ∷ apart IDENT ∷ touching EQ ∷ apart R_ANGLE ∷ touching L_CURLY ∷ apart R_CURLY ∷ apart INT_NUMBER ∷ touching EQ ∷ apart R_ANGLE ∷ apart INT_NUMBER ∷ apart R_CURLY ∷ [];
+      tree = MATCH_EXPR ⟪ leaf MATCH_KW · a_path_expr · MATCH_ARM_LIST ⟪ leaf L_CURLY · MATCH_ARM ⟪ a_name_pat · joined FAT_ARROW 2 · a_path_expr · leaf COMMA ⟫ · MATCH_ARM ⟪ WILDCARD_PAT ⟪ leaf UNDERSCORE ⟫ · MATCH_GUARD ⟪ leaf IF_KW · a_path_expr ⟫ · joined FAT_ARROW 2 · an_empty_block ⟫ · MATCH_ARM ⟪ LITERAL_PAT ⟪ a_number ⟫ · joined FAT_ARROW 2 · a_number ⟫ · leaf R_CURLY ⟫ ⟫;
+    }
     -- file `use a::{b, c as d, e::*};`
-    ∷ record { asked = source_file; tokens = apart USE_KW ∷ touching IDENT ∷ touching COLON ∷ touching COLON ∷ touching L_CURLY ∷ touching IDENT ∷ apart COMMA ∷ apart IDENT ∷ apart AS_KW ∷ touching IDENT ∷ apart COMMA ∷ touching IDENT ∷ touching COLON ∷ touching COLON ∷ touching STAR ∷ touching R_CURLY ∷ apart SEMICOLON ∷ []; tree = Node SOURCE_FILE (Node USE (Leaf USE_KW 1 (Node USE_TREE (Node PATH (Node PATH_SEGMENT (Node NAME_REF (Leaf IDENT 1 End) End) End) (Leaf COLON2 2 (Node USE_TREE_LIST (Leaf L_CURLY 1 (Node USE_TREE (Node PATH (Node PATH_SEGMENT (Node NAME_REF (Leaf IDENT 1 End) End) End) End) (Leaf COMMA 1 (Node USE_TREE (Node PATH (Node PATH_SEGMENT (Node NAME_REF (Leaf IDENT 1 End) End) End) (Node RENAME (Leaf AS_KW 1 (Node NAME (Leaf IDENT 1 End) End)) End)) (Leaf COMMA 1 (Node USE_TREE (Node PATH (Node PATH_SEGMENT (Node NAME_REF (Leaf IDENT 1 End) End) End) (Leaf COLON2 2 (Leaf STAR 1 End))) (Leaf R_CURLY 1 End))))))) End))) (Leaf SEMICOLON 1 End))) End) End }
+    ∷ record {
+      asked = source_file;
+      tokens = apart USE_KW ∷ touching IDENT ∷ touching COLON ∷ touching COLON ∷ touching L_CURLY ∷ touching IDENT ∷ apart COMMA ∷ apart IDENT ∷ apart AS_KW ∷ touching IDENT ∷ apart COMMA ∷ touching IDENT ∷ touching COLON ∷ touching COLON ∷ touching STAR ∷ touching R_CURLY ∷ apart SEMICOLON ∷ [];
+      tree = SOURCE_FILE ⟪ USE ⟪ leaf USE_KW · USE_TREE ⟪ a_path · joined COLON2 2 · USE_TREE_LIST ⟪ leaf L_CURLY · USE_TREE ⟪ a_path ⟫ · leaf COMMA · USE_TREE ⟪ a_path · RENAME ⟪ leaf AS_KW · a_name ⟫ ⟫ · leaf COMMA · USE_TREE ⟪ a_path · joined COLON2 2 · leaf STAR ⟫ · leaf R_CURLY ⟫ ⟫ · leaf SEMICOLON ⟫ ⟫;
+    }
     -- type `dyn A<B, C = D, 1> + ?Sized`
-    ∷ record { asked = any_type; tokens = apart DYN_KW ∷ touching IDENT ∷ touching L_ANGLE ∷ touching IDENT ∷ apart COMMA ∷ apart IDENT ∷ apart EQ ∷ touching IDENT ∷ apart COMMA ∷ touching INT_NUMBER ∷ apart R_ANGLE ∷ apart PLUS ∷ touching QUESTION ∷ apart IDENT ∷ []; tree = Node DYN_TRAIT_TYPE (Leaf DYN_KW 1 (Node TYPE_BOUND_LIST (Node TYPE_BOUND (Node PATH_TYPE (Node PATH (Node PATH_SEGMENT (Node NAME_REF (Leaf IDENT 1 End) (Node GENERIC_ARG_LIST (Leaf L_ANGLE 1 (Node TYPE_ARG (Node PATH_TYPE (Node PATH (Node PATH_SEGMENT (Node NAME_REF (Leaf IDENT 1 End) End) End) End) End) (Leaf COMMA 1 (Node ASSOC_TYPE_ARG (Node NAME_REF (Leaf IDENT 1 End) (Leaf EQ 1 (Node PATH_TYPE (Node PATH (Node PATH_SEGMENT (Node NAME_REF (Leaf IDENT 1 End) End) End) End) End))) (Leaf COMMA 1 (Node CONST_ARG (Node LITERAL (Leaf INT_NUMBER 1 End) End) (Leaf R_ANGLE 1 End))))))) End)) End) End) End) (Leaf PLUS 1 (Node TYPE_BOUND (Leaf QUESTION 1 (Node PATH_TYPE (Node PATH (Node PATH_SEGMENT (Node NAME_REF (Leaf IDENT 1 End) End) End) End) End)) End))) End)) End }
+    ∷ record {
+      asked = any_type;
+      tokens = apart DYN_KW ∷ touching IDENT ∷ touching L_ANGLE ∷ touching IDENT ∷ apart COMMA ∷ apart IDENT ∷ apart EQ ∷ touching IDENT ∷ apart COMMA ∷ touching INT_NUMBER ∷ apart R_ANGLE ∷ apart PLUS ∷ touching QUESTION ∷ apart IDENT ∷ [];
+      tree = DYN_TRAIT_TYPE ⟪ leaf DYN_KW · TYPE_BOUND_LIST ⟪ TYPE_BOUND ⟪ PATH_TYPE ⟪ PATH ⟪ PATH_SEGMENT ⟪ NAME_REF ⟪ leaf IDENT ⟫ · GENERIC_ARG_LIST ⟪ leaf L_ANGLE · TYPE_ARG ⟪ a_path_type ⟫ · leaf COMMA · ASSOC_TYPE_ARG ⟪ NAME_REF ⟪ leaf IDENT ⟫ · leaf EQ · a_path_type ⟫ · leaf COMMA · CONST_ARG ⟪ a_number ⟫ · leaf R_ANGLE ⟫ ⟫ ⟫ ⟫ ⟫ · leaf PLUS · TYPE_BOUND ⟪ leaf QUESTION · a_path_type ⟫ ⟫ ⟫;
+    }
     -- expression `|a, b: c| a..=b`
-    ∷ record { asked = expression; tokens = touching PIPE ∷ touching IDENT ∷ apart COMMA ∷ touching IDENT ∷ apart COLON ∷ touching IDENT ∷ apart PIPE ∷ touching IDENT ∷ touching DOT ∷ touching DOT ∷ touching EQ ∷ apart IDENT ∷ []; tree = Node CLOSURE_EXPR (Node PARAM_LIST (Leaf PIPE 1 (Node PARAM (Node IDENT_PAT (Node NAME (Leaf IDENT 1 End) End) End) (Leaf COMMA 1 (Node PARAM (Node IDENT_PAT (Node NAME (Leaf IDENT 1 End) End) (Leaf COLON 1 (Node PATH_TYPE (Node PATH (Node PATH_SEGMENT (Node NAME_REF (Leaf IDENT 1 End) End) End) End) End))) (Leaf PIPE 1 End))))) (Node RANGE_EXPR (Node PATH_EXPR (Node PATH (Node PATH_SEGMENT (Node NAME_REF (Leaf IDENT 1 End) End) End) End) (Leaf DOT2EQ 3 (Node PATH_EXPR (Node PATH (Node PATH_SEGMENT (Node NAME_REF (Leaf IDENT 1 End) End) End) End) End))) End)) End }
+    ∷ record {
+      asked = expression;
+      tokens = touching PIPE ∷ touching IDENT ∷ apart COMMA ∷ touching IDENT ∷ apart COLON ∷ touching IDENT ∷ apart PIPE ∷ touching IDENT ∷ touching DOT ∷ touching DOT ∷ touching EQ ∷ apart IDENT ∷ [];
+      tree = CLOSURE_EXPR ⟪ PARAM_LIST ⟪ leaf PIPE · PARAM ⟪ a_name_pat ⟫ · leaf COMMA · PARAM ⟪ a_name_pat · leaf COLON · a_path_type ⟫ · leaf PIPE ⟫ · RANGE_EXPR ⟪ a_path_expr · joined DOT2EQ 3 · a_path_expr ⟫ ⟫;
+    }
     -- file `fn f( struct`
-    ∷ record { asked = source_file; tokens = apart FN_KW ∷ touching IDENT ∷ apart L_PAREN ∷ apart STRUCT_KW ∷ []; tree = Node SOURCE_FILE (Node FN (Leaf FN_KW 1 (Node NAME (Leaf IDENT 1 End) (Node PARAM_LIST (Leaf L_PAREN 1 (ErrorLeaf (UnexpectedIn PARAM_LIST) STRUCT_KW (Said (Expected R_PAREN) End))) (Said (Expected SEMICOLON) End)))) End) End }
+    ∷ record {
+      asked = source_file;
+      tokens = apart FN_KW ∷ touching IDENT ∷ apart L_PAREN ∷ apart STRUCT_KW ∷ [];
+      tree = SOURCE_FILE ⟪ FN ⟪ leaf FN_KW · a_name · PARAM_LIST ⟪ leaf L_PAREN · skipped (UnexpectedIn PARAM_LIST) STRUCT_KW · said (Expected R_PAREN) ⟫ · said (Expected SEMICOLON) ⟫ ⟫;
+    }
     -- expression `f(a => b`
-    ∷ record { asked = expression; tokens = touching IDENT ∷ touching L_PAREN ∷ apart IDENT ∷ touching EQ ∷ apart R_ANGLE ∷ apart IDENT ∷ []; tree = Node CALL_EXPR (Node PATH_EXPR (Node PATH (Node PATH_SEGMENT (Node NAME_REF (Leaf IDENT 1 End) End) End) End) (Node ARG_LIST (Leaf L_PAREN 1 (Node PATH_EXPR (Node PATH (Node PATH_SEGMENT (Node NAME_REF (Leaf IDENT 1 End) End) End) End) (Said (Expected COMMA) (ErrorLeaf (UnexpectedIn ARG_LIST) EQ (ErrorLeaf (UnexpectedIn ARG_LIST) R_ANGLE (Node PATH_EXPR (Node PATH (Node PATH_SEGMENT (Node NAME_REF (Leaf IDENT 1 End) End) End) End) (Said (Expected COMMA) (Said (Expected R_PAREN) End)))))))) End)) End }
+    ∷ record {
+      asked = expression;
+      tokens = touching IDENT ∷ touching L_PAREN ∷ apart IDENT ∷ touching EQ ∷ apart R_ANGLE ∷ apart IDENT ∷ [];
+      tree = CALL_EXPR ⟪ a_path_expr · ARG_LIST ⟪ leaf L_PAREN · a_path_expr · said (Expected COMMA) · skipped (UnexpectedIn ARG_LIST) EQ · skipped (UnexpectedIn ARG_LIST) R_ANGLE · a_path_expr · said (Expected COMMA) · said (Expected R_PAREN) ⟫ ⟫;
+    }
     -- expression `S { a::b }`
-    ∷ record { asked = expression; tokens = apart IDENT ∷ apart L_CURLY ∷ touching IDENT ∷ touching COLON ∷ touching COLON ∷ apart IDENT ∷ apart R_CURLY ∷ []; tree = Node RECORD_EXPR (Node PATH (Node PATH_SEGMENT (Node NAME_REF (Leaf IDENT 1 End) End) End) (Node RECORD_EXPR_FIELD_LIST (Leaf L_CURLY 1 (Node RECORD_EXPR_FIELD (Node NAME_REF (Leaf IDENT 1 End) (Leaf COLON 1 (Said ExpectedExpression End))) (Said (Expected COMMA) (ErrorLeaf (UnexpectedIn RECORD_EXPR_FIELD_LIST) COLON (Node RECORD_EXPR_FIELD (Node PATH_EXPR (Node PATH (Node PATH_SEGMENT (Node NAME_REF (Leaf IDENT 1 End) End) End) End) End) (Leaf R_CURLY 1 End)))))) End)) End }
+    ∷ record {
+      asked = expression;
+      tokens = apart IDENT ∷ apart L_CURLY ∷ touching IDENT ∷ touching COLON ∷ touching COLON ∷ apart IDENT ∷ apart R_CURLY ∷ [];
+      tree = RECORD_EXPR ⟪ a_path · RECORD_EXPR_FIELD_LIST ⟪ leaf L_CURLY · RECORD_EXPR_FIELD ⟪ NAME_REF ⟪ leaf IDENT ⟫ · leaf COLON · said ExpectedExpression ⟫ · said (Expected COMMA) · skipped (UnexpectedIn RECORD_EXPR_FIELD_LIST) COLON · RECORD_EXPR_FIELD ⟪ a_path_expr ⟫ · leaf R_CURLY ⟫ ⟫;
+    }
     -- type `T::<=`
-    ∷ record { asked = any_type; tokens = touching IDENT ∷ touching COLON ∷ touching COLON ∷ touching L_ANGLE ∷ apart EQ ∷ []; tree = Node PATH_TYPE (Node PATH (Node PATH_SEGMENT (Node NAME_REF (Leaf IDENT 1 End) (Node GENERIC_ARG_LIST (Leaf COLON2 2 (Leaf L_ANGLE 1 (ErrorLeaf (UnexpectedIn GENERIC_ARG_LIST) EQ (Said (Expected R_ANGLE) End)))) End)) End) End) End }
+    ∷ record {
+      asked = any_type;
+      tokens = touching IDENT ∷ touching COLON ∷ touching COLON ∷ touching L_ANGLE ∷ apart EQ ∷ [];
+      tree = PATH_TYPE ⟪ PATH ⟪ PATH_SEGMENT ⟪ NAME_REF ⟪ leaf IDENT ⟫ · GENERIC_ARG_LIST ⟪ joined COLON2 2 · leaf L_ANGLE · skipped (UnexpectedIn GENERIC_ARG_LIST) EQ · said (Expected R_ANGLE) ⟫ ⟫ ⟫ ⟫;
+    }
     -- expression `x.f::g()`
-    ∷ record { asked = expression; tokens = touching IDENT ∷ touching DOT ∷ touching IDENT ∷ touching COLON ∷ touching COLON ∷ touching IDENT ∷ touching L_PAREN ∷ apart R_PAREN ∷ []; tree = Node ERROR (Node METHOD_CALL_EXPR (Node PATH_EXPR (Node PATH (Node PATH_SEGMENT (Node NAME_REF (Leaf IDENT 1 End) End) End) End) (Leaf DOT 1 (Node NAME_REF (Leaf IDENT 1 End) (Said (Expected ARG_LIST) End)))) (Said UnexpectedTokens (Leaf COLON 1 (Leaf COLON 1 (Leaf IDENT 1 (Leaf L_PAREN 1 (Leaf R_PAREN 1 End))))))) End }
+    ∷ record {
+      asked = expression;
+      tokens = touching IDENT ∷ touching DOT ∷ touching IDENT ∷ touching COLON ∷ touching COLON ∷ touching IDENT ∷ touching L_PAREN ∷ apart R_PAREN ∷ [];
+      tree = ERROR ⟪ METHOD_CALL_EXPR ⟪ a_path_expr · leaf DOT · NAME_REF ⟪ leaf IDENT ⟫ · said (Expected ARG_LIST) ⟫ · said UnexpectedTokens · leaf COLON · leaf COLON · leaf IDENT · leaf L_PAREN · leaf R_PAREN ⟫;
+    }
     -- expression `a = = b`
-    ∷ record { asked = expression; tokens = apart IDENT ∷ apart EQ ∷ apart EQ ∷ apart IDENT ∷ []; tree = Node ERROR (Node BIN_EXPR (Node PATH_EXPR (Node PATH (Node PATH_SEGMENT (Node NAME_REF (Leaf IDENT 1 End) End) End) End) (Leaf EQ 1 (Said ExpectedExpression End))) (Said UnexpectedTokens (Leaf EQ 1 (Leaf IDENT 1 End)))) End }
+    ∷ record {
+      asked = expression;
+      tokens = apart IDENT ∷ apart EQ ∷ apart EQ ∷ apart IDENT ∷ [];
+      tree = ERROR ⟪ BIN_EXPR ⟪ a_path_expr · leaf EQ · said ExpectedExpression ⟫ · said UnexpectedTokens · leaf EQ · leaf IDENT ⟫;
+    }
     -- expression `a + = b`
-    ∷ record { asked = expression; tokens = apart IDENT ∷ apart PLUS ∷ apart EQ ∷ apart IDENT ∷ []; tree = Node BIN_EXPR (Node BIN_EXPR (Node PATH_EXPR (Node PATH (Node PATH_SEGMENT (Node NAME_REF (Leaf IDENT 1 End) End) End) End) (Leaf PLUS 1 (Said ExpectedExpression End))) (Leaf EQ 1 (Node PATH_EXPR (Node PATH (Node PATH_SEGMENT (Node NAME_REF (Leaf IDENT 1 End) End) End) End) End))) End }
+    ∷ record {
+      asked = expression;
+      tokens = apart IDENT ∷ apart PLUS ∷ apart EQ ∷ apart IDENT ∷ [];
+      tree = BIN_EXPR ⟪ BIN_EXPR ⟪ a_path_expr · leaf PLUS · said ExpectedExpression ⟫ · leaf EQ · a_path_expr ⟫;
+    }
     -- expression `a -> b`
-    ∷ record { asked = expression; tokens = apart IDENT ∷ touching MINUS ∷ apart R_ANGLE ∷ apart IDENT ∷ []; tree = Node BIN_EXPR (Node BIN_EXPR (Node PATH_EXPR (Node PATH (Node PATH_SEGMENT (Node NAME_REF (Leaf IDENT 1 End) End) End) End) (Leaf MINUS 1 (Said ExpectedExpression End))) (Leaf R_ANGLE 1 (Node PATH_EXPR (Node PATH (Node PATH_SEGMENT (Node NAME_REF (Leaf IDENT 1 End) End) End) End) End))) End }
+    ∷ record {
+      asked = expression;
+      tokens = apart IDENT ∷ touching MINUS ∷ apart R_ANGLE ∷ apart IDENT ∷ [];
+      tree = BIN_EXPR ⟪ BIN_EXPR ⟪ a_path_expr · leaf MINUS · said ExpectedExpression ⟫ · leaf R_ANGLE · a_path_expr ⟫;
+    }
     -- expression `if S {} {}`
-    ∷ record { asked = expression; tokens = apart IF_KW ∷ apart IDENT ∷ touching L_CURLY ∷ apart R_CURLY ∷ touching L_CURLY ∷ apart R_CURLY ∷ []; tree = Node ERROR (Node IF_EXPR (Leaf IF_KW 1 (Node PATH_EXPR (Node PATH (Node PATH_SEGMENT (Node NAME_REF (Leaf IDENT 1 End) End) End) End) (Node BLOCK_EXPR (Node STMT_LIST (Leaf L_CURLY 1 (Leaf R_CURLY 1 End)) End) End))) (Said UnexpectedTokens (Leaf L_CURLY 1 (Leaf R_CURLY 1 End)))) End }
+    ∷ record {
+      asked = expression;
+      tokens = apart IF_KW ∷ apart IDENT ∷ touching L_CURLY ∷ apart R_CURLY ∷ touching L_CURLY ∷ apart R_CURLY ∷ [];
+      tree = ERROR ⟪ IF_EXPR ⟪ leaf IF_KW · a_path_expr · an_empty_block ⟫ · said UnexpectedTokens · leaf L_CURLY · leaf R_CURLY ⟫;
+    }
     -- expression `if {}`
-    ∷ record { asked = expression; tokens = apart IF_KW ∷ touching L_CURLY ∷ apart R_CURLY ∷ []; tree = Node IF_EXPR (Leaf IF_KW 1 (Node BLOCK_EXPR (Node STMT_LIST (Leaf L_CURLY 1 (Leaf R_CURLY 1 End)) End) (Said (Expected BLOCK_EXPR) End))) End }
+    ∷ record {
+      asked = expression;
+      tokens = apart IF_KW ∷ touching L_CURLY ∷ apart R_CURLY ∷ [];
+      tree = IF_EXPR ⟪ leaf IF_KW · an_empty_block · said (Expected BLOCK_EXPR) ⟫;
+    }
     -- expression `if (let`
-    ∷ record { asked = expression; tokens = apart IF_KW ∷ touching L_PAREN ∷ apart LET_KW ∷ []; tree = Node ERROR (Node IF_EXPR (Leaf IF_KW 1 (Node PAREN_EXPR (Leaf L_PAREN 1 (Said ExpectedExpression (Said (Expected R_PAREN) End))) (Said (Expected BLOCK_EXPR) End))) (Said UnexpectedTokens (Leaf LET_KW 1 End))) End }
+    ∷ record {
+      asked = expression;
+      tokens = apart IF_KW ∷ touching L_PAREN ∷ apart LET_KW ∷ [];
+      tree = ERROR ⟪ IF_EXPR ⟪ leaf IF_KW · PAREN_EXPR ⟪ leaf L_PAREN · said ExpectedExpression · said (Expected R_PAREN) ⟫ · said (Expected BLOCK_EXPR) ⟫ · said UnexpectedTokens · leaf LET_KW ⟫;
+    }
     -- expression `if a + let b = c {}`
-    ∷ record { asked = expression; tokens = apart IF_KW ∷ apart IDENT ∷ apart PLUS ∷ apart LET_KW ∷ apart IDENT ∷ apart EQ ∷ apart IDENT ∷ touching L_CURLY ∷ apart R_CURLY ∷ []; tree = Node IF_EXPR (Leaf IF_KW 1 (Node BIN_EXPR (Node PATH_EXPR (Node PATH (Node PATH_SEGMENT (Node NAME_REF (Leaf IDENT 1 End) End) End) End) (Leaf PLUS 1 (Node LET_EXPR (Leaf LET_KW 1 (Node IDENT_PAT (Node NAME (Leaf IDENT 1 End) End) (Leaf EQ 1 (Node PATH_EXPR (Node PATH (Node PATH_SEGMENT (Node NAME_REF (Leaf IDENT 1 End) End) End) End) End)))) End))) (Node BLOCK_EXPR (Node STMT_LIST (Leaf L_CURLY 1 (Leaf R_CURLY 1 End)) End) End))) End }
+    ∷ record {
+      asked = expression;
+      tokens = apart IF_KW ∷ apart IDENT ∷ apart PLUS ∷ apart LET_KW ∷ apart IDENT ∷ apart EQ ∷ apart IDENT ∷ touching L_CURLY ∷ apart R_CURLY ∷ [];
+      tree = IF_EXPR ⟪ leaf IF_KW · BIN_EXPR ⟪ a_path_expr · leaf PLUS · LET_EXPR ⟪ leaf LET_KW · a_name_pat · leaf EQ · a_path_expr ⟫ ⟫ · an_empty_block ⟫;
+    }
     -- statements `#[a] let x;`
-    ∷ record { asked = macro_statements; tokens = touching POUND ∷ touching L_BRACK ∷ touching IDENT ∷ apart R_BRACK ∷ apart LET_KW ∷ touching IDENT ∷ apart SEMICOLON ∷ []; tree = Node MACRO_STMTS (Node ERROR (Node ATTR (Leaf POUND 1 (Leaf L_BRACK 1 (Node META (Node PATH (Node PATH_SEGMENT (Node NAME_REF (Leaf IDENT 1 End) End) End) End) (Leaf R_BRACK 1 End)))) (Said ExpectedItem End)) (Node LET_STMT (Leaf LET_KW 1 (Node IDENT_PAT (Node NAME (Leaf IDENT 1 End) End) (Leaf SEMICOLON 1 End))) End)) End }
+    ∷ record {
+      asked = macro_statements;
+      tokens = touching POUND ∷ touching L_BRACK ∷ touching IDENT ∷ apart R_BRACK ∷ apart LET_KW ∷ touching IDENT ∷ apart SEMICOLON ∷ [];
+      tree = MACRO_STMTS ⟪ ERROR ⟪ ATTR ⟪ leaf POUND · leaf L_BRACK · META ⟪ a_path ⟫ · leaf R_BRACK ⟫ · said ExpectedItem ⟫ · LET_STMT ⟪ leaf LET_KW · a_name_pat · leaf SEMICOLON ⟫ ⟫;
+    }
     -- statements `{}.a + 1;`
-    ∷ record { asked = macro_statements; tokens = touching L_CURLY ∷ touching R_CURLY ∷ touching DOT ∷ apart IDENT ∷ apart PLUS ∷ touching INT_NUMBER ∷ apart SEMICOLON ∷ []; tree = Node MACRO_STMTS (Node EXPR_STMT (Node FIELD_EXPR (Node BLOCK_EXPR (Node STMT_LIST (Leaf L_CURLY 1 (Leaf R_CURLY 1 End)) End) (Leaf DOT 1 (Node NAME_REF (Leaf IDENT 1 End) End))) (Said (Expected SEMICOLON) End)) (ErrorLeaf ExpectedStatement PLUS (Node EXPR_STMT (Node LITERAL (Leaf INT_NUMBER 1 End) (Leaf SEMICOLON 1 End)) End))) End }
+    ∷ record {
+      asked = macro_statements;
+      tokens = touching L_CURLY ∷ touching R_CURLY ∷ touching DOT ∷ apart IDENT ∷ apart PLUS ∷ touching INT_NUMBER ∷ apart SEMICOLON ∷ [];
+      tree = MACRO_STMTS ⟪ EXPR_STMT ⟪ FIELD_EXPR ⟪ an_empty_block · leaf DOT · NAME_REF ⟪ leaf IDENT ⟫ ⟫ · said (Expected SEMICOLON) ⟫ · skipped ExpectedStatement PLUS · EXPR_STMT ⟪ a_number · leaf SEMICOLON ⟫ ⟫;
+    }
     -- items `pub ;`
-    ∷ record { asked = macro_items; tokens = apart PUB_KW ∷ apart SEMICOLON ∷ []; tree = Node MACRO_ITEMS (Node ERROR (Node VISIBILITY (Leaf PUB_KW 1 End) (Said ExpectedItem End)) (ErrorLeaf ExpectedItem SEMICOLON End)) End }
+    ∷ record {
+      asked = macro_items;
+      tokens = apart PUB_KW ∷ apart SEMICOLON ∷ [];
+      tree = MACRO_ITEMS ⟪ ERROR ⟪ VISIBILITY ⟪ leaf PUB_KW ⟫ · said ExpectedItem ⟫ · skipped ExpectedItem SEMICOLON ⟫;
+    }
     -- type `::<T>`
-    ∷ record { asked = any_type; tokens = touching COLON ∷ touching COLON ∷ touching L_ANGLE ∷ touching IDENT ∷ apart R_ANGLE ∷ []; tree = Node PATH_TYPE (Node PATH (Node PATH_SEGMENT (Leaf COLON2 2 (Said (Expected NAME_REF) (Node GENERIC_ARG_LIST (Leaf L_ANGLE 1 (Node TYPE_ARG (Node PATH_TYPE (Node PATH (Node PATH_SEGMENT (Node NAME_REF (Leaf IDENT 1 End) End) End) End) End) (Leaf R_ANGLE 1 End))) End))) End) End) End }
+    ∷ record {
+      asked = any_type;
+      tokens = touching COLON ∷ touching COLON ∷ touching L_ANGLE ∷ touching IDENT ∷ apart R_ANGLE ∷ [];
+      tree = PATH_TYPE ⟪ PATH ⟪ PATH_SEGMENT ⟪ joined COLON2 2 · said (Expected NAME_REF) · GENERIC_ARG_LIST ⟪ leaf L_ANGLE · TYPE_ARG ⟪ a_path_type ⟫ · leaf R_ANGLE ⟫ ⟫ ⟫ ⟫;
+    }
     -- expression `..= a.0.`
-    ∷ record { asked = expression; tokens = touching DOT ∷ touching DOT ∷ apart EQ ∷ touching IDENT ∷ touching DOT ∷ apart FLOAT_NUMBER ∷ []; tree = Node RANGE_EXPR (Leaf DOT2EQ 3 (Node FIELD_EXPR (Float true (Node PATH_EXPR (Node PATH (Node PATH_SEGMENT (Node NAME_REF (Leaf IDENT 1 End) End) End) End) (Leaf DOT 1 End)) (Said ExpectedField End)) End)) End }
+    ∷ record {
+      asked = expression;
+      tokens = touching DOT ∷ touching DOT ∷ apart EQ ∷ touching IDENT ∷ touching DOT ∷ apart FLOAT_NUMBER ∷ [];
+      tree = RANGE_EXPR ⟪ joined DOT2EQ 3 · FIELD_EXPR ⟪ float true (a_path_expr · leaf DOT) · said ExpectedField ⟫ ⟫;
+    }
     -- type `dyn T`, where `dyn` is no keyword
-    ∷ record { asked = any_type; tokens = record { kind = IDENT; contextual = DYN_KW; joint = false } ∷ apart IDENT ∷ []; tree = Node DYN_TRAIT_TYPE (Leaf DYN_KW 1 (Node TYPE_BOUND_LIST (Node TYPE_BOUND (Node PATH_TYPE (Node PATH (Node PATH_SEGMENT (Node NAME_REF (Leaf IDENT 1 End) End) End) End) End) End) End)) End }
+    ∷ record {
+      asked = any_type;
+      tokens = record { kind = IDENT; contextual = DYN_KW; joint = false } ∷ apart IDENT ∷ [];
+      tree = DYN_TRAIT_TYPE ⟪ leaf DYN_KW · TYPE_BOUND_LIST ⟪ TYPE_BOUND ⟪ a_path_type ⟫ ⟫ ⟫;
+    }
     ∷ []
 
 -- Each example gives its tree.

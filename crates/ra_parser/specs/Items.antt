@@ -17,7 +17,7 @@ abbrev items_in_braces : Rule
 items_in_braces = 'l_curly' ▸ off (items_until (until 'r_curly')) ▸ 'r_curly' !
 
 -- where a bracket behind `pub` belongs to it, and is not the type of a field
-abbrev visibility_goes_on : Look
+abbrev pub visibility_goes_on : Look
 visibility_goes_on =
     any_of
     ('l_paren' before 'in'
@@ -34,8 +34,15 @@ abbrev self_begins : Look
 self_begins = any_of (next 'self' ∷ 'mut' before 'self' ∷ '&' before 'self' ∷ row 0 ('&' ∷ 'mut' ∷ 'self' ∷ []) ∷ '&' before 'lifetime' ∷ [])
 
 -- inside a token tree: token trees, and any token but a closing bracket
+abbrev pub inner_token : Rule
+inner_token = TokenTree or When (Both Left (Not (one_of 0 ('r_paren' ∷ 'r_curly' ∷ ']' ∷ [])))) Any
+
 abbrev tokens : Rule
-tokens = (TokenTree or When (Both Left (Not (one_of 0 ('r_paren' ∷ 'r_curly' ∷ ']' ∷ [])))) Any) *
+tokens = inner_token *
+
+-- behind the path of a use tree: more of it, or another name
+abbrev pub behind_use : Rule
+behind_use = ⁅ '::' ▸ ('*' or UseList) or RENAME ⟨ 'as' ▸ ('_' or Name !) ⟩ ⁆
 
 -- A body stands around the attributes and the visibility before it. A word that begins no item is read as the path of a macro.
 unfoldable pub items : (others : Production → Rule) → Production → Rule
@@ -72,6 +79,6 @@ items others token_tree =
     or TOKEN_TREE ⟨ '[' ▸ tokens ▸ ']' ! ⟩
     or TOKEN_TREE ⟨ 'l_curly' ▸ tokens ▸ 'r_curly' ! ⟩
 items others use_tree =
-    USE_TREE ⟨ ⁅ When colons_before_more '::' ⁆ ▸ ('*' or UseList or Path ▸ ⁅ '::' ▸ ('*' or UseList) or RENAME ⟨ 'as' ▸ ('_' or Name !) ⟩ ⁆) ⟩
+    USE_TREE ⟨ ⁅ When colons_before_more '::' ⁆ ▸ ('*' or UseList or Path ▸ behind_use) ⟩
 items others use_list = USE_TREE_LIST ⟨ listed USE_TREE_LIST 'l_curly' UseTree 'r_curly' ⟩
 items others x = others x

@@ -18,4 +18,6 @@ pub mod Fine
 pub mod Left
 pub mod Adds
 pub mod Pieces
+pub mod Stands
+pub mod Looks
 pub mod Laws

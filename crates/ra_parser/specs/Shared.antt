@@ -1,7 +1,7 @@
 -- Parts of rules that several tables share.
 use Rattle.std.specs.Prelude.{List, [], ◌∷◌}
-use Rattle.parser_input.specs.Kinds.{NAME_REF}
-use Rattle.ra_parser.specs.Rule.{Look, Rule}
+use Rattle.parser_input.specs.Kinds.{COLON, NAME_REF}
+use Rattle.ra_parser.specs.Rule.{Look, Kind, Joint, Both, Not, Rule}
 use Rattle.ra_parser.specs.Words.{'::', 'l_curly', '*', 'crate', 'self', 'Self', 'super', 'ident', 'int'}
 use Rattle.ra_parser.specs.Notation.{◌or◌, ◌⟨◌⟩, ◌before_any◌}
 
@@ -12,6 +12,10 @@ refs = 'ident' ∷ 'self' ∷ 'super' ∷ 'crate' ∷ 'Self' ∷ []
 -- the `::` behind which a `*` or a list of uses stands, which ends a path
 abbrev pub colons_before_more : Look
 colons_before_more = '::' before_any ('*' ∷ 'l_curly' ∷ [])
+
+-- a `::` behind which a path goes on
+abbrev pub path_goes_on : Look
+path_goes_on = Both (Not colons_before_more) (Both (Kind 0 COLON) (Both (Joint 0) (Kind 1 COLON)))
 
 -- a field by name or by number
 abbrev pub field_name : Rule

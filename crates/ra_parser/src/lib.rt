@@ -1,9 +1,11 @@
 //! The grammar: rules, what a rule means on an input, the table of productions, and the functions that read by it.
 //!
-//! The whole grammar is a table, which no function reads by yet. So far what is read reaches the kinds `struct`, identifier
-//! and `;`: [`parse::source_file`] reads an input.
+//! Names, literals, paths without arguments, visibilities, use trees and token trees are read by the table of the whole grammar. An
+//! input is read as a source file by a table of the kinds `struct`, identifier
+//! and `;` so far: [`parse::source_file`].
 #![tactic(auto)]
 
 mod grammar;
 pub mod laws;
 pub mod parse;
+mod small;

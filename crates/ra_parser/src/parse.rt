@@ -7,7 +7,7 @@ ghost use Rattle.ra_parser.specs.Grammar.{grammar};
 ghost use Rattle.ra_parser.specs.Meaning.{meaning};
 ghost use Rattle.ra_parser.specs.Rule as rules;
 
-use crate::grammar::items;
+use crate::small::items;
 use parser_events::output::Output;
 use parser_events::parser::Parser;
 use parser_input::input::Input;

@@ -1,20 +1,33 @@
--- Nodes one in another.
-use Rattle.ra_parser.proofs.Adding.{adds-node, adds-innermost}
-use Rattle.parser_input.specs.Kinds as kinds
-use Rattle.parser_events.specs.Forest.{End, Leaf, Node}
+-- Each path reads what the rule comes to there.
+use Rattle.std.proofs.Common.{true}
+use Rattle.ra_parser.specs.Expressions.{expressions}
+use Rattle.ra_parser.specs.Items.{items}
+use Rattle.ra_parser.specs.Meaning.{begins_below, look_of}
+use Rattle.ra_parser.specs.Notation.{any_of, expected, is_longer, no_longer, one_of, op, row, wanted}
+use Rattle.ra_parser.specs.Paths.{paths}
+use Rattle.ra_parser.specs.Patterns.{patterns}
+use Rattle.ra_parser.specs.Rule.{begins, in_mode, is_silent, passes, shift, there_at, width}
+use Rattle.ra_parser.specs.Statements.{statements}
+use Rattle.ra_parser.specs.Types.{types}
+use Rattle.ra_parser.specs.Whole.{rule, whole}
+use Rattle.ra_parser.proofs.ByHand.{completes-leave, completes-then}
+use Rattle.ra_parser.proofs.Choices.{anew-completes, gives-anew}
+use Rattle.ra_parser.proofs.Seen.{saw-inside, saw-left-out}
 use Rattle.ra_parser.proofs.grammar.paths.path.Goals as goal
 
-pub complete-requires : goal.complete-requires
-complete-requires c = adds-innermost c.start-segment.result c.name_ref.ensures c.start-segment.ensures.marker
+pub first_segment-requires-clause-begins : goal.first_segment-requires-clause-begins
+first_segment-requires-clause-begins c cond = saw-inside c.start-frame.ensures.opens (c.requires.begins cond)
 
-pub complete-requires-2 : goal.complete-requires-2
-complete-requires-2 c =
-    adds-innermost c.start-path.result
-    (adds-node kinds.PATH_SEGMENT (Node kinds.NAME_REF (Leaf kinds.IDENT 1 End) End) 1 c.start-path.new.self c.start-segment.new.self c.name_ref.new.p c.complete.new.p c.start-segment.ensures.nodes c.start-segment.ensures.same c.name_ref.ensures c.complete.ensures.nodes c.complete.ensures.same)
-    c.start-path.ensures.marker
+pub next_segments-frame-requires : goal.next_segments-frame-requires
+next_segments-frame-requires c = (c.first_segment.ensures.reads true).does.innermost _ (c.start-frame.ensures.marker)
 
-pub returns : goal.returns
-returns c =
-    adds-node kinds.PATH (Node kinds.PATH_SEGMENT (Node kinds.NAME_REF (Leaf kinds.IDENT 1 End) End) End) 1 c.args.p.now c.start-path.new.self c.complete.new.p c.complete-2.new.p c.start-path.ensures.nodes c.start-path.ensures.same
-    (adds-node kinds.PATH_SEGMENT (Node kinds.NAME_REF (Leaf kinds.IDENT 1 End) End) 1 c.start-path.new.self c.start-segment.new.self c.name_ref.new.p c.complete.new.p c.start-segment.ensures.nodes c.start-segment.ensures.same c.name_ref.ensures c.complete.ensures.nodes c.complete.ensures.same)
-    c.complete-2.ensures.nodes c.complete-2.ensures.same
+pub abandon-requires : goal.abandon-requires
+abandon-requires c = c.next_segments-frame.ensures.marker
+
+pub returns-clause-gives : goal.returns-clause-gives
+unfolding look_of begins_below whole rule items statements expressions patterns types paths there_at shift width passes is_silent begins in_mode row one_of any_of expected wanted op no_longer is_longer
+returns-clause-gives c cond = gives-anew (anew-completes c.start-frame.ensures.opens (completes-then ((c.first_segment.ensures.reads cond)) (completes-leave ((c.next_segments-frame.ensures.reads cond)) c.abandon.ensures.leaves)))
+
+pub returns-clause-ends : goal.returns-clause-ends
+unfolding look_of begins_below whole rule items statements expressions patterns types paths there_at shift width passes is_silent begins in_mode row one_of any_of expected wanted op no_longer is_longer
+returns-clause-ends c cond = saw-left-out c.abandon.ensures.leaves (c.next_segments-frame.ensures.ends cond)

@@ -1,0 +1,28 @@
+-- Each path reads what the rule comes to there.
+use Rattle.std.proofs.Common.{refl}
+use Rattle.ra_parser.specs.Expressions.{expressions}
+use Rattle.ra_parser.specs.Items.{items}
+use Rattle.ra_parser.specs.Meaning.{begins_below, look_of}
+use Rattle.ra_parser.specs.Notation.{any_of, expected, is_longer, no_longer, one_of, op, row, wanted}
+use Rattle.ra_parser.specs.Paths.{paths}
+use Rattle.ra_parser.specs.Patterns.{patterns}
+use Rattle.ra_parser.specs.Rule.{begins, in_mode, is_silent, passes, shift, there_at, width}
+use Rattle.ra_parser.specs.Statements.{statements}
+use Rattle.ra_parser.specs.Types.{types}
+use Rattle.ra_parser.specs.Whole.{rule, whole}
+use Rattle.ra_parser.proofs.Facts.{nothing, ◌and◌}
+use Rattle.ra_parser.proofs.Looking.{left-arm, saw-arm, saw-not}
+use Rattle.ra_parser.proofs.Seen.{saw-condition, saw-told}
+use Rattle.ra_parser.proofs.grammar.expressions.at_let.Goals as goal
+
+pub returns-then-not-condition-clause-sees : goal.returns-then-not-condition-clause-sees
+unfolding look_of begins_below whole rule items statements expressions patterns types paths there_at shift width passes is_silent begins in_mode row one_of any_of expected wanted op no_longer is_longer
+returns-then-not-condition-clause-sees c = saw-told (saw-condition c.if-not-condition.true and nothing) refl
+
+pub returns-in-LET_KW-clause-sees : goal.returns-in-LET_KW-clause-sees
+unfolding look_of begins_below whole rule items statements expressions patterns types paths there_at shift width passes is_silent begins in_mode row one_of any_of expected wanted op no_longer is_longer
+returns-in-LET_KW-clause-sees c = saw-told (saw-condition c.if-not-condition.false and left-arm c.in-LET_KW.is (c.current.ensures.end c.args.condition) and saw-arm c.in-LET_KW.is (c.current.ensures.sees c.args.condition) and nothing) refl
+
+pub returns-in_default-clause-sees : goal.returns-in_default-clause-sees
+unfolding look_of begins_below whole rule items statements expressions patterns types paths there_at shift width passes is_silent begins in_mode row one_of any_of expected wanted op no_longer is_longer
+returns-in_default-clause-sees c = saw-told (saw-condition c.if-not-condition.false and saw-not c.in_default.not-LET_KW (c.current.ensures.sees c.args.condition) and nothing) refl

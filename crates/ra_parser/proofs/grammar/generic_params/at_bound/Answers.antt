@@ -1,0 +1,37 @@
+-- Each path reads what the rule comes to there.
+use Rattle.std.proofs.Common.{inl, inr, refl}
+use Rattle.ra_parser.specs.Expressions.{expressions}
+use Rattle.ra_parser.specs.Items.{items}
+use Rattle.ra_parser.specs.Meaning.{begins_below, look_of}
+use Rattle.ra_parser.specs.Notation.{any_of, expected, is_longer, no_longer, one_of, op, row, wanted}
+use Rattle.ra_parser.specs.Paths.{paths}
+use Rattle.ra_parser.specs.Patterns.{patterns}
+use Rattle.ra_parser.specs.Rule.{begins, in_mode, is_silent, passes, shift, there_at, width}
+use Rattle.ra_parser.specs.Statements.{statements}
+use Rattle.ra_parser.specs.Types.{types}
+use Rattle.ra_parser.specs.Whole.{rule, whole}
+use Rattle.ra_parser.specs.Rule as rules
+use Rattle.ra_parser.proofs.Begins.{saw-expr-path, saw-type-path}
+use Rattle.ra_parser.proofs.ByHand.{does-then}
+use Rattle.ra_parser.proofs.Facts.{begun, nothing, saw-so, ◌and◌}
+use Rattle.ra_parser.proofs.Looking.{left-arm, saw-arm, saw-not}
+use Rattle.ra_parser.proofs.Seen.{begins-row, saw-before}
+use Rattle.ra_parser.proofs.grammar.generic_params.at_bound.Goals as goal
+
+pub returns-then-at_path-clause-sees : goal.returns-then-at_path-clause-sees
+unfolding look_of begins_below whole rule items statements expressions patterns types paths there_at shift width passes is_silent begins in_mode row one_of any_of expected wanted op no_longer is_longer
+returns-then-at_path-clause-sees c cond = begins-row rules.bound (begun rules.type_path (saw-type-path (saw-so (c.at_path.ensures.sees cond) c.if-at_path.true)) (begun rules.expr_path (saw-expr-path (saw-so (c.at_path.ensures.sees cond) c.if-at_path.true)) (begun rules.path (saw-so (c.at_path.ensures.sees cond) c.if-at_path.true) (nothing)))) refl
+
+pub returns-in-LIFETIME_IDENT-clause-sees : goal.returns-in-LIFETIME_IDENT-clause-sees
+unfolding look_of begins_below whole rule items statements expressions patterns types paths there_at shift width passes is_silent begins in_mode row one_of any_of expected wanted op no_longer is_longer
+returns-in-LIFETIME_IDENT-clause-sees c cond = elim c.in-LIFETIME_IDENT.is [ inl a0 ↦ begins-row rules.bound (begun rules.type_path (saw-type-path (saw-so (c.at_path.ensures.sees cond) c.if-at_path.false)) (begun rules.expr_path (saw-expr-path (saw-so (c.at_path.ensures.sees cond) c.if-at_path.false)) (begun rules.path (saw-so (c.at_path.ensures.sees cond) c.if-at_path.false) (saw-before c.at_path.ensures.same (left-arm a0 (c.current.ensures.end cond)) and saw-before c.at_path.ensures.same (saw-arm a0 (c.current.ensures.sees cond)) and nothing)))) refl | inr b0 ↦ begins-row rules.bound (begun rules.type_path (saw-type-path (saw-so (c.at_path.ensures.sees cond) c.if-at_path.false)) (begun rules.expr_path (saw-expr-path (saw-so (c.at_path.ensures.sees cond) c.if-at_path.false)) (begun rules.path (saw-so (c.at_path.ensures.sees cond) c.if-at_path.false) (saw-before c.at_path.ensures.same (left-arm b0 (c.current.ensures.end cond)) and saw-before c.at_path.ensures.same (saw-arm b0 (c.current.ensures.sees cond)) and nothing)))) refl ]
+
+pub returns-in-LIFETIME_IDENT-clause-same : goal.returns-in-LIFETIME_IDENT-clause-same
+returns-in-LIFETIME_IDENT-clause-same c = does-then c.at_path.ensures.same (c.current.ensures.same)
+
+pub returns-in_default-clause-sees : goal.returns-in_default-clause-sees
+unfolding look_of begins_below whole rule items statements expressions patterns types paths there_at shift width passes is_silent begins in_mode row one_of any_of expected wanted op no_longer is_longer
+returns-in_default-clause-sees c cond = begins-row rules.bound (begun rules.type_path (saw-type-path (saw-so (c.at_path.ensures.sees cond) c.if-at_path.false)) (begun rules.expr_path (saw-expr-path (saw-so (c.at_path.ensures.sees cond) c.if-at_path.false)) (begun rules.path (saw-so (c.at_path.ensures.sees cond) c.if-at_path.false) (saw-before c.at_path.ensures.same (saw-not c.in_default.not-LIFETIME_IDENT (c.current.ensures.sees cond)) and saw-before c.at_path.ensures.same (saw-not c.in_default.not-QUESTION (c.current.ensures.sees cond)) and nothing)))) refl
+
+pub returns-in_default-clause-same : goal.returns-in_default-clause-same
+returns-in_default-clause-same c = does-then c.at_path.ensures.same (c.current.ensures.same)

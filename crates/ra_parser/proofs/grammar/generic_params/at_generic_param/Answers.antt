@@ -1,0 +1,25 @@
+-- Each path reads what the rule comes to there.
+use Rattle.std.proofs.Common.{inl, inr, refl}
+use Rattle.ra_parser.specs.Expressions.{expressions}
+use Rattle.ra_parser.specs.Items.{items}
+use Rattle.ra_parser.specs.Meaning.{begins_below, look_of}
+use Rattle.ra_parser.specs.Notation.{any_of, expected, is_longer, no_longer, one_of, op, row, wanted}
+use Rattle.ra_parser.specs.Paths.{paths}
+use Rattle.ra_parser.specs.Patterns.{patterns}
+use Rattle.ra_parser.specs.Rule.{begins, in_mode, is_silent, passes, shift, there_at, width}
+use Rattle.ra_parser.specs.Statements.{statements}
+use Rattle.ra_parser.specs.Types.{types}
+use Rattle.ra_parser.specs.Whole.{rule, whole}
+use Rattle.ra_parser.specs.Rule as rules
+use Rattle.ra_parser.proofs.Facts.{nothing, ◌and◌}
+use Rattle.ra_parser.proofs.Looking.{left-arm, saw-arm, saw-not}
+use Rattle.ra_parser.proofs.Seen.{begins-row}
+use Rattle.ra_parser.proofs.grammar.generic_params.at_generic_param.Goals as goal
+
+pub returns-in-LIFETIME_IDENT-clause-sees : goal.returns-in-LIFETIME_IDENT-clause-sees
+unfolding look_of begins_below whole rule items statements expressions patterns types paths there_at shift width passes is_silent begins in_mode row one_of any_of expected wanted op no_longer is_longer
+returns-in-LIFETIME_IDENT-clause-sees c cond = elim c.in-LIFETIME_IDENT.is [ inl a0 ↦ begins-row rules.generic_param (left-arm a0 (c.current.ensures.end cond) and saw-arm a0 (c.current.ensures.sees cond) and nothing) refl | inr b0 ↦ begins-row rules.generic_param (left-arm b0 (c.current.ensures.end cond) and saw-arm b0 (c.current.ensures.sees cond) and nothing) refl ]
+
+pub returns-in_default-clause-sees : goal.returns-in_default-clause-sees
+unfolding look_of begins_below whole rule items statements expressions patterns types paths there_at shift width passes is_silent begins in_mode row one_of any_of expected wanted op no_longer is_longer
+returns-in_default-clause-sees c cond = begins-row rules.generic_param (saw-not c.in_default.not-LIFETIME_IDENT (c.current.ensures.sees cond) and saw-not c.in_default.not-IDENT (c.current.ensures.sees cond) and nothing) refl

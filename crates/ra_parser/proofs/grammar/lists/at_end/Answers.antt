@@ -1,0 +1,24 @@
+-- Each path reads what the rule comes to there.
+use Rattle.std.proofs.Common.{refl}
+use Rattle.ra_parser.specs.Expressions.{expressions}
+use Rattle.ra_parser.specs.Items.{items}
+use Rattle.ra_parser.specs.Meaning.{begins_below, look_of}
+use Rattle.ra_parser.specs.Notation.{any_of, expected, is_longer, no_longer, one_of, op, row, wanted}
+use Rattle.ra_parser.specs.Paths.{paths}
+use Rattle.ra_parser.specs.Patterns.{patterns}
+use Rattle.ra_parser.specs.Rule.{begins, in_mode, is_silent, passes, shift, there_at, width}
+use Rattle.ra_parser.specs.Statements.{statements}
+use Rattle.ra_parser.specs.Types.{types}
+use Rattle.ra_parser.specs.Whole.{rule, whole}
+use Rattle.ra_parser.proofs.Facts.{nothing, ◌and◌}
+use Rattle.ra_parser.proofs.Looking.{left-arm, left-not, saw-arm, saw-not}
+use Rattle.ra_parser.proofs.Seen.{saw-told}
+use Rattle.ra_parser.proofs.grammar.lists.at_end.Goals as goal
+
+pub returns-in-EOF-clause-sees : goal.returns-in-EOF-clause-sees
+unfolding look_of begins_below whole rule items statements expressions patterns types paths there_at shift width passes is_silent begins in_mode row one_of any_of expected wanted op no_longer is_longer
+returns-in-EOF-clause-sees c cond = saw-told (left-arm c.in-EOF.is (c.current.ensures.end cond) and saw-arm c.in-EOF.is (c.current.ensures.sees cond) and nothing) refl
+
+pub returns-in_default-clause-sees : goal.returns-in_default-clause-sees
+unfolding look_of begins_below whole rule items statements expressions patterns types paths there_at shift width passes is_silent begins in_mode row one_of any_of expected wanted op no_longer is_longer
+returns-in_default-clause-sees c cond = saw-told (left-not c.in_default.not-EOF (c.current.ensures.end cond) and saw-not c.in_default.not-EOF (c.current.ensures.sees cond) and nothing) refl

@@ -1,0 +1,24 @@
+-- Each path reads what the rule comes to there.
+use Rattle.ra_parser.specs.Expressions.{expressions}
+use Rattle.ra_parser.specs.Items.{items}
+use Rattle.ra_parser.specs.Meaning.{begins_below, look_of}
+use Rattle.ra_parser.specs.Notation.{any_of, expected, is_longer, no_longer, one_of, op, row, wanted}
+use Rattle.ra_parser.specs.Paths.{paths}
+use Rattle.ra_parser.specs.Patterns.{patterns}
+use Rattle.ra_parser.specs.Rule.{begins, in_mode, is_silent, passes, shift, there_at, width}
+use Rattle.ra_parser.specs.Statements.{statements}
+use Rattle.ra_parser.specs.Types.{types}
+use Rattle.ra_parser.specs.Whole.{rule, whole}
+use Rattle.ra_parser.specs.Rule as rules
+use Rattle.ra_parser.proofs.ByHand.{behind-look, reads-call}
+use Rattle.ra_parser.proofs.Choices.{reads-here}
+use Rattle.ra_parser.proofs.Facts.{begun, nothing, saw-so}
+use Rattle.ra_parser.proofs.grammar.names.expect_literal.Goals as goal
+
+pub returns-then-at_literal-clause-reads : goal.returns-then-at_literal-clause-reads
+unfolding look_of begins_below whole rule items statements expressions patterns types paths there_at shift width passes is_silent begins in_mode row one_of any_of expected wanted op no_longer is_longer
+returns-then-at_literal-clause-reads c cond = reads-here (begun rules.literal (saw-so (c.at_literal.ensures.sees cond) c.if-at_literal.true) (nothing)) (behind-look cond c.at_literal.ensures.same (reads-call cond (c.literal.ensures.gives cond)))
+
+pub returns-clause-reads : goal.returns-clause-reads
+unfolding look_of begins_below whole rule items statements expressions patterns types paths there_at shift width passes is_silent begins in_mode row one_of any_of expected wanted op no_longer is_longer
+returns-clause-reads c cond = reads-here (begun rules.literal (saw-so (c.at_literal.ensures.sees cond) c.if-at_literal.false) (nothing)) (behind-look cond c.at_literal.ensures.same ((c.error.ensures.reads cond)))

@@ -1,0 +1,49 @@
+-- Each path reads what the rule comes to there.
+use Rattle.std.proofs.Common.{refl}
+use Rattle.ra_parser.specs.Expressions.{expressions}
+use Rattle.ra_parser.specs.Items.{items}
+use Rattle.ra_parser.specs.Meaning.{begins_below, look_of}
+use Rattle.ra_parser.specs.Notation.{any_of, expected, is_longer, no_longer, one_of, op, row, wanted}
+use Rattle.ra_parser.specs.Paths.{paths}
+use Rattle.ra_parser.specs.Patterns.{patterns}
+use Rattle.ra_parser.specs.Rule.{begins, in_mode, is_silent, passes, shift, there_at, width}
+use Rattle.ra_parser.specs.Statements.{statements}
+use Rattle.ra_parser.specs.Types.{types}
+use Rattle.ra_parser.specs.Whole.{rule, whole}
+use Rattle.ra_parser.specs.Rule as rules
+use Rattle.ra_parser.proofs.ByHand.{does-then}
+use Rattle.ra_parser.proofs.Facts.{begun, nothing, saw-so, ◌and◌}
+use Rattle.ra_parser.proofs.Seen.{begins-row, saw-before}
+use Rattle.ra_parser.proofs.grammar.params.at_param.Goals as goal
+
+pub returns-then-at-clause-sees : goal.returns-then-at-clause-sees
+unfolding look_of begins_below whole rule items statements expressions patterns types paths there_at shift width passes is_silent begins in_mode row one_of any_of expected wanted op no_longer is_longer
+returns-then-at-clause-sees c cond = begins-row rules.param (saw-so (c.at.ensures.sees cond) c.if-at.true and nothing) refl
+
+pub returns-then-at-2-clause-sees : goal.returns-then-at-2-clause-sees
+unfolding look_of begins_below whole rule items statements expressions patterns types paths there_at shift width passes is_silent begins in_mode row one_of any_of expected wanted op no_longer is_longer
+returns-then-at-2-clause-sees c cond = begins-row rules.param (saw-so (c.at.ensures.sees cond) c.if-at.false and saw-before c.at.ensures.same (saw-so (c.at-2.ensures.sees cond) c.if-at-2.true) and nothing) refl
+
+pub returns-then-at-2-clause-same : goal.returns-then-at-2-clause-same
+returns-then-at-2-clause-same c = does-then c.at.ensures.same (c.at-2.ensures.same)
+
+pub returns-then-at-3-clause-sees : goal.returns-then-at-3-clause-sees
+unfolding look_of begins_below whole rule items statements expressions patterns types paths there_at shift width passes is_silent begins in_mode row one_of any_of expected wanted op no_longer is_longer
+returns-then-at-3-clause-sees c cond = begins-row rules.param (saw-so (c.at.ensures.sees cond) c.if-at.false and saw-before c.at.ensures.same (saw-so (c.at-2.ensures.sees cond) c.if-at-2.false) and saw-before c.at.ensures.same (saw-before c.at-2.ensures.same (saw-so (c.at-3.ensures.sees cond) c.if-at-3.true)) and nothing) refl
+
+pub returns-then-at-3-clause-same : goal.returns-then-at-3-clause-same
+returns-then-at-3-clause-same c = does-then c.at.ensures.same (does-then c.at-2.ensures.same (c.at-3.ensures.same))
+
+pub returns-then-at_pattern-clause-sees : goal.returns-then-at_pattern-clause-sees
+unfolding look_of begins_below whole rule items statements expressions patterns types paths there_at shift width passes is_silent begins in_mode row one_of any_of expected wanted op no_longer is_longer
+returns-then-at_pattern-clause-sees c cond = begins-row rules.param (saw-so (c.at.ensures.sees cond) c.if-at.false and saw-before c.at.ensures.same (saw-so (c.at-2.ensures.sees cond) c.if-at-2.false) and saw-before c.at.ensures.same (saw-before c.at-2.ensures.same (saw-so (c.at-3.ensures.sees cond) c.if-at-3.false)) and begun rules.pattern (saw-before c.at.ensures.same (saw-before c.at-2.ensures.same (saw-before c.at-3.ensures.same (saw-so (c.at_pattern.ensures.sees cond) c.if-at_pattern.true)))) (nothing)) refl
+
+pub returns-then-at_pattern-clause-same : goal.returns-then-at_pattern-clause-same
+returns-then-at_pattern-clause-same c = does-then c.at.ensures.same (does-then c.at-2.ensures.same (does-then c.at-3.ensures.same (c.at_pattern.ensures.same)))
+
+pub returns-clause-sees : goal.returns-clause-sees
+unfolding look_of begins_below whole rule items statements expressions patterns types paths there_at shift width passes is_silent begins in_mode row one_of any_of expected wanted op no_longer is_longer
+returns-clause-sees c cond = begins-row rules.param (saw-so (c.at.ensures.sees cond) c.if-at.false and saw-before c.at.ensures.same (saw-so (c.at-2.ensures.sees cond) c.if-at-2.false) and saw-before c.at.ensures.same (saw-before c.at-2.ensures.same (saw-so (c.at-3.ensures.sees cond) c.if-at-3.false)) and begun rules.pattern (saw-before c.at.ensures.same (saw-before c.at-2.ensures.same (saw-before c.at-3.ensures.same (saw-so (c.at_pattern.ensures.sees cond) c.if-at_pattern.false)))) (nothing)) refl
+
+pub returns-clause-same : goal.returns-clause-same
+returns-clause-same c = does-then c.at.ensures.same (does-then c.at-2.ensures.same (does-then c.at-3.ensures.same (c.at_pattern.ensures.same)))

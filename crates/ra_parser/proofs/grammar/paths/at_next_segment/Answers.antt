@@ -1,0 +1,35 @@
+-- Each path reads what the rule comes to there.
+use Rattle.std.proofs.Common.{inl, inr, refl}
+use Rattle.ra_parser.specs.Expressions.{expressions}
+use Rattle.ra_parser.specs.Items.{items}
+use Rattle.ra_parser.specs.Meaning.{begins_below, look_of}
+use Rattle.ra_parser.specs.Notation.{any_of, expected, is_longer, no_longer, one_of, op, row, wanted}
+use Rattle.ra_parser.specs.Paths.{paths}
+use Rattle.ra_parser.specs.Patterns.{patterns}
+use Rattle.ra_parser.specs.Rule.{begins, in_mode, is_silent, passes, shift, there_at, width}
+use Rattle.ra_parser.specs.Statements.{statements}
+use Rattle.ra_parser.specs.Types.{types}
+use Rattle.ra_parser.specs.Whole.{rule, whole}
+use Rattle.ra_parser.proofs.ByHand.{does-then}
+use Rattle.ra_parser.proofs.Facts.{nothing, saw-so, ◌and◌}
+use Rattle.ra_parser.proofs.Looking.{saw-arm, saw-not}
+use Rattle.ra_parser.proofs.Seen.{saw-before, saw-told}
+use Rattle.ra_parser.proofs.grammar.paths.at_next_segment.Goals as goal
+
+pub returns-then-not-at_colons-clause-sees : goal.returns-then-not-at_colons-clause-sees
+unfolding look_of begins_below whole rule items statements expressions patterns types paths there_at shift width passes is_silent begins in_mode row one_of any_of expected wanted op no_longer is_longer
+returns-then-not-at_colons-clause-sees c cond = saw-told (saw-so (c.at_colons.ensures.sees cond) c.if-not-at_colons.true and nothing) refl
+
+pub returns-in-STAR-clause-sees : goal.returns-in-STAR-clause-sees
+unfolding look_of begins_below whole rule items statements expressions patterns types paths there_at shift width passes is_silent begins in_mode row one_of any_of expected wanted op no_longer is_longer
+returns-in-STAR-clause-sees c cond = elim c.in-STAR.is [ inl a0 ↦ saw-told (saw-so (c.at_colons.ensures.sees cond) c.if-not-at_colons.false and saw-before c.at_colons.ensures.same (saw-arm a0 (c.nth.ensures.sees cond)) and nothing) refl | inr b0 ↦ saw-told (saw-so (c.at_colons.ensures.sees cond) c.if-not-at_colons.false and saw-before c.at_colons.ensures.same (saw-arm b0 (c.nth.ensures.sees cond)) and nothing) refl ]
+
+pub returns-in-STAR-clause-same : goal.returns-in-STAR-clause-same
+returns-in-STAR-clause-same c = does-then c.at_colons.ensures.same (c.nth.ensures.same)
+
+pub returns-in_default-clause-sees : goal.returns-in_default-clause-sees
+unfolding look_of begins_below whole rule items statements expressions patterns types paths there_at shift width passes is_silent begins in_mode row one_of any_of expected wanted op no_longer is_longer
+returns-in_default-clause-sees c cond = saw-told (saw-so (c.at_colons.ensures.sees cond) c.if-not-at_colons.false and saw-before c.at_colons.ensures.same (saw-not c.in_default.not-STAR (c.nth.ensures.sees cond)) and saw-before c.at_colons.ensures.same (saw-not c.in_default.not-L_CURLY (c.nth.ensures.sees cond)) and nothing) refl
+
+pub returns-in_default-clause-same : goal.returns-in_default-clause-same
+returns-in_default-clause-same c = does-then c.at_colons.ensures.same (c.nth.ensures.same)

@@ -1,0 +1,35 @@
+-- Each path reads what the rule comes to there.
+use Rattle.std.proofs.Common.{refl}
+use Rattle.ra_parser.specs.Expressions.{expressions}
+use Rattle.ra_parser.specs.Items.{items}
+use Rattle.ra_parser.specs.Meaning.{begins_below, look_of}
+use Rattle.ra_parser.specs.Notation.{any_of, expected, is_longer, no_longer, one_of, op, row, wanted}
+use Rattle.ra_parser.specs.Paths.{paths}
+use Rattle.ra_parser.specs.Patterns.{patterns}
+use Rattle.ra_parser.specs.Rule.{begins, in_mode, is_silent, passes, shift, there_at, width}
+use Rattle.ra_parser.specs.Statements.{statements}
+use Rattle.ra_parser.specs.Types.{types}
+use Rattle.ra_parser.specs.Whole.{rule, whole}
+use Rattle.ra_parser.specs.Rule as rules
+use Rattle.ra_parser.proofs.ByHand.{does-then}
+use Rattle.ra_parser.proofs.Facts.{begun, nothing, saw-so, ◌and◌}
+use Rattle.ra_parser.proofs.Seen.{begins-row, saw-before}
+use Rattle.ra_parser.proofs.grammar.paths.at_path.Goals as goal
+
+pub returns-then-at_name_ref-clause-sees : goal.returns-then-at_name_ref-clause-sees
+unfolding look_of begins_below whole rule items statements expressions patterns types paths there_at shift width passes is_silent begins in_mode row one_of any_of expected wanted op no_longer is_longer
+returns-then-at_name_ref-clause-sees c cond = begins-row rules.path (begun rules.name_ref (saw-so (c.at_name_ref.ensures.sees cond) c.if-at_name_ref.true) (nothing)) refl
+
+pub returns-then-at_colons-clause-sees : goal.returns-then-at_colons-clause-sees
+unfolding look_of begins_below whole rule items statements expressions patterns types paths there_at shift width passes is_silent begins in_mode row one_of any_of expected wanted op no_longer is_longer
+returns-then-at_colons-clause-sees c cond = begins-row rules.path (begun rules.name_ref (saw-so (c.at_name_ref.ensures.sees cond) c.if-at_name_ref.false) (saw-before c.at_name_ref.ensures.same (saw-so (c.at_colons.ensures.sees cond) c.if-at_colons.true) and nothing)) refl
+
+pub returns-then-at_colons-clause-same : goal.returns-then-at_colons-clause-same
+returns-then-at_colons-clause-same c = does-then c.at_name_ref.ensures.same (c.at_colons.ensures.same)
+
+pub returns-clause-sees : goal.returns-clause-sees
+unfolding look_of begins_below whole rule items statements expressions patterns types paths there_at shift width passes is_silent begins in_mode row one_of any_of expected wanted op no_longer is_longer
+returns-clause-sees c cond = begins-row rules.path (begun rules.name_ref (saw-so (c.at_name_ref.ensures.sees cond) c.if-at_name_ref.false) (saw-before c.at_name_ref.ensures.same (saw-so (c.at_colons.ensures.sees cond) c.if-at_colons.false) and nothing)) refl
+
+pub returns-clause-same : goal.returns-clause-same
+returns-clause-same c = does-then c.at_name_ref.ensures.same (c.at_colons.ensures.same)

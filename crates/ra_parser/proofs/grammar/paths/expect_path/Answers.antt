@@ -1,0 +1,31 @@
+-- Each path reads what the rule comes to there.
+use Rattle.std.proofs.Common.{refl}
+use Rattle.ra_parser.specs.Expressions.{expressions}
+use Rattle.ra_parser.specs.Items.{items}
+use Rattle.ra_parser.specs.Meaning.{begins_below, look_of}
+use Rattle.ra_parser.specs.Notation.{any_of, expected, is_longer, no_longer, one_of, op, row, wanted}
+use Rattle.ra_parser.specs.Paths.{paths}
+use Rattle.ra_parser.specs.Patterns.{patterns}
+use Rattle.ra_parser.specs.Rule.{begins, in_mode, is_silent, passes, shift, there_at, width}
+use Rattle.ra_parser.specs.Statements.{statements}
+use Rattle.ra_parser.specs.Types.{types}
+use Rattle.ra_parser.specs.Whole.{rule, whole}
+use Rattle.ra_parser.specs.Rule as rules
+use Rattle.ra_parser.proofs.Begins.{saw-expr-path, saw-type-path}
+use Rattle.ra_parser.proofs.ByHand.{behind-look, reads-call}
+use Rattle.ra_parser.proofs.Choices.{reads-here}
+use Rattle.ra_parser.proofs.Facts.{begun, nothing, saw-so}
+use Rattle.ra_parser.proofs.Seen.{begins-here, saw-behind}
+use Rattle.ra_parser.proofs.grammar.paths.expect_path.Goals as goal
+
+pub path-requires-clause-begins : goal.path-requires-clause-begins
+unfolding look_of begins_below whole rule items statements expressions patterns types paths there_at shift width passes is_silent begins in_mode row one_of any_of expected wanted op no_longer is_longer
+path-requires-clause-begins c cond = saw-behind c.at_path.ensures.same (begins-here rules.path (begun rules.type_path (saw-type-path (saw-so (c.at_path.ensures.sees cond) c.if-at_path.true)) (begun rules.expr_path (saw-expr-path (saw-so (c.at_path.ensures.sees cond) c.if-at_path.true)) (begun rules.path (saw-so (c.at_path.ensures.sees cond) c.if-at_path.true) (nothing)))) refl)
+
+pub returns-then-at_path-clause-reads : goal.returns-then-at_path-clause-reads
+unfolding look_of begins_below whole rule items statements expressions patterns types paths there_at shift width passes is_silent begins in_mode row one_of any_of expected wanted op no_longer is_longer
+returns-then-at_path-clause-reads c cond = reads-here (begun rules.type_path (saw-type-path (saw-so (c.at_path.ensures.sees cond) c.if-at_path.true)) (begun rules.expr_path (saw-expr-path (saw-so (c.at_path.ensures.sees cond) c.if-at_path.true)) (begun rules.path (saw-so (c.at_path.ensures.sees cond) c.if-at_path.true) (nothing)))) (behind-look cond c.at_path.ensures.same (reads-call cond (c.path.ensures.gives cond)))
+
+pub returns-clause-reads : goal.returns-clause-reads
+unfolding look_of begins_below whole rule items statements expressions patterns types paths there_at shift width passes is_silent begins in_mode row one_of any_of expected wanted op no_longer is_longer
+returns-clause-reads c cond = reads-here (begun rules.type_path (saw-type-path (saw-so (c.at_path.ensures.sees cond) c.if-at_path.false)) (begun rules.expr_path (saw-expr-path (saw-so (c.at_path.ensures.sees cond) c.if-at_path.false)) (begun rules.path (saw-so (c.at_path.ensures.sees cond) c.if-at_path.false) (nothing)))) (behind-look cond c.at_path.ensures.same ((c.error.ensures.reads cond)))

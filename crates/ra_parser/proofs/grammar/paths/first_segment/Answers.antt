@@ -1,0 +1,28 @@
+-- Each path reads what the rule comes to there.
+use Rattle.std.proofs.Common.{true}
+use Rattle.ra_parser.specs.Expressions.{expressions}
+use Rattle.ra_parser.specs.Items.{items}
+use Rattle.ra_parser.specs.Meaning.{begins_below, look_of}
+use Rattle.ra_parser.specs.Notation.{any_of, expected, is_longer, no_longer, one_of, op, row, wanted}
+use Rattle.ra_parser.specs.Paths.{paths}
+use Rattle.ra_parser.specs.Patterns.{patterns}
+use Rattle.ra_parser.specs.Rule.{begins, in_mode, is_silent, passes, shift, there_at, width}
+use Rattle.ra_parser.specs.Statements.{statements}
+use Rattle.ra_parser.specs.Types.{types}
+use Rattle.ra_parser.specs.Whole.{rule, whole}
+use Rattle.ra_parser.proofs.ByHand.{reads-node}
+use Rattle.ra_parser.proofs.Seen.{saw-inside}
+use Rattle.ra_parser.proofs.grammar.paths.first_segment.Goals as goal
+
+pub first_word-requires-clause-begins : goal.first_word-requires-clause-begins
+first_word-requires-clause-begins c cond = saw-inside c.start-segment.ensures.opens (saw-inside c.start-path.ensures.opens (c.requires.begins cond))
+
+pub complete-requires : goal.complete-requires
+complete-requires c = (c.first_word.ensures.reads true).does.innermost _ (c.start-segment.ensures.marker)
+
+pub complete-requires-2 : goal.complete-requires-2
+complete-requires-2 c = c.complete.ensures.closes.innermost _ ((c.first_word.ensures.reads true).does.innermost _ (c.start-segment.ensures.opens.innermost _ (c.start-path.ensures.marker)))
+
+pub returns-clause-reads : goal.returns-clause-reads
+unfolding look_of begins_below whole rule items statements expressions patterns types paths there_at shift width passes is_silent begins in_mode row one_of any_of expected wanted op no_longer is_longer
+returns-clause-reads c cond = reads-node cond c.start-path.ensures.opens (reads-node cond c.start-segment.ensures.opens ((c.first_word.ensures.reads cond)) c.complete.ensures.closes) c.complete-2.ensures.closes

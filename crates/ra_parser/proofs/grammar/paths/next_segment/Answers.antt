@@ -1,0 +1,21 @@
+-- Each path reads what the rule comes to there.
+use Rattle.std.proofs.Common.{true}
+use Rattle.ra_parser.specs.Expressions.{expressions}
+use Rattle.ra_parser.specs.Items.{items}
+use Rattle.ra_parser.specs.Meaning.{begins_below, look_of}
+use Rattle.ra_parser.specs.Notation.{any_of, expected, is_longer, no_longer, one_of, op, row, wanted}
+use Rattle.ra_parser.specs.Paths.{paths}
+use Rattle.ra_parser.specs.Patterns.{patterns}
+use Rattle.ra_parser.specs.Rule.{begins, in_mode, is_silent, passes, shift, there_at, width}
+use Rattle.ra_parser.specs.Statements.{statements}
+use Rattle.ra_parser.specs.Types.{types}
+use Rattle.ra_parser.specs.Whole.{rule, whole}
+use Rattle.ra_parser.proofs.ByHand.{reads-then, reads-wrap}
+use Rattle.ra_parser.proofs.grammar.paths.next_segment.Goals as goal
+
+pub wrap-requires : goal.wrap-requires
+wrap-requires c = (c.expect_segment.ensures.reads true).does.innermost _ ((c.take_pair.ensures.reads true 0 0).does.innermost _ (c.requires.innermost))
+
+pub returns-clause-reads : goal.returns-clause-reads
+unfolding look_of begins_below whole rule items statements expressions patterns types paths there_at shift width passes is_silent begins in_mode row one_of any_of expected wanted op no_longer is_longer
+returns-clause-reads c cond = reads-wrap cond (reads-then cond ((c.take_pair.ensures.reads cond _ _)) ((c.expect_segment.ensures.reads cond))) c.wrap.ensures.wraps

@@ -1,0 +1,47 @@
+-- Turn by turn.
+use Rattle.std.proofs.Common.{refl, arith}
+use Rattle.ra_parser.specs.Looks.{tokens}
+use Rattle.parser_input.specs.Kinds.{PATH, PATH_SEGMENT}
+use Rattle.ra_parser.specs.Notation.{◌▸◌, ◌!, ◌⟨◌⟩, ◌<⟨◌⟩}
+use Rattle.ra_parser.specs.Words.{'::'}
+use Rattle.ra_parser.specs.Calls.{Ref}
+use Rattle.ra_parser.specs.Shared.{colons_before_more}
+use Rattle.ra_parser.specs.Rule.{Nothing, Unless}
+use Rattle.ra_parser.specs.Expressions.{expressions}
+use Rattle.ra_parser.specs.Items.{items}
+use Rattle.ra_parser.specs.Meaning.{begins_below, look_of}
+use Rattle.ra_parser.specs.Notation.{any_of, expected, is_longer, no_longer, one_of, op, row, wanted}
+use Rattle.ra_parser.specs.Paths.{paths}
+use Rattle.ra_parser.specs.Patterns.{patterns}
+use Rattle.ra_parser.specs.Rule.{begins, in_mode, is_silent, passes, shift, there_at, width}
+use Rattle.ra_parser.specs.Statements.{statements}
+use Rattle.ra_parser.specs.Types.{types}
+use Rattle.ra_parser.specs.Whole.{rule, whole}
+use Rattle.ra_parser.proofs.ByHand.{behind-look, reads-unless}
+use Rattle.ra_parser.proofs.Facts.{saw-so}
+use Rattle.ra_parser.proofs.Seen.{saw-behind, ends-at-end}
+use Rattle.ra_parser.proofs.Turns.{first-turn, next-turn, last-turn}
+use Rattle.ra_parser.proofs.grammar.paths.next_segments.Goals as goal
+
+pub turns-init : goal.turns-init
+turns-init c = (λ cond. first-turn, omega arith, omega arith, c.requires)
+
+pub turns-preserved : goal.turns-preserved
+unfolding tokens look_of begins_below whole rule items statements expressions patterns types paths there_at shift width passes is_silent begins in_mode row one_of any_of expected wanted op no_longer is_longer
+turns-preserved c = (λ cond. next-turn cond (Unless colons_before_more (PATH <⟨ '::' ▸ (PATH_SEGMENT ⟨ Ref ▸ Nothing ⟩) ! ⟩)) (ends-at-end cond (Unless colons_before_more (PATH <⟨ '::' ▸ (PATH_SEGMENT ⟨ Ref ▸ Nothing ⟩) ! ⟩)) refl) _ _ _ (c.turns.invariant.0 cond) (saw-so (c.at_next_segment.ensures.sees cond) c.turns-test.true) (behind-look cond c.at_next_segment.ensures.same (reads-unless cond ((c.next_segment-path.ensures.reads cond)))) (omega (arith, c.next_segment-path.ensures.left, c.at_next_segment.ensures.left)), omega (arith, c.turns.invariant.1), omega (arith, c.turns.invariant.2), c.next_segment-path.ensures.marker)
+
+pub returns-clause-reads : goal.returns-clause-reads
+unfolding tokens look_of begins_below whole rule items statements expressions patterns types paths there_at shift width passes is_silent begins in_mode row one_of any_of expected wanted op no_longer is_longer
+returns-clause-reads c cond = last-turn cond (Unless colons_before_more (PATH <⟨ '::' ▸ (PATH_SEGMENT ⟨ Ref ▸ Nothing ⟩) ! ⟩)) (ends-at-end cond (Unless colons_before_more (PATH <⟨ '::' ▸ (PATH_SEGMENT ⟨ Ref ▸ Nothing ⟩) ! ⟩)) refl) _ _ _ (c.turns.invariant.0 cond) (saw-so (c.at_next_segment.ensures.sees cond) c.turns-test.false) c.at_next_segment.ensures.same
+
+pub next_segment-path-requires-clause-innermost : goal.next_segment-path-requires-clause-innermost
+next_segment-path-requires-clause-innermost c = c.at_next_segment.ensures.same.innermost _ c.turns.invariant.3
+
+pub returns-clause-marker : goal.returns-clause-marker
+returns-clause-marker c = c.at_next_segment.ensures.same.innermost _ c.turns.invariant.3
+
+pub next_segment-path-requires-clause-some : goal.next_segment-path-requires-clause-some
+next_segment-path-requires-clause-some c = omega (arith, c.at_next_segment.ensures.some c.turns-test.true, c.at_next_segment.ensures.left)
+
+pub returns-clause-ends : goal.returns-clause-ends
+returns-clause-ends c cond = saw-behind c.at_next_segment.ensures.same (saw-so (c.at_next_segment.ensures.sees cond) c.turns-test.false)

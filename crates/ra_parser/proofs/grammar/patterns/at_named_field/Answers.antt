@@ -1,0 +1,35 @@
+-- Each path reads what the rule comes to there.
+use Rattle.std.proofs.Common.{inl, inr, refl}
+use Rattle.ra_parser.specs.Expressions.{expressions}
+use Rattle.ra_parser.specs.Items.{items}
+use Rattle.ra_parser.specs.Meaning.{begins_below, look_of}
+use Rattle.ra_parser.specs.Notation.{any_of, expected, is_longer, no_longer, one_of, op, row, wanted}
+use Rattle.ra_parser.specs.Paths.{paths}
+use Rattle.ra_parser.specs.Patterns.{patterns}
+use Rattle.ra_parser.specs.Rule.{begins, in_mode, is_silent, passes, shift, there_at, width}
+use Rattle.ra_parser.specs.Statements.{statements}
+use Rattle.ra_parser.specs.Types.{types}
+use Rattle.ra_parser.specs.Whole.{rule, whole}
+use Rattle.ra_parser.proofs.ByHand.{does-then}
+use Rattle.ra_parser.proofs.Facts.{nothing, saw-so, ◌and◌}
+use Rattle.ra_parser.proofs.Looking.{left-arm, saw-arm, saw-not}
+use Rattle.ra_parser.proofs.Seen.{saw-before, saw-told}
+use Rattle.ra_parser.proofs.grammar.patterns.at_named_field.Goals as goal
+
+pub returns-then-not-at_second-clause-sees : goal.returns-then-not-at_second-clause-sees
+unfolding look_of begins_below whole rule items statements expressions patterns types paths there_at shift width passes is_silent begins in_mode row one_of any_of expected wanted op no_longer is_longer
+returns-then-not-at_second-clause-sees c cond = saw-told (saw-so (c.at_second.ensures.sees cond) c.if-not-at_second.true and nothing) refl
+
+pub returns-in-IDENT-clause-sees : goal.returns-in-IDENT-clause-sees
+unfolding look_of begins_below whole rule items statements expressions patterns types paths there_at shift width passes is_silent begins in_mode row one_of any_of expected wanted op no_longer is_longer
+returns-in-IDENT-clause-sees c cond = elim c.in-IDENT.is [ inl a0 ↦ saw-told (saw-so (c.at_second.ensures.sees cond) c.if-not-at_second.false and saw-before c.at_second.ensures.same (left-arm a0 (c.current.ensures.end cond)) and saw-before c.at_second.ensures.same (saw-arm a0 (c.current.ensures.sees cond)) and nothing) refl | inr b0 ↦ saw-told (saw-so (c.at_second.ensures.sees cond) c.if-not-at_second.false and saw-before c.at_second.ensures.same (left-arm b0 (c.current.ensures.end cond)) and saw-before c.at_second.ensures.same (saw-arm b0 (c.current.ensures.sees cond)) and nothing) refl ]
+
+pub returns-in-IDENT-clause-same : goal.returns-in-IDENT-clause-same
+returns-in-IDENT-clause-same c = does-then c.at_second.ensures.same (c.current.ensures.same)
+
+pub returns-in_default-clause-sees : goal.returns-in_default-clause-sees
+unfolding look_of begins_below whole rule items statements expressions patterns types paths there_at shift width passes is_silent begins in_mode row one_of any_of expected wanted op no_longer is_longer
+returns-in_default-clause-sees c cond = saw-told (saw-so (c.at_second.ensures.sees cond) c.if-not-at_second.false and saw-before c.at_second.ensures.same (saw-not c.in_default.not-IDENT (c.current.ensures.sees cond)) and saw-before c.at_second.ensures.same (saw-not c.in_default.not-INT_NUMBER (c.current.ensures.sees cond)) and nothing) refl
+
+pub returns-in_default-clause-same : goal.returns-in_default-clause-same
+returns-in_default-clause-same c = does-then c.at_second.ensures.same (c.current.ensures.same)

@@ -1,0 +1,36 @@
+-- Each path reads what the rule comes to there.
+use Rattle.std.proofs.Common.{refl}
+use Rattle.ra_parser.specs.Expressions.{expressions}
+use Rattle.ra_parser.specs.Items.{items}
+use Rattle.ra_parser.specs.Meaning.{begins_below, look_of}
+use Rattle.ra_parser.specs.Notation.{any_of, expected, is_longer, no_longer, one_of, op, row, wanted}
+use Rattle.ra_parser.specs.Paths.{paths}
+use Rattle.ra_parser.specs.Patterns.{patterns}
+use Rattle.ra_parser.specs.Rule.{begins, in_mode, is_silent, passes, shift, there_at, width}
+use Rattle.ra_parser.specs.Statements.{statements}
+use Rattle.ra_parser.specs.Types.{types}
+use Rattle.ra_parser.specs.Whole.{rule, whole}
+use Rattle.ra_parser.specs.Rule as rules
+use Rattle.ra_parser.proofs.ByHand.{does-then}
+use Rattle.ra_parser.proofs.Facts.{begun, nothing, saw-so, ◌and◌}
+use Rattle.ra_parser.proofs.Looking.{left-arm, saw-arm, saw-not}
+use Rattle.ra_parser.proofs.Seen.{begins-row, saw-before}
+use Rattle.ra_parser.proofs.grammar.patterns.at_pattern.Goals as goal
+
+pub returns-then-at_single_pattern-clause-sees : goal.returns-then-at_single_pattern-clause-sees
+unfolding look_of begins_below whole rule items statements expressions patterns types paths there_at shift width passes is_silent begins in_mode row one_of any_of expected wanted op no_longer is_longer
+returns-then-at_single_pattern-clause-sees c cond = begins-row rules.pattern (begun rules.single_pattern (saw-so (c.at_single_pattern.ensures.sees cond) c.if-at_single_pattern.true) (nothing)) refl
+
+pub returns-in-PIPE-clause-sees : goal.returns-in-PIPE-clause-sees
+unfolding look_of begins_below whole rule items statements expressions patterns types paths there_at shift width passes is_silent begins in_mode row one_of any_of expected wanted op no_longer is_longer
+returns-in-PIPE-clause-sees c cond = begins-row rules.pattern (begun rules.single_pattern (saw-so (c.at_single_pattern.ensures.sees cond) c.if-at_single_pattern.false) (saw-before c.at_single_pattern.ensures.same (left-arm c.in-PIPE.is (c.current.ensures.end cond)) and saw-before c.at_single_pattern.ensures.same (saw-arm c.in-PIPE.is (c.current.ensures.sees cond)) and nothing)) refl
+
+pub returns-in-PIPE-clause-same : goal.returns-in-PIPE-clause-same
+returns-in-PIPE-clause-same c = does-then c.at_single_pattern.ensures.same (c.current.ensures.same)
+
+pub returns-in_default-clause-sees : goal.returns-in_default-clause-sees
+unfolding look_of begins_below whole rule items statements expressions patterns types paths there_at shift width passes is_silent begins in_mode row one_of any_of expected wanted op no_longer is_longer
+returns-in_default-clause-sees c cond = begins-row rules.pattern (begun rules.single_pattern (saw-so (c.at_single_pattern.ensures.sees cond) c.if-at_single_pattern.false) (saw-before c.at_single_pattern.ensures.same (saw-not c.in_default.not-PIPE (c.current.ensures.sees cond)) and nothing)) refl
+
+pub returns-in_default-clause-same : goal.returns-in_default-clause-same
+returns-in_default-clause-same c = does-then c.at_single_pattern.ensures.same (c.current.ensures.same)

@@ -1,0 +1,44 @@
+-- What is left shrinks from call to call, and what repetitions keep.
+use Rattle.std.specs.Prelude.{◌+◌, ◌*◌, ◌≤◌, false}
+use Rattle.parser_input.specs.Kinds.{COMMA, USE_TREE_LIST}
+use Rattle.parser_events.specs.Forest.{Expected, UnexpectedIn}
+use Rattle.ra_parser.specs.Looks.{tokens, spent}
+use Rattle.ra_parser.specs.Notation.{◌or◌, ◌▸◌, ◌*, next, one_of, stops, until}
+use Rattle.ra_parser.specs.Words.{'comma', 'r_curly'}
+use Rattle.ra_parser.specs.Calls.{UseTree}
+use Rattle.ra_parser.specs.Rule.{Left, Both, Not, Nothing, Say, Skip, When, Unless}
+use Rattle.ra_parser.proofs.Turns.{TurnsFrom}
+use Rattle.ra_parser.proofs.grammar.use_trees.+use_trees.Given as goal
+
+abbrev pub decreases-star_or_list : goal.decreases-star_or_list
+decreases-star_or_list l = 64 * tokens l.p.now + 2
+
+abbrev pub decreases-behind_path : goal.decreases-behind_path
+decreases-behind_path l = 64 * tokens l.p.now + 2
+
+abbrev pub decreases-path_tree : goal.decreases-path_tree
+decreases-path_tree l = 64 * tokens l.p.now + 2
+
+abbrev pub decreases-behind_colons : goal.decreases-behind_colons
+decreases-behind_colons l = 64 * tokens l.p.now + 2
+
+abbrev pub decreases-inside : goal.decreases-inside
+decreases-inside l = 64 * tokens l.p.now + 3
+
+abbrev pub decreases-use_tree : goal.decreases-use_tree
+decreases-use_tree l = 64 * tokens l.p.now + 4
+
+abbrev pub decreases-use_list : goal.decreases-use_list
+decreases-use_list l = 64 * tokens l.p.now + 1
+
+abbrev pub decreases-use_turn : goal.decreases-use_turn
+decreases-use_turn l = 64 * tokens l.p.now + 5
+
+abbrev pub decreases-use_turns : goal.decreases-use_turns
+decreases-use_turns l = 64 * tokens l.p.now + 6
+
+abbrev pub invariant-use_turns-turns : goal.invariant-use_turns-turns
+invariant-use_turns-turns l = TurnsFrom false (Unless (until 'r_curly') (UseTree ▸ ('comma' or When (next 'r_curly') Nothing or Say (Expected COMMA)) or When (Both Left (Not (one_of 0 stops))) (Skip (UnexpectedIn USE_TREE_LIST)))) l.initial.p l.p × (tokens l.p ≤ tokens l.initial.p) × (spent l.p ≤ spent l.initial.p)
+
+abbrev pub decreases-use_turns-turns : goal.decreases-use_turns-turns
+decreases-use_turns-turns l = tokens l.p

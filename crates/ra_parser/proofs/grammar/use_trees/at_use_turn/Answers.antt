@@ -1,0 +1,42 @@
+-- Each path reads what the rule comes to there.
+use Rattle.std.proofs.Common.{refl}
+use Rattle.ra_parser.specs.Expressions.{expressions}
+use Rattle.ra_parser.specs.Items.{items}
+use Rattle.ra_parser.specs.Meaning.{begins_below, look_of}
+use Rattle.ra_parser.specs.Notation.{any_of, expected, is_longer, no_longer, one_of, op, row, wanted}
+use Rattle.ra_parser.specs.Paths.{paths}
+use Rattle.ra_parser.specs.Patterns.{patterns}
+use Rattle.ra_parser.specs.Rule.{begins, in_mode, is_silent, passes, shift, there_at, width}
+use Rattle.ra_parser.specs.Statements.{statements}
+use Rattle.ra_parser.specs.Types.{types}
+use Rattle.ra_parser.specs.Whole.{rule, whole}
+use Rattle.ra_parser.specs.Rule as rules
+use Rattle.ra_parser.proofs.ByHand.{does-then}
+use Rattle.ra_parser.proofs.Facts.{begun, nothing, saw-so, ◌and◌}
+use Rattle.ra_parser.proofs.Seen.{saw-before, saw-told}
+use Rattle.ra_parser.proofs.grammar.use_trees.at_use_turn.Goals as goal
+
+pub returns-then-at_list_end-clause-sees : goal.returns-then-at_list_end-clause-sees
+unfolding look_of begins_below whole rule items statements expressions patterns types paths there_at shift width passes is_silent begins in_mode row one_of any_of expected wanted op no_longer is_longer
+returns-then-at_list_end-clause-sees c cond = saw-told (saw-so (c.at_list_end.ensures.sees cond) c.if-at_list_end.true and nothing) refl
+
+pub returns-then-at_use_tree-clause-sees : goal.returns-then-at_use_tree-clause-sees
+unfolding look_of begins_below whole rule items statements expressions patterns types paths there_at shift width passes is_silent begins in_mode row one_of any_of expected wanted op no_longer is_longer
+returns-then-at_use_tree-clause-sees c cond = saw-told (saw-so (c.at_list_end.ensures.sees cond) c.if-at_list_end.false and begun rules.use_tree (saw-before c.at_list_end.ensures.same (saw-so (c.at_use_tree.ensures.sees cond) c.if-at_use_tree.true)) (saw-before c.at_list_end.ensures.same (saw-so (c.at_use_tree.ensures.sees cond) c.if-at_use_tree.true) and nothing)) refl
+
+pub returns-then-at_use_tree-clause-same : goal.returns-then-at_use_tree-clause-same
+returns-then-at_use_tree-clause-same c = does-then c.at_list_end.ensures.same (c.at_use_tree.ensures.same)
+
+pub returns-then-at_unexpected-clause-sees : goal.returns-then-at_unexpected-clause-sees
+unfolding look_of begins_below whole rule items statements expressions patterns types paths there_at shift width passes is_silent begins in_mode row one_of any_of expected wanted op no_longer is_longer
+returns-then-at_unexpected-clause-sees c cond = saw-told (saw-so (c.at_list_end.ensures.sees cond) c.if-at_list_end.false and begun rules.use_tree (saw-before c.at_list_end.ensures.same (saw-so (c.at_use_tree.ensures.sees cond) c.if-at_use_tree.false)) (saw-before c.at_list_end.ensures.same (saw-so (c.at_use_tree.ensures.sees cond) c.if-at_use_tree.false) and saw-before c.at_list_end.ensures.same (saw-before c.at_use_tree.ensures.same (saw-so (c.at_unexpected.ensures.sees cond) c.if-at_unexpected.true)) and nothing)) refl
+
+pub returns-then-at_unexpected-clause-same : goal.returns-then-at_unexpected-clause-same
+returns-then-at_unexpected-clause-same c = does-then c.at_list_end.ensures.same (does-then c.at_use_tree.ensures.same (c.at_unexpected.ensures.same))
+
+pub returns-clause-sees : goal.returns-clause-sees
+unfolding look_of begins_below whole rule items statements expressions patterns types paths there_at shift width passes is_silent begins in_mode row one_of any_of expected wanted op no_longer is_longer
+returns-clause-sees c cond = saw-told (saw-so (c.at_list_end.ensures.sees cond) c.if-at_list_end.false and begun rules.use_tree (saw-before c.at_list_end.ensures.same (saw-so (c.at_use_tree.ensures.sees cond) c.if-at_use_tree.false)) (saw-before c.at_list_end.ensures.same (saw-so (c.at_use_tree.ensures.sees cond) c.if-at_use_tree.false) and saw-before c.at_list_end.ensures.same (saw-before c.at_use_tree.ensures.same (saw-so (c.at_unexpected.ensures.sees cond) c.if-at_unexpected.false)) and nothing)) refl
+
+pub returns-clause-same : goal.returns-clause-same
+returns-clause-same c = does-then c.at_list_end.ensures.same (does-then c.at_use_tree.ensures.same (c.at_unexpected.ensures.same))

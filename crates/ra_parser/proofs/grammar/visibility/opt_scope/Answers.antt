@@ -1,0 +1,23 @@
+-- Each path reads what the rule comes to there.
+use Rattle.ra_parser.specs.Expressions.{expressions}
+use Rattle.ra_parser.specs.Items.{items}
+use Rattle.ra_parser.specs.Meaning.{begins_below, look_of}
+use Rattle.ra_parser.specs.Notation.{any_of, expected, is_longer, no_longer, one_of, op, row, wanted}
+use Rattle.ra_parser.specs.Paths.{paths}
+use Rattle.ra_parser.specs.Patterns.{patterns}
+use Rattle.ra_parser.specs.Rule.{begins, in_mode, is_silent, passes, shift, there_at, width}
+use Rattle.ra_parser.specs.Statements.{statements}
+use Rattle.ra_parser.specs.Types.{types}
+use Rattle.ra_parser.specs.Whole.{rule, whole}
+use Rattle.ra_parser.proofs.ByHand.{behind-look, reads-nothing, reads-then}
+use Rattle.ra_parser.proofs.Choices.{reads-here}
+use Rattle.ra_parser.proofs.Facts.{nothing, saw-so, ◌and◌}
+use Rattle.ra_parser.proofs.grammar.visibility.opt_scope.Goals as goal
+
+pub returns-then-at_scope-clause-reads : goal.returns-then-at_scope-clause-reads
+unfolding look_of begins_below whole rule items statements expressions patterns types paths there_at shift width passes is_silent begins in_mode row one_of any_of expected wanted op no_longer is_longer
+returns-then-at_scope-clause-reads c cond = reads-here (saw-so (c.at_scope.ensures.sees cond) c.if-at_scope.true and nothing) (behind-look cond c.at_scope.ensures.same (reads-then cond ((c.take.ensures.reads cond)) (reads-then cond ((c.eat.ensures.reads cond)) (reads-then cond ((c.expect_path.ensures.reads cond)) ((c.expect.ensures.reads cond))))))
+
+pub returns-else-at_scope-clause-reads : goal.returns-else-at_scope-clause-reads
+unfolding look_of begins_below whole rule items statements expressions patterns types paths there_at shift width passes is_silent begins in_mode row one_of any_of expected wanted op no_longer is_longer
+returns-else-at_scope-clause-reads c cond = reads-here (saw-so (c.at_scope.ensures.sees cond) c.if-at_scope.false and nothing) (reads-nothing cond c.at_scope.ensures.same)
