@@ -6,8 +6,8 @@ use Rattle.parser_input.specs.declared.edition.Edition.{Edition}
 use Rattle.parser_events.specs.Fits.{fits, IsRooted}
 use Rattle.parser_events.specs.Forest.{Forest, End}
 use Rattle.parser_events.specs.Steps.{steps}
-use Rattle.ra_parser.specs.Rule.{Production, source_file, Rule, Nothing, begins}
-use Rattle.ra_parser.specs.Meaning.{Reading, read, look_of, meaning}
+use Rattle.ra_parser.specs.Rule.{Production, source_file, Look, Rule, Nothing, begins}
+use Rattle.ra_parser.specs.Meaning.{Reading, Calls, read, look_of, meaning}
 use Rattle.ra_parser.specs.Grammar.{rule, grammar}
 use Rattle.ra_parser.specs.Whole as all
 
@@ -17,10 +17,31 @@ abbrev pub ProductionsMeanTheirRules : Type 0
 ProductionsMeanTheirRules =
     (x : Production) (in_condition : Bool) (s : Reading) → meaning grammar x in_condition s ≡ read (look_of grammar) (meaning grammar) in_condition (rule x) s
 
--- The same of the whole grammar.
+-- These are places where the productions of the whole grammar can begin: each begins where its rule does.
+abbrev pub AreBeginnings : (Production → Look) → Type 0
+AreBeginnings looks = (x : Production) → looks x ≡ begins looks (all.rule x)
+
+-- These are readings of the productions of the whole grammar: each gives what its rule gives.
+abbrev pub AreReadings : (Production → Look) → Calls → Type 0
+AreReadings looks gives =
+    (x : Production) (in_condition : Bool) (s : Reading) → gives x in_condition s ≡ read looks gives in_condition (all.rule x) s
+
+-- The productions of the whole grammar mean what their rules say, and begin where their rules do.
 abbrev pub WholeProductionsMeanTheirRules : Type 0
-WholeProductionsMeanTheirRules =
-    (x : Production) (in_condition : Bool) (s : Reading) → meaning all.whole x in_condition s ≡ read (look_of all.whole) (meaning all.whole) in_condition (all.rule x) s
+WholeProductionsMeanTheirRules = AreReadings (look_of all.whole) (meaning all.whole)
+
+abbrev pub WholeProductionsBeginAsTheirRules : Type 0
+WholeProductionsBeginAsTheirRules = AreBeginnings (look_of all.whole)
+
+-- Nothing else does so. The rules alone say where a production begins and what it gives: the ranks of productions, and the
+-- bounds by which `look_of` and `meaning` recur, can be forgotten.
+abbrev pub OnlyOneBeginning : Type 0
+OnlyOneBeginning = (looks : Production → Look) → AreBeginnings looks → (x : Production) → looks x ≡ look_of all.whole x
+
+abbrev pub OnlyOneReading : Type 0
+OnlyOneReading =
+    (looks : Production → Look) (gives : Calls) → AreBeginnings looks → AreReadings looks gives
+    → (x : Production) (in_condition : Bool) (s : Reading) → gives x in_condition s ≡ meaning all.whole x in_condition s
 
 unfoldable pub is_nothing : Rule → Bool
 is_nothing Nothing = true
@@ -29,10 +50,6 @@ is_nothing a = false
 -- No production of the whole grammar is without a row.
 abbrev pub EachProductionHasARule : Type 0
 EachProductionHasARule = (x : Production) → is_nothing (all.rule x) ≡ false
-
--- A production of the whole grammar begins where its rule does.
-abbrev pub WholeProductionsBeginAsTheirRules : Type 0
-WholeProductionsBeginAsTheirRules = (x : Production) → look_of all.whole x ≡ begins (look_of all.whole) (all.rule x)
 
 -- the trees of a source file with these leaves
 abbrev pub file_of : Edition → List Leaf → Forest

@@ -14,7 +14,6 @@ pub mod Items
 pub mod Whole
 pub mod Entry
 pub mod Examples
-pub mod Fine
 pub mod Left
 pub mod Adds
 pub mod Pieces

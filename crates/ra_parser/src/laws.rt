@@ -1,7 +1,7 @@
 //! Laws of the definitions. Each is the contract of a function that makes no call.
 
 ghost use Rattle.ra_parser.specs.Examples.{ExamplesAreRight};
-ghost use Rattle.ra_parser.specs.Laws.{EachProductionHasARule, ProductionsMeanTheirRules, SourceFilesFit, WholeProductionsBeginAsTheirRules, WholeProductionsMeanTheirRules};
+ghost use Rattle.ra_parser.specs.Laws.{EachProductionHasARule, OnlyOneBeginning, OnlyOneReading, ProductionsMeanTheirRules, SourceFilesFit, WholeProductionsBeginAsTheirRules, WholeProductionsMeanTheirRules};
 
 /// A production gives what its rule gives, where each production that the rule calls gives what it means.
 pub fn productions_mean_their_rules()
@@ -13,6 +13,12 @@ pub fn whole_productions_mean_their_rules()
     ensures means { WholeProductionsMeanTheirRules }
     ensures begin { WholeProductionsBeginAsTheirRules }
     ensures all { EachProductionHasARule }
+{}
+
+/// Nothing else begins and reads as the rules of the whole grammar say: each production has one meaning.
+pub fn whole_productions_have_one_meaning()
+    ensures begin { OnlyOneBeginning }
+    ensures read { OnlyOneReading }
 {}
 
 /// Some inputs, with the trees that the whole grammar gives them.
