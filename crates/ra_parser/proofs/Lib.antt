@@ -7,6 +7,8 @@ pub mod OnlyLooks
 pub mod Table
 pub mod WholeTable
 pub mod OnlyWhole
+pub mod Parts
+pub mod PartsOfWhole
 pub mod Items
 pub mod Adding
 pub mod Fitting

@@ -1,7 +1,7 @@
 -- What satisfies the equations of where productions begin is where they begin.
-use Rattle.std.proofs.Common.{◌≡◌, ℕ, zero, suc, ◌<◌, Bool, true, false, not, ◌&&◌, ◌||◌, nat_lt, refl, ap, ◌∙◌, sym, arith, inl, inr, if◌then◌else◌, true≢false}
-use Rattle.std.proofs.lemmas.Bool.{ltb-true, or_cases}
-use Rattle.ra_parser.specs.Rule.{Production, Rule, Look, Both, Either, Not, Nothing, One, Any, Then, Near, Or, Opt, Star, Node, Wrap, Want, Say, Skip, Split, When, Unless, Call, Continue, Mode, begins, is_silent, passes, shift, width, in_mode}
+use Rattle.std.proofs.Common.{◌≡◌, ℕ, zero, suc, ◌<◌, Bool, true, false, not, ◌&&◌, ◌||◌, nat_lt, refl, ap, ◌∙◌, sym, arith, if◌then◌else◌, true≢false}
+use Rattle.std.proofs.lemmas.Bool.{ltb-true}
+use Rattle.ra_parser.specs.Rule.{Production, Rule, Look, Both, Either, Not, Nothing, One, Any, Then, Near, Or, Opt, Star, Node, Wrap, Want, Say, Skip, Split, When, Unless, Call, Continue, Mode, begins, is_silent, passes, in_mode}
 use Rattle.ra_parser.specs.Meaning.{Table, look_of, begins_below}
 use Rattle.ra_parser.proofs.Plain.{and_l, and_r}
 

@@ -1,9 +1,9 @@
 -- Where the productions of the whole grammar begin, and what they give, is settled by their rules.
-use Rattle.std.proofs.Common.{◌≡◌, ℕ, ◌<◌, Bool, true, refl, subst, arith}
+use Rattle.std.proofs.Common.{◌≡◌, ℕ, ◌<◌, true, refl, subst, arith}
 use mathlib.Core.Path.{fun_ext}
 use Rattle.ra_parser.specs.Rule.{Production, Look, source_file, macro_items, macro_statements, item, body, assoc_items, variants, record_fields, tuple_fields, visibility, attribute, meta, token_tree, use_tree, use_list, params, param, name, lifetime, name_ref, path, type_path, expr_path, generic_args, generic_arg, generic_params, generic_param, bounds, bound, where_clause, where_pred, any_type, ret_type, pattern, single_pattern, pattern_fields, pattern_field, literal, statement_list, block, statement, macro_statement, statement_end, macro_statement_end, expression, operation, operation_tail, disjunction, conjunction, comparison, bit_or, bit_xor, bit_and, bit_shift, sum, product, cast, prefixed, postfix, after_dot, arguments, atom, field_values, field_value, block_like, if_expr, match_arms, match_arm, passes, is_silent}
 use Rattle.ra_parser.specs.Notation.{expected, wanted, row, one_of, any_of, is_longer, no_longer, op}
-use Rattle.ra_parser.specs.Meaning.{Reading, Calls, read, look_of, meaning}
+use Rattle.ra_parser.specs.Meaning.{look_of}
 use Rattle.ra_parser.specs.Paths.{paths}
 use Rattle.ra_parser.specs.Types.{types}
 use Rattle.ra_parser.specs.Patterns.{patterns}
@@ -11,7 +11,7 @@ use Rattle.ra_parser.specs.Expressions.{expressions}
 use Rattle.ra_parser.specs.Statements.{statements}
 use Rattle.ra_parser.specs.Items.{items}
 use Rattle.ra_parser.specs.Whole.{rule, rank, whole}
-use Rattle.ra_parser.specs.Laws.{AreBeginnings, AreReadings, OnlyOneBeginning, OnlyOneReading}
+use Rattle.ra_parser.specs.Laws.{AreReadings, OnlyOneBeginning, OnlyOneReading}
 use Rattle.ra_parser.proofs.Plain.{fine-rank}
 use Rattle.ra_parser.proofs.WholeTable.{claim, all_fine}
 use Rattle.ra_parser.proofs.Only.{only-meaning}

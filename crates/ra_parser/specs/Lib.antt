@@ -19,4 +19,5 @@ pub mod Adds
 pub mod Pieces
 pub mod Stands
 pub mod Looks
+pub mod Parts
 pub mod Laws
