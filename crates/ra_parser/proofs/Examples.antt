@@ -15,4 +15,4 @@ use Rattle.ra_parser.specs.Examples.{ExamplesAreRight}
 
 pub examples-are-right : ExamplesAreRight
 unfolding meaning by_length by_rank follow look_of begins_below read turns leaf say skip split fresh node wrapped behind sees ahead is_end begins passes is_silent width shift in_mode there_at rule rank whole expected wanted row any_of one_of is_longer no_longer op paths types patterns expressions statements items leaves is_used_up takes_all entry
-examples-are-right = (refl, (refl, (refl, (refl, (refl, (refl, (refl, (refl, (refl, (refl, (refl, (refl, (refl, (refl, (refl, (refl, (refl, (refl, (refl, (refl, (refl, (refl, (refl, (refl, (refl, (refl, (refl, (refl, (refl, (refl, (refl, (refl, (refl, (refl, (refl, (refl, (refl, (refl, (refl, (refl, (refl, tt)))))))))))))))))))))))))))))))))))))))))
+examples-are-right = (refl, (refl, (refl, (refl, (refl, (refl, (refl, (refl, (refl, (refl, (refl, (refl, (refl, (refl, (refl, (refl, (refl, (refl, (refl, (refl, (refl, (refl, (refl, (refl, (refl, (refl, (refl, (refl, (refl, (refl, (refl, (refl, (refl, (refl, (refl, (refl, (refl, (refl, (refl, (refl, (refl, (refl, (refl, (refl, (refl, (refl, (refl, tt)))))))))))))))))))))))))))))))))))))))))))))))

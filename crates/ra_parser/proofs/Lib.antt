@@ -1,8 +1,14 @@
 pub mod Unfolds
 pub mod Followed
+pub mod Fine
 pub mod Plain
+pub mod Only
+pub mod OnlyLooks
 pub mod Table
 pub mod WholeTable
+pub mod OnlyWhole
+pub mod Parts
+pub mod PartsOfWhole
 pub mod Items
 pub mod Adding
 pub mod Fitting

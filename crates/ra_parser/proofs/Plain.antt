@@ -6,16 +6,16 @@ use Rattle.parser_input.specs.Kinds.{EOF}
 use Rattle.parser_events.specs.Forest.{Forest}
 use Rattle.parser_input.specs.Input.{Token}
 use Rattle.ra_parser.specs.Rule.{Production, Rule, Look, Always, Never, Kind, Contextual, Joint, Left, InCondition, Given, Both, Either, Not, Nothing, One, Any, Then, Near, Or, Opt, Star, Node, Wrap, Want, Say, Skip, Split, When, Unless, Call, Continue, Mode, begins}
-use Rattle.ra_parser.specs.Meaning.{Reading, Table, read, look_of, meaning, calls, sees, fresh, behind, node, wrapped, say, skip, split, leaf, turns, ahead}
-use Rattle.ra_parser.specs.Fine.{takes, ranked, fails, ranked_at_end, fine}
+use Rattle.ra_parser.specs.Meaning.{Reading, Table, read, look_of, Calls, meaning, calls, sees, fresh, behind, node, wrapped, say, skip, split, leaf, turns, ahead}
+use Rattle.ra_parser.proofs.Fine.{takes, ranked, fails, ranked_at_end, fine}
 use Rattle.ra_parser.proofs.Unfolds.{meaning_unfolds}
 use Rattle.ra_parser.proofs.Followed.{call_followed}
 
-and_l : (x y : Bool) → (x && y) ≡ true → x ≡ true
+pub and_l : (x y : Bool) → (x && y) ≡ true → x ≡ true
 and_l true y e = refl
 and_l false y e = e
 
-and_r : (x y : Bool) → (x && y) ≡ true → y ≡ true
+pub and_r : (x y : Bool) → (x && y) ≡ true → y ≡ true
 and_r true y e = e
 and_r false y e = absurd (true≢false (sym e))
 
@@ -58,22 +58,30 @@ none_left : (ts : List Token) → length ts ≤ 0 → ts ≡ []
 none_left [] h = refl
 none_left (t ∷ ts) h = absurd (omega arith)
 
-module _ (g : Table) (f : Production → Bool) (x : Production) (n : ℕ) where
+-- where a call leads that was made for fewer than n tokens, or for n at a lower rank
+abbrev pub IsBelow : Table → (x : Production) → (n : ℕ) → Production → Reading → Type 0
+IsBelow g x n y t = (length t.rest < n) ⊎ ((length t.rest ≤ n) × (g.rank y < g.rank x))
+
+-- These calls give there what the productions mean.
+abbrev pub AgreesBelow : Table → (x : Production) → (n : ℕ) → Calls → Type 0
+AgreesBelow g x n call = (y : Production) (d : Bool) (t : Reading) → IsBelow g x n y t → call y d t ≡ meaning g y d t
+
+module _ (g : Table) (f : Production → Bool) (x : Production) (n : ℕ) (call : Calls) (agreed : AgreesBelow g x n call) where
   low : Production → Bool
   low y = nat_lt (g.rank y) (g.rank x)
 
-  abbrev Known : Type 0
-  Known = (y : Production) (d : Bool) (t : Reading) → (length t.rest < n) ⊎ ((length t.rest ≤ n) × (g.rank y < g.rank x)) → Facts g f y d t
+  abbrev pub Known : Type 0
+  Known = (y : Production) (d : Bool) (t : Reading) → IsBelow g x n y t → Facts g f y d t
 
-  record Same (c : Bool) (r : Rule) (s : Reading) : Type 0 where
-    pub same : read (look_of g) (calls g x n) c r s ≡ read (look_of g) (meaning g) c r s
+  pub record Same (c : Bool) (r : Rule) (s : Reading) : Type 0 where
+    pub same : read (look_of g) call c r s ≡ read (look_of g) (meaning g) c r s
     pub shrinks : length (read (look_of g) (meaning g) c r s).rest ≤ length s.rest
     pub took : takes f r ≡ true → 0 < length s.rest → length (read (look_of g) (meaning g) c r s).rest < length s.rest
 
   same-turns : (k : ℕ) (t : Bool) (c : Bool) (test : Reading → Bool) (a : Rule) (s : Reading) →
       ((s : Reading) → length s.rest ≤ n → (t ≡ true → length s.rest < n) → Same c a s) →
       length s.rest ≤ n → (t ≡ true → length s.rest < n) →
-      (turns k test (read (look_of g) (calls g x n) c a) s ≡ turns k test (read (look_of g) (meaning g) c a) s)
+      (turns k test (read (look_of g) call c a) s ≡ turns k test (read (look_of g) (meaning g) c a) s)
       × (length (turns k test (read (look_of g) (meaning g) c a) s).rest ≤ length s.rest)
   unfolding turns
   same-turns zero t c test a s each le lt = (refl, omega arith)
@@ -82,7 +90,7 @@ module _ (g : Table) (f : Production → Bool) (x : Production) (n : ℕ) where
       let mid = read (look_of g) (meaning g) c a s in
       let q = same-turns k t c test a mid each (through p.shrinks le) (λ h. both (lt h) p.shrinks) in (
         if-same (test s) _ _ _ _
-            (ap (λ (u : Reading). if nat_lt (length u.rest) (length s.rest) then turns k test (read (look_of g) (calls g x n) c a) u else u) p.same
+            (ap (λ (u : Reading). if nat_lt (length u.rest) (length s.rest) then turns k test (read (look_of g) call c a) u else u) p.same
             ∙ if-same (nat_lt (length mid.rest) (length s.rest)) _ _ _ _ q.0 refl) refl,
         if-le (test s) _ _ _ (if-le (nat_lt (length mid.rest) (length s.rest)) _ _ _ (through q.1 p.shrinks) p.shrinks) (omega arith),
       )
@@ -94,7 +102,7 @@ module _ (g : Table) (f : Production → Bool) (x : Production) (n : ℕ) where
       both p q = omega arith
 
   falls : (t : Bool) (y : Production) (s : Reading) → (t || low y) ≡ true → length s.rest ≤ n → (t ≡ true → length s.rest < n) →
-      (length s.rest < n) ⊎ ((length s.rest ≤ n) × (g.rank y < g.rank x))
+      IsBelow g x n y s
   unfolding low
   falls t y s e le lt = elim (or_cases t (low y) e) [ inl p ↦ inl (lt p) | inr p ↦ inr (le, ltb-true _ _ p) ]
 
@@ -142,7 +150,7 @@ module _ (g : Table) (f : Production → Bool) (x : Production) (n : ℕ) where
   same-then a b t c s z le lt p next =
       let q = next (through p.shrinks le) (after a t c s z le lt p) in
       record {
-        same = ap (λ (u : Reading). read (look_of g) (calls g x n) c b u) p.same ∙ q.same;
+        same = ap (λ (u : Reading). read (look_of g) call c b u) p.same ∙ q.same;
         shrinks = through q.shrinks p.shrinks;
         took = took-two (takes f a) (takes f b) _ _ _ p.shrinks q.shrinks p.took q.took;
       }
@@ -205,11 +213,11 @@ module _ (g : Table) (f : Production → Bool) (x : Production) (n : ℕ) where
   agrees k z (Call y) t c s e le lt =
       let i = falls t y s e le lt in
       let h = k y c (fresh s) i in
-      record { same = ap (λ (u : Reading). behind s u) (call_followed g x y n c (fresh s) i); shrinks = h.shrinks; took = h.took }
+      record { same = ap (λ (u : Reading). behind s u) (agreed y c (fresh s) i); shrinks = h.shrinks; took = h.took }
   agrees k z (Continue y) t c s e le lt =
       let i = falls t y s e le lt in
       let h = k y c s i in
-      record { same = call_followed g x y n c s i; shrinks = h.shrinks; took = h.took }
+      record { same = agreed y c s i; shrinks = h.shrinks; took = h.took }
   agrees k z (Mode d a) t c s e le lt = let p = agrees k z a t d s e le lt in record { same = p.same; shrinks = p.shrinks; took = p.took }
 
   turns-none : (k : ℕ) (test : Reading → Bool) (turn : Reading → Reading) (s : Reading) → k ≤ 0 → turns k test turn s ≡ s
@@ -242,7 +250,7 @@ module _ (g : Table) (f : Production → Bool) (x : Production) (n : ℕ) where
   unfolding read takes
   ends-then a b c s z p next =
       let q = next (through p.shrinks z) in
-      record { same = ap (λ (u : Reading). read (look_of g) (calls g x n) c b u) p.same ∙ q.same; shrinks = through q.shrinks p.shrinks; took = λ p q. absurd (omega arith) }
+      record { same = ap (λ (u : Reading). read (look_of g) call c b u) p.same ∙ q.same; shrinks = through q.shrinks p.shrinks; took = λ p q. absurd (omega arith) }
     where
       through : {a b m : ℕ} → a ≤ b → b ≤ m → a ≤ m
       through p q = omega arith
@@ -289,20 +297,20 @@ module _ (g : Table) (f : Production → Bool) (x : Production) (n : ℕ) where
   ends k (When l a) c s e z = let p = ends k a c s e z in record { same = p.same; shrinks = p.shrinks; took = p.took }
   ends k (Unless l a) c s e z = let p = ends k a c s e z in record { same = p.same; shrinks = p.shrinks; took = p.took }
   ends k (Call y) c s e z =
-      let i : (length s.rest < n) ⊎ ((length s.rest ≤ n) × (g.rank y < g.rank x)) = inr (omega arith, ltb-true _ _ e) in
+      let i : IsBelow g x n y s = inr (omega arith, ltb-true _ _ e) in
       let h = k y c (fresh s) i in
-      record { same = ap (λ (u : Reading). behind s u) (call_followed g x y n c (fresh s) i); shrinks = h.shrinks; took = h.took }
+      record { same = ap (λ (u : Reading). behind s u) (agreed y c (fresh s) i); shrinks = h.shrinks; took = h.took }
   ends k (Continue y) c s e z =
-      let i : (length s.rest < n) ⊎ ((length s.rest ≤ n) × (g.rank y < g.rank x)) = inr (omega arith, ltb-true _ _ e) in
+      let i : IsBelow g x n y s = inr (omega arith, ltb-true _ _ e) in
       let h = k y c s i in
-      record { same = call_followed g x y n c s i; shrinks = h.shrinks; took = h.took }
+      record { same = agreed y c s i; shrinks = h.shrinks; took = h.took }
   ends k (Mode d a) c s e z = let p = ends k a d s e z in record { same = p.same; shrinks = p.shrinks; took = p.took }
 
 -- the test, taken apart
 abbrev pub IsFine : Table → (Production → Bool) → Type 0
 IsFine g f = (x : Production) → fine g f x ≡ true
 
-fine-rank : (g : Table) (f : Production → Bool) → IsFine g f → (x : Production) → g.rank x < g.ranks
+pub fine-rank : (g : Table) (f : Production → Bool) → IsFine g f → (x : Production) → g.rank x < g.ranks
 unfolding fine
 fine-rank g f ok x = ltb-true _ _ (and_l _ _ (and_l _ _ (and_l _ _ (ok x))))
 
@@ -313,14 +321,18 @@ fine-takes g f ok x e = elim (or_cases (not (f x)) (takes f (g.rule x)) (and_r _
   | inr h ↦ h
 ]
 
-plain_step : (g : Table) (f : Production → Bool) → IsFine g f → (x : Production) (c : Bool) (s : Reading) → Known g f x (length s.rest) → Same g f x (length s.rest) c (g.rule x) s
+-- the bounded calls, which `meaning` makes
+bounded : (g : Table) (x : Production) (n : ℕ) → AgreesBelow g x n (calls g x n)
+bounded g x n y d t i = call_followed g x y n d t i
+
+pub plain_step : (g : Table) (f : Production → Bool) → IsFine g f → (x : Production) (c : Bool) (s : Reading) (call : Calls) (agreed : AgreesBelow g x (length s.rest) call) → Known g f x (length s.rest) call agreed → Same g f x (length s.rest) call agreed c (g.rule x) s
 unfolding fine low
-plain_step g f ok x c s k = elim (some_or_none (length s.rest)) [
-  | inl z ↦ agrees g f x (length s.rest) k z (g.rule x) false c s (and_r _ _ (and_l _ _ (ok x))) (omega arith) (λ h. absurd (true≢false (sym h)))
-  | inr z ↦ ends g f x (length s.rest) k (g.rule x) c s (and_r _ _ (ok x)) z
+plain_step g f ok x c s call agreed k = elim (some_or_none (length s.rest)) [
+  | inl z ↦ agrees g f x (length s.rest) call agreed k z (g.rule x) false c s (and_r _ _ (and_l _ _ (ok x))) (omega arith) (λ h. absurd (true≢false (sym h)))
+  | inr z ↦ ends g f x (length s.rest) call agreed k (g.rule x) c s (and_r _ _ (ok x)) z
 ]
 
-to_facts : (g : Table) (f : Production → Bool) → IsFine g f → (x : Production) (c : Bool) (s : Reading) → Same g f x (length s.rest) c (g.rule x) s → Facts g f x c s
+to_facts : (g : Table) (f : Production → Bool) → IsFine g f → (x : Production) (c : Bool) (s : Reading) → Same g f x (length s.rest) (calls g x (length s.rest)) (bounded g x (length s.rest)) c (g.rule x) s → Facts g f x c s
 to_facts g f ok x c s p =
     let e : meaning g x c s ≡ read (look_of g) (meaning g) c (g.rule x) s = meaning_unfolds g x c s (fine-rank g f ok) ∙ p.same in
     record {
@@ -330,7 +342,7 @@ to_facts g f ok x c s p =
 
 facts : (g : Table) (f : Production → Bool) → IsFine g f → (n k : ℕ) (x : Production) (c : Bool) (s : Reading) → length s.rest ≤ n → g.rank x < k → Facts g f x c s
 facts g f ok n zero x c s le lt = absurd (omega arith)
-facts g f ok zero (suc k) x c s le lt = to_facts g f ok x c s (plain_step g f ok x c s (λ y d t h. elim h [
+facts g f ok zero (suc k) x c s le lt = to_facts g f ok x c s (plain_step g f ok x c s (calls g x (length s.rest)) (bounded g x (length s.rest)) (λ y d t h. elim h [
   | inl p ↦ absurd (omega arith)
   | inr p ↦ facts g f ok zero k y d t (weaker p.0 le) (lower p.1 lt)
 ]))
@@ -340,7 +352,7 @@ facts g f ok zero (suc k) x c s le lt = to_facts g f ok x c s (plain_step g f ok
 
     lower : {a b m : ℕ} → a < b → b < suc m → a < m
     lower p q = omega arith
-facts g f ok (suc n) (suc k) x c s le lt = to_facts g f ok x c s (plain_step g f ok x c s (λ y d t h. elim h [
+facts g f ok (suc n) (suc k) x c s le lt = to_facts g f ok x c s (plain_step g f ok x c s (calls g x (length s.rest)) (bounded g x (length s.rest)) (λ y d t h. elim h [
   | inl p ↦ facts g f ok n g.ranks y d t (fewer p le) (fine-rank g f ok y)
   | inr p ↦ facts g f ok (suc n) k y d t (weaker p.0 le) (lower p.1 lt)
 ]))
@@ -360,4 +372,4 @@ all_facts g f ok x c s = facts g f ok (length s.rest) g.ranks x c s (omega arith
 -- THE law: a production gives what its rule gives, and each production that the rule calls gives what it means.
 pub meaning_is_plain : (g : Table) (f : Production → Bool) → IsFine g f → (x : Production) (c : Bool) (s : Reading) →
     meaning g x c s ≡ read (look_of g) (meaning g) c (g.rule x) s
-meaning_is_plain g f ok x c s = meaning_unfolds g x c s (fine-rank g f ok) ∙ (plain_step g f ok x c s (λ y d t h. all_facts g f ok y d t)).same
+meaning_is_plain g f ok x c s = meaning_unfolds g x c s (fine-rank g f ok) ∙ (plain_step g f ok x c s (calls g x (length s.rest)) (bounded g x (length s.rest)) (λ y d t h. all_facts g f ok y d t)).same

@@ -3,16 +3,47 @@ use Rattle.std.proofs.Common.{◌≡◌, Bool, true, false, refl}
 use Rattle.ra_parser.specs.Rule.{Production, source_file, macro_items, macro_statements, item, body, assoc_items, variants, record_fields, tuple_fields, visibility, attribute, meta, token_tree, use_tree, use_list, params, param, name, lifetime, name_ref, path, type_path, expr_path, generic_args, generic_arg, generic_params, generic_param, bounds, bound, where_clause, where_pred, any_type, ret_type, pattern, single_pattern, pattern_fields, pattern_field, literal, statement_list, block, statement, macro_statement, statement_end, macro_statement_end, expression, operation, operation_tail, disjunction, conjunction, comparison, bit_or, bit_xor, bit_and, bit_shift, sum, product, cast, prefixed, postfix, after_dot, arguments, atom, field_values, field_value, block_like, if_expr, match_arms, match_arm, begins, passes, is_silent, width, shift, in_mode, there_at}
 use Rattle.ra_parser.specs.Notation.{expected, wanted, row, one_of, any_of, is_longer, no_longer, op}
 use Rattle.ra_parser.specs.Meaning.{Reading, read, meaning, look_of, begins_below}
-use Rattle.ra_parser.specs.Fine.{fine, ranked, ranked_at_end, fails, takes}
+use Rattle.ra_parser.proofs.Fine.{fine, ranked, ranked_at_end, fails, takes}
 use Rattle.ra_parser.specs.Paths.{paths}
 use Rattle.ra_parser.specs.Types.{types}
 use Rattle.ra_parser.specs.Patterns.{patterns}
 use Rattle.ra_parser.specs.Expressions.{expressions}
 use Rattle.ra_parser.specs.Statements.{statements}
 use Rattle.ra_parser.specs.Items.{items}
-use Rattle.ra_parser.specs.Whole.{rule, rank, claim, whole}
+use Rattle.ra_parser.specs.Whole.{rule, rank, whole}
 use Rattle.ra_parser.specs.Laws.{is_nothing}
 use Rattle.ra_parser.proofs.Plain.{meaning_is_plain}
+
+-- the productions that surely take a token where one is left
+unfoldable pub claim : Production → Bool
+claim assoc_items = true
+claim variants = true
+claim record_fields = true
+claim tuple_fields = true
+claim visibility = true
+claim attribute = true
+claim token_tree = true
+claim use_list = true
+claim params = true
+claim name = true
+claim lifetime = true
+claim name_ref = true
+claim generic_args = true
+claim generic_params = true
+claim generic_param = true
+claim where_clause = true
+claim ret_type = true
+claim pattern_fields = true
+claim literal = true
+claim statement_list = true
+claim block = true
+claim postfix = true
+claim arguments = true
+claim field_values = true
+claim block_like = true
+claim if_expr = true
+claim match_arms = true
+claim x = false
 
 pub all_fine : (x : Production) → fine whole claim x ≡ true
 unfolding fine ranked ranked_at_end fails takes claim look_of begins_below begins passes is_silent width shift in_mode there_at rule rank whole expected wanted row one_of any_of is_longer no_longer op paths types patterns expressions statements items

@@ -1,6 +1,6 @@
 -- Inputs, and the trees that the whole grammar gives them.
 use Rattle.std.specs.Prelude.{if◌then◌else◌, ℕ, ◌==◌, Bool, true, false, List, [], ◌∷◌, ◌≡◌}
-use Rattle.parser_input.specs.Kinds.{EOF, ERROR, SEMICOLON, COMMA, DOT, L_PAREN, R_PAREN, L_CURLY, R_CURLY, L_BRACK, R_BRACK, AT, POUND, QUESTION, COLON, EQ, L_ANGLE, R_ANGLE, MINUS, AMP, PIPE, PLUS, STAR, DOT2, DOT2EQ, COLON2, EQ2, FAT_ARROW, INT_NUMBER, FLOAT_NUMBER, IDENT, UNDERSCORE, AS_KW, FN_KW, IF_KW, LET_KW, MATCH_KW, PUB_KW, STRUCT_KW, USE_KW, WHERE_KW, DYN_KW, SOURCE_FILE, MACRO_ITEMS, MACRO_STMTS, USE, USE_TREE, USE_TREE_LIST, RENAME, STRUCT, RECORD_FIELD_LIST, RECORD_FIELD, FN, PARAM_LIST, PARAM, VISIBILITY, ATTR, META, NAME, NAME_REF, PATH, PATH_SEGMENT, GENERIC_ARG_LIST, ASSOC_TYPE_ARG, CONST_ARG, TYPE_ARG, TYPE_BOUND_LIST, TYPE_BOUND, PATH_TYPE, REF_TYPE, DYN_TRAIT_TYPE, LITERAL_PAT, WILDCARD_PAT, IDENT_PAT, STMT_LIST, LET_STMT, EXPR_STMT, LITERAL, BLOCK_EXPR, RANGE_EXPR, BIN_EXPR, CALL_EXPR, ARG_LIST, METHOD_CALL_EXPR, FIELD_EXPR, RECORD_EXPR, RECORD_EXPR_FIELD_LIST, RECORD_EXPR_FIELD, PATH_EXPR, TUPLE_EXPR, PAREN_EXPR, CLOSURE_EXPR, LET_EXPR, IF_EXPR, MATCH_EXPR, MATCH_ARM_LIST, MATCH_ARM, MATCH_GUARD}
+use Rattle.parser_input.specs.Kinds.{EOF, ERROR, SEMICOLON, COMMA, DOT, L_PAREN, R_PAREN, L_CURLY, R_CURLY, L_BRACK, R_BRACK, AT, POUND, QUESTION, COLON, EQ, L_ANGLE, R_ANGLE, MINUS, AMP, PIPE, PLUS, STAR, DOT2, DOT2EQ, COLON2, EQ2, FAT_ARROW, INT_NUMBER, FLOAT_NUMBER, IDENT, UNDERSCORE, AS_KW, FN_KW, IF_KW, LET_KW, MATCH_KW, PUB_KW, STRUCT_KW, USE_KW, WHERE_KW, DYN_KW, SOURCE_FILE, MACRO_ITEMS, MACRO_STMTS, USE, USE_TREE, USE_TREE_LIST, RENAME, STRUCT, RECORD_FIELD_LIST, RECORD_FIELD, FN, PARAM_LIST, PARAM, VISIBILITY, ATTR, META, NAME, NAME_REF, PATH, PATH_SEGMENT, GENERIC_ARG_LIST, ASSOC_TYPE_ARG, CONST_ARG, TYPE_ARG, TYPE_BOUND_LIST, TYPE_BOUND, PATH_TYPE, REF_TYPE, DYN_TRAIT_TYPE, LITERAL_PAT, WILDCARD_PAT, IDENT_PAT, STMT_LIST, LET_STMT, EXPR_STMT, LITERAL, BLOCK_EXPR, RANGE_EXPR, BIN_EXPR, CALL_EXPR, ARG_LIST, METHOD_CALL_EXPR, FIELD_EXPR, RECORD_EXPR, RECORD_EXPR_FIELD_LIST, RECORD_EXPR_FIELD, PATH_EXPR, TUPLE_EXPR, PAREN_EXPR, CLOSURE_EXPR, LET_EXPR, IF_EXPR, MATCH_EXPR, MATCH_ARM_LIST, MATCH_ARM, MATCH_GUARD, SELF_KW, SUPER_KW, BANG, TUPLE_FIELD_LIST, TUPLE_FIELD, PAREN_TYPE, MACRO_CALL, TOKEN_TREE}
 use Rattle.parser_events.specs.Forest.{Expected, UnexpectedIn, ExpectedType, ExpectedExpression, ExpectedPattern, ExpectedItem, ExpectedStatement, ExpectedField, UnexpectedTokens, Message, Forest, End, Leaf, Said, ErrorLeaf, Node, Float, ◌then◌}
 use Rattle.ra_parser.specs.Rule.{source_file, macro_items, macro_statements, meta, any_type, pattern, expression, Production}
 use Rattle.parser_input.specs.Input.{Token}
@@ -323,6 +323,42 @@ examples =
       asked = any_type;
       tokens = record { kind = IDENT; contextual = DYN_KW; joint = false } ∷ apart IDENT ∷ [];
       tree = DYN_TRAIT_TYPE ⟪ leaf DYN_KW · TYPE_BOUND_LIST ⟪ TYPE_BOUND ⟪ a_path_type ⟫ ⟫ ⟫;
+    }
+    -- type `dyn self`, where `dyn` is no keyword
+    ∷ record {
+      asked = any_type;
+      tokens = record { kind = IDENT; contextual = DYN_KW; joint = false } ∷ apart SELF_KW ∷ [];
+      tree = DYN_TRAIT_TYPE ⟪ leaf DYN_KW · TYPE_BOUND_LIST ⟪ TYPE_BOUND ⟪ PATH_TYPE ⟪ PATH ⟪ PATH_SEGMENT ⟪ NAME_REF ⟪ leaf SELF_KW ⟫ ⟫ ⟫ ⟫ ⟫ ⟫ ⟫;
+    }
+    -- file `struct S(pub (super::T));`
+    ∷ record {
+      asked = source_file;
+      tokens = apart STRUCT_KW ∷ touching IDENT ∷ touching L_PAREN ∷ apart PUB_KW ∷ touching L_PAREN ∷ touching SUPER_KW ∷ touching COLON ∷ touching COLON ∷ touching IDENT ∷ touching R_PAREN ∷ touching R_PAREN ∷ apart SEMICOLON ∷ [];
+      tree = SOURCE_FILE ⟪ STRUCT ⟪ leaf STRUCT_KW · a_name · TUPLE_FIELD_LIST ⟪ leaf L_PAREN · TUPLE_FIELD ⟪ VISIBILITY ⟪ leaf PUB_KW ⟫ · PAREN_TYPE ⟪ leaf L_PAREN · PATH_TYPE ⟪ PATH ⟪ PATH ⟪ PATH_SEGMENT ⟪ NAME_REF ⟪ leaf SUPER_KW ⟫ ⟫ ⟫ · joined COLON2 2 · PATH_SEGMENT ⟪ NAME_REF ⟪ leaf IDENT ⟫ ⟫ ⟫ ⟫ · leaf R_PAREN ⟫ ⟫ · leaf R_PAREN ⟫ · leaf SEMICOLON ⟫ ⟫;
+    }
+    -- items `#[a] pub C {}`
+    ∷ record {
+      asked = macro_items;
+      tokens = touching POUND ∷ touching L_BRACK ∷ touching IDENT ∷ apart R_BRACK ∷ apart PUB_KW ∷ apart IDENT ∷ touching L_CURLY ∷ apart R_CURLY ∷ [];
+      tree = MACRO_ITEMS ⟪ ERROR ⟪ ATTR ⟪ leaf POUND · leaf L_BRACK · META ⟪ a_path ⟫ · leaf R_BRACK ⟫ · VISIBILITY ⟪ leaf PUB_KW ⟫ · a_path · said ExpectedItem ⟫ · skipped ExpectedItem L_CURLY · skipped ExpectedItem R_CURLY ⟫;
+    }
+    -- items `a != b`
+    ∷ record {
+      asked = macro_items;
+      tokens = apart IDENT ∷ touching BANG ∷ apart EQ ∷ apart IDENT ∷ [];
+      tree = MACRO_ITEMS ⟪ MACRO_CALL ⟪ a_path · leaf BANG · said (Expected TOKEN_TREE) · said (Expected SEMICOLON) ⟫ · skipped ExpectedItem EQ · ERROR ⟪ a_path · said ExpectedItem ⟫ ⟫;
+    }
+    -- items `m!{} a`
+    ∷ record {
+      asked = macro_items;
+      tokens = touching IDENT ∷ touching BANG ∷ touching L_CURLY ∷ apart R_CURLY ∷ apart IDENT ∷ [];
+      tree = MACRO_ITEMS ⟪ MACRO_CALL ⟪ a_path · leaf BANG · TOKEN_TREE ⟪ leaf L_CURLY · leaf R_CURLY ⟫ ⟫ · ERROR ⟪ a_path · said ExpectedItem ⟫ ⟫;
+    }
+    -- expression `if let a b {}`
+    ∷ record {
+      asked = expression;
+      tokens = apart IF_KW ∷ apart LET_KW ∷ apart IDENT ∷ apart IDENT ∷ touching L_CURLY ∷ apart R_CURLY ∷ [];
+      tree = IF_EXPR ⟪ leaf IF_KW · LET_EXPR ⟪ leaf LET_KW · a_name_pat · said (Expected EQ) · a_path_expr ⟫ · an_empty_block ⟫;
     }
     ∷ []
 

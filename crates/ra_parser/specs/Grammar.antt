@@ -1,5 +1,5 @@
 -- The grammar, as far as the kinds `struct`, identifier and `;` reach: what `parse` reads by today. The whole grammar is `Whole`.
-use Rattle.std.specs.Prelude.{ℕ, Bool, true, false}
+use Rattle.std.specs.Prelude.{ℕ}
 use Rattle.parser_input.specs.Kinds.{SOURCE_FILE, STRUCT, NAME, NAME_REF, PATH, PATH_SEGMENT, ERROR}
 use Rattle.parser_events.specs.Forest.{ExpectedItem}
 use Rattle.ra_parser.specs.Rule.{Rule, Nothing, Skip, Say, Unless, Production, source_file, item, body, name, name_ref, path}
@@ -28,12 +28,6 @@ rank item = 3
 rank body = 2
 rank path = 1
 rank x = 0
-
--- the productions that surely take a token where one is left
-unfoldable pub claim : Production → Bool
-claim name = true
-claim name_ref = true
-claim _ = false
 
 unfoldable pub grammar : Table
 grammar = record { rule = rule; rank = rank; ranks = 5 }

@@ -14,10 +14,10 @@ pub mod Items
 pub mod Whole
 pub mod Entry
 pub mod Examples
-pub mod Fine
 pub mod Left
 pub mod Adds
 pub mod Pieces
 pub mod Stands
 pub mod Looks
+pub mod Parts
 pub mod Laws

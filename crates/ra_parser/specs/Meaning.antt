@@ -107,7 +107,8 @@ read f call c (Call x) s = behind s (call x c (fresh s))
 read f call c (Continue x) s = call x c s
 read f call c (Mode d a) s = read f call d a s
 
--- A table: the rule of each production, and its rank.
+-- A table: the rule of each production, and its rank. Ranks, and all that follows, serve to say by recursion where productions
+-- begin and what they give; that each does so as its rule says, and that nothing else does, are laws.
 pub record Table : Type 0 where
   pub rule : Production → Rule
   pub rank : Production → ℕ

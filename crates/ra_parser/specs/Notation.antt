@@ -1,7 +1,7 @@
 -- The writing of a grammar: `a ▸ b` is a followed by b, `a ▹ b` the same where the looks of both are asked, `a or b` the first
--- whose looks are there, `⁅ a ⁆` an option, `a *` a repetition, `a ⁺` one of one turn at least, `N ⟨ a ⟩` a node, `N <⟨ a ⟩` a node
--- around all that the present production gave so far and a, `a !` a part that is expected, `more a` a production as a
--- continuation of the present one.
+-- whose looks are there (of several, the last where none is), `⁅ a ⁆` an option, `a *` a repetition, `a ⁺` one of one turn at
+-- least, `N ⟨ a ⟩` a node, `N <⟨ a ⟩` a node around all that the present production gave so far and a, `a !` a part that is
+-- expected, `more a` a production as a continuation of the present one.
 use Rattle.std.specs.Prelude.{ℕ, ◌+◌, ◌==◌, Bool, true, false, ◌&&◌, List, [], ◌∷◌, length, if◌then◌else◌}
 use Rattle.parser_input.specs.Kinds.{COMMA, USE_TREE, VARIANT_LIST, PARAM_LIST, ASSOC_ITEM_LIST, META, TOKEN_TREE, NAME, NAME_REF, PATH, STMT_LIST, LITERAL, BLOCK_EXPR, ARG_LIST, MATCH_ARM_LIST}
 use Rattle.parser_events.specs.Forest.{Message, Expected, UnexpectedIn, ExpectedType, ExpectedExpression, ExpectedPattern, ExpectedItem}

@@ -98,6 +98,9 @@ pub record Spelling : Type 0 where
 -- an expected part (Want: it, or a message); an error (Say: a message; Skip: a message about the next token, which is
 -- taken; Split: a float behind a dot). Call begins a production anew, Continue goes on in the present one, Mode reads a
 -- rule in condition mode or out of it.
+-- A choice reads its first part where that begins, and else its second, of which it asks nothing: where all looks of a chain of
+-- choices fail, its last part is read. When puts its look in the place of those of its rule, Unless asks besides those of its
+-- rule that its look fails; both say only where a rule begins, not what it gives.
 pub data Rule : Type 0 where
   Nothing : Rule
   One : Spelling → Rule
@@ -125,7 +128,8 @@ there_at n [] = Always
 there_at n (k ∷ []) = Kind n k
 there_at n (k ∷ l ∷ ks) = Both (Kind n k) (Both (Joint n) (there_at (n + 1) (l ∷ ks)))
 
--- a look, m tokens further ahead
+-- A look, m tokens further ahead. Whether a token is left, and whether something was given, is still asked of the place itself;
+-- the whole grammar asks neither of them further ahead, as a law says.
 unfoldable pub shift : ℕ → Look → Look
 shift m Always = Always
 shift m Never = Never
@@ -168,7 +172,9 @@ width (Node k a) = width a
 width (Or a b) = width a
 width r = 1
 
--- Where a rule begins, given where the productions begin. A part that is wanted begins where the part itself does.
+-- Where a rule begins, given where the productions begin. A part that is wanted begins where the part itself does. A production
+-- that is called anew has given nothing yet; that it is asked here what its caller gave makes no difference where a token is
+-- left, as a law says.
 unfoldable pub begins : (Production → Look) → Rule → Look
 begins f Nothing = Always
 begins f (One x) = there_at 0 x.parts

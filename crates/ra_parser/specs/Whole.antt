@@ -1,5 +1,5 @@
 -- The whole grammar: the rows of all subjects, and the order in which productions call each other.
-use Rattle.std.specs.Prelude.{ℕ, Bool, true, false}
+use Rattle.std.specs.Prelude.{ℕ}
 use Rattle.ra_parser.specs.Rule.{source_file, macro_items, macro_statements, item, body, assoc_items, variants, record_fields, tuple_fields, visibility, attribute, meta, token_tree, use_tree, use_list, params, param, name, lifetime, name_ref, path, type_path, expr_path, generic_args, generic_arg, generic_params, generic_param, bounds, bound, where_clause, where_pred, any_type, ret_type, pattern, single_pattern, pattern_fields, pattern_field, literal, statement_list, block, statement, macro_statement, expression, operation, disjunction, conjunction, comparison, bit_or, bit_xor, bit_and, bit_shift, sum, product, cast, prefixed, postfix, arguments, atom, field_values, field_value, block_like, if_expr, match_arms, match_arm, Production, Rule, Nothing}
 use Rattle.ra_parser.specs.Meaning.{Table}
 use Rattle.ra_parser.specs.Items.{items}
@@ -53,37 +53,6 @@ rank field_value = 2
 rank block_like = 2
 rank match_arm = 17
 rank x = 0
-
--- the productions that surely take a token where one is left
-unfoldable pub claim : Production → Bool
-claim assoc_items = true
-claim variants = true
-claim record_fields = true
-claim tuple_fields = true
-claim visibility = true
-claim attribute = true
-claim token_tree = true
-claim use_list = true
-claim params = true
-claim name = true
-claim lifetime = true
-claim name_ref = true
-claim generic_args = true
-claim generic_params = true
-claim generic_param = true
-claim where_clause = true
-claim ret_type = true
-claim pattern_fields = true
-claim literal = true
-claim statement_list = true
-claim block = true
-claim postfix = true
-claim arguments = true
-claim field_values = true
-claim block_like = true
-claim if_expr = true
-claim match_arms = true
-claim x = false
 
 -- the rows of all subjects; each production stands in one of them
 unfoldable pub rule : Production → Rule

@@ -1,7 +1,7 @@
 //! Laws of the definitions. Each is the contract of a function that makes no call.
 
 ghost use Rattle.ra_parser.specs.Examples.{ExamplesAreRight};
-ghost use Rattle.ra_parser.specs.Laws.{EachProductionHasARule, ProductionsMeanTheirRules, SourceFilesFit, WholeProductionsBeginAsTheirRules, WholeProductionsMeanTheirRules};
+ghost use Rattle.ra_parser.specs.Laws.{CallsBeginAnew, EachProductionHasARule, OnlyOneBeginning, OnlyOneReading, PartsLookAhead, ProductionsMeanTheirRules, RepetitionsAreReadTurnByTurn, SourceFilesFit, WholeProductionsBeginAsTheirRules, WholeProductionsMeanTheirRules};
 
 /// A production gives what its rule gives, where each production that the rule calls gives what it means.
 pub fn productions_mean_their_rules()
@@ -13,6 +13,24 @@ pub fn whole_productions_mean_their_rules()
     ensures means { WholeProductionsMeanTheirRules }
     ensures begin { WholeProductionsBeginAsTheirRules }
     ensures all { EachProductionHasARule }
+{}
+
+/// Nothing else begins and reads as the rules of the whole grammar say: each production has one meaning.
+pub fn whole_productions_have_one_meaning()
+    ensures begin { OnlyOneBeginning }
+    ensures read { OnlyOneReading }
+{}
+
+/// In the whole grammar each repetition is one turn and the repetition again, or nothing.
+pub fn repetitions_are_read_turn_by_turn()
+    ensures { RepetitionsAreReadTurnByTurn }
+{}
+
+/// In the whole grammar looks behind a part are those of the place behind it, and what was given before a call makes no
+/// difference to where that begins.
+pub fn looks_are_of_their_place()
+    ensures ahead { PartsLookAhead }
+    ensures anew { CallsBeginAnew }
 {}
 
 /// Some inputs, with the trees that the whole grammar gives them.
