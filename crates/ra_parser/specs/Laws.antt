@@ -6,7 +6,7 @@ use Rattle.parser_input.specs.declared.edition.Edition.{Edition}
 use Rattle.parser_events.specs.Fits.{fits, IsRooted}
 use Rattle.parser_events.specs.Forest.{Forest, End}
 use Rattle.parser_events.specs.Steps.{steps}
-use Rattle.ra_parser.specs.Rule.{Production, source_file, macro_items, macro_statements, Look, Rule, Nothing, Star, begins, shift}
+use Rattle.ra_parser.specs.Rule.{Production, source_file, macro_items, macro_statements, meta, Look, Rule, Nothing, Star, begins, shift}
 use Rattle.ra_parser.specs.Meaning.{Reading, Calls, read, sees, fresh, look_of, meaning}
 use Rattle.ra_parser.specs.Parts.{repeated, nearby}
 use Rattle.ra_parser.specs.Grammar.{rule, grammar}
@@ -95,6 +95,10 @@ abbrev pub ListsAreRooted : Type 0
 ListsAreRooted =
     (tokens : List Token)
     → IsRooted (entry all.whole source_file tokens) × IsRooted (entry all.whole macro_items tokens) × IsRooted (entry all.whole macro_statements tokens)
+
+-- So is the inside of an attribute.
+abbrev pub AttributesAreRooted : Type 0
+AttributesAreRooted = (tokens : List Token) → IsRooted (entry all.whole meta tokens)
 
 -- the trees of a source file with these leaves
 abbrev pub file_of : Edition → List Leaf → Forest
