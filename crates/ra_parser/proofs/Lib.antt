@@ -9,6 +9,7 @@ pub mod WholeTable
 pub mod OnlyWhole
 pub mod Parts
 pub mod PartsOfWhole
+pub mod Rooted
 pub mod Items
 pub mod Adding
 pub mod Fitting

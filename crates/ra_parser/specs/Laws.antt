@@ -1,15 +1,16 @@
 -- What holds of the grammar.
 use Rattle.std.specs.Prelude.{◌≡◌, ℕ, ◌<◌, Bool, true, false, List, All, length, drop, nat_lt, if◌then◌else◌}
-use Rattle.parser_input.specs.Input.{input}
+use Rattle.parser_input.specs.Input.{Token, input}
 use Rattle.parser_input.specs.Leaf.{Leaf}
 use Rattle.parser_input.specs.declared.edition.Edition.{Edition}
 use Rattle.parser_events.specs.Fits.{fits, IsRooted}
 use Rattle.parser_events.specs.Forest.{Forest, End}
 use Rattle.parser_events.specs.Steps.{steps}
-use Rattle.ra_parser.specs.Rule.{Production, source_file, Look, Rule, Nothing, Star, begins, shift}
+use Rattle.ra_parser.specs.Rule.{Production, source_file, macro_items, macro_statements, meta, Look, Rule, Nothing, Star, begins, shift}
 use Rattle.ra_parser.specs.Meaning.{Reading, Calls, read, sees, fresh, look_of, meaning}
 use Rattle.ra_parser.specs.Parts.{repeated, nearby}
 use Rattle.ra_parser.specs.Grammar.{rule, grammar}
+use Rattle.ra_parser.specs.Entry.{entry}
 use Rattle.ra_parser.specs.Whole as all
 
 -- A production gives what its rule gives, where each production that the rule calls gives what it means. The bounds by which
@@ -88,6 +89,16 @@ abbrev pub CallsBeginAnew : Type 0
 CallsBeginAnew =
     (x : Production) (in_condition : Bool) (s : Reading)
     → 0 < length s.rest → sees in_condition s (look_of all.whole x) ≡ sees in_condition (fresh s) (look_of all.whole x)
+
+-- A file, and the items and the statements of a macro, are one node, whatever the tokens are.
+abbrev pub ListsAreRooted : Type 0
+ListsAreRooted =
+    (tokens : List Token)
+    → IsRooted (entry all.whole source_file tokens) × IsRooted (entry all.whole macro_items tokens) × IsRooted (entry all.whole macro_statements tokens)
+
+-- So is the inside of an attribute.
+abbrev pub AttributesAreRooted : Type 0
+AttributesAreRooted = (tokens : List Token) → IsRooted (entry all.whole meta tokens)
 
 -- the trees of a source file with these leaves
 abbrev pub file_of : Edition → List Leaf → Forest

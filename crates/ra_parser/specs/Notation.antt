@@ -4,8 +4,8 @@
 -- expected, `more a` a production as a continuation of the present one.
 use Rattle.std.specs.Prelude.{ℕ, ◌+◌, ◌==◌, Bool, true, false, ◌&&◌, List, [], ◌∷◌, length, if◌then◌else◌}
 use Rattle.parser_input.specs.Kinds.{COMMA, USE_TREE, VARIANT_LIST, PARAM_LIST, ASSOC_ITEM_LIST, META, TOKEN_TREE, NAME, NAME_REF, PATH, STMT_LIST, LITERAL, BLOCK_EXPR, ARG_LIST, MATCH_ARM_LIST}
-use Rattle.parser_events.specs.Forest.{Message, Expected, UnexpectedIn, ExpectedType, ExpectedExpression, ExpectedPattern, ExpectedItem}
-use Rattle.ra_parser.specs.Rule.{item, assoc_items, variants, meta, token_tree, use_tree, params, name, name_ref, path, type_path, any_type, pattern, single_pattern, literal, statement_list, block, arguments, match_arms, Production, Look, Always, Never, Left, Both, Either, Not, Rule, Nothing, One, Then, Near, Or, Opt, Star, Node, Wrap, Want, Say, Skip, When, Unless, Call, Continue, Mode, there_at, width}
+use Rattle.parser_events.specs.Forest.{Message, Expected, UnexpectedIn, ExpectedType, ExpectedExpression, ExpectedPattern}
+use Rattle.ra_parser.specs.Rule.{assoc_items, variants, meta, token_tree, use_tree, params, name, name_ref, path, any_type, pattern, single_pattern, literal, statement_list, block, arguments, match_arms, Production, Look, Always, Never, Left, Both, Either, Not, Rule, Nothing, One, Then, Near, Or, Opt, Star, Node, Wrap, Want, Say, Skip, When, Unless, Call, Continue, Mode, there_at, width}
 use Rattle.ra_parser.specs.Words.{'dots', 'dots_eq', '==', '=>', '!=', '<=', '>=', '&&', '||', '<<', '>>', '+=', '-=', '*=', '/=', '%=', '&=', '|=', '^=', '<<=', '>>=', 'semi', 'comma', 'r_paren', 'l_curly', 'r_curly', ']', '=', '<', '>', '-', '&', '|', '+', '*', '/', '^', '%'}
 
 infixr 40 ◌or◌
@@ -56,7 +56,6 @@ unfoldable pub wanted : Production → Message
 wanted name = Expected NAME
 wanted name_ref = Expected NAME_REF
 wanted path = Expected PATH
-wanted type_path = Expected PATH
 wanted meta = Expected META
 wanted token_tree = Expected TOKEN_TREE
 wanted use_tree = Expected USE_TREE
@@ -71,7 +70,6 @@ wanted literal = Expected LITERAL
 wanted any_type = ExpectedType
 wanted pattern = ExpectedPattern
 wanted single_pattern = ExpectedPattern
-wanted item = ExpectedItem
 wanted x = ExpectedExpression
 
 -- the message of a part that is missing

@@ -1,7 +1,7 @@
 //! Laws of the definitions. Each is the contract of a function that makes no call.
 
 ghost use Rattle.ra_parser.specs.Examples.{ExamplesAreRight};
-ghost use Rattle.ra_parser.specs.Laws.{CallsBeginAnew, EachProductionHasARule, OnlyOneBeginning, OnlyOneReading, PartsLookAhead, ProductionsMeanTheirRules, RepetitionsAreReadTurnByTurn, SourceFilesFit, WholeProductionsBeginAsTheirRules, WholeProductionsMeanTheirRules};
+ghost use Rattle.ra_parser.specs.Laws.{AttributesAreRooted, CallsBeginAnew, EachProductionHasARule, ListsAreRooted, OnlyOneBeginning, OnlyOneReading, PartsLookAhead, ProductionsMeanTheirRules, RepetitionsAreReadTurnByTurn, SourceFilesFit, WholeProductionsBeginAsTheirRules, WholeProductionsMeanTheirRules};
 
 /// A production gives what its rule gives, where each production that the rule calls gives what it means.
 pub fn productions_mean_their_rules()
@@ -31,6 +31,12 @@ pub fn repetitions_are_read_turn_by_turn()
 pub fn looks_are_of_their_place()
     ensures ahead { PartsLookAhead }
     ensures anew { CallsBeginAnew }
+{}
+
+/// The tree of a file, of the items or the statements of a macro, and of an attribute's inside is one node.
+pub fn lists_are_rooted()
+    ensures lists { ListsAreRooted }
+    ensures attributes { AttributesAreRooted }
 {}
 
 /// Some inputs, with the trees that the whole grammar gives them.
