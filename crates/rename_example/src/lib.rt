@@ -88,7 +88,11 @@ mod tests {
         let renamed = rename(alloc, &mut document, name, "Tee", &mut ids);
         let is_right = document.text() == "struct Tee;";
         drop(document);
-        assert!(rt; (refused == Err(RenameError::Refused(CommitError::Unfaithful))) & renamed.is_ok() & is_right);
+        assert!(rt;
+            (refused == Err(RenameError::Refused(CommitError::Unfaithful)))
+                & renamed.is_ok()
+                & is_right
+        );
         Ok(())
     }
 }
