@@ -8,7 +8,7 @@ use Rattle.ra_parser.specs.Left.{left}
 use Rattle.ra_parser.specs.Rule.{Production, Rule, Nothing, One, Any, Then, Near, Or, Opt, Star, Node, Wrap, Want, Say, Skip, Split, When, Unless, Call, Continue, Mode, begins}
 use Rattle.ra_parser.specs.Meaning.{Reading, sees, fresh, behind, node, wrapped, say, turns, read, meaning}
 use Rattle.ra_parser.specs.Whole.{rule, whole}
-use Rattle.ra_parser.specs.Stands.{looks, Opens, Leaves, Does, Gives, Reads, Completes}
+use Rattle.ra_parser.specs.Stands.{looks, Opens, Leaves, Does, Gives, Reads, Anew, Completes}
 use Rattle.ra_parser.proofs.ByHand.{does-as, does-inside, does-then, completes-as}
 use Rattle.ra_parser.proofs.Prefixes.{is_behind, reads-anew}
 use Rattle.ra_parser.proofs.WholeTable.{whole-means}
@@ -115,10 +115,6 @@ module _ (c : Bool) where
 -- a rule is read as what it comes to here
 pub reads-here : {c : Bool} {fs : List Fact} {r : Rule} {old new : View} → Known c fs old → Reads c (simple fs r) old new → Reads c r old new
 reads-here {c} {fs} {r} {old} {new} known p = record { does = does-as (λ s e. is_simple c old fs known.at r s e) p.does }
-
--- What the rule gives anew stands behind what was given before.
-pub record Anew (c : Bool) (r : Rule) (old new : View) : Type 0 where
-  pub does : Does (λ s. behind s (read looks (meaning whole) c r (fresh s))) old new
 
 pub anew-here : {c : Bool} {fs : List Fact} {r : Rule} {old new : View} → Known c fs old → Anew c (simple fs r) old new → Anew c r old new
 unfolding fresh

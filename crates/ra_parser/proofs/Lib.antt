@@ -25,3 +25,5 @@ pub mod Facts
 pub mod Choices
 pub mod Seen
 pub mod Begins
+pub mod Powers
+pub mod Sums

@@ -18,6 +18,7 @@ pub mod Left
 pub mod Adds
 pub mod Pieces
 pub mod Stands
+pub mod Layers
 pub mod Looks
 pub mod Parts
 pub mod Laws

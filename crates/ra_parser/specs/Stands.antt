@@ -50,6 +50,10 @@ pub record Goes (x : Production) (c : Bool) (old new : View) : Type 0 where
 pub record Reads (c : Bool) (r : Rule) (old new : View) : Type 0 where
   pub does : Does (read (look_of whole) (meaning whole) c r) old new
 
+-- It reads what the rule says of nothing given, and puts that behind what was given before.
+pub record Anew (c : Bool) (r : Rule) (old new : View) : Type 0 where
+  pub does : Does (λ s. behind s (read (look_of whole) (meaning whole) c r (fresh s))) old new
+
 -- It reads what the rule says in the innermost node, and closes that: the trees, as the rule leaves them, stand in the node
 -- around it, behind those that this had.
 pub record Completes (c : Bool) (r : Rule) (old new : View) : Type 0 where

@@ -1,6 +1,6 @@
 -- The whole grammar: the rows of all subjects, and the order in which productions call each other.
 use Rattle.std.specs.Prelude.{ℕ}
-use Rattle.ra_parser.specs.Rule.{source_file, macro_items, macro_statements, item, body, assoc_items, variants, record_fields, tuple_fields, visibility, attribute, meta, token_tree, use_tree, use_list, params, param, name, lifetime, name_ref, path, type_path, expr_path, generic_args, generic_arg, generic_params, generic_param, bounds, bound, where_clause, where_pred, any_type, ret_type, pattern, single_pattern, pattern_fields, pattern_field, literal, statement_list, block, statement, macro_statement, expression, operation, disjunction, conjunction, comparison, bit_or, bit_xor, bit_and, bit_shift, sum, product, cast, prefixed, postfix, arguments, atom, field_values, field_value, block_like, if_expr, match_arms, match_arm, Production, Rule, Nothing}
+use Rattle.ra_parser.specs.Rule.{source_file, macro_items, macro_statements, item, body, meta, use_tree, param, path, type_path, expr_path, generic_arg, generic_param, bounds, bound, where_pred, any_type, pattern, single_pattern, pattern_field, block, statement, macro_statement, expression, operation, disjunction, conjunction, comparison, bit_or, bit_xor, bit_and, bit_shift, sum, product, cast, prefixed, postfix, atom, field_value, block_like, match_arm, Production, Rule, Nothing}
 use Rattle.ra_parser.specs.Meaning.{Table}
 use Rattle.ra_parser.specs.Items.{items}
 use Rattle.ra_parser.specs.Statements.{statements}
