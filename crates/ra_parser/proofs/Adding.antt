@@ -15,7 +15,7 @@ use Rattle.ra_parser.specs.Adds.{Holds, Adds}
 use Rattle.ra_parser.specs.Left.{left, is_next}
 use Rattle.ra_parser.specs.Pieces.{Piece, name_part, struct_piece, struct_at, word_piece, error_piece, piece, items}
 use Rattle.ra_parser.proofs.Items.{piece-takes, piece-fits, items-cons}
-use Rattle.ra_parser.specs.Meaning.{ahead}
+use Rattle.rust_grammar.specs.Meaning.{ahead}
 use Rattle.parser_input.specs.Kinds.{EOF, ERROR, STRUCT_KW, IDENT, SEMICOLON}
 use Rattle.parser_input.specs.Input.{Token}
 use Rattle.parser_input.specs.Recorded.{token_at, plain}

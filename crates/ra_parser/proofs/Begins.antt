@@ -1,18 +1,18 @@
 -- Paths with and without arguments begin alike.
 use Rattle.std.proofs.Common.{◌≡◌, Bool, refl, sym, subst}
 use Rattle.parser_events.specs.View.{View}
-use Rattle.ra_parser.specs.Expressions.{expressions}
-use Rattle.ra_parser.specs.Items.{items}
-use Rattle.ra_parser.specs.Meaning.{begins_below, look_of}
-use Rattle.ra_parser.specs.Notation.{any_of, expected, is_longer, no_longer, one_of, op, row, wanted}
-use Rattle.ra_parser.specs.Paths.{paths}
-use Rattle.ra_parser.specs.Patterns.{patterns}
-use Rattle.ra_parser.specs.Rule as rules
-use Rattle.ra_parser.specs.Rule.{Look, begins, in_mode, is_silent, passes, shift, there_at, width}
-use Rattle.ra_parser.specs.Statements.{statements}
+use Rattle.rust_grammar.specs.Expressions.{expressions}
+use Rattle.rust_grammar.specs.Items.{items}
+use Rattle.rust_grammar.specs.Meaning.{begins_below, look_of}
+use Rattle.rust_grammar.specs.Notation.{any_of, expected, is_longer, no_longer, one_of, op, row, wanted}
+use Rattle.rust_grammar.specs.Paths.{paths}
+use Rattle.rust_grammar.specs.Patterns.{patterns}
+use Rattle.rust_grammar.specs.Rule as rules
+use Rattle.rust_grammar.specs.Rule.{Look, begins, in_mode, is_silent, passes, shift, there_at, width}
+use Rattle.rust_grammar.specs.Statements.{statements}
 use Rattle.ra_parser.specs.Stands.{looks, Saw}
-use Rattle.ra_parser.specs.Types.{types}
-use Rattle.ra_parser.specs.Whole.{rule, whole}
+use Rattle.rust_grammar.specs.Types.{types}
+use Rattle.rust_grammar.specs.Whole.{rule, whole}
 
 type_path-begins : looks rules.type_path ≡ looks rules.path
 unfolding look_of begins_below whole rule items statements expressions patterns types paths there_at shift width passes is_silent begins in_mode row one_of any_of expected wanted op no_longer is_longer

@@ -8,11 +8,11 @@ use Rattle.parser_events.specs.View.{View}
 use Rattle.parser_events.proofs.Forests.{marked-then}
 use Rattle.ra_parser.specs.Adds.{Holds}
 use Rattle.ra_parser.specs.Left.{left}
-use Rattle.ra_parser.specs.Rule.{Production, Look, Spelling, Rule, Nothing, One, Any, Then, Near, Or, Opt, Node, Wrap, Want, Say, Skip, When, Unless, Call, Continue, Mode, begins}
-use Rattle.ra_parser.specs.Meaning.{Reading, ahead, fresh, behind, node, wrapped, say, skip, leaf, read, meaning}
-use Rattle.ra_parser.specs.Whole.{rule, whole}
+use Rattle.rust_grammar.specs.Rule.{Production, Look, Spelling, Rule, Nothing, One, Any, Then, Near, Or, Opt, Node, Wrap, Want, Say, Skip, When, Unless, Call, Continue, Mode, begins}
+use Rattle.rust_grammar.specs.Meaning.{Reading, ahead, fresh, behind, node, wrapped, say, skip, leaf, read, meaning}
+use Rattle.rust_grammar.specs.Whole.{rule, whole}
 use Rattle.ra_parser.specs.Stands.{looks, Opens, Closes, Leaves, Does, Gives, Goes, Reads, Completes, Saw}
-use Rattle.ra_parser.proofs.WholeTable.{whole-means}
+use Rattle.rust_grammar.proofs.WholeTable.{whole-means}
 
 -- nothing is done
 pub does-nothing : (v : View) → Does (λ s. s) v v

@@ -5,13 +5,13 @@ use Rattle.parser_events.specs.View.{View}
 use Rattle.parser_events.proofs.Forests.{marked-then}
 use Rattle.ra_parser.specs.Adds as adds
 use Rattle.ra_parser.specs.Left.{left}
-use Rattle.ra_parser.specs.Rule.{Production, Rule, Nothing, One, Any, Then, Near, Or, Opt, Star, Node, Wrap, Want, Say, Skip, Split, When, Unless, Call, Continue, Mode, begins}
-use Rattle.ra_parser.specs.Meaning.{Reading, sees, fresh, behind, node, wrapped, say, turns, read, meaning}
-use Rattle.ra_parser.specs.Whole.{rule, whole}
+use Rattle.rust_grammar.specs.Rule.{Production, Rule, Nothing, One, Any, Then, Near, Or, Opt, Star, Node, Wrap, Want, Say, Skip, Split, When, Unless, Call, Continue, Mode, begins}
+use Rattle.rust_grammar.specs.Meaning.{Reading, sees, fresh, behind, node, wrapped, say, turns, read, meaning}
+use Rattle.rust_grammar.specs.Whole.{rule, whole}
 use Rattle.ra_parser.specs.Stands.{looks, Opens, Leaves, Does, Gives, Reads, Anew, Completes}
 use Rattle.ra_parser.proofs.ByHand.{does-as, does-inside, does-then, completes-as}
 use Rattle.ra_parser.proofs.Prefixes.{is_behind, reads-anew}
-use Rattle.ra_parser.proofs.WholeTable.{whole-means}
+use Rattle.rust_grammar.proofs.WholeTable.{whole-means}
 use Rattle.ra_parser.proofs.Facts.{Fact, HoldAll, Known, Right, starts, is_start}
 
 -- a rule, then another, which reads as the third where the first is nothing

@@ -3,10 +3,10 @@ use Rattle.std.proofs.Common.{◌≡◌, ℕ, Bool, true, false, not, ◌&&◌, 
 use Rattle.std.proofs.lemmas.Bool.{eqb-true}
 use Rattle.parser_events.specs.View.{View}
 use Rattle.ra_parser.specs.Left.{left}
-use Rattle.ra_parser.specs.Rule.{Production, Look, Always, Never, Kind, Contextual, Joint, Left, InCondition, Given, Both, Either, Not, Rule, Nothing, One, Any, Then, Near, Or, Opt, Star, Node, Wrap, Want, Say, Skip, Split, When, Unless, Call, Continue, Mode, begins, there_at, shift, width, passes, is_silent}
-use Rattle.ra_parser.specs.Meaning.{Reading, ahead, sees}
+use Rattle.rust_grammar.specs.Rule.{Production, Look, Always, Never, Kind, Contextual, Joint, Left, InCondition, Given, Both, Either, Not, Rule, Nothing, One, Any, Then, Near, Or, Opt, Star, Node, Wrap, Want, Say, Skip, Split, When, Unless, Call, Continue, Mode, begins, there_at, shift, width, passes, is_silent}
+use Rattle.rust_grammar.specs.Meaning.{Reading, ahead, sees}
 use Rattle.ra_parser.specs.Stands.{looks, Saw}
-use Rattle.ra_parser.proofs.Productions.{same_production, same_production-true}
+use Rattle.rust_grammar.proofs.Productions.{same_production, same_production-true}
 
 -- A look answers so; a production begins, or does not.
 pub data Fact : Type 0 where

@@ -15,7 +15,7 @@ use Rattle.parser_events.specs.Steps.{Step, steps}
 use Rattle.parser_events.specs.Trivia.{pending}
 use Rattle.ra_parser.specs.Laws.{file_of}
 use Rattle.ra_parser.specs.Left.{is_next}
-use Rattle.ra_parser.specs.Meaning.{Reading}
+use Rattle.rust_grammar.specs.Meaning.{Reading}
 use Rattle.ra_parser.specs.Pieces.{Piece, struct_piece, piece_by, piece, items}
 use Rattle.ra_parser.proofs.Items.{piece-takes, piece-fits, items-cons, source_file-means}
 

@@ -5,9 +5,9 @@ use Rattle.std.proofs.lemmas.List.{length-drop}
 use Rattle.parser_input.specs.Kinds.{EOF, SOURCE_FILE, STRUCT_KW, NAME, NAME_REF, PATH, PATH_SEGMENT, IDENT, SEMICOLON}
 use Rattle.parser_input.specs.Input.{Token}
 use Rattle.parser_events.specs.Forest.{Forest, End, Leaf, Said, ErrorLeaf, Node, Float, ◌then◌}
-use Rattle.ra_parser.specs.Rule.{Unless, Call, source_file, item, body, name, name_ref, path, begins, passes, is_silent, there_at}
-use Rattle.ra_parser.specs.Notation.{expected, wanted, at_end}
-use Rattle.ra_parser.specs.Meaning.{Reading, meaning, look_of, begins_below, read, turns, leaf, say, skip, fresh, node, wrapped, behind, sees, ahead}
+use Rattle.rust_grammar.specs.Rule.{Unless, Call, source_file, item, body, name, name_ref, path, begins, passes, is_silent, there_at}
+use Rattle.rust_grammar.specs.Notation.{expected, wanted, at_end}
+use Rattle.rust_grammar.specs.Meaning.{Reading, meaning, look_of, begins_below, read, turns, leaf, say, skip, fresh, node, wrapped, behind, sees, ahead}
 use Rattle.ra_parser.specs.Grammar.{rule, grammar}
 use Rattle.ra_parser.specs.Left.{is_next}
 use Rattle.ra_parser.specs.Pieces.{Piece, struct_piece, struct_at, word_piece, error_piece, piece_by, piece, items}

@@ -13,8 +13,8 @@ use Rattle.parser_events.specs.Marked.{Marked}
 use Rattle.parser_events.specs.View.{View}
 use Rattle.ra_parser.specs.Left.{left}
 use Rattle.ra_parser.specs.Looks.{tokens, spent}
-use Rattle.ra_parser.specs.Rule.{Kind, Contextual, Joint, Left}
-use Rattle.ra_parser.specs.Meaning.{Reading, sees, ahead}
+use Rattle.rust_grammar.specs.Rule.{Kind, Contextual, Joint, Left}
+use Rattle.rust_grammar.specs.Meaning.{Reading, sees, ahead}
 use Rattle.ra_parser.specs.Stands.{Saw}
 use Rattle.ra_parser.proofs.Adding.{seen, seen-token}
 

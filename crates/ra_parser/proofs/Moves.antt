@@ -12,7 +12,7 @@ use Rattle.parser_events.proofs.Forests.{marked-then}
 use Rattle.parser_events.proofs.Stacks.{front-beside, behind-beside}
 use Rattle.ra_parser.specs.Adds.{Holds}
 use Rattle.ra_parser.specs.Left.{left}
-use Rattle.ra_parser.specs.Meaning.{leaf, say, wrapped}
+use Rattle.rust_grammar.specs.Meaning.{leaf, say, wrapped}
 use Rattle.ra_parser.specs.Stands.{Opens, Closes, Leaves, Does}
 use Rattle.ra_parser.proofs.Adding.{becomes}
 

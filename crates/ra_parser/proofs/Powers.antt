@@ -3,13 +3,13 @@ use Rattle.std.proofs.Common.{◌≡◌, ◌<◌, Bool, true, false, List, [], �
 use Rattle.parser_events.specs.View.{View}
 use Rattle.ra_parser.specs.Left.{left}
 use Rattle.ra_parser.specs.Layers.{repeated}
-use Rattle.ra_parser.specs.Rule.{Production, Rule, Then, Star, Call, begins}
-use Rattle.ra_parser.specs.Meaning.{Reading, sees, fresh, behind, read, meaning}
-use Rattle.ra_parser.specs.Whole.{rule, whole}
+use Rattle.rust_grammar.specs.Rule.{Production, Rule, Then, Star, Call, begins}
+use Rattle.rust_grammar.specs.Meaning.{Reading, sees, fresh, behind, read, meaning}
+use Rattle.rust_grammar.specs.Whole.{rule, whole}
 use Rattle.ra_parser.specs.Stands.{looks, Does, Gives, Reads, Anew, Saw}
 use Rattle.ra_parser.proofs.ByHand.{does-then, does-as}
 use Rattle.ra_parser.proofs.Turns.{EndsAtEnd, no-turn, one-turn}
-use Rattle.ra_parser.proofs.WholeTable.{whole-means}
+use Rattle.rust_grammar.proofs.WholeTable.{whole-means}
 
 -- no layer has a turn here
 abbrev pub NoTurns : Bool → View → List Rule → Type 0

@@ -3,9 +3,9 @@ use Rattle.std.proofs.Common.{◌≡◌, ℕ, zero, suc, Bool, true, false, ◌&
 use Rattle.parser_input.specs.Input.{Token}
 use Rattle.parser_events.specs.Forest as forest
 use Rattle.parser_events.specs.Forest.{Forest, End, ◌then◌}
-use Rattle.ra_parser.specs.Rule.{Production, Look, Always, Never, Kind, Contextual, Joint, Left, InCondition, Given, Both, Either, Not, Rule, Nothing, One, Any, Then, Near, Or, Opt, Star, Node, Wrap, Want, Say, Skip, Split, When, Unless, Call, Continue, Mode, begins}
-use Rattle.ra_parser.specs.Meaning.{Reading, Calls, ahead, sees, fresh, behind, node, say, skip, leaf, turns, read, look_of, meaning}
-use Rattle.ra_parser.specs.Whole.{whole}
+use Rattle.rust_grammar.specs.Rule.{Production, Look, Always, Never, Kind, Contextual, Joint, Left, InCondition, Given, Both, Either, Not, Rule, Nothing, One, Any, Then, Near, Or, Opt, Star, Node, Wrap, Want, Say, Skip, Split, When, Unless, Call, Continue, Mode, begins}
+use Rattle.rust_grammar.specs.Meaning.{Reading, Calls, ahead, sees, fresh, behind, node, say, skip, leaf, turns, read, look_of, meaning}
+use Rattle.rust_grammar.specs.Whole.{whole}
 use Rattle.ra_parser.specs.Stands.{looks}
 use Rattle.ra_parser.proofs.Items.{then-end, then-assoc}
 

@@ -6,11 +6,11 @@ use Rattle.parser_events.specs.Forest as forest
 use Rattle.parser_events.specs.Forest.{Message}
 use Rattle.parser_events.specs.View.{View}
 use Rattle.ra_parser.specs.Left.{left}
-use Rattle.ra_parser.specs.Rule.{Production, Spelling, Look, Always, Never, Kind, Contextual, Joint, Left, InCondition, Given, Both, Either, Not, Rule, One, Call, begins, shift}
-use Rattle.ra_parser.specs.Meaning.{Reading, ahead, sees, leaf, read}
-use Rattle.ra_parser.specs.Whole.{rule}
+use Rattle.rust_grammar.specs.Rule.{Production, Spelling, Look, Always, Never, Kind, Contextual, Joint, Left, InCondition, Given, Both, Either, Not, Rule, One, Call, begins, shift}
+use Rattle.rust_grammar.specs.Meaning.{Reading, ahead, sees, leaf, read}
+use Rattle.rust_grammar.specs.Whole.{rule}
 use Rattle.ra_parser.specs.Stands.{looks, Opens, Leaves, Does, Reads, Saw}
-use Rattle.ra_parser.proofs.WholeTable.{whole-begins}
+use Rattle.rust_grammar.proofs.WholeTable.{whole-begins}
 use Rattle.ra_parser.proofs.Facts.{Fact, Answers, Begins, HoldAll, Known, Right, and_l, and_r, tells, starts, is_told, is_start}
 
 -- The tokens left where nothing but a look was made.

@@ -1,11 +1,11 @@
 -- The table of this grammar passes the test, so its productions mean what their rules say.
 use Rattle.std.proofs.Common.{◌≡◌, Bool, true, false, refl}
-use Rattle.ra_parser.specs.Rule.{Production, source_file, macro_items, macro_statements, item, body, assoc_items, variants, record_fields, tuple_fields, visibility, attribute, meta, token_tree, use_tree, use_list, params, param, name, lifetime, name_ref, path, type_path, expr_path, generic_args, generic_arg, generic_params, generic_param, bounds, bound, where_clause, where_pred, any_type, ret_type, pattern, single_pattern, pattern_fields, pattern_field, literal, statement_list, block, statement, macro_statement, statement_end, macro_statement_end, expression, operation, operation_tail, disjunction, conjunction, comparison, bit_or, bit_xor, bit_and, bit_shift, sum, product, cast, prefixed, postfix, after_dot, arguments, atom, field_values, field_value, block_like, if_expr, match_arms, match_arm, begins, passes, is_silent, width, shift, in_mode, there_at}
-use Rattle.ra_parser.specs.Notation.{expected, wanted}
-use Rattle.ra_parser.specs.Meaning.{Reading, read, meaning, look_of, begins_below}
-use Rattle.ra_parser.proofs.Fine.{fine, ranked, ranked_at_end, fails, takes}
+use Rattle.rust_grammar.specs.Rule.{Production, source_file, macro_items, macro_statements, item, body, assoc_items, variants, record_fields, tuple_fields, visibility, attribute, meta, token_tree, use_tree, use_list, params, param, name, lifetime, name_ref, path, type_path, expr_path, generic_args, generic_arg, generic_params, generic_param, bounds, bound, where_clause, where_pred, any_type, ret_type, pattern, single_pattern, pattern_fields, pattern_field, literal, statement_list, block, statement, macro_statement, statement_end, macro_statement_end, expression, operation, operation_tail, disjunction, conjunction, comparison, bit_or, bit_xor, bit_and, bit_shift, sum, product, cast, prefixed, postfix, after_dot, arguments, atom, field_values, field_value, block_like, if_expr, match_arms, match_arm, begins, passes, is_silent, width, shift, in_mode, there_at}
+use Rattle.rust_grammar.specs.Notation.{expected, wanted}
+use Rattle.rust_grammar.specs.Meaning.{Reading, read, meaning, look_of, begins_below}
+use Rattle.rust_grammar.proofs.Fine.{fine, ranked, ranked_at_end, fails, takes}
 use Rattle.ra_parser.specs.Grammar.{rule, rank, grammar}
-use Rattle.ra_parser.proofs.Plain.{meaning_is_plain}
+use Rattle.rust_grammar.proofs.Plain.{meaning_is_plain}
 
 -- the productions that surely take a token where one is left
 unfoldable pub claim : Production → Bool

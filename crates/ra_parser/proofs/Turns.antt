@@ -3,9 +3,9 @@ use Rattle.std.proofs.Common.{◌≡◌, ℕ, zero, suc, ◌<◌, ◌≤◌, Boo
 use Rattle.std.proofs.lemmas.Bool.{ltb-true, lt-ltb}
 use Rattle.parser_events.specs.View.{View}
 use Rattle.ra_parser.specs.Left.{left}
-use Rattle.ra_parser.specs.Rule.{Rule, Star, begins}
-use Rattle.ra_parser.specs.Meaning.{Reading, sees, read, look_of, meaning, turns}
-use Rattle.ra_parser.specs.Whole.{whole}
+use Rattle.rust_grammar.specs.Rule.{Rule, Star, begins}
+use Rattle.rust_grammar.specs.Meaning.{Reading, sees, read, look_of, meaning, turns}
+use Rattle.rust_grammar.specs.Whole.{whole}
 use Rattle.ra_parser.specs.Stands.{looks, Does, Reads, Saw}
 use Rattle.ra_parser.proofs.ByHand.{does-then, does-as}
 

@@ -2,11 +2,11 @@
 use Rattle.std.specs.Prelude.{ℕ}
 use Rattle.parser_input.specs.Kinds.{SOURCE_FILE, STRUCT, NAME, NAME_REF, PATH, PATH_SEGMENT, ERROR}
 use Rattle.parser_events.specs.Forest.{ExpectedItem}
-use Rattle.ra_parser.specs.Rule.{Rule, Nothing, Skip, Say, Unless, Production, source_file, item, body, name, name_ref, path}
-use Rattle.ra_parser.specs.Notation.{◌or◌, ◌▸◌, ◌*, ◌⟨◌⟩, ◌<⟨◌⟩, ◌!, more, at_end}
-use Rattle.ra_parser.specs.Words.{'struct', 'ident', 'semi'}
-use Rattle.ra_parser.specs.Calls.{Item, Body, Name, Ref, Path}
-use Rattle.ra_parser.specs.Meaning.{Table}
+use Rattle.rust_grammar.specs.Rule.{Rule, Nothing, Skip, Say, Unless, Production, source_file, item, body, name, name_ref, path}
+use Rattle.rust_grammar.specs.Notation.{◌or◌, ◌▸◌, ◌*, ◌⟨◌⟩, ◌<⟨◌⟩, ◌!, more, at_end}
+use Rattle.rust_grammar.specs.Words.{'struct', 'ident', 'semi'}
+use Rattle.rust_grammar.specs.Calls.{Item, Body, Name, Ref, Path}
+use Rattle.rust_grammar.specs.Meaning.{Table}
 
 -- The table. A word that begins no item is read as a path, and stands in an error with the message behind it.
 unfoldable pub rule : Production → Rule

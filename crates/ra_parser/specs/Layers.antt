@@ -1,10 +1,10 @@
 -- Layers of operators, one within the other.
 use Rattle.std.specs.Prelude.{Bool, true, false, List, [], ◌∷◌}
 use Rattle.parser_input.specs.Kinds.{BIN_EXPR}
-use Rattle.ra_parser.specs.Calls.{Cast, Product}
-use Rattle.ra_parser.specs.Notation.{◌or◌, ◌▸◌, ◌!, ◌<⟨◌⟩, op}
-use Rattle.ra_parser.specs.Words.{'+', '-', '*', '/', '%'}
-use Rattle.ra_parser.specs.Rule.{Rule, Look, Never, Nothing, Then, Star, begins}
+use Rattle.rust_grammar.specs.Calls.{Cast, Product}
+use Rattle.rust_grammar.specs.Notation.{◌or◌, ◌▸◌, ◌!, ◌<⟨◌⟩, op}
+use Rattle.rust_grammar.specs.Words.{'+', '-', '*', '/', '%'}
+use Rattle.rust_grammar.specs.Rule.{Rule, Look, Never, Nothing, Then, Star, begins}
 use Rattle.ra_parser.specs.Stands.{looks}
 
 -- The turns of some layers, those of the layer that binds most first: each repeated, one behind the other.

@@ -2,7 +2,7 @@
 use Rattle.std.specs.Prelude.{ℕ, ◌==◌, Bool, List, drop}
 use Rattle.parser_input.specs.Input.{Token}
 use Rattle.parser_events.specs.View.{View}
-use Rattle.ra_parser.specs.Meaning.{ahead}
+use Rattle.rust_grammar.specs.Meaning.{ahead}
 
 abbrev pub left : View → List Token
 left v = drop v.position v.input

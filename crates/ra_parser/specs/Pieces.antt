@@ -4,7 +4,7 @@ use Rattle.parser_input.specs.Kinds.{STRUCT, STRUCT_KW, NAME, NAME_REF, PATH, PA
 use Rattle.parser_input.specs.Input.{Token}
 use Rattle.parser_events.specs.Forest.{Forest, End, Leaf, Said, ErrorLeaf, Node, Expected, ExpectedItem, ◌then◌}
 use Rattle.ra_parser.specs.Left.{is_next}
-use Rattle.ra_parser.specs.Meaning.{ahead}
+use Rattle.rust_grammar.specs.Meaning.{ahead}
 
 -- a tree, and the number of tokens that it takes
 pub record Piece : Type 0 where

@@ -5,9 +5,9 @@ use Rattle.parser_events.specs.Stack.{IsInnermost}
 use Rattle.parser_events.specs.View.{View}
 use Rattle.ra_parser.specs.Adds.{Holds}
 use Rattle.ra_parser.specs.Left.{left}
-use Rattle.ra_parser.specs.Rule.{Production, Look, Rule}
-use Rattle.ra_parser.specs.Meaning.{Reading, sees, fresh, behind, read, look_of, meaning}
-use Rattle.ra_parser.specs.Whole.{whole}
+use Rattle.rust_grammar.specs.Rule.{Production, Look, Rule}
+use Rattle.rust_grammar.specs.Meaning.{Reading, sees, fresh, behind, read, look_of, meaning}
+use Rattle.rust_grammar.specs.Whole.{whole}
 
 -- where the productions begin
 abbrev pub looks : Production → Look

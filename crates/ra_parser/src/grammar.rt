@@ -10,9 +10,9 @@ ghost use Rattle.parser_events.specs.Forest.{Expected};
 ghost use Rattle.parser_events.specs.Seen.{message_of};
 ghost use Rattle.parser_events.specs.Stack.{IsInnermost};
 ghost use Rattle.ra_parser.specs.Looks.{tokens, spent};
-ghost use Rattle.ra_parser.specs.Rule.{Kind, Contextual, Left, Say, Skip, Any, Want, Opt, there_at};
-ghost use Rattle.ra_parser.specs.Meaning.{wrapped};
-ghost use Rattle.ra_parser.specs.Words.{one, joined};
+ghost use Rattle.rust_grammar.specs.Rule.{Kind, Contextual, Left, Say, Skip, Any, Want, Opt, there_at};
+ghost use Rattle.rust_grammar.specs.Meaning.{wrapped};
+ghost use Rattle.rust_grammar.specs.Words.{one, joined};
 ghost use Rattle.ra_parser.specs.Stands.{Opens, Closes, Leaves, Does, Reads, Saw};
 
 use parser_events::message::Message;

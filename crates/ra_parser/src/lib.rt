@@ -1,4 +1,4 @@
-//! The grammar: rules, what a rule means on an input, the table of productions, and the functions that read by it.
+//! The functions that read by the grammar of Rust: its table, and what a rule means on an input, are `rust_grammar`'s.
 //!
 //! Names, literals, paths without arguments, visibilities, use trees and token trees are read by the table of the whole grammar. An
 //! input is read as a source file by a table of the kinds `struct`, identifier

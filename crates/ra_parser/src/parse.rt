@@ -4,8 +4,8 @@ ghost use Rattle.std.specs.Prelude.{◌≡◌, false, IfOk};
 ghost use Rattle.parser_events.specs.Forest.{End};
 ghost use Rattle.parser_events.specs.Steps as steps;
 ghost use Rattle.ra_parser.specs.Grammar.{grammar};
-ghost use Rattle.ra_parser.specs.Meaning.{meaning};
-ghost use Rattle.ra_parser.specs.Rule as rules;
+ghost use Rattle.rust_grammar.specs.Meaning.{meaning};
+ghost use Rattle.rust_grammar.specs.Rule as rules;
 
 use crate::small::items;
 use parser_events::output::Output;

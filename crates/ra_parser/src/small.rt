@@ -7,7 +7,7 @@ ghost use Rattle.parser_input.specs.Kinds as kinds;
 ghost use Rattle.parser_events.specs.Forest.{End, Leaf, Node};
 ghost use Rattle.ra_parser.specs.Adds.{Adds};
 ghost use Rattle.ra_parser.specs.Left.{left, is_next};
-ghost use Rattle.ra_parser.specs.Meaning.{ahead};
+ghost use Rattle.rust_grammar.specs.Meaning.{ahead};
 ghost use Rattle.ra_parser.specs.Pieces.{name_part, semicolon_part};
 ghost use Rattle.parser_input.specs.Kind.{raw_of};
 

@@ -14,8 +14,8 @@ use Rattle.parser_events.specs.Forest as forest
 use Rattle.parser_events.specs.Dressed as dressed
 use Rattle.parser_events.specs.Dressed.{Dressed, Saying, sayings_of}
 use Rattle.parser_events.specs.Dress.{dress_root}
-use Rattle.ra_parser.specs.Rule.{source_file}
-use Rattle.ra_parser.specs.Meaning.{meaning}
+use Rattle.rust_grammar.specs.Rule.{source_file}
+use Rattle.rust_grammar.specs.Meaning.{meaning}
 use Rattle.ra_parser.specs.Grammar.{grammar}
 
 -- the leaves of a text, preface and all

@@ -3,10 +3,10 @@
 ghost use Rattle.std.specs.Prelude.{◌≡◌, ◌+◌, ◌*◌, ◌≤◌, Bool, IsTrue, [], ◌∷◌};
 ghost use Rattle.parser_input.specs.Kinds as kinds;
 ghost use Rattle.ra_parser.specs.Looks.{tokens, spent};
-ghost use Rattle.ra_parser.specs.Rule as rules;
-ghost use Rattle.ra_parser.specs.Rule.{InCondition, Both};
-ghost use Rattle.ra_parser.specs.Notation.{row, next};
-ghost use Rattle.ra_parser.specs.Words.{'ident', '!', 'l_curly', 'let'};
+ghost use Rattle.rust_grammar.specs.Rule as rules;
+ghost use Rattle.rust_grammar.specs.Rule.{InCondition, Both};
+ghost use Rattle.rust_grammar.specs.Notation.{row, next};
+ghost use Rattle.rust_grammar.specs.Words.{'ident', '!', 'l_curly', 'let'};
 ghost use Rattle.ra_parser.specs.Stands.{looks, Does, Saw};
 
 use crate::grammar::names::at_literal;

@@ -2,7 +2,7 @@
 
 ghost use Rattle.std.specs.Prelude.{◌≡◌, ◌+◌, ◌*◌, ◌≤◌, Bool, IsTrue};
 ghost use Rattle.ra_parser.specs.Looks.{tokens, spent};
-ghost use Rattle.ra_parser.specs.Rule as rules;
+ghost use Rattle.rust_grammar.specs.Rule as rules;
 ghost use Rattle.ra_parser.specs.Stands.{looks, Does, Saw};
 
 use crate::grammar::paths::at_path;

@@ -6,9 +6,9 @@ ghost use Rattle.parser_input.specs.Kinds as kinds;
 ghost use Rattle.parser_input.specs.Kinds.{COMMA};
 ghost use Rattle.parser_events.specs.Forest.{Expected};
 ghost use Rattle.ra_parser.specs.Looks.{tokens, spent};
-ghost use Rattle.ra_parser.specs.Notation.{◌or◌, next, until, stops, one_of};
-ghost use Rattle.ra_parser.specs.Words.{one, 'comma'};
-ghost use Rattle.ra_parser.specs.Rule.{Left, Both, Not, Nothing, Say, When};
+ghost use Rattle.rust_grammar.specs.Notation.{◌or◌, next, until, stops, one_of};
+ghost use Rattle.rust_grammar.specs.Words.{one, 'comma'};
+ghost use Rattle.rust_grammar.specs.Rule.{Left, Both, Not, Nothing, Say, When};
 ghost use Rattle.ra_parser.specs.Stands.{Does, Reads, Saw};
 
 use crate::grammar::{at, current, error, take};

@@ -4,10 +4,10 @@ ghost use Rattle.std.specs.Prelude.{◌≡◌, ◌+◌, ◌*◌, ◌≤◌, Bool
 ghost use Rattle.parser_input.specs.Kinds as kinds;
 ghost use Rattle.parser_events.specs.Forest.{Expected};
 ghost use Rattle.ra_parser.specs.Looks.{tokens, spent};
-ghost use Rattle.ra_parser.specs.Notation.{◌or◌, ⁅◌⁆, ◌! };
-ghost use Rattle.ra_parser.specs.Words.{'crate', 'self', 'Self', 'super', 'ident', 'int', 'float', 'char', 'byte', 'string', 'byte_string', 'c_string', 'true', 'false'};
-ghost use Rattle.ra_parser.specs.Calls.{Name, Lifetime, Ref, Literal};
-ghost use Rattle.ra_parser.specs.Rule as rules;
+ghost use Rattle.rust_grammar.specs.Notation.{◌or◌, ⁅◌⁆, ◌! };
+ghost use Rattle.rust_grammar.specs.Words.{'crate', 'self', 'Self', 'super', 'ident', 'int', 'float', 'char', 'byte', 'string', 'byte_string', 'c_string', 'true', 'false'};
+ghost use Rattle.rust_grammar.specs.Calls.{Name, Lifetime, Ref, Literal};
+ghost use Rattle.rust_grammar.specs.Rule as rules;
 ghost use Rattle.ra_parser.specs.Stands.{looks, Does, Gives, Reads, Saw};
 
 use crate::grammar::{at, complete, current, error, start, take};

@@ -5,12 +5,12 @@ ghost use Rattle.parser_input.specs.Kinds as kinds;
 ghost use Rattle.parser_input.specs.Kinds.{PATH, PATH_SEGMENT};
 ghost use Rattle.parser_events.specs.Stack.{IsInnermost};
 ghost use Rattle.ra_parser.specs.Looks.{tokens, spent};
-ghost use Rattle.ra_parser.specs.Notation.{◌▸◌, ⁅◌⁆, ◌*, ◌!, ◌⟨◌⟩, ◌<⟨◌⟩};
-ghost use Rattle.ra_parser.specs.Words.{'::'};
-ghost use Rattle.ra_parser.specs.Calls.{Ref, Path};
-ghost use Rattle.ra_parser.specs.Shared.{colons_before_more, path_goes_on};
-ghost use Rattle.ra_parser.specs.Rule as rules;
-ghost use Rattle.ra_parser.specs.Rule.{Kind, Joint, Both, Nothing, Unless};
+ghost use Rattle.rust_grammar.specs.Notation.{◌▸◌, ⁅◌⁆, ◌*, ◌!, ◌⟨◌⟩, ◌<⟨◌⟩};
+ghost use Rattle.rust_grammar.specs.Words.{'::'};
+ghost use Rattle.rust_grammar.specs.Calls.{Ref, Path};
+ghost use Rattle.rust_grammar.specs.Shared.{colons_before_more, path_goes_on};
+ghost use Rattle.rust_grammar.specs.Rule as rules;
+ghost use Rattle.rust_grammar.specs.Rule.{Kind, Joint, Both, Nothing, Unless};
 ghost use Rattle.ra_parser.specs.Stands.{looks, Does, Gives, Reads, Saw};
 
 use crate::grammar::names::{at_name_ref, expect_name_ref, name_ref};

@@ -3,11 +3,11 @@
 ghost use Rattle.std.specs.Prelude.{◌≡◌, ◌+◌, ◌*◌, ◌≤◌, Bool, IsTrue, [], ◌∷◌};
 ghost use Rattle.parser_input.specs.Kinds as kinds;
 ghost use Rattle.ra_parser.specs.Looks.{tokens, spent};
-ghost use Rattle.ra_parser.specs.Shared.{field_name};
-ghost use Rattle.ra_parser.specs.Words.{':'};
-ghost use Rattle.ra_parser.specs.Notation.{◌▹◌};
-ghost use Rattle.ra_parser.specs.Rule as rules;
-ghost use Rattle.ra_parser.specs.Rule.{begins};
+ghost use Rattle.rust_grammar.specs.Shared.{field_name};
+ghost use Rattle.rust_grammar.specs.Words.{':'};
+ghost use Rattle.rust_grammar.specs.Notation.{◌▹◌};
+ghost use Rattle.rust_grammar.specs.Rule as rules;
+ghost use Rattle.rust_grammar.specs.Rule.{begins};
 ghost use Rattle.ra_parser.specs.Stands.{looks, Does, Saw};
 
 use crate::grammar::names::at_literal;

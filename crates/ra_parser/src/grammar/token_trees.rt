@@ -6,11 +6,11 @@ ghost use Rattle.parser_input.specs.Kinds as kinds;
 ghost use Rattle.parser_input.specs.Kinds.{TOKEN_TREE};
 ghost use Rattle.parser_events.specs.Forest.{Expected};
 ghost use Rattle.ra_parser.specs.Looks.{tokens, spent};
-ghost use Rattle.ra_parser.specs.Notation.{◌or◌, ◌▸◌, ◌*, ◌!, ◌⟨◌⟩, one_of};
-ghost use Rattle.ra_parser.specs.Words.{one, 'r_paren', 'r_curly', ']'};
-ghost use Rattle.ra_parser.specs.Items.{inner_token};
-ghost use Rattle.ra_parser.specs.Rule as rules;
-ghost use Rattle.ra_parser.specs.Rule.{Left, Both, Either, Not, Want};
+ghost use Rattle.rust_grammar.specs.Notation.{◌or◌, ◌▸◌, ◌*, ◌!, ◌⟨◌⟩, one_of};
+ghost use Rattle.rust_grammar.specs.Words.{one, 'r_paren', 'r_curly', ']'};
+ghost use Rattle.rust_grammar.specs.Items.{inner_token};
+ghost use Rattle.rust_grammar.specs.Rule as rules;
+ghost use Rattle.rust_grammar.specs.Rule.{Left, Both, Either, Not, Want};
 ghost use Rattle.ra_parser.specs.Stands.{looks, Does, Gives, Reads, Saw};
 
 use crate::grammar::{complete, current, expect, start, take, take_any};

@@ -4,11 +4,11 @@ ghost use Rattle.std.specs.Prelude.{◌≡◌, ◌+◌, ◌*◌, ◌≤◌, Bool
 ghost use Rattle.parser_input.specs.Kinds as kinds;
 ghost use Rattle.ra_parser.specs.Looks.{tokens, spent};
 ghost use Rattle.parser_input.specs.Kinds.{DYN_KW};
-ghost use Rattle.ra_parser.specs.Notation.{one_of};
-ghost use Rattle.ra_parser.specs.Words.{'?', 'lifetime'};
-ghost use Rattle.ra_parser.specs.Shared.{refs};
-ghost use Rattle.ra_parser.specs.Rule as rules;
-ghost use Rattle.ra_parser.specs.Rule.{Contextual, Both};
+ghost use Rattle.rust_grammar.specs.Notation.{one_of};
+ghost use Rattle.rust_grammar.specs.Words.{'?', 'lifetime'};
+ghost use Rattle.rust_grammar.specs.Shared.{refs};
+ghost use Rattle.rust_grammar.specs.Rule as rules;
+ghost use Rattle.rust_grammar.specs.Rule.{Contextual, Both};
 ghost use Rattle.ra_parser.specs.Stands.{looks, Does, Saw};
 
 use crate::grammar::paths::at_path;

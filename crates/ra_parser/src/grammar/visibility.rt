@@ -2,12 +2,12 @@
 
 ghost use Rattle.std.specs.Prelude.{◌≡◌, ◌+◌, ◌*◌, ◌≤◌, Bool, IsTrue};
 ghost use Rattle.ra_parser.specs.Looks.{tokens, spent};
-ghost use Rattle.ra_parser.specs.Notation.{◌▸◌, ⁅◌⁆, ◌! };
-ghost use Rattle.ra_parser.specs.Words.{'l_paren', 'r_paren', 'in'};
-ghost use Rattle.ra_parser.specs.Calls.{Path, Visibility};
-ghost use Rattle.ra_parser.specs.Items.{visibility_goes_on};
-ghost use Rattle.ra_parser.specs.Rule as rules;
-ghost use Rattle.ra_parser.specs.Rule.{When};
+ghost use Rattle.rust_grammar.specs.Notation.{◌▸◌, ⁅◌⁆, ◌! };
+ghost use Rattle.rust_grammar.specs.Words.{'l_paren', 'r_paren', 'in'};
+ghost use Rattle.rust_grammar.specs.Calls.{Path, Visibility};
+ghost use Rattle.rust_grammar.specs.Items.{visibility_goes_on};
+ghost use Rattle.rust_grammar.specs.Rule as rules;
+ghost use Rattle.rust_grammar.specs.Rule.{When};
 ghost use Rattle.ra_parser.specs.Stands.{Does, Gives, Reads, Saw};
 
 use crate::grammar::paths::expect_path;

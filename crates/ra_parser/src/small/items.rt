@@ -6,7 +6,7 @@ ghost use Rattle.parser_input.specs.Kinds as kinds;
 ghost use Rattle.parser_events.specs.Forest.{End, Node};
 ghost use Rattle.ra_parser.specs.Adds.{Adds};
 ghost use Rattle.ra_parser.specs.Left.{left};
-ghost use Rattle.ra_parser.specs.Meaning.{ahead};
+ghost use Rattle.rust_grammar.specs.Meaning.{ahead};
 ghost use Rattle.ra_parser.specs.Pieces.{piece, word_piece, error_piece, struct_at, items};
 
 use crate::small::paths::path;

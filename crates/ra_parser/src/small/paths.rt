@@ -4,7 +4,7 @@ ghost use Rattle.std.specs.Prelude.{◌≡◌};
 ghost use Rattle.parser_input.specs.Kinds as kinds;
 ghost use Rattle.ra_parser.specs.Adds.{Adds};
 ghost use Rattle.ra_parser.specs.Left.{left};
-ghost use Rattle.ra_parser.specs.Meaning.{ahead};
+ghost use Rattle.rust_grammar.specs.Meaning.{ahead};
 ghost use Rattle.ra_parser.specs.Pieces.{word_path};
 
 use crate::small::name_ref;

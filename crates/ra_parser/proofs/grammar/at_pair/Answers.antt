@@ -1,5 +1,5 @@
 -- The first is next and touches the second.
-use Rattle.ra_parser.specs.Rule.{there_at}
+use Rattle.rust_grammar.specs.Rule.{there_at}
 use Rattle.ra_parser.proofs.ByHand.{does-then}
 use Rattle.ra_parser.proofs.Facts.{saw-so}
 use Rattle.ra_parser.proofs.Seen.{saw-no-left, saw-no-right, saw-before, saw-pair}

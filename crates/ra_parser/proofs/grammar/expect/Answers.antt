@@ -1,5 +1,5 @@
 -- The token is taken where it is there.
-use Rattle.ra_parser.specs.Rule.{begins, there_at}
+use Rattle.rust_grammar.specs.Rule.{begins, there_at}
 use Rattle.ra_parser.proofs.ByHand.{reads-want, reads-missing, behind-look}
 use Rattle.ra_parser.proofs.Facts.{saw-so}
 use Rattle.ra_parser.proofs.grammar.expect.Goals as goal

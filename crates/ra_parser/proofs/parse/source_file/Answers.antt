@@ -5,7 +5,7 @@ use Rattle.parser_events.specs.Forest as forest
 use Rattle.parser_input.specs.Kinds as kinds
 use Rattle.parser_events.specs.Steps as steps
 use Rattle.ra_parser.specs.Left.{left}
-use Rattle.ra_parser.specs.Meaning.{Reading}
+use Rattle.rust_grammar.specs.Meaning.{Reading}
 use Rattle.ra_parser.specs.Pieces.{items}
 use Rattle.ra_parser.proofs.Adding.{none-open, all-steps}
 use Rattle.ra_parser.proofs.Items.{source_file-means}

@@ -1,7 +1,7 @@
 -- The look is at the tokens left.
 use Rattle.std.proofs.Common.{ℕ, nat_eq, ap, ◌∙◌}
 use Rattle.ra_parser.proofs.Adding.{seen, adds-look}
-use Rattle.ra_parser.specs.Meaning.{ahead}
+use Rattle.rust_grammar.specs.Meaning.{ahead}
 use Rattle.ra_parser.specs.Left.{left}
 use Rattle.ra_parser.proofs.small.at.Goals as goal
 

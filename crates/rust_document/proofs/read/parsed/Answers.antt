@@ -5,8 +5,8 @@ use Rattle.parser_input.specs.Lexed.{leaves_of}
 use Rattle.parser_events.specs.Forest.{End}
 use Rattle.parser_events.specs.Steps.{Step, steps}
 use Rattle.ra_parser.specs.Grammar.{grammar}
-use Rattle.ra_parser.specs.Meaning.{meaning}
-use Rattle.ra_parser.specs.Rule as rules
+use Rattle.rust_grammar.specs.Meaning.{meaning}
+use Rattle.rust_grammar.specs.Rule as rules
 use Rattle.rust_document.specs.TreeBuilt.{IsBuilt}
 use Rattle.rust_document.proofs.Whole.{file-tree}
 use Rattle.rust_document.proofs.read.parsed.Goals as goal

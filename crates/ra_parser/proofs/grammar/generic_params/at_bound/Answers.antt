@@ -1,16 +1,16 @@
 -- Each path reads what the rule comes to there.
 use Rattle.std.proofs.Common.{inl, inr, refl}
-use Rattle.ra_parser.specs.Expressions.{expressions}
-use Rattle.ra_parser.specs.Items.{items}
-use Rattle.ra_parser.specs.Meaning.{begins_below, look_of}
-use Rattle.ra_parser.specs.Notation.{any_of, expected, is_longer, no_longer, one_of, op, row, wanted}
-use Rattle.ra_parser.specs.Paths.{paths}
-use Rattle.ra_parser.specs.Patterns.{patterns}
-use Rattle.ra_parser.specs.Rule.{begins, in_mode, is_silent, passes, shift, there_at, width}
-use Rattle.ra_parser.specs.Statements.{statements}
-use Rattle.ra_parser.specs.Types.{types}
-use Rattle.ra_parser.specs.Whole.{rule, whole}
-use Rattle.ra_parser.specs.Rule as rules
+use Rattle.rust_grammar.specs.Expressions.{expressions}
+use Rattle.rust_grammar.specs.Items.{items}
+use Rattle.rust_grammar.specs.Meaning.{begins_below, look_of}
+use Rattle.rust_grammar.specs.Notation.{any_of, expected, is_longer, no_longer, one_of, op, row, wanted}
+use Rattle.rust_grammar.specs.Paths.{paths}
+use Rattle.rust_grammar.specs.Patterns.{patterns}
+use Rattle.rust_grammar.specs.Rule.{begins, in_mode, is_silent, passes, shift, there_at, width}
+use Rattle.rust_grammar.specs.Statements.{statements}
+use Rattle.rust_grammar.specs.Types.{types}
+use Rattle.rust_grammar.specs.Whole.{rule, whole}
+use Rattle.rust_grammar.specs.Rule as rules
 use Rattle.ra_parser.proofs.Begins.{saw-expr-path, saw-type-path}
 use Rattle.ra_parser.proofs.ByHand.{does-then}
 use Rattle.ra_parser.proofs.Facts.{begun, nothing, saw-so, ◌and◌}

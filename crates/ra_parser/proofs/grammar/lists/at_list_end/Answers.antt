@@ -1,6 +1,6 @@
 -- At the end no token is left.
-use Rattle.ra_parser.specs.Notation.{row}
-use Rattle.ra_parser.specs.Rule.{there_at}
+use Rattle.rust_grammar.specs.Notation.{row}
+use Rattle.rust_grammar.specs.Rule.{there_at}
 use Rattle.ra_parser.proofs.ByHand.{does-then}
 use Rattle.ra_parser.proofs.Facts.{saw-so}
 use Rattle.ra_parser.proofs.Seen.{saw-before, saw-either-left, saw-either-right, saw-always}

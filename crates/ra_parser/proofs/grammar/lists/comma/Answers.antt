@@ -1,6 +1,6 @@
 -- The comma is taken where it is there.
-use Rattle.ra_parser.specs.Notation.{row}
-use Rattle.ra_parser.specs.Rule.{begins, there_at}
+use Rattle.rust_grammar.specs.Notation.{row}
+use Rattle.rust_grammar.specs.Rule.{begins, there_at}
 use Rattle.ra_parser.proofs.ByHand.{reads-or, reads-else, reads-when, reads-nothing, behind-look}
 use Rattle.ra_parser.proofs.Facts.{saw-so}
 use Rattle.ra_parser.proofs.Seen.{saw-always}

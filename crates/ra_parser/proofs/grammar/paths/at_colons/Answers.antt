@@ -1,5 +1,5 @@
 -- Two colons that touch.
-use Rattle.ra_parser.specs.Rule.{there_at}
+use Rattle.rust_grammar.specs.Rule.{there_at}
 use Rattle.ra_parser.proofs.grammar.paths.at_colons.Goals as goal
 
 pub returns-clause-sees : goal.returns-clause-sees

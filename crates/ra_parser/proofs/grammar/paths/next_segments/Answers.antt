@@ -2,21 +2,21 @@
 use Rattle.std.proofs.Common.{refl, arith}
 use Rattle.ra_parser.specs.Looks.{tokens}
 use Rattle.parser_input.specs.Kinds.{PATH, PATH_SEGMENT}
-use Rattle.ra_parser.specs.Notation.{◌▸◌, ◌!, ◌⟨◌⟩, ◌<⟨◌⟩}
-use Rattle.ra_parser.specs.Words.{'::'}
-use Rattle.ra_parser.specs.Calls.{Ref}
-use Rattle.ra_parser.specs.Shared.{colons_before_more}
-use Rattle.ra_parser.specs.Rule.{Nothing, Unless}
-use Rattle.ra_parser.specs.Expressions.{expressions}
-use Rattle.ra_parser.specs.Items.{items}
-use Rattle.ra_parser.specs.Meaning.{begins_below, look_of}
-use Rattle.ra_parser.specs.Notation.{any_of, expected, is_longer, no_longer, one_of, op, row, wanted}
-use Rattle.ra_parser.specs.Paths.{paths}
-use Rattle.ra_parser.specs.Patterns.{patterns}
-use Rattle.ra_parser.specs.Rule.{begins, in_mode, is_silent, passes, shift, there_at, width}
-use Rattle.ra_parser.specs.Statements.{statements}
-use Rattle.ra_parser.specs.Types.{types}
-use Rattle.ra_parser.specs.Whole.{rule, whole}
+use Rattle.rust_grammar.specs.Notation.{◌▸◌, ◌!, ◌⟨◌⟩, ◌<⟨◌⟩}
+use Rattle.rust_grammar.specs.Words.{'::'}
+use Rattle.rust_grammar.specs.Calls.{Ref}
+use Rattle.rust_grammar.specs.Shared.{colons_before_more}
+use Rattle.rust_grammar.specs.Rule.{Nothing, Unless}
+use Rattle.rust_grammar.specs.Expressions.{expressions}
+use Rattle.rust_grammar.specs.Items.{items}
+use Rattle.rust_grammar.specs.Meaning.{begins_below, look_of}
+use Rattle.rust_grammar.specs.Notation.{any_of, expected, is_longer, no_longer, one_of, op, row, wanted}
+use Rattle.rust_grammar.specs.Paths.{paths}
+use Rattle.rust_grammar.specs.Patterns.{patterns}
+use Rattle.rust_grammar.specs.Rule.{begins, in_mode, is_silent, passes, shift, there_at, width}
+use Rattle.rust_grammar.specs.Statements.{statements}
+use Rattle.rust_grammar.specs.Types.{types}
+use Rattle.rust_grammar.specs.Whole.{rule, whole}
 use Rattle.ra_parser.proofs.ByHand.{behind-look, reads-unless}
 use Rattle.ra_parser.proofs.Facts.{saw-so}
 use Rattle.ra_parser.proofs.Seen.{saw-behind, ends-at-end}

@@ -3,11 +3,11 @@ use Rattle.std.specs.Prelude.{◌≤◌, Bool}
 use Rattle.parser_input.specs.Kinds.{PATH, PATH_SEGMENT}
 use Rattle.parser_events.specs.Stack.{IsInnermost}
 use Rattle.ra_parser.specs.Looks.{tokens, spent}
-use Rattle.ra_parser.specs.Notation.{◌▸◌, ◌!, ◌⟨◌⟩, ◌<⟨◌⟩}
-use Rattle.ra_parser.specs.Words.{'::'}
-use Rattle.ra_parser.specs.Calls.{Ref}
-use Rattle.ra_parser.specs.Shared.{colons_before_more}
-use Rattle.ra_parser.specs.Rule.{Nothing, Unless}
+use Rattle.rust_grammar.specs.Notation.{◌▸◌, ◌!, ◌⟨◌⟩, ◌<⟨◌⟩}
+use Rattle.rust_grammar.specs.Words.{'::'}
+use Rattle.rust_grammar.specs.Calls.{Ref}
+use Rattle.rust_grammar.specs.Shared.{colons_before_more}
+use Rattle.rust_grammar.specs.Rule.{Nothing, Unless}
 use Rattle.ra_parser.proofs.Turns.{TurnsFrom}
 use Rattle.ra_parser.proofs.grammar.paths.next_segments.Given as goal
 

@@ -1,10 +1,10 @@
 -- What is left shrinks from call to call, and what repetitions keep.
 use Rattle.std.specs.Prelude.{◌+◌, ◌*◌, ◌≤◌, Bool, [], ◌∷◌}
 use Rattle.ra_parser.specs.Looks.{tokens, spent}
-use Rattle.ra_parser.specs.Notation.{◌or◌, ◌*, one_of}
-use Rattle.ra_parser.specs.Words.{'r_paren', 'r_curly', ']'}
-use Rattle.ra_parser.specs.Calls.{TokenTree}
-use Rattle.ra_parser.specs.Rule.{Left, Both, Not, When, Any}
+use Rattle.rust_grammar.specs.Notation.{◌or◌, ◌*, one_of}
+use Rattle.rust_grammar.specs.Words.{'r_paren', 'r_curly', ']'}
+use Rattle.rust_grammar.specs.Calls.{TokenTree}
+use Rattle.rust_grammar.specs.Rule.{Left, Both, Not, When, Any}
 use Rattle.ra_parser.proofs.Turns.{TurnsFrom}
 use Rattle.ra_parser.proofs.grammar.token_trees.+token_trees.Given as goal
 

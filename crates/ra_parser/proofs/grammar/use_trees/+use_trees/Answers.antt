@@ -2,24 +2,24 @@
 use Rattle.parser_input.specs.Kinds as kinds
 use Rattle.parser_input.specs.Kinds.{COMMA, COLON, USE_TREE, USE_TREE_LIST, RENAME}
 use Rattle.parser_events.specs.Forest.{Expected, UnexpectedIn}
-use Rattle.ra_parser.specs.Notation.{◌or◌, ◌▸◌, next, one_of, stops, until}
-use Rattle.ra_parser.specs.Words.{'comma', 'l_curly', 'r_curly', '*'}
-use Rattle.ra_parser.specs.Calls.{UseTree}
-use Rattle.ra_parser.specs.Shared.{colons_before_more}
-use Rattle.ra_parser.specs.Rule.{Kind, Joint, Left, Both, Either, Not, Nothing, Say, Skip, When, Unless}
+use Rattle.rust_grammar.specs.Notation.{◌or◌, ◌▸◌, next, one_of, stops, until}
+use Rattle.rust_grammar.specs.Words.{'comma', 'l_curly', 'r_curly', '*'}
+use Rattle.rust_grammar.specs.Calls.{UseTree}
+use Rattle.rust_grammar.specs.Shared.{colons_before_more}
+use Rattle.rust_grammar.specs.Rule.{Kind, Joint, Left, Both, Either, Not, Nothing, Say, Skip, When, Unless}
 use Rattle.std.proofs.Common.{[], arith, false, refl, true, ◌∷◌}
-use Rattle.ra_parser.specs.Expressions.{expressions}
-use Rattle.ra_parser.specs.Items.{items}
+use Rattle.rust_grammar.specs.Expressions.{expressions}
+use Rattle.rust_grammar.specs.Items.{items}
 use Rattle.ra_parser.specs.Looks.{tokens}
-use Rattle.ra_parser.specs.Meaning.{begins_below, look_of}
-use Rattle.ra_parser.specs.Notation.{any_of, expected, is_longer, no_longer, one_of, op, row, wanted}
-use Rattle.ra_parser.specs.Paths.{paths}
-use Rattle.ra_parser.specs.Patterns.{patterns}
-use Rattle.ra_parser.specs.Rule.{begins, in_mode, is_silent, passes, shift, there_at, width}
-use Rattle.ra_parser.specs.Statements.{statements}
-use Rattle.ra_parser.specs.Types.{types}
-use Rattle.ra_parser.specs.Whole.{rule, whole}
-use Rattle.ra_parser.specs.Rule as rules
+use Rattle.rust_grammar.specs.Meaning.{begins_below, look_of}
+use Rattle.rust_grammar.specs.Notation.{any_of, expected, is_longer, no_longer, one_of, op, row, wanted}
+use Rattle.rust_grammar.specs.Paths.{paths}
+use Rattle.rust_grammar.specs.Patterns.{patterns}
+use Rattle.rust_grammar.specs.Rule.{begins, in_mode, is_silent, passes, shift, there_at, width}
+use Rattle.rust_grammar.specs.Statements.{statements}
+use Rattle.rust_grammar.specs.Types.{types}
+use Rattle.rust_grammar.specs.Whole.{rule, whole}
+use Rattle.rust_grammar.specs.Rule as rules
 use Rattle.ra_parser.proofs.ByHand.{behind-look, does-then, reads-call, reads-mode, reads-node, reads-nothing, reads-then, reads-unless}
 use Rattle.ra_parser.proofs.Choices.{anew-behind, gives-anew, reads-here}
 use Rattle.ra_parser.proofs.Facts.{begun, nothing, saw-so, ◌and◌}

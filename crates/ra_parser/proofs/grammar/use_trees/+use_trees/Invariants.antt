@@ -3,10 +3,10 @@ use Rattle.std.specs.Prelude.{◌+◌, ◌*◌, ◌≤◌, false}
 use Rattle.parser_input.specs.Kinds.{COMMA, USE_TREE_LIST}
 use Rattle.parser_events.specs.Forest.{Expected, UnexpectedIn}
 use Rattle.ra_parser.specs.Looks.{tokens, spent}
-use Rattle.ra_parser.specs.Notation.{◌or◌, ◌▸◌, ◌*, next, one_of, stops, until}
-use Rattle.ra_parser.specs.Words.{'comma', 'r_curly'}
-use Rattle.ra_parser.specs.Calls.{UseTree}
-use Rattle.ra_parser.specs.Rule.{Left, Both, Not, Nothing, Say, Skip, When, Unless}
+use Rattle.rust_grammar.specs.Notation.{◌or◌, ◌▸◌, ◌*, next, one_of, stops, until}
+use Rattle.rust_grammar.specs.Words.{'comma', 'r_curly'}
+use Rattle.rust_grammar.specs.Calls.{UseTree}
+use Rattle.rust_grammar.specs.Rule.{Left, Both, Not, Nothing, Say, Skip, When, Unless}
 use Rattle.ra_parser.proofs.Turns.{TurnsFrom}
 use Rattle.ra_parser.proofs.grammar.use_trees.+use_trees.Given as goal
 

@@ -1,0 +1,13 @@
+pub mod Unfolds
+pub mod Followed
+pub mod Fine
+pub mod Plain
+pub mod Only
+pub mod OnlyLooks
+pub mod WholeTable
+pub mod OnlyWhole
+pub mod Parts
+pub mod PartsOfWhole
+pub mod Rooted
+pub mod Examples
+pub mod Productions

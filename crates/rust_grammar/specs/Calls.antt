@@ -1,0 +1,206 @@
+-- The productions, each as the rule that it stands for in another: it begins anew.
+use Rattle.rust_grammar.specs.Rule.{Rule, Call, source_file, macro_items, macro_statements, item, body, assoc_items, variants, record_fields, tuple_fields, visibility, attribute, meta, token_tree, use_tree, use_list, name, lifetime, name_ref, path, type_path, expr_path, generic_args, generic_arg, generic_params, generic_param, bounds, bound, where_clause, where_pred, params, param, ret_type, any_type, pattern, single_pattern, pattern_fields, pattern_field, literal, statement_list, block, statement, macro_statement, statement_end, macro_statement_end, expression, operation, operation_tail, disjunction, conjunction, comparison, bit_or, bit_xor, bit_and, bit_shift, sum, product, cast, prefixed, postfix, after_dot, arguments, atom, field_values, field_value, block_like, if_expr, match_arms, match_arm}
+
+abbrev pub SourceFile : Rule
+SourceFile = Call source_file
+
+abbrev pub MacroItems : Rule
+MacroItems = Call macro_items
+
+abbrev pub MacroStatements : Rule
+MacroStatements = Call macro_statements
+
+abbrev pub Item : Rule
+Item = Call item
+
+abbrev pub Body : Rule
+Body = Call body
+
+abbrev pub AssocItems : Rule
+AssocItems = Call assoc_items
+
+abbrev pub Variants : Rule
+Variants = Call variants
+
+abbrev pub RecordFields : Rule
+RecordFields = Call record_fields
+
+abbrev pub TupleFields : Rule
+TupleFields = Call tuple_fields
+
+abbrev pub Visibility : Rule
+Visibility = Call visibility
+
+abbrev pub Attribute : Rule
+Attribute = Call attribute
+
+abbrev pub Meta : Rule
+Meta = Call meta
+
+abbrev pub TokenTree : Rule
+TokenTree = Call token_tree
+
+abbrev pub UseTree : Rule
+UseTree = Call use_tree
+
+abbrev pub UseList : Rule
+UseList = Call use_list
+
+abbrev pub Name : Rule
+Name = Call name
+
+abbrev pub Lifetime : Rule
+Lifetime = Call lifetime
+
+abbrev pub Ref : Rule
+Ref = Call name_ref
+
+abbrev pub Path : Rule
+Path = Call path
+
+abbrev pub TypePath : Rule
+TypePath = Call type_path
+
+abbrev pub ExprPath : Rule
+ExprPath = Call expr_path
+
+abbrev pub GenericArgs : Rule
+GenericArgs = Call generic_args
+
+abbrev pub GenericArg : Rule
+GenericArg = Call generic_arg
+
+abbrev pub GenericParams : Rule
+GenericParams = Call generic_params
+
+abbrev pub GenericParam : Rule
+GenericParam = Call generic_param
+
+abbrev pub Bounds : Rule
+Bounds = Call bounds
+
+abbrev pub Bound : Rule
+Bound = Call bound
+
+abbrev pub WhereClause : Rule
+WhereClause = Call where_clause
+
+abbrev pub WherePred : Rule
+WherePred = Call where_pred
+
+abbrev pub Params : Rule
+Params = Call params
+
+abbrev pub Param : Rule
+Param = Call param
+
+abbrev pub RetType : Rule
+RetType = Call ret_type
+
+abbrev pub AnyType : Rule
+AnyType = Call any_type
+
+abbrev pub Pattern : Rule
+Pattern = Call pattern
+
+abbrev pub SinglePattern : Rule
+SinglePattern = Call single_pattern
+
+abbrev pub PatternFields : Rule
+PatternFields = Call pattern_fields
+
+abbrev pub PatternField : Rule
+PatternField = Call pattern_field
+
+abbrev pub Literal : Rule
+Literal = Call literal
+
+abbrev pub StatementList : Rule
+StatementList = Call statement_list
+
+abbrev pub Block : Rule
+Block = Call block
+
+abbrev pub Statement : Rule
+Statement = Call statement
+
+abbrev pub MacroStatement : Rule
+MacroStatement = Call macro_statement
+
+abbrev pub StatementEnd : Rule
+StatementEnd = Call statement_end
+
+abbrev pub MacroStatementEnd : Rule
+MacroStatementEnd = Call macro_statement_end
+
+abbrev pub Expression : Rule
+Expression = Call expression
+
+abbrev pub Operation : Rule
+Operation = Call operation
+
+abbrev pub OperationTail : Rule
+OperationTail = Call operation_tail
+
+abbrev pub Disjunction : Rule
+Disjunction = Call disjunction
+
+abbrev pub Conjunction : Rule
+Conjunction = Call conjunction
+
+abbrev pub Comparison : Rule
+Comparison = Call comparison
+
+abbrev pub BitOr : Rule
+BitOr = Call bit_or
+
+abbrev pub BitXor : Rule
+BitXor = Call bit_xor
+
+abbrev pub BitAnd : Rule
+BitAnd = Call bit_and
+
+abbrev pub BitShift : Rule
+BitShift = Call bit_shift
+
+abbrev pub Sum : Rule
+Sum = Call sum
+
+abbrev pub Product : Rule
+Product = Call product
+
+abbrev pub Cast : Rule
+Cast = Call cast
+
+abbrev pub Prefixed : Rule
+Prefixed = Call prefixed
+
+abbrev pub Postfix : Rule
+Postfix = Call postfix
+
+abbrev pub AfterDot : Rule
+AfterDot = Call after_dot
+
+abbrev pub Arguments : Rule
+Arguments = Call arguments
+
+abbrev pub Atom : Rule
+Atom = Call atom
+
+abbrev pub FieldValues : Rule
+FieldValues = Call field_values
+
+abbrev pub FieldValue : Rule
+FieldValue = Call field_value
+
+abbrev pub BlockLike : Rule
+BlockLike = Call block_like
+
+abbrev pub IfExpr : Rule
+IfExpr = Call if_expr
+
+abbrev pub MatchArms : Rule
+MatchArms = Call match_arms
+
+abbrev pub MatchArm : Rule
+MatchArm = Call match_arm

@@ -1,0 +1,90 @@
+-- What holds of the grammar.
+use Rattle.std.specs.Prelude.{◌≡◌, ℕ, ◌<◌, Bool, true, false, List, All, length, drop, nat_lt, if◌then◌else◌}
+use Rattle.parser_input.specs.Input.{Token}
+use Rattle.parser_events.specs.Fits.{IsRooted}
+use Rattle.rust_grammar.specs.Rule.{Production, source_file, macro_items, macro_statements, meta, Look, Rule, Nothing, Star, begins, shift}
+use Rattle.rust_grammar.specs.Meaning.{Reading, Calls, read, sees, fresh, look_of, meaning}
+use Rattle.rust_grammar.specs.Parts.{repeated, nearby}
+use Rattle.rust_grammar.specs.Entry.{entry}
+use Rattle.rust_grammar.specs.Whole as all
+
+-- These are places where the productions of the whole grammar can begin: each begins where its rule does.
+abbrev pub AreBeginnings : (Production → Look) → Type 0
+AreBeginnings looks = (x : Production) → looks x ≡ begins looks (all.rule x)
+
+-- These are readings of the productions of the whole grammar: each gives what its rule gives.
+abbrev pub AreReadings : (Production → Look) → Calls → Type 0
+AreReadings looks gives =
+    (x : Production) (in_condition : Bool) (s : Reading) → gives x in_condition s ≡ read looks gives in_condition (all.rule x) s
+
+-- The productions of the whole grammar mean what their rules say, and begin where their rules do.
+abbrev pub WholeProductionsMeanTheirRules : Type 0
+WholeProductionsMeanTheirRules = AreReadings (look_of all.whole) (meaning all.whole)
+
+abbrev pub WholeProductionsBeginAsTheirRules : Type 0
+WholeProductionsBeginAsTheirRules = AreBeginnings (look_of all.whole)
+
+-- Nothing else does so. The rules alone say where a production begins and what it gives: the ranks of productions, and the
+-- bounds by which `look_of` and `meaning` recur, can be forgotten.
+abbrev pub OnlyOneBeginning : Type 0
+OnlyOneBeginning = (looks : Production → Look) → AreBeginnings looks → (x : Production) → looks x ≡ look_of all.whole x
+
+abbrev pub OnlyOneReading : Type 0
+OnlyOneReading =
+    (looks : Production → Look) (gives : Calls) → AreBeginnings looks → AreReadings looks gives
+    → (x : Production) (in_condition : Bool) (s : Reading) → gives x in_condition s ≡ meaning all.whole x in_condition s
+
+unfoldable pub is_nothing : Rule → Bool
+is_nothing Nothing = true
+is_nothing a = false
+
+-- No production of the whole grammar is without a row.
+abbrev pub EachProductionHasARule : Type 0
+EachProductionHasARule = (x : Production) → is_nothing (all.rule x) ≡ false
+
+-- what a rule of the whole grammar gives
+abbrev pub reads : Bool → Rule → Reading → Reading
+reads in_condition a s = read (look_of all.whole) (meaning all.whole) in_condition a s
+
+-- a repetition: one turn and the repetition again, or nothing; a turn that takes no token is the last
+abbrev pub turn_by_turn : Bool → Rule → Reading → Reading
+turn_by_turn in_condition a s =
+    let turn = reads in_condition a s in
+    let again = reads in_condition (Star a) turn in
+    let turns = if nat_lt (length turn.rest) (length s.rest) then again else turn in
+    if sees in_condition s (begins (look_of all.whole) a) then turns else s
+
+abbrev pub IsReadTurnByTurn : Rule → Type 0
+IsReadTurnByTurn a = (in_condition : Bool) (s : Reading) → reads in_condition (Star a) s ≡ turn_by_turn in_condition a s
+
+-- Each repetition of the whole grammar is one turn and the repetition again, or nothing.
+abbrev pub RepetitionsAreReadTurnByTurn : Type 0
+RepetitionsAreReadTurnByTurn = (x : Production) → All IsReadTurnByTurn (repeated (all.rule x))
+
+-- To see where a rule begins behind so many tokens is to see it at the place behind them.
+abbrev pub LooksAhead : Rule → Type 0
+LooksAhead a =
+    (count : ℕ) (in_condition : Bool) (s : Reading)
+    → let behind : Reading = record { given = s.given; rest = drop count s.rest } in
+    sees in_condition s (shift count (begins (look_of all.whole) a)) ≡ sees in_condition behind (begins (look_of all.whole) a)
+
+-- So it is with each part of the whole grammar whose looks are asked together with those of the part before it.
+abbrev pub PartsLookAhead : Type 0
+PartsLookAhead = (x : Production) → All LooksAhead (nearby (all.rule x))
+
+-- Where a token is left, it makes no difference to where a production begins what was given before it: called anew, it
+-- begins where it would with nothing given.
+abbrev pub CallsBeginAnew : Type 0
+CallsBeginAnew =
+    (x : Production) (in_condition : Bool) (s : Reading)
+    → 0 < length s.rest → sees in_condition s (look_of all.whole x) ≡ sees in_condition (fresh s) (look_of all.whole x)
+
+-- A file, and the items and the statements of a macro, are one node, whatever the tokens are.
+abbrev pub ListsAreRooted : Type 0
+ListsAreRooted =
+    (tokens : List Token)
+    → IsRooted (entry all.whole source_file tokens) × IsRooted (entry all.whole macro_items tokens) × IsRooted (entry all.whole macro_statements tokens)
+
+-- So is the inside of an attribute.
+abbrev pub AttributesAreRooted : Type 0
+AttributesAreRooted = (tokens : List Token) → IsRooted (entry all.whole meta tokens)

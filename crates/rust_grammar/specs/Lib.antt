@@ -1,0 +1,17 @@
+pub mod Rule
+pub mod Meaning
+pub mod Notation
+pub mod Words
+pub mod Calls
+pub mod Shared
+pub mod Paths
+pub mod Types
+pub mod Patterns
+pub mod Expressions
+pub mod Statements
+pub mod Items
+pub mod Whole
+pub mod Entry
+pub mod Examples
+pub mod Parts
+pub mod Laws

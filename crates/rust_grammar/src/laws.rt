@@ -1,0 +1,41 @@
+//! Laws of the definitions. Each is the contract of a function that makes no call.
+
+ghost use Rattle.rust_grammar.specs.Examples.{ExamplesAreRight};
+ghost use Rattle.rust_grammar.specs.Laws.{AttributesAreRooted, CallsBeginAnew, EachProductionHasARule, ListsAreRooted, OnlyOneBeginning, OnlyOneReading, PartsLookAhead, RepetitionsAreReadTurnByTurn, WholeProductionsBeginAsTheirRules, WholeProductionsMeanTheirRules};
+
+/// A production gives what its rule gives, where each production that the rule calls gives what it means; each has a rule, and
+/// begins where its rule does.
+pub fn whole_productions_mean_their_rules()
+    ensures means { WholeProductionsMeanTheirRules }
+    ensures begin { WholeProductionsBeginAsTheirRules }
+    ensures all { EachProductionHasARule }
+{}
+
+/// Nothing else begins and reads as the rules say: each production has one meaning.
+pub fn whole_productions_have_one_meaning()
+    ensures begin { OnlyOneBeginning }
+    ensures read { OnlyOneReading }
+{}
+
+/// Each repetition is one turn and the repetition again, or nothing.
+pub fn repetitions_are_read_turn_by_turn()
+    ensures { RepetitionsAreReadTurnByTurn }
+{}
+
+/// Looks behind a part are those of the place behind it, and what was given before a call makes no
+/// difference to where that begins.
+pub fn looks_are_of_their_place()
+    ensures ahead { PartsLookAhead }
+    ensures anew { CallsBeginAnew }
+{}
+
+/// The tree of a file, of the items or the statements of a macro, and of an attribute's inside is one node.
+pub fn lists_are_rooted()
+    ensures lists { ListsAreRooted }
+    ensures attributes { AttributesAreRooted }
+{}
+
+/// Some inputs, with the trees that the grammar gives them.
+pub fn examples_are_right()
+    ensures { ExamplesAreRight }
+{}
