@@ -11,3 +11,4 @@ pub mod PartsOfWhole
 pub mod Rooted
 pub mod Examples
 pub mod Productions
+pub mod Known
