@@ -12,3 +12,5 @@ pub mod Rooted
 pub mod Examples
 pub mod Productions
 pub mod Known
+pub mod Spelling
+pub mod Spelled
