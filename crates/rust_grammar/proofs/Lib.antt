@@ -14,3 +14,4 @@ pub mod Productions
 pub mod Known
 pub mod Spelling
 pub mod Spelled
+pub mod SpelledTable
