@@ -201,7 +201,7 @@ abbrev pub IsMode : Option Bool → Bool → Type 0
 IsMode None c = Unit {0}
 IsMode (Some d) c = d ≡ c
 
-token-left : (k : ℕ) (ts : List Token) → not (EOF == k) ≡ true → ((ahead 0 ts).kind == k) ≡ true → nat_lt 0 (length ts) ≡ true
+pub token-left : (k : ℕ) (ts : List Token) → not (EOF == k) ≡ true → ((ahead 0 ts).kind == k) ≡ true → nat_lt 0 (length ts) ≡ true
 unfolding ahead
 token-left k [] e h = absurd (true≢false (sym h ∙ is-false (EOF == k) e))
 token-left k (t ∷ ts) e h = lt-ltb 0 (suc (length ts)) (omega arith)

@@ -15,3 +15,5 @@ pub mod Known
 pub mod Spelling
 pub mod Spelled
 pub mod SpelledTable
+pub mod Shrinks
+pub mod Words

@@ -141,13 +141,14 @@ turns-in-order (suc n) test turn ts s each i =
     (λ e. chosen (IsInOrder ts) (nat_lt (length (turn s).rest) (length s.rest)) _ _ (λ f. turns-in-order n test turn ts (turn s) each (each s e i)) (λ f. each s e i))
     (λ e. i)
 
-module _ (g : Claims) (call : Calls) (ok : Sound g call) where
-  counted : (a : Rule) (n : ℕ) (c : Bool) (s : Reading) → counts n a ≡ true → (read g.looks call c a s).rest ≡ drop n s.rest
+-- a rule that takes so many tokens takes them
+module _ (looks : Production → Look) (call : Calls) where
+  pub counted : (a : Rule) (n : ℕ) (c : Bool) (s : Reading) → counts n a ≡ true → (read looks call c a s).rest ≡ drop n s.rest
   unfolding counts read leaf node wrapped fresh
   counted (One x) n c s e = ap (λ (m : ℕ). drop m s.rest) (eqb-true (length x.parts) n e)
   counted Any n c s e = ap (λ (m : ℕ). drop m s.rest) (eqb-true 1 n e)
   counted (Or a b) n c s e =
-      chosen (λ (u : Reading). u.rest ≡ drop n s.rest) (sees c s (begins g.looks a)) _ _
+      chosen (λ (u : Reading). u.rest ≡ drop n s.rest) (sees c s (begins looks a)) _ _
       (λ i. counted a n c s (and_l (counts n a) (counts n b) e))
       (λ i. counted b n c s (and_r (counts n a) (counts n b) e))
   counted (When l a) n c s e = counted a n c s e
@@ -167,6 +168,7 @@ module _ (g : Claims) (call : Calls) (ok : Sound g call) where
   counted (Call y) n c s e = absurd (true≢false (sym e))
   counted (Continue y) n c s e = absurd (true≢false (sym e))
 
+module _ (g : Claims) (call : Calls) (ok : Sound g call) where
   -- after a call
   call-seen : (k : Look) (y : Production) (c : Bool) (s : Reading) → sees c s k ≡ true → sees c (behind s (call y c (fresh s))) (after_call g k y) ≡ true
   unfolding after_call behind fresh
@@ -270,7 +272,7 @@ module _ (g : Claims) (call : Calls) (ok : Sound g call) where
   after-seen : (a : Rule) (k : Look) (c : Bool) (s : Reading) → sees c s k ≡ true → sees c (read g.looks call c a s) (after g k a) ≡ true
   unfolding after
   after-seen a k c s h = elim (cases_Bool (counts (width a) a)) [
-    | inl e ↦ rw e (back-seen c s (read g.looks call c a s) (width a) (counted a (width a) c s e) k h)
+    | inl e ↦ rw e (back-seen c s (read g.looks call c a s) (width a) (counted g.looks call a (width a) c s e) k h)
     | inr e ↦ rw e (other-seen a k c s h)
   ]
 
