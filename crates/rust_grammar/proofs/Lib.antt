@@ -17,3 +17,5 @@ pub mod Spelled
 pub mod SpelledTable
 pub mod Shrinks
 pub mod Words
+pub mod Induction
+pub mod InOrder

@@ -43,7 +43,7 @@ spelled-there k x c s e h = elim (or_cases (is_word k x.kind x.parts) (is_mark k
   | inr i ↦ or-second (length x.parts == 1 && (is_token x.kind s.rest || is_contextual x.kind s.rest)) (is_one_of marks x.kind (length x.parts) s.rest) (mark-seen k x c s i h)
 ]
 
-any-there : (ts : List Token) → nat_lt 0 (length ts) ≡ true → is_spelled (ahead 0 ts).kind 1 ts ≡ true
+pub any-there : (ts : List Token) → nat_lt 0 (length ts) ≡ true → is_spelled (ahead 0 ts).kind 1 ts ≡ true
 unfolding is_spelled
 any-there ts e =
     or-first (is_token (ahead 0 ts).kind ts || is_contextual (ahead 0 ts).kind ts) (is_one_of marks (ahead 0 ts).kind 1 ts)
@@ -109,7 +109,7 @@ module _ (c : Bool) (s t : Reading) (ps : List ℕ) (taken : sees c s (there_at 
   past-seen (Not a) h = decided-seen (Not a) Always h refl
 
 -- what is given does not end where more is given behind it
-then-some : (f h : Forest) → is_end h ≡ false → is_end (f then h) ≡ false
+pub then-some : (f h : Forest) → is_end h ≡ false → is_end (f then h) ≡ false
 unfolding is_end
 then-some forest.End h e = e
 then-some (forest.Leaf k n f) h e = refl
