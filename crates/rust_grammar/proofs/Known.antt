@@ -108,6 +108,10 @@ tells false (Either a b) m =
     if tells false a m then true else second
 tells false l m = false
 
+unfoldable pub is_never : Look → Bool
+is_never Never = true
+is_never l = false
+
 -- the second look is made of such
 unfoldable pub weakens : Look → Look → Bool
 weakens l Always = true
@@ -119,6 +123,7 @@ weakens l (Either a b) =
     let second = weakens l b in
     let parts = if weakens l a then true else second in
     if tells true l (Either a b) then true else parts
+weakens l (Not a) = if is_never a then true else tells true l (Not a)
 weakens l m = tells true l m
 
 -- Where the first look is seen, so is the second.
@@ -271,6 +276,20 @@ module _ (c : Bool) (s : Reading) where
   told false Given m e h = absurd (true≢false (sym e))
   told false (Both a b) m e h = absurd (true≢false (sym e))
 
+  never-seen : (l : Look) → is_never l ≡ true → sees c s l ≡ false
+  unfolding is_never sees
+  never-seen Never e = refl
+  never-seen Always e = absurd (true≢false (sym e))
+  never-seen (Kind n k) e = absurd (true≢false (sym e))
+  never-seen (Contextual n k) e = absurd (true≢false (sym e))
+  never-seen (Joint n) e = absurd (true≢false (sym e))
+  never-seen Left e = absurd (true≢false (sym e))
+  never-seen InCondition e = absurd (true≢false (sym e))
+  never-seen Given e = absurd (true≢false (sym e))
+  never-seen (Both a b) e = absurd (true≢false (sym e))
+  never-seen (Either a b) e = absurd (true≢false (sym e))
+  never-seen (Not a) e = absurd (true≢false (sym e))
+
   weakened : (l m : Look) → weakens l m ≡ true → sees c s l ≡ true → sees c s m ≡ true
   unfolding weakens sees
   weakened l Always e h = refl
@@ -292,7 +311,10 @@ module _ (c : Bool) (s : Reading) where
   weakened l Left e h = told true l Left e h
   weakened l InCondition e h = told true l InCondition e h
   weakened l Given e h = told true l Given e h
-  weakened l (Not a) e h = told true l (Not a) e h
+  weakened l (Not a) e h = elim (either-if (is_never a) (tells true l (Not a)) e) [
+    | inl i ↦ ap not (never-seen a i)
+    | inr i ↦ told true l (Not a) i h
+  ]
 
   pub implied : (l m : Look) → implies l m ≡ true → sees c s l ≡ true → sees c s m ≡ true
   unfolding implies sees

@@ -19,3 +19,5 @@ pub mod Shrinks
 pub mod Words
 pub mod Induction
 pub mod InOrder
+pub mod Moving
+pub mod MovedTable

@@ -141,6 +141,13 @@ turns-in-order (suc n) test turn ts s each i =
     (λ e. chosen (IsInOrder ts) (nat_lt (length (turn s).rest) (length s.rest)) _ _ (λ f. turns-in-order n test turn ts (turn s) each (each s e i)) (λ f. each s e i))
     (λ e. i)
 
+-- where this is seen, too
+pub at-seen : (k l : Look) (m : Option Bool) (c : Bool) (s : Reading) → IsMode m c → sees c s k ≡ true → sees c s l ≡ true → sees c s (at k (asked m l)) ≡ true
+unfolding at sees
+at-seen k l m c s mode h i =
+    let there = asked-seen c s m l mode ∙ i in
+    if-both (sees c s (sift k (asked m l))) (sees c s (asked m l)) (sift-seen c s k (asked m l) there h) there
+
 -- a rule that takes so many tokens takes them
 module _ (looks : Production → Look) (call : Calls) where
   pub counted : (a : Rule) (n : ℕ) (c : Bool) (s : Reading) → counts n a ≡ true → (read looks call c a s).rest ≡ drop n s.rest
@@ -275,13 +282,6 @@ module _ (g : Claims) (call : Calls) (ok : Sound g call) where
     | inl e ↦ rw e (back-seen c s (read g.looks call c a s) (width a) (counted g.looks call a (width a) c s e) k h)
     | inr e ↦ rw e (other-seen a k c s h)
   ]
-
-  -- where this is seen, too
-  at-seen : (k l : Look) (m : Option Bool) (c : Bool) (s : Reading) → IsMode m c → sees c s k ≡ true → sees c s l ≡ true → sees c s (at k (asked m l)) ≡ true
-  unfolding at sees
-  at-seen k l m c s mode h i =
-      let there = asked-seen c s m l mode ∙ i in
-      if-both (sees c s (sift k (asked m l))) (sees c s (asked m l)) (sift-seen c s k (asked m l) there h) there
 
   begun : (y : Production) (k l : Look) (c : Bool) (s t : Reading) → (if g.free y then true else implies k l) ≡ true → sees c s k ≡ true → (sees c s l ≡ true → sees c t (g.looks y) ≡ true) → (if g.free y then true else sees c t (g.looks y)) ≡ true
   begun y k l c s t e h there = elim (either-if (g.free y) (implies k l) e) [
