@@ -276,7 +276,7 @@ module _ (c : Bool) (s : Reading) where
   told false Given m e h = absurd (true≢false (sym e))
   told false (Both a b) m e h = absurd (true≢false (sym e))
 
-  never-seen : (l : Look) → is_never l ≡ true → sees c s l ≡ false
+  pub never-seen : (l : Look) → is_never l ≡ true → sees c s l ≡ false
   unfolding is_never sees
   never-seen Never e = refl
   never-seen Always e = absurd (true≢false (sym e))

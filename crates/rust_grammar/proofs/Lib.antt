@@ -21,3 +21,6 @@ pub mod Induction
 pub mod InOrder
 pub mod Moving
 pub mod MovedTable
+pub mod Moved
+pub mod EntriesInOrder
+pub mod Covering

@@ -45,7 +45,7 @@ abbrev expression_args : Rule
 expression_args = ⁅ When ('::' before '<') GenericArgs ⁆
 
 -- what a rule gives
-abbrev gives : Bool → Rule → Reading → Reading
+abbrev pub gives : Bool → Rule → Reading → Reading
 gives c a s = read (look_of whole) (meaning whole) c a s
 
 skipped : (a : Rule) (c : Bool) (s : Reading) → sees c s (begins (look_of whole) a) ≡ false → gives c (Opt a) s ≡ s
@@ -68,7 +68,7 @@ leaf-rest : (k n : ℕ) (s : Reading) → length (leaf k n s).rest ≡ length (d
 unfolding leaf
 leaf-rest k n s = refl
 
-star-ends : (a : Rule) (c : Bool) (s : Reading) → ((v : Reading) → sees c v (begins (look_of whole) a) ≡ true → length (gives c a v).rest < length v.rest) → sees c (gives c (Star a) s) (begins (look_of whole) a) ≡ false
+pub star-ends : (a : Rule) (c : Bool) (s : Reading) → ((v : Reading) → sees c v (begins (look_of whole) a) ≡ true → length (gives c a v).rest < length v.rest) → sees c (gives c (Star a) s) (begins (look_of whole) a) ≡ false
 unfolding read
 star-ends a c s each = turns-end (length s.rest) (λ t. sees c t (begins (look_of whole) a)) (read (look_of whole) (meaning whole) c a) s each (omega arith)
 
