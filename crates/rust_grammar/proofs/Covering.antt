@@ -15,6 +15,7 @@ use Rattle.parser_events.specs.Trivia.{pending}
 use Rattle.rust_grammar.specs.Rule.{Rule, One}
 use Rattle.rust_grammar.specs.Spelled.{marks, are_next, is_token, is_contextual, is_one_of, is_spelled, is_float, drop_if, then_after, tokens_after}
 use Rattle.rust_grammar.proofs.Plain.{and_l, and_r}
+use Rattle.rust_grammar.proofs.Spelling.{or-first}
 
 one-more : (n : ℕ) → 1 + n ≡ suc n
 one-more n = omega arith
@@ -51,7 +52,7 @@ next edition (l ∷ ls) t ts e = elim (cases_Bool (is_trivia l)) [
       record { leaf = l; rest = ls; are = at-token l ls i; own = i; token = cc; more = cc }
 ]
 
-no-next : (edition : Edition) (ls : List Leaf) → input edition ls ≡ [] → is_none_left (from_token ls) ≡ true
+pub no-next : (edition : Edition) (ls : List Leaf) → input edition ls ≡ [] → is_none_left (from_token ls) ≡ true
 unfolding input pending
 no-next edition [] e = refl
 no-next edition (l ∷ ls) e = elim (cases_Bool (is_trivia l)) [
@@ -74,7 +75,7 @@ unfolding are_plain no_float marks
 marks-plain = refl
 
 -- so many leaves stand next unbroken, and the tokens of those behind them are the rest
-record Stands (edition : Edition) (count : ℕ) (ls : List Leaf) (ts : List Token) : Type 0 where
+pub record Stands (edition : Edition) (count : ℕ) (ls : List Leaf) (ts : List Token) : Type 0 where
   pub unbroken : is_unbroken count ls ≡ true
   pub more : input edition (drop count ls) ≡ ts
 
@@ -152,7 +153,7 @@ unfolding is_token is_contextual
 some-token edition kind ls [] i e = absurd (true≢false (sym e))
 some-token edition kind ls (t ∷ ts) i e = one-stands edition ls t ts i
 
-leaf-stands : (edition : Edition) (kind count : ℕ) (ls : List Leaf) → is_spelled kind count (input edition ls) ≡ true → Stands edition count (from_token ls) (drop count (input edition ls))
+pub leaf-stands : (edition : Edition) (kind count : ℕ) (ls : List Leaf) → is_spelled kind count (input edition ls) ≡ true → Stands edition count (from_token ls) (drop count (input edition ls))
 unfolding is_spelled
 leaf-stands edition kind count ls e = elim (or_cases ((count == 1) && (is_token kind (input edition ls) || is_contextual kind (input edition ls))) (is_one_of marks kind count (input edition ls)) e) [
   | inl i ↦ subst (λ (n : ℕ). Stands edition n (from_token ls) (drop n (input edition ls))) (sym (eqb-true count 1 (and_l (count == 1) _ i))) (some-token edition kind ls (input edition ls) refl (and_r (count == 1) _ i))
@@ -160,7 +161,7 @@ leaf-stands edition kind count ls e = elim (or_cases ((count == 1) && (is_token 
 ]
 
 -- a float that stands next is split as its text says
-float-stands : (edition : Edition) (e : Bool) (ls : List Leaf) (ts : List Token) → input edition ls ≡ ts → is_float e ts ≡ true → (is_split_at e (from_token ls) ≡ true) × (input edition (drop 1 (from_token ls)) ≡ drop 1 ts)
+pub float-stands : (edition : Edition) (e : Bool) (ls : List Leaf) (ts : List Token) → input edition ls ≡ ts → is_float e ts ≡ true → (is_split_at e (from_token ls) ≡ true) × (input edition (drop 1 (from_token ls)) ≡ drop 1 ts)
 unfolding is_float token_of is_joint
 float-stands edition e ls [] i f = absurd (true≢false (sym f))
 float-stands edition e ls (t ∷ ts) i f =
@@ -177,17 +178,20 @@ float-stands edition e ls (t ∷ ts) i f =
     told false d j i m = i ∙ m
 
 -- where trees lead: the steps behind them cover the leaves that are left
-record Covers (edition : Edition) (f : Forest) (ss : List Step) (ls : List Leaf) (us : List Token) : Type 0 where
+pub record Covers (edition : Edition) (f : Forest) (ss : List Step) (ls : List Leaf) (us : List Token) : Type 0 where
   pub rest : List Leaf
   pub tokens : input edition rest ≡ us
   pub same : covers (steps f ++ ss) ls ≡ covers ss rest
 
-after-some : (o : Option (List Token)) (more : List Token → Option (List Token)) (us : List Token) → then_after o more ≡ Some us → (ts : List Token) × ((o ≡ Some ts) × (more ts ≡ Some us))
+pub after-some : (o : Option (List Token)) (more : List Token → Option (List Token)) (us : List Token) → then_after o more ≡ Some us → (ts : List Token) × ((o ≡ Some ts) × (more ts ≡ Some us))
 unfolding then_after
 after-some None more us e = absurd (let z : None ≡ Some us = e in cc)
 after-some (Some ts) more us e = (ts, (refl, e))
 
-dropped : (b : Bool) (n : ℕ) (ts us : List Token) → drop_if b n ts ≡ Some us → (b ≡ true) × (drop n ts ≡ us)
+pub dropped : (b : Bool) (n : ℕ) (ts us : List Token) → drop_if b n ts ≡ Some us → (b ≡ true) × (drop n ts ≡ us)
 unfolding drop_if
 dropped true n ts us e = (refl, cc)
 dropped false n ts us e = absurd (let z : None ≡ Some us = e in cc)
+
+pub token-stands : (edition : Edition) (kind : ℕ) (ls : List Leaf) → is_token kind (input edition ls) ≡ true → Stands edition 1 (from_token ls) (drop 1 (input edition ls))
+token-stands edition kind ls e = some-token edition kind ls (input edition ls) refl (or-first (is_token kind (input edition ls)) (is_contextual kind (input edition ls)) e)

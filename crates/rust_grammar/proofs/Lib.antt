@@ -24,3 +24,4 @@ pub mod MovedTable
 pub mod Moved
 pub mod EntriesInOrder
 pub mod Covering
+pub mod Fitting
