@@ -25,3 +25,5 @@ pub mod Moved
 pub mod EntriesInOrder
 pub mod Covering
 pub mod Fitting
+pub mod Shapes
+pub mod ShapesTable
