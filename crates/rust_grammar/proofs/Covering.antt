@@ -1,19 +1,17 @@
 -- Trees that stand in order over all tokens of a text cover its leaves.
-use Rattle.std.proofs.Common.{◌≡◌, ℕ, zero, suc, ◌+◌, Bool, true, false, not, ◌&&◌, ◌||◌, ◌==◌, List, [], ◌∷◌, ◌++◌, length, take, drop, Option, Some, None, refl, ap, sym, subst, ◌∙◌, append_assoc, arith, inl, inr, if◌then◌else◌, true≢false}
+use Rattle.std.proofs.Common.{◌≡◌, ℕ, suc, ◌+◌, Bool, true, false, not, ◌&&◌, ◌||◌, ◌==◌, List, [], ◌∷◌, ◌++◌, length, take, drop, Option, Some, None, refl, ap, sym, subst, ◌∙◌, arith, inl, inr, if◌then◌else◌, true≢false}
 use Rattle.std.specs.List.{prefix_len}
 use Rattle.std.proofs.lemmas.Bool.{cases_Bool, eqb-true, or_cases}
 use Rattle.parser_input.specs.Input.{Token, input, token_of, is_joint, touches, ends_in_dot}
 use Rattle.parser_input.specs.Kinds.{FLOAT_NUMBER}
 use Rattle.parser_input.specs.Leaf.{Leaf, is_trivia}
 use Rattle.parser_input.specs.declared.edition.Edition.{Edition}
-use Rattle.parser_events.specs.Fits.{from_token, is_unbroken, is_split_at, is_none_left, covers, leaves_root, has_one_root, fits, IsRooted}
-use Rattle.parser_events.specs.Forest as forest
+use Rattle.parser_events.specs.Fits.{from_token, is_unbroken, is_split_at, is_none_left, covers}
 use Rattle.parser_events.specs.Forest.{Forest}
-use Rattle.parser_events.specs.Steps as walk
 use Rattle.parser_events.specs.Steps.{Step, steps}
 use Rattle.parser_events.specs.Trivia.{pending}
 use Rattle.rust_grammar.specs.Rule.{Rule, One}
-use Rattle.rust_grammar.specs.Spelled.{marks, are_next, is_token, is_contextual, is_one_of, is_spelled, is_float, drop_if, then_after, tokens_after}
+use Rattle.rust_grammar.specs.Spelled.{marks, are_next, is_token, is_contextual, is_one_of, is_spelled, is_float, drop_if, then_after}
 use Rattle.rust_grammar.proofs.Plain.{and_l, and_r}
 use Rattle.rust_grammar.proofs.Spelling.{or-first}
 
@@ -108,7 +106,7 @@ unbroken-row edition k (j ∷ ks) l ls own plain e =
     let same = own-input edition after.0 after.1.0 after.1.1.1 in
     let tokens : input edition ls ≡ token_of edition after.0 after.1.0 ∷ input edition after.1.0 = ap (λ (us : List Leaf). input edition us) after.1.1.0 ∙ same in
     let more = unbroken-row edition j ks after.0 after.1.0 after.1.1.1 (and_r (not (k == FLOAT_NUMBER)) (no_float (j ∷ ks)) plain)
-      (subst (λ (ts : List Token). are_next (j ∷ ks) ts ≡ true) tokens (and_r ((l.kind == k) && is_joint l ls) _ e)) in
+    (subst (λ (ts : List Token). are_next (j ∷ ks) ts ≡ true) tokens (and_r ((l.kind == k) && is_joint l ls) _ e)) in
     record {
       unbroken = rw own (ap (λ (us : List Leaf). is_unbroken (length (j ∷ ks)) us) after.1.1.0 ∙ more.unbroken);
       more = ap (λ (us : List Leaf). input edition (drop (length (j ∷ ks)) us)) after.1.1.0 ∙ more.more ∙ ap (λ (ts : List Token). drop (length (j ∷ ks)) ts) (sym tokens);

@@ -1,9 +1,9 @@
 -- The steps of a node that stands in order over all tokens of a text fit its leaves.
-use Rattle.std.proofs.Common.{◌≡◌, ℕ, zero, suc, Bool, true, false, ◌&&◌, List, [], ◌∷◌, ◌++◌, drop, Option, Some, None, refl, ap, sym, subst, ◌∙◌, append_assoc, if◌then◌else◌}
+use Rattle.std.proofs.Common.{◌≡◌, ℕ, suc, Bool, true, false, ◌&&◌, List, [], ◌∷◌, ◌++◌, drop, Some, refl, ap, sym, ◌∙◌, append_assoc}
 use Rattle.parser_input.specs.Input.{Token, input}
 use Rattle.parser_input.specs.Leaf.{Leaf}
 use Rattle.parser_input.specs.declared.edition.Edition.{Edition}
-use Rattle.parser_events.specs.Fits.{from_token, is_unbroken, is_split_at, is_none_left, covers, leaves_root, has_one_root, fits, IsRooted}
+use Rattle.parser_events.specs.Fits.{from_token, covers, leaves_root, has_one_root, fits, IsRooted}
 use Rattle.parser_events.specs.Forest as forest
 use Rattle.parser_events.specs.Forest.{Forest}
 use Rattle.parser_events.specs.Steps as walk

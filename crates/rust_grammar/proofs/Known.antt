@@ -1,5 +1,5 @@
 -- What follows from a look that is seen at a place.
-use Rattle.std.proofs.Common.{◌≡◌, ℕ, zero, suc, ◌+◌, ◌-◌, ◌<◌, arith, Bool, true, false, not, ◌&&◌, ◌==◌, List, [], ◌∷◌, length, drop, nat_lt, nat_eq, Option, Some, None, refl, sym, ap, subst, ◌∙◌, ◌⊎◌, inl, inr, if◌then◌else◌, true≢false}
+use Rattle.std.proofs.Common.{◌≡◌, ℕ, zero, suc, ◌-◌, arith, Bool, true, false, not, ◌&&◌, ◌==◌, List, [], ◌∷◌, length, drop, nat_lt, nat_eq, Option, Some, None, refl, sym, ap, subst, ◌∙◌, ◌⊎◌, inl, inr, if◌then◌else◌, true≢false}
 use Rattle.std.proofs.lemmas.Bool.{cases_Bool, eqb-true, lt-ltb}
 use Rattle.parser_input.specs.Kinds.{EOF}
 use Rattle.parser_input.specs.Input.{Token}

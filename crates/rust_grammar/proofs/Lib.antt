@@ -27,3 +27,4 @@ pub mod Covering
 pub mod Fitting
 pub mod Shapes
 pub mod ShapesTable
+pub mod EntriesFit

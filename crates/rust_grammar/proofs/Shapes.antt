@@ -1,5 +1,5 @@
 -- A test of a table: what a rule gives is one node.
-use Rattle.std.proofs.Common.{◌≡◌, ℕ, zero, suc, Bool, true, false, not, List, length, nat_lt, refl, sym, ap, subst, ◌∙◌, ◌⊎◌, inl, inr, if◌then◌else◌, true≢false}
+use Rattle.std.proofs.Common.{◌≡◌, ℕ, zero, suc, Bool, true, false, not, length, nat_lt, refl, sym, subst, if◌then◌else◌, true≢false}
 use Rattle.parser_events.specs.Fits.{IsRooted}
 use Rattle.parser_events.specs.Forest as forest
 use Rattle.parser_events.specs.Forest.{Forest, ◌then◌}
@@ -70,7 +70,7 @@ shape g j p (Call y) = call_shape g p y
 shape g j p (Continue y) = continued_shape g p y
 shape g j p (Mode d a) = shape g j p a
 
-within-holds : (p q : Shape) (f : Forest) → is_within p q ≡ true → HasShape p f → HasShape q f
+pub within-holds : (p q : Shape) (f : Forest) → is_within p q ≡ true → HasShape p f → HasShape q f
 unfolding is_within
 within-holds p Several f e h = tt
 within-holds Blank Blank f e h = h
@@ -134,9 +134,9 @@ module _ (g : Rooting) (call : Calls) (ok : Rooted g call) where
   has-shape (Or a b) j p c s joint h =
       chosen (λ (u : Reading). HasShape (join (shape g (implies (begins g.looks a) (Joint 0)) p a) (shape g false p b)) u.given) (sees c s (begins g.looks a)) _ _
       (λ e. join-first (shape g (implies (begins g.looks a) (Joint 0)) p a) (shape g false p b) (read g.looks call c a s).given
-        (has-shape a (implies (begins g.looks a) (Joint 0)) p c s (λ i. implied c s (begins g.looks a) (Joint 0) i e) h))
+      (has-shape a (implies (begins g.looks a) (Joint 0)) p c s (λ i. implied c s (begins g.looks a) (Joint 0) i e) h))
       (λ e. join-second (shape g (implies (begins g.looks a) (Joint 0)) p a) (shape g false p b) (read g.looks call c b s).given
-        (has-shape b false p c s (λ i. absurd (true≢false (sym i))) h))
+      (has-shape b false p c s (λ i. absurd (true≢false (sym i))) h))
   has-shape (When l a) j p c s joint h = has-shape a j p c s joint h
   has-shape (Unless l a) j p c s joint h = has-shape a j p c s joint h
   has-shape (Opt a) j p c s joint h =

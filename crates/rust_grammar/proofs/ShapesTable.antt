@@ -1,5 +1,5 @@
 -- Types, patterns and expressions of the whole grammar pass the test of one node.
-use Rattle.std.proofs.Common.{◌≡◌, None, Bool, true, false, [], ◌∷◌, refl, if◌then◌else◌}
+use Rattle.std.proofs.Common.{◌≡◌, Bool, true, false, refl, if◌then◌else◌}
 use Rattle.rust_grammar.specs.Rule.{Production, source_file, macro_items, macro_statements, item, body, assoc_items, variants, record_fields, tuple_fields, visibility, attribute, meta, token_tree, use_tree, use_list, params, param, name, lifetime, name_ref, path, type_path, expr_path, generic_args, generic_arg, generic_params, generic_param, bounds, bound, where_clause, where_pred, any_type, ret_type, pattern, single_pattern, pattern_fields, pattern_field, literal, statement_list, block, statement, macro_statement, statement_end, macro_statement_end, expression, operation, operation_tail, disjunction, conjunction, comparison, bit_or, bit_xor, bit_and, bit_shift, sum, product, cast, prefixed, postfix, after_dot, arguments, atom, field_values, field_value, block_like, if_expr, match_arms, match_arm, begins, passes, is_silent, width, shift, in_mode, there_at}
 use Rattle.rust_grammar.specs.Notation.{expected, wanted, row, one_of, any_of, is_longer, no_longer, op}
 use Rattle.rust_grammar.specs.Meaning.{look_of, begins_below}
@@ -10,11 +10,8 @@ use Rattle.rust_grammar.specs.Expressions.{expressions}
 use Rattle.rust_grammar.specs.Statements.{statements}
 use Rattle.rust_grammar.specs.Items.{items}
 use Rattle.rust_grammar.specs.Whole.{rule, rank, whole}
-
-use Rattle.rust_grammar.specs.Meaning.{Reading, Calls, read, meaning, wrapped}
 use Rattle.rust_grammar.proofs.Known.{same_look, is_left, is_never, tells, weakens, implies}
-use Rattle.rust_grammar.proofs.Shapes.{Shape, Blank, Single, Several, HasShape, is_within, join, node_shape, Rooting, Rooted, call_shape, continued_shape, shape, has-shape}
-use Rattle.rust_grammar.proofs.Induction.{HoldOf, meaning-holds}
+use Rattle.rust_grammar.proofs.Shapes.{Shape, Blank, Single, Several, is_within, join, node_shape, Rooting, call_shape, continued_shape, shape}
 
 -- the productions that give one node
 unfoldable pub gives_one : Production → Bool
@@ -64,10 +61,10 @@ starts_with x = Blank
 unfoldable pub rooting : Rooting
 rooting = record { looks = look_of whole; is_one = gives_one; start = starts_with }
 
-unfoldable is_root : Production → Bool
+unfoldable pub is_root : Production → Bool
 is_root x = let part = is_within (shape rooting false (starts_with x) (rule x)) Single in if gives_one x then part else true
 
-all_roots : (x : Production) → is_root x ≡ true
+pub all_roots : (x : Production) → is_root x ≡ true
 unfolding is_root rooting gives_one starts_with shape is_within join node_shape call_shape continued_shape same_look is_left is_never tells weakens implies look_of begins_below begins passes is_silent width shift in_mode there_at rule rank whole expected wanted row one_of any_of is_longer no_longer op paths types patterns expressions statements items
 all_roots source_file = refl
 all_roots macro_items = refl
