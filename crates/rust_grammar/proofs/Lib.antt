@@ -28,3 +28,4 @@ pub mod Fitting
 pub mod Shapes
 pub mod ShapesTable
 pub mod EntriesFit
+pub mod Costs
