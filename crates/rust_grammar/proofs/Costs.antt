@@ -83,8 +83,8 @@ unfoldable pub debt : Prices → Rule → ℕ
 debt g Nothing = 0
 debt g (One x) = 1
 debt g Any = 1
-debt g (Then a b) = max (debt g a + idle g b) (idle g a + debt g b)
-debt g (Near a b) = max (debt g a + idle g b) (idle g a + debt g b)
+debt g (Then a b) = let first = debt g a + idle g b in if takes g.sure a then first else max first (idle g a + debt g b)
+debt g (Near a b) = let first = debt g a + idle g b in if takes g.sure a then first else max first (idle g a + debt g b)
 debt g (Or a b) = max (debt g a) (debt g b)
 debt g (When l a) = debt g a
 debt g (Unless l a) = debt g a
@@ -151,13 +151,14 @@ no-leaf i d s t l r e = inl (record { leaves = l; rest = r; few = e; unsure = re
 -- one after the other
 in-turn :
     (i d j e k f : ℕ) (a b c : Bool) (s t u : Reading)
-    → (a ≡ false → b ≡ false → i + j ≤ k) → d + j ≤ f → i + e ≤ f → e ≤ 64 → (a ≡ false → b ≡ false → c ≡ false)
+    → (a ≡ false → b ≡ false → i + j ≤ k) → d + j ≤ f → (a ≡ false → i + e ≤ f) → e ≤ 64 → (a ≡ false → b ≡ false → c ≡ false)
     → Costs i d a s t → Costs j e b t u → Costs k f c s u
 in-turn i d j e k f a b c s t u p q r z n (inl g) (inl h) =
     let most = p g.unsure h.unsure in
     inl (record { leaves = h.leaves ∙ g.leaves; rest = h.rest ∙ g.rest; few = omega (arith, g.few, h.few, most); unsure = n g.unsure h.unsure })
 in-turn i d j e k f a b c s t u p q r z n (inl g) (inr h) =
-    inr (record { more = h.more; leaves = omega (arith, g.leaves, h.leaves); few = omega (arith, g.few, h.few, r) })
+    let most = r g.unsure in
+    inr (record { more = h.more; leaves = omega (arith, g.leaves, h.leaves); few = omega (arith, g.few, h.few, most) })
 in-turn i d j e k f a b c s t u p q r z n (inr g) (inl h) =
     inr (record { more = g.more; leaves = omega (arith, g.leaves, h.leaves); few = omega (arith, g.few, h.few, q) })
 in-turn i d j e k f a b c s t u p q r z n (inr g) (inr h) =
@@ -168,6 +169,14 @@ if-neither a b k p q = rw (p, q) (omega arith)
 
 if-unsure : (a : Bool) (k : ℕ) → a ≡ false → k ≤ (if a then 0 else k)
 if-unsure a k p = rw p (omega arith)
+
+if-max_left : (a : Bool) (m n : ℕ) → m ≤ (if a then m else max m n)
+if-max_left true m n = omega arith
+if-max_left false m n = le-max_left m n
+
+if-max_right : (a : Bool) (m n : ℕ) → a ≡ false → n ≤ (if a then m else max m n)
+if-max_right true m n p = absurd (true≢false p)
+if-max_right false m n p = le-max_right m n
 
 neither : (a b : Bool) → a ≡ false → b ≡ false → (a || b) ≡ false
 neither a b p q = rw (p, q) refl
@@ -243,7 +252,7 @@ module _ (g : Prices) (call : Calls) (ok : IsPriced g call) where
       let t = read g.looks call c a s in
       in-turn (idle g a) (debt g a) (idle g b) (debt g b) _ _ (takes g.sure a) (takes g.sure b) _ s t (read g.looks call c b t)
       (λ p q. if-neither (takes g.sure a) (takes g.sure b) (idle g a + idle g b) p q)
-      (le-max_left (debt g a + idle g b) (idle g a + debt g b)) (le-max_right (debt g a + idle g b) (idle g a + debt g b)) (leb-true _ _ e)
+      (if-max_left (takes g.sure a) (debt g a + idle g b) (idle g a + debt g b)) (λ p. if-max_right (takes g.sure a) (debt g a + idle g b) (idle g a + debt g b) p) (leb-true _ _ e)
       (λ p q. neither (takes g.sure a) (takes g.sure b) p q) first (second t)
 
   pub costs : (r : Rule) (c : Bool) (s : Reading) → is_paid g r ≡ true → Costs (idle g r) (debt g r) (takes g.sure r) s (read g.looks call c r s)

@@ -29,3 +29,4 @@ pub mod Shapes
 pub mod ShapesTable
 pub mod EntriesFit
 pub mod Costs
+pub mod CostsTable
