@@ -134,7 +134,7 @@ prices = record { looks = look_of whole; sure = claim; idle_of = idle_most; debt
 
 unfoldable pub is_priced : Production → Bool
 is_priced x =
-    is_paid prices (rule x) && nat_le (idle prices (rule x)) (idle_most x) && nat_le (debt prices (rule x)) (debt_most x) && (not (claim x) || takes claim (rule x))
+    is_paid prices (rule x) && nat_le (idle prices (rule x)) (idle_most x) && nat_le (debt prices (rule x)) (debt_most x) && (not (claim x) || takes claim (rule x)) && nat_le 1 (debt_most x) && nat_le (debt_most x) 64 && nat_le (idle_most x) 64
 
 pub all_priced : (x : Production) → is_priced x ≡ true
 unfolding is_priced prices idle_most debt_most is_paid idle debt takes claim look_of begins_below begins passes is_silent width shift in_mode there_at rule rank whole expected wanted row one_of any_of is_longer no_longer op paths types patterns expressions statements items

@@ -30,3 +30,4 @@ pub mod ShapesTable
 pub mod EntriesFit
 pub mod Costs
 pub mod CostsTable
+pub mod Lengths
