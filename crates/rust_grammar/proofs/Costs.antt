@@ -29,7 +29,7 @@ step_count (forest.ErrorLeaf m k f) = 4 + step_count f
 step_count (forest.Node k c f) = 2 + (step_count c + step_count f)
 step_count (forest.Float e c f) = 11 + (step_count c + step_count f)
 
-leaves-then : (f g : Forest) → leaf_count (f then g) ≡ leaf_count f + leaf_count g
+pub leaves-then : (f g : Forest) → leaf_count (f then g) ≡ leaf_count f + leaf_count g
 leaves-then forest.End g = omega arith
 leaves-then (forest.Leaf k n f) g = omega (arith, leaves-then f g)
 leaves-then (forest.Said m f) g = leaves-then f g
@@ -37,7 +37,7 @@ leaves-then (forest.ErrorLeaf m k f) g = omega (arith, leaves-then f g)
 leaves-then (forest.Node k c f) g = omega (arith, leaves-then f g)
 leaves-then (forest.Float e c f) g = omega (arith, leaves-then f g)
 
-steps-then : (f g : Forest) → step_count (f then g) ≡ step_count f + step_count g
+pub steps-then : (f g : Forest) → step_count (f then g) ≡ step_count f + step_count g
 steps-then forest.End g = omega arith
 steps-then (forest.Leaf k n f) g = omega (arith, steps-then f g)
 steps-then (forest.Said m f) g = omega (arith, steps-then f g)
@@ -136,12 +136,12 @@ abbrev pub IsPriced : Prices → Calls → Type 0
 IsPriced g call = (y : Production) (c : Bool) (t : Reading) → Costs (g.idle_of y) (g.debt_of y) (g.sure y) t (call y c t)
 
 -- Costs are no less in general.
-weaker : (i d j e : ℕ) (a b : Bool) (s t : Reading) → i ≤ j → d ≤ e → (a ≡ false → b ≡ false) → Costs i d a s t → Costs j e b s t
+pub weaker : (i d j e : ℕ) (a b : Bool) (s t : Reading) → i ≤ j → d ≤ e → (a ≡ false → b ≡ false) → Costs i d a s t → Costs j e b s t
 weaker i d j e a b s t p q f (inl h) = inl (record { leaves = h.leaves; rest = h.rest; few = omega (arith, h.few, p); unsure = f h.unsure })
 weaker i d j e a b s t p q f (inr h) = inr (record { more = h.more; leaves = h.leaves; few = omega (arith, h.few, q) })
 
 -- one leaf more
-one-leaf : (i d : ℕ) (sure : Bool) (s t : Reading) → leaf_count t.given ≡ leaf_count s.given + 1 → step_count t.given ≤ step_count s.given + d → Costs i d sure s t
+pub one-leaf : (i d : ℕ) (sure : Bool) (s t : Reading) → leaf_count t.given ≡ leaf_count s.given + 1 → step_count t.given ≤ step_count s.given + d → Costs i d sure s t
 one-leaf i d sure s t l e = inr (record { more = 0; leaves = omega (arith, l); few = omega (arith, e) })
 
 -- nothing but some steps

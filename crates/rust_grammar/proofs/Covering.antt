@@ -59,16 +59,16 @@ no-next edition (l ∷ ls) e = elim (cases_Bool (is_trivia l)) [
 ]
 
 -- spellings of a token at least, none of which is a float
-unfoldable no_float : List ℕ → Bool
+unfoldable pub no_float : List ℕ → Bool
 no_float [] = true
 no_float (k ∷ ks) = not (k == FLOAT_NUMBER) && no_float ks
 
-unfoldable are_plain : List Rule → Bool
+unfoldable pub are_plain : List Rule → Bool
 are_plain [] = true
 are_plain (One x ∷ rs) = not (length x.parts == 0) && no_float x.parts && are_plain rs
 are_plain (r ∷ rs) = are_plain rs
 
-marks-plain : are_plain marks ≡ true
+pub marks-plain : are_plain marks ≡ true
 unfolding are_plain no_float marks
 marks-plain = refl
 

@@ -31,3 +31,4 @@ pub mod EntriesFit
 pub mod Costs
 pub mod CostsTable
 pub mod Lengths
+pub mod EntriesShort
