@@ -1,5 +1,5 @@
 -- A test of a table: the steps of what rules give are few for each leaf.
-use Rattle.std.proofs.Common.{◌≡◌, ℕ, zero, suc, ◌+◌, ◌*◌, ◌<◌, ◌≤◌, max, Bool, true, false, ◌&&◌, ◌||◌, List, length, nat_lt, nat_le, refl, sym, ap, subst, ◌∙◌, arith, ◌⊎◌, inl, inr, if◌then◌else◌, true≢false}
+use Rattle.std.proofs.Common.{◌≡◌, ℕ, zero, suc, ◌+◌, ◌*◌, ◌<◌, ◌≤◌, max, Bool, true, false, ◌&&◌, ◌||◌, List, length, nat_lt, nat_le, refl, ap, ◌∙◌, arith, ◌⊎◌, inl, inr, if◌then◌else◌, true≢false}
 use Rattle.std.proofs.Math.Nat.{le-max_left, le-max_right}
 use Rattle.std.proofs.lemmas.Bool.{ltb-true, leb-true}
 use Rattle.parser_input.specs.Input.{Token}
@@ -192,7 +192,7 @@ chosen-cost : (P : Reading → Type 0) (b : Bool) (u v : Reading) → P u → P 
 chosen-cost P true u v p q = p
 chosen-cost P false u v p q = q
 
--- in a node behind what was given, and around it
+-- in a node after what was given, and around it
 in-node : (k i d : ℕ) (a : Bool) (s t : Reading) → Costs i d a (fresh s) t → Costs (if a then 0 else 2 + i) (2 + d) a s (node k s t)
 unfolding fresh node
 in-node k i d a s t (inl h) =
@@ -212,7 +212,7 @@ in-wrap k i d a s t (inl h) =
     inl (record { leaves = omega (arith, h.leaves); rest = h.rest; few = omega (arith, h.few, most); unsure = h.unsure })
 in-wrap k i d a s t (inr h) = inr (record { more = h.more; leaves = omega (arith, h.leaves); few = omega (arith, h.few) })
 
--- a call, behind what was given
+-- a call, after what was given
 in-call : (i d : ℕ) (a : Bool) (s t : Reading) → Costs i d a (fresh s) t → Costs (if a then 0 else i) d a s (behind s t)
 unfolding fresh behind
 in-call i d a s t (inl h) =
@@ -241,8 +241,8 @@ turns-cost i d a zero test turn s z each = no-leaf i (d + i) s s refl refl (omeg
 turns-cost i d a (suc n) test turn s z each =
     chosen-cost (Costs i (d + i) false s) (test s) _ _
     (chosen (Costs i (d + i) false s) (nat_lt (length (turn s).rest) (length s.rest)) _ _
-      (λ e. in-turns i d a s (turn s) (turns n test turn (turn s)) z (ltb-true _ _ e) (each s) (turns-cost i d a n test turn (turn s) z each))
-      (λ e. weaker i d i (d + i) a false s (turn s) (omega arith) (omega arith) (λ h. refl) (each s)))
+    (λ e. in-turns i d a s (turn s) (turns n test turn (turn s)) z (ltb-true _ _ e) (each s) (turns-cost i d a n test turn (turn s) z each))
+    (λ e. weaker i d i (d + i) a false s (turn s) (omega arith) (omega arith) (λ h. refl) (each s)))
     (no-leaf i (d + i) s s refl refl (omega arith))
 
 module _ (g : Prices) (call : Calls) (ok : IsPriced g call) where

@@ -29,7 +29,7 @@ at-token : (l : Leaf) (ls : List Leaf) → is_trivia l ≡ false → from_token 
 unfolding pending
 at-token l ls t = rw t refl
 
--- the leaf that the next token is of, and the leaves behind it
+-- the leaf that the next token is of, and the leaves after it
 record Next (edition : Edition) (ls : List Leaf) (t : Token) (ts : List Token) : Type 0 where
   pub leaf : Leaf
   pub rest : List Leaf
@@ -72,7 +72,7 @@ pub marks-plain : are_plain marks ≡ true
 unfolding are_plain no_float marks
 marks-plain = refl
 
--- so many leaves stand next unbroken, and the tokens of those behind them are the rest
+-- so many leaves stand next unbroken, and the tokens of those after them are the rest
 pub record Stands (edition : Edition) (count : ℕ) (ls : List Leaf) (ts : List Token) : Type 0 where
   pub unbroken : is_unbroken count ls ≡ true
   pub more : input edition (drop count ls) ≡ ts
@@ -167,15 +167,15 @@ float-stands edition e ls (t ∷ ts) i f =
     let kind : (n.leaf.kind == FLOAT_NUMBER) ≡ true = ap (λ (u : Token). u.kind == FLOAT_NUMBER) n.token ∙ and_l (t.kind == FLOAT_NUMBER) _ f in
     let joint : not (ends_in_dot n.leaf.text) ≡ t.joint = sym (rw kind refl) ∙ ap (λ (u : Token). u.joint) n.token in
     let mark : (if e then not t.joint else t.joint) ≡ true = and_r (t.kind == FLOAT_NUMBER) _ f in
-    let split : is_split_at e (n.leaf ∷ n.rest) ≡ true = rw kind (told e (ends_in_dot n.leaf.text) t.joint joint mark) in
+    let split : is_split_at e (n.leaf ∷ n.rest) ≡ true = rw kind (marked e (ends_in_dot n.leaf.text) t.joint joint mark) in
     (ap (λ (us : List Leaf). is_split_at e us) n.are ∙ split, ap (λ (us : List Leaf). input edition (drop 1 us)) n.are ∙ n.more)
   where
-    told : (e d j : Bool) → not d ≡ j → (if e then not j else j) ≡ true → (if e then d else not d) ≡ true
-    told true true j i m = refl
-    told true false j i m = ap not i ∙ m
-    told false d j i m = i ∙ m
+    marked : (e d j : Bool) → not d ≡ j → (if e then not j else j) ≡ true → (if e then d else not d) ≡ true
+    marked true true j i m = refl
+    marked true false j i m = ap not i ∙ m
+    marked false d j i m = i ∙ m
 
--- where trees lead: the steps behind them cover the leaves that are left
+-- where trees lead: the steps after them cover the leaves that are left
 pub record Covers (edition : Edition) (f : Forest) (ss : List Step) (ls : List Leaf) (us : List Token) : Type 0 where
   pub rest : List Leaf
   pub tokens : input edition rest ≡ us

@@ -1,17 +1,14 @@
 -- The steps of each entry's tree are those of one node, and fit every text with that input.
-use Rattle.std.proofs.Common.{◌≡◌, Bool, true, false, List, refl, sym, if◌then◌else◌, true≢false}
+use Rattle.std.proofs.Common.{◌≡◌, Bool, true, false, refl, sym, if◌then◌else◌, true≢false}
 use Rattle.parser_input.specs.Kinds.{ERROR}
 use Rattle.parser_input.specs.Input.{input}
-use Rattle.parser_input.specs.Leaf.{Leaf}
-use Rattle.parser_input.specs.declared.edition.Edition.{Edition}
-use Rattle.parser_events.specs.Fits.{IsRooted, fits}
+use Rattle.parser_events.specs.Fits.{IsRooted}
 use Rattle.parser_events.specs.Forest as forest
 use Rattle.parser_events.specs.Forest.{Forest}
-use Rattle.parser_events.specs.Steps.{steps}
 use Rattle.rust_grammar.specs.Rule.{Production, source_file, macro_items, macro_statements, pattern, any_type, expression, meta}
 use Rattle.rust_grammar.specs.Meaning.{Reading, Calls, read, meaning, sees, look_of, wrapped}
 use Rattle.rust_grammar.specs.Entry.{is_used_up, takes_all, entry}
-use Rattle.rust_grammar.specs.Laws.{is_entry, entry_of, EntriesFit, ProductionsTakeInOrder, EntriesTakeAllInOrder}
+use Rattle.rust_grammar.specs.Laws.{is_entry, entry_of, EntriesAreRooted, EntriesFit, ProductionsTakeInOrder, EntriesTakeAllInOrder}
 use Rattle.rust_grammar.specs.Spelled.{tokens_after}
 use Rattle.rust_grammar.specs.Whole.{rule, whole}
 use Rattle.rust_grammar.proofs.Known.{if-second}
@@ -67,10 +64,10 @@ entries-one meta e = (refl, refl)
 entries-one x e = absurd (true≢false (sym e))
 
 -- The three facts of an entry that a document is built on, of which this is the first.
-pub entry-rooted : (x : Production) → is_entry x ≡ true → (edition : Edition) (ls : List Leaf) → IsRooted (entry_of x edition ls)
+pub entry-rooted : EntriesAreRooted
 unfolding entry
-entry-rooted x e edition ls =
-    let start : Reading = record { given = forest.End; rest = input edition ls } in
+entry-rooted x ts e =
+    let start : Reading = record { given = forest.End; rest = ts } in
     let s = meaning whole x false start in
     let one = entries-one x e in
     let own : IsRooted s.given = productions-root x false start one.0 one.1 in
@@ -78,11 +75,8 @@ entry-rooted x e edition ls =
     (λ i. chosen-forest IsRooted (sees false start (look_of whole x)) _ _ (λ j. chosen-forest IsRooted (is_used_up s.rest) _ _ (λ k. own) (λ k. tt)) (λ j. tt))
 
 -- the second
-pub entry-fits : (x : Production) → is_entry x ≡ true → (edition : Edition) (ls : List Leaf) → fits (steps (entry_of x edition ls)) ls ≡ true
-entry-fits x e edition ls = rooted-fits edition ls (entry_of x edition ls) (entry-rooted x e edition ls) (entries-in-order x (input edition ls))
-
-pub entries-fit : EntriesFit
-entries-fit x e edition leaves = (entry-rooted x e edition leaves, entry-fits x e edition leaves)
+pub entry-fits : EntriesFit
+entry-fits x edition ls e = rooted-fits edition ls (entry_of x edition ls) (entry-rooted x (input edition ls) e) (entries-in-order x (input edition ls))
 
 pub productions-take-in-order : ProductionsTakeInOrder
 unfolding tokens_after

@@ -1,5 +1,5 @@
 -- The dressed tree of an entry has few steps for each leaf of its text.
-use Rattle.std.proofs.Common.{◌≡◌, ℕ, zero, suc, ◌+◌, ◌*◌, ◌^◌, ◌<◌, ◌≤◌, Bool, true, false, not, ◌&&◌, ◌||◌, ◌==◌, List, [], ◌∷◌, length, drop, nat_le, Option, Some, None, refl, sym, ap, subst, ◌∙◌, arith, inl, inr, if◌then◌else◌, true≢false}
+use Rattle.std.proofs.Common.{◌≡◌, ℕ, ◌+◌, ◌*◌, ◌≤◌, Bool, true, false, not, ◌&&◌, ◌||◌, ◌==◌, List, [], ◌∷◌, length, drop, Some, refl, sym, ap, subst, ◌∙◌, arith, inl, inr, true≢false}
 use Rattle.std.proofs.lemmas.Bool.{leb-true, or_cases, eqb-true}
 use Rattle.std.proofs.lemmas.List.{length-drop}
 use Rattle.parser_input.specs.Kinds.{ERROR}
@@ -12,7 +12,6 @@ use Rattle.parser_events.specs.Forest.{Forest, UnexpectedTokens, ◌then◌}
 use Rattle.parser_events.specs.TextSteps.{text_steps}
 use Rattle.rust_grammar.specs.Rule.{Production, Rule, One}
 use Rattle.rust_grammar.specs.Meaning.{Reading, Calls, read, meaning, sees, look_of, leaf}
-use Rattle.rust_grammar.specs.Notation.{wanted}
 use Rattle.rust_grammar.specs.Entry.{leaves, is_used_up, takes_all, entry}
 use Rattle.rust_grammar.specs.Laws.{is_entry, entry_of}
 use Rattle.rust_grammar.specs.Spelled.{marks, are_next, is_token, is_contextual, is_one_of, is_spelled, is_float, drop_if, then_after, tokens_after}
@@ -21,7 +20,7 @@ use Rattle.rust_grammar.proofs.Plain.{and_l, and_r}
 use Rattle.rust_grammar.proofs.Fine.{takes}
 use Rattle.rust_grammar.proofs.WholeTable.{claim}
 use Rattle.rust_grammar.proofs.Covering.{no_float, are_plain, marks-plain, after-some, dropped}
-use Rattle.rust_grammar.proofs.Costs.{leaf_count, step_count, leaves-then, steps-then, Prices, idle, debt, is_paid, Costs, IsPriced, weaker, one-leaf, costs}
+use Rattle.rust_grammar.proofs.Costs.{leaf_count, step_count, leaves-then, steps-then, idle, debt, is_paid, Costs, IsPriced, weaker, one-leaf, costs}
 use Rattle.rust_grammar.proofs.CostsTable.{idle_most, debt_most, prices, is_priced, all_priced}
 use Rattle.rust_grammar.proofs.EntriesInOrder.{chosen-forest, entries-in-order}
 use Rattle.rust_grammar.proofs.EntriesFit.{entry-rooted, entry-fits}
@@ -113,13 +112,13 @@ entry-steps x ts =
     let own = read-short x false ts in
     chosen-forest (λ (f : Forest). step_count f ≤ 64 * leaf_count f + 67) (takes_all x) _ _ (λ i. omega (arith, own))
     (λ i. chosen-forest (λ (f : Forest). step_count f ≤ 64 * leaf_count f + 67) (sees false start (look_of whole x)) _ _
-      (λ j. chosen-forest (λ (f : Forest). step_count f ≤ 64 * leaf_count f + 67) (is_used_up s.rest) _ _ (λ k. omega (arith, own))
-        (λ k.
-          let steps = steps-then s.given (forest.Said UnexpectedTokens (leaves s.rest)) in
-          let count = leaves-then s.given (forest.Said UnexpectedTokens (leaves s.rest)) in
-          let rest = leaves-short s.rest in
-          omega (arith, own, steps, count, rest)))
-      (λ j. let all = leaves-short ts in omega (arith, all)))
+    (λ j. chosen-forest (λ (f : Forest). step_count f ≤ 64 * leaf_count f + 67) (is_used_up s.rest) _ _ (λ k. omega (arith, own))
+    (λ k.
+    let steps = steps-then s.given (forest.Said UnexpectedTokens (leaves s.rest)) in
+    let count = leaves-then s.given (forest.Said UnexpectedTokens (leaves s.rest)) in
+    let rest = leaves-short s.rest in
+    omega (arith, own, steps, count, rest)))
+    (λ j. let all = leaves-short ts in omega (arith, all)))
 
 -- Each leaf takes a token.
 row-takes : (ks : List ℕ) (ts : List Token) → not (length ks == 0) ≡ true → are_next ks ts ≡ true → length (drop (length ks) ts) + 1 ≤ length ts
@@ -194,10 +193,10 @@ leaves-take (forest.Float b c f) ts us e =
     omega (arith, inside, more, count, ap (λ (vs : List Token). length vs) taken.1)
 
 -- The third fact of an entry that a document is built on: its dressed tree has at most 65 steps for each leaf, and 67.
-pub entry-short : (x : Production) → is_entry x ≡ true → (edition : Edition) (ls : List Leaf) → length (text_steps (dress_root (entry_of x edition ls) ls)) ≤ 65 * length ls + 67
-entry-short x e edition ls =
+pub entry-short : (x : Production) (edition : Edition) (ls : List Leaf) → is_entry x ≡ true → length (text_steps (dress_root (entry_of x edition ls) ls)) ≤ 65 * length ls + 67
+entry-short x edition ls e =
     let f = entry_of x edition ls in
-    let dressed = dressed-most f ls (entry-rooted x e edition ls) (entry-fits x e edition ls) in
+    let dressed = dressed-most f ls (entry-rooted x (input edition ls) e) (entry-fits x edition ls e) in
     let few = entry-steps x (input edition ls) in
     let taken = leaves-take f (input edition ls) [] (entries-in-order x (input edition ls)) in
     let most = input-most edition ls in

@@ -15,7 +15,7 @@ use Rattle.rust_grammar.proofs.Known.{both-if-l, both-if-r}
 use Rattle.rust_grammar.proofs.Spelling.{Sound, IsInOrder, more-in-order}
 use Rattle.rust_grammar.proofs.Spelled.{chosen, in-order, any-there, then-some}
 use Rattle.rust_grammar.proofs.SpelledTable.{claims, asks_nothing, gives_something, is_one_word, ends_before, known, all_safe}
-use Rattle.rust_grammar.proofs.Words.{word-path, path-ends}
+use Rattle.rust_grammar.proofs.WordPaths.{word-path, path-ends}
 use Rattle.rust_grammar.proofs.Induction.{HoldOf, meaning-holds}
 
 -- begun where it is read

@@ -6,7 +6,7 @@ use Rattle.rust_grammar.specs.Meaning.{Reading, Calls, read, look_of, meaning}
 use Rattle.rust_grammar.specs.Whole.{rule, whole}
 use Rattle.rust_grammar.proofs.Plain.{IsBelow, AgreesBelow, all_facts, plain_step, meaning_is_plain, fine-rank, and_l, and_r}
 use Rattle.rust_grammar.proofs.WholeTable.{claim, all_fine}
-use Rattle.rust_grammar.proofs.Spelling.{or-first, or-second}
+use Rattle.rust_grammar.proofs.Spelling.{both-true, or-first, or-second}
 
 -- a call that a production makes which began with so many tokens
 unfoldable is_made : Production → ℕ → Production → Reading → Bool
@@ -15,10 +15,6 @@ is_made x n y t = nat_lt (length t.rest) n || (nat_le (length t.rest) n && nat_l
 -- It gives what the called production means. Of other calls it makes no difference what they give.
 unfoldable made : Calls → Production → ℕ → Calls
 made other x n y d t = if is_made x n y t then meaning whole y d t else other y d t
-
-both-true : (a b : Bool) → a ≡ true → b ≡ true → (a && b) ≡ true
-both-true true b e f = f
-both-true false b e f = e
 
 is-made : (x : Production) (n : ℕ) (y : Production) (t : Reading) → IsBelow whole x n y t → is_made x n y t ≡ true
 unfolding is_made

@@ -1,10 +1,9 @@
 -- How many steps the trees of the entries have, and how many their dressed trees.
-use Rattle.std.proofs.Common.{◌≡◌, ℕ, zero, suc, ◌+◌, ◌*◌, ◌-◌, ◌^◌, ◌<◌, ◌≤◌, Bool, true, false, not, ◌&&◌, ◌||◌, ◌==◌, List, [], ◌∷◌, ◌++◌, length, take, drop, nat_le, Option, Some, None, refl, sym, ap, subst, ◌∙◌, arith, inl, inr, length-append, if◌then◌else◌, true≢false}
+use Rattle.std.proofs.Common.{◌≡◌, ℕ, suc, ◌+◌, ◌-◌, ◌≤◌, Bool, true, false, List, [], ◌∷◌, ◌++◌, length, take, drop, refl, ap, arith, inl, inr, length-append}
 use Rattle.std.specs.List.{prefix_len}
-use Rattle.std.proofs.lemmas.Bool.{cases_Bool, leb-true, or_cases, eqb-true}
+use Rattle.std.proofs.lemmas.Bool.{cases_Bool}
 use Rattle.std.proofs.lemmas.List.{length-drop, take-append-drop}
-use Rattle.parser_input.specs.Kinds.{ERROR}
-use Rattle.parser_input.specs.Input.{Token, input, token_of}
+use Rattle.parser_input.specs.Input.{input}
 use Rattle.parser_input.specs.Leaf.{Leaf, is_trivia}
 use Rattle.parser_input.specs.declared.edition.Edition.{Edition}
 use Rattle.parser_events.specs.Dress.{dress_root, joined, is_empty, from_dot, next_text, reach}
@@ -12,14 +11,13 @@ use Rattle.parser_events.specs.Fits.{fits, IsRooted}
 use Rattle.parser_events.specs.Forest as forest
 use Rattle.parser_events.specs.Forest.{Forest, UnexpectedTokens, ◌then◌}
 use Rattle.parser_events.specs.Laying.{Place, behind, behind_pending, outside, behind_step, split_steps, put_by, put_inside, put_around}
-use Rattle.parser_events.specs.Laws.{DressedIsPut}
 use Rattle.parser_events.specs.Steps as walk
 use Rattle.parser_events.specs.Steps.{Step, steps}
 use Rattle.parser_events.specs.TextSteps as text
 use Rattle.parser_events.specs.TextSteps.{TextStep, text_steps, leaf_steps}
 use Rattle.parser_events.specs.Trivia.{pending, attached}
 use Rattle.parser_events.proofs.Coverings.{attached-most, dressed-is-put}
-use Rattle.rust_grammar.proofs.Costs.{leaf_count, step_count}
+use Rattle.rust_grammar.proofs.Costs.{step_count}
 
 leaf-count : (ls : List Leaf) → length (leaf_steps ls) ≡ length ls
 leaf-count [] = refl

@@ -8,15 +8,15 @@ pub mod WholeTable
 pub mod OnlyWhole
 pub mod Parts
 pub mod PartsOfWhole
-pub mod Rooted
 pub mod Examples
 pub mod Productions
 pub mod Known
+pub mod Elsewhere
 pub mod Spelling
 pub mod Spelled
 pub mod SpelledTable
 pub mod Shrinks
-pub mod Words
+pub mod WordPaths
 pub mod Induction
 pub mod InOrder
 pub mod Moving

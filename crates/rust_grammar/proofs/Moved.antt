@@ -18,9 +18,10 @@ use Rattle.rust_grammar.specs.Entry.{takes_all}
 use Rattle.rust_grammar.proofs.Plain.{all_facts}
 use Rattle.rust_grammar.proofs.WholeTable.{claim, all_fine, whole-means}
 use Rattle.rust_grammar.proofs.Parts.{asks_tokens}
-use Rattle.rust_grammar.proofs.Known.{same_look, is_left, is_never, tells, weakens, implies, implied, never-seen, either-if, cut, sift, anew, asks, without, down, all_down, back, asked}
+use Rattle.rust_grammar.proofs.Known.{same_look, is_left, is_never, tells, weakens, implies, implied, never-seen, either-if, cut, sift}
+use Rattle.rust_grammar.proofs.Elsewhere.{anew, asks, without, down, all_down, back, asked}
 use Rattle.rust_grammar.proofs.Spelling.{at}
-use Rattle.rust_grammar.proofs.Words.{gives, star-ends}
+use Rattle.rust_grammar.proofs.WordPaths.{gives, star-ends}
 use Rattle.rust_grammar.proofs.Moving.{Moved, unmoved_calls, unmoved_option, unmoved, moves, takes-token}
 use Rattle.rust_grammar.proofs.MovedTable.{moves_where, movers, is_mover, all_move}
 use Rattle.rust_grammar.proofs.Induction.{HoldOf, meaning-holds}

@@ -11,7 +11,8 @@ use Rattle.rust_grammar.specs.Statements.{statements}
 use Rattle.rust_grammar.specs.Items.{items}
 use Rattle.rust_grammar.specs.Whole.{rule, rank, whole}
 use Rattle.rust_grammar.proofs.Parts.{asks_tokens}
-use Rattle.rust_grammar.proofs.Known.{same_look, is_left, is_never, tells, weakens, implies, cut, sift, anew, asks, without, down, all_down, back, asked}
+use Rattle.rust_grammar.proofs.Known.{same_look, is_left, is_never, tells, weakens, implies, cut, sift}
+use Rattle.rust_grammar.proofs.Elsewhere.{anew, asks, without, down, all_down, back, asked}
 use Rattle.rust_grammar.proofs.WholeTable.{claim}
 use Rattle.rust_grammar.proofs.Spelling.{at}
 use Rattle.rust_grammar.proofs.Moving.{Movers, unmoved_calls, unmoved_option, unmoved, moves}

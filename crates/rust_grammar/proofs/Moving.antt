@@ -6,7 +6,8 @@ use Rattle.parser_input.specs.Input.{Token}
 use Rattle.rust_grammar.specs.Rule.{Production, Rule, Look, Always, Never, Nothing, One, Any, Then, Near, Or, Opt, Star, Node, Wrap, Want, Say, Skip, Split, When, Unless, Call, Continue, Mode, begins, there_at}
 use Rattle.rust_grammar.specs.Meaning.{Reading, Calls, read, sees, fresh, leaf, say, skip, split, node, wrapped, behind, turns}
 use Rattle.rust_grammar.proofs.Plain.{and_l, and_r}
-use Rattle.rust_grammar.proofs.Known.{either-if, implies, implied, cut, cut-seen, anew, anew-seen, without, without-seen, asked, asked-seen, IsMode}
+use Rattle.rust_grammar.proofs.Known.{either-if, implies, implied, cut, cut-seen}
+use Rattle.rust_grammar.proofs.Elsewhere.{anew, anew-seen, without, without-seen, asked, asked-seen, IsMode}
 use Rattle.rust_grammar.proofs.Spelling.{at}
 use Rattle.rust_grammar.proofs.Spelled.{chosen, at-seen}
 use Rattle.rust_grammar.proofs.Shrinks.{shorter-after, turns-shrink, no-turns}

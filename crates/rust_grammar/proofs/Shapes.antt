@@ -100,7 +100,7 @@ join-second Single Blank f h = tt
 join-second Single Several f h = tt
 join-second Several q f h = tt
 
--- one node behind nothing
+-- one node after nothing
 node-holds : (p : Shape) (f h : Forest) → HasShape p f → IsRooted h → HasShape (node_shape p) (f then h)
 unfolding node_shape
 node-holds Blank f h e r = subst (λ (k : Forest). IsRooted (k then h)) (sym e) r

@@ -9,7 +9,8 @@ use Rattle.rust_grammar.specs.Rule.{Production, Rule, Spelling, Look, Always, Ne
 use Rattle.rust_grammar.specs.Meaning.{Reading, Calls, read, sees, ahead, fresh, is_end, leaf, say, skip, split, node, wrapped, behind, turns}
 use Rattle.rust_grammar.specs.Spelled.{marks, is_token, is_contextual, is_one_of, is_spelled, drop_if, then_after, tokens_after}
 use Rattle.rust_grammar.proofs.Plain.{and_l, and_r}
-use Rattle.rust_grammar.proofs.Known.{either-if, both-if-l, both-if-r, if-first, if-second, if-both, implies, implied, cut, cut-seen, sift, sift-seen, anew, anew-seen, without, without-seen, back-seen, asked, asked-seen, IsMode}
+use Rattle.rust_grammar.proofs.Known.{either-if, both-if-l, both-if-r, if-first, if-second, if-both, implies, implied, cut, cut-seen, sift, sift-seen}
+use Rattle.rust_grammar.proofs.Elsewhere.{anew, anew-seen, without, without-seen, back-seen, asked, asked-seen, IsMode}
 use Rattle.rust_grammar.proofs.Spelling.{Claims, Sound, IsInOrder, counts, denies, denies_first, decided, past, after_call, after_calls, after_option, after_other, after, at, no_end, is_among, is_word, is_mark, safe, more-in-order, or-first, or-second, token-seen, contextual-seen, own-token, float-seen, spelling-seen, among-marks, unlike}
 
 -- one of two readings
@@ -108,7 +109,7 @@ module _ (c : Bool) (s t : Reading) (ps : List ℕ) (taken : sees c s (there_at 
   past-seen Given h = decided-seen Given Always h refl
   past-seen (Not a) h = decided-seen (Not a) Always h refl
 
--- what is given does not end where more is given behind it
+-- something is given where more is given after it
 pub then-some : (f h : Forest) → is_end h ≡ false → is_end (f then h) ≡ false
 unfolding is_end
 then-some forest.End h e = e

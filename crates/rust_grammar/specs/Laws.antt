@@ -84,16 +84,6 @@ CallsBeginAnew =
     (x : Production) (in_condition : Bool) (s : Reading)
     → 0 < length s.rest → sees in_condition s (look_of all.whole x) ≡ sees in_condition (fresh s) (look_of all.whole x)
 
--- A file, and the items and the statements of a macro, are one node, whatever the tokens are.
-abbrev pub ListsAreRooted : Type 0
-ListsAreRooted =
-    (tokens : List Token)
-    → IsRooted (entry all.whole source_file tokens) × IsRooted (entry all.whole macro_items tokens) × IsRooted (entry all.whole macro_statements tokens)
-
--- So is the inside of an attribute.
-abbrev pub AttributesAreRooted : Type 0
-AttributesAreRooted = (tokens : List Token) → IsRooted (entry all.whole meta tokens)
-
 -- Where a production begins, what it gives stands over the tokens that it takes: its leaves one after another, each over tokens
 -- that are spelled as its kind says.
 abbrev pub ProductionsTakeInOrder : Type 0
@@ -118,12 +108,16 @@ is_entry expression = true
 is_entry meta = true
 is_entry x = false
 
+-- The tree of such an entry is one node, whatever the tokens are.
+abbrev pub EntriesAreRooted : Type 0
+EntriesAreRooted = (x : Production) (tokens : List Token) → is_entry x ≡ true → IsRooted (entry all.whole x tokens)
+
 -- the tree of an entry with these leaves
 abbrev pub entry_of : Production → Edition → List Leaf → Forest
 entry_of x edition leaves = entry all.whole x (input edition leaves)
 
--- It is one node, and its steps fit every text with that input.
+-- Its steps fit every text with that input.
 abbrev pub EntriesFit : Type 0
 EntriesFit =
-    (x : Production) → is_entry x ≡ true
-    → (edition : Edition) (leaves : List Leaf) → IsRooted (entry_of x edition leaves) × (fits (steps (entry_of x edition leaves)) leaves ≡ true)
+    (x : Production) (edition : Edition) (leaves : List Leaf)
+    → is_entry x ≡ true → fits (steps (entry_of x edition leaves)) leaves ≡ true
