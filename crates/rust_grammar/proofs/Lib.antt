@@ -32,3 +32,5 @@ pub mod Costs
 pub mod CostsTable
 pub mod Lengths
 pub mod EntriesShort
+pub mod TokenTrees
+pub mod TokenTreesTable

@@ -11,6 +11,7 @@ use Rattle.rust_grammar.specs.Meaning.{Reading, Calls, read, sees, fresh, look_o
 use Rattle.rust_grammar.specs.Parts.{repeated, nearby}
 use Rattle.rust_grammar.specs.Entry.{entry}
 use Rattle.rust_grammar.specs.Spelled.{tokens_after}
+use Rattle.rust_grammar.specs.TokenTrees.{are_token_trees_bracketed}
 use Rattle.rust_grammar.specs.Whole as all
 
 -- These are places where the productions of the whole grammar can begin: each begins where its rule does.
@@ -121,3 +122,8 @@ abbrev pub EntriesFit : Type 0
 EntriesFit =
     (x : Production) (edition : Edition) (leaves : List Leaf)
     → is_entry x ≡ true → fits (steps (entry_of x edition leaves)) leaves ≡ true
+
+-- In the tree of an entry each token tree begins with an opening bracket, and ends with its partner or the message that it is
+-- missing.
+abbrev pub TokenTreesAreBracketed : Type 0
+TokenTreesAreBracketed = (x : Production) (tokens : List Token) → are_token_trees_bracketed (entry all.whole x tokens) ≡ true

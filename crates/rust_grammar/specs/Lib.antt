@@ -15,4 +15,5 @@ pub mod Entry
 pub mod Examples
 pub mod Parts
 pub mod Spelled
+pub mod TokenTrees
 pub mod Laws

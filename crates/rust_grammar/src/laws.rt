@@ -1,7 +1,7 @@
 //! Laws of the definitions. Each is the contract of a function that makes no call.
 
 ghost use Rattle.rust_grammar.specs.Examples.{ExamplesAreRight};
-ghost use Rattle.rust_grammar.specs.Laws.{CallsBeginAnew, EachProductionHasARule, EntriesAreRooted, EntriesFit, EntriesTakeAllInOrder, OnlyOneBeginning, OnlyOneReading, PartsLookAhead, ProductionsTakeInOrder, RepetitionsAreReadTurnByTurn, WholeProductionsBeginAsTheirRules, WholeProductionsMeanTheirRules};
+ghost use Rattle.rust_grammar.specs.Laws.{CallsBeginAnew, EachProductionHasARule, EntriesAreRooted, EntriesFit, EntriesTakeAllInOrder, OnlyOneBeginning, OnlyOneReading, PartsLookAhead, ProductionsTakeInOrder, RepetitionsAreReadTurnByTurn, TokenTreesAreBracketed, WholeProductionsBeginAsTheirRules, WholeProductionsMeanTheirRules};
 
 /// A production gives what its rule gives, where each production that the rule calls gives what it means; each has a rule, and
 /// begins where its rule does.
@@ -40,6 +40,11 @@ pub fn leaves_are_spelled()
 pub fn entries_fit()
     ensures rooted { EntriesAreRooted }
     ensures fit { EntriesFit }
+{}
+
+/// Each token tree begins with an opening bracket, and ends with its partner or the message that it is missing.
+pub fn token_trees_are_bracketed()
+    ensures { TokenTreesAreBracketed }
 {}
 
 /// Some inputs, with the trees that the grammar gives them.
