@@ -1,0 +1,4 @@
+//! Tests of numbered trees and of what a rewrite makes of them.
+#![tactic(auto)]
+
+pub mod laws;

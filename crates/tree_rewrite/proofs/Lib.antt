@@ -1,0 +1,6 @@
+pub mod NumberLemmas
+pub mod Plans
+pub mod PutLemmas
+pub mod OrderLemmas
+pub mod JobLemmas
+pub mod MarkedLemmas
