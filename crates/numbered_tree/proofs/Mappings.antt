@@ -1,6 +1,7 @@
 -- What a longer mapping gives.
-use Rattle.std.proofs.Common.{◌≡◌, ℕ, ◌+◌, ◌<◌, List, [], ◌∷◌, ◌++◌, length, take, get_or, Option, Some, None, Bool, true, false, refl, ap, sym, ◌∙◌, cond, arith}
+use Rattle.std.proofs.Common.{◌≡◌, ℕ, suc, ◌-◌, ◌<◌, ◌≤◌, nat_eq, ◌&&◌, [], ◌∷◌, ◌++◌, length, take, get_or, Option, Some, None, Bool, true, false, refl, ap, sym, ◌∙◌, cond, arith}
 use Rattle.std.proofs.Math.Seq.{take-suc}
+use Rattle.std.proofs.lemmas.Bool.{ne_eqb}
 use Rattle.numbered_tree.specs.Element.{Element, same_element}
 use Rattle.numbered_tree.specs.Mapping.{Mapping, or_else, image_of}
 
@@ -18,3 +19,34 @@ image_of-append [] m e = by_answer (cond (same_element m.0 e) (Some m.1) None)
 image_of-append (n ∷ ms) m e =
     ap (λ o. or_else o (cond (same_element n.0 e) (Some n.1) None)) (image_of-append ms m e)
     ∙ or_else_assoc (cond (same_element m.0 e) (Some m.1) None) (image_of ms e) (cond (same_element n.0 e) (Some n.1) None)
+
+whole_last : (ms : Mapping) (n : ℕ) (m : Element × Element) (e : Element) → n < length ms → m ≡ get_or ms n m
+    → image_of (take (suc n) ms) e ≡ or_else (cond (same_element m.0 e) (Some m.1) None) (image_of (take n ms) e)
+whole_last ms n m e h is =
+    ap (λ l. image_of l e) (take-suc ms n m h)
+    ∙ ap (λ x. image_of (take n ms ++ x ∷ []) e) (sym is)
+    ∙ image_of-append (take n ms) m e
+
+-- one entry more: the last of `b`
+image_of-last : (ms : Mapping) (b : ℕ) (m : Element × Element) (e : Element) → 0 < b → b ≤ length ms → m ≡ get_or ms (b - 1) m
+    → image_of (take b ms) e ≡ or_else (cond (same_element m.0 e) (Some m.1) None) (image_of (take (b - 1) ms) e)
+image_of-last ms b m e some within is =
+    let one_more : b ≡ suc (b - 1) = omega arith in
+    ap (λ k. image_of (take k ms) e) one_more ∙ whole_last ms (b - 1) m e (omega arith) is
+
+pub image_of-found : (ms : Mapping) (b : ℕ) (m : Element × Element) (e : Element) → 0 < b → b ≤ length ms → m ≡ get_or ms (b - 1) m
+    → same_element m.0 e ≡ true → image_of (take b ms) e ≡ Some m.1
+image_of-found ms b m e some within is same =
+    image_of-last ms b m e some within is ∙ ap (λ s. or_else (cond s (Some m.1) None) (image_of (take (b - 1) ms) e)) same
+
+pub image_of-passed : (ms : Mapping) (b : ℕ) (m : Element × Element) (e : Element) → 0 < b → b ≤ length ms → m ≡ get_or ms (b - 1) m
+    → same_element m.0 e ≡ false → image_of (take b ms) e ≡ image_of (take (b - 1) ms) e
+image_of-passed ms b m e some within is differs =
+    image_of-last ms b m e some within is ∙ ap (λ s. or_else (cond s (Some m.1) None) (image_of (take (b - 1) ms) e)) differs
+
+pub number_differs : (a b : ℕ) (x : Bool) → (a ≡ b → ⊥) → nat_eq a b && x ≡ false
+number_differs a b x h = ap (λ s. s && x) (ne_eqb a b h)
+
+pub way_differs : (x y : Bool) → y ≡ false → x && y ≡ false
+way_differs true y h = h
+way_differs false y h = refl

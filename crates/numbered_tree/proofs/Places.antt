@@ -1,10 +1,10 @@
 -- A place that is not a root's is a child's.
-use Rattle.std.proofs.Common.{◌≡◌, ℕ, ◌+◌, ◌<◌, List, [], ◌∷◌, ◌++◌, length, Option, Some, None, ap, sym, ◌∙◌, slice_get, option_map, arith, append_assoc}
+use Rattle.std.proofs.Common.{◌≡◌, ℕ, ◌<◌, [], ◌∷◌, length, Some, None, ap, sym, ◌∙◌, slice_get}
 use Rattle.std.proofs.lemmas.Option.{slice_get_within, same_Some, none-some}
 use Rattle.rowan_green.specs.Forest.{Tree}
 use Rattle.rowan_green.specs.Term.{Term, children_of}
 use Rattle.rowan_green.specs.declared.utility_types.NodeOrToken.TheVariants.{Node}
-use Rattle.rowan.specs.Place.{Place, above, term_by, term_at, children_in, index_of}
+use Rattle.rowan.specs.Place.{Place, above, term_by, children_in, index_of}
 use Rattle.numbered_tree.specs.Element.{Way, Element, element_at, term_of}
 use Rattle.numbered_tree.specs.Handle.{parent_of}
 
