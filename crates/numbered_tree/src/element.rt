@@ -2,7 +2,7 @@
 ghost use Rattle.std.specs.Prelude.{◌≡◌, ◌+◌, reverse, IfOk, Some};
 ghost use Rattle.rowan.specs.Place.{kind_at, start_of, end_of, index_of};
 ghost use Rattle.numbered_tree.specs.Language.{kind_of_raw};
-ghost use Rattle.numbered_tree.specs.Element.{term_of};
+ghost use Rattle.numbered_tree.specs.Element.{term_of, is_node};
 ghost use Rattle.numbered_tree.specs.Handle.{element_of, parent_of};
 
 use crate::handle::{SyntaxNode, SyntaxToken};
@@ -107,6 +107,21 @@ impl SyntaxElement {
         match self {
             SyntaxElement::Node(node) => node.parent(),
             SyntaxElement::Token(token) => token.parent(),
+        }
+    }
+
+    pub fn is_node(&self) -> bool
+        ensures { result ≡ is_node (term_of (element_of self.now)) }
+    {
+        match self {
+            SyntaxElement::Node(node) => {
+                let _stands = node.cursor().green();
+                true
+            }
+            SyntaxElement::Token(token) => {
+                let _stands = token.cursor().green();
+                false
+            }
         }
     }
 

@@ -1,7 +1,7 @@
 -- Jobs of changes that do not collide set no slot twice.
-use Rattle.std.proofs.Common.{◌≡◌, ℕ, zero, suc, ◌+◌, ◌-◌, ◌≤◌, ◌<◌, List, [], ◌∷◌, ◌++◌, length, take, reverse, Option, Some, None, Bool, true, false, ◌&&◌, ◌||◌, not, eqb, ltb, leb, refl, ap, sym, ◌∙◌, arith, subst, cond, ⊎_elim, ◌⊎◌, inl, inr, length-append, append_assoc, is_none, is_some, option_map, option_and_then, slice_get}
+use Rattle.std.proofs.Common.{◌≡◌, ℕ, zero, suc, ◌+◌, ◌-◌, ◌≤◌, ◌<◌, List, [], ◌∷◌, ◌++◌, length, take, reverse, Option, Some, None, Bool, true, false, ◌&&◌, not, leb, refl, ap, sym, ◌∙◌, arith, subst, cond, length-append, is_none, is_some, option_map, option_and_then, slice_get}
 use Rattle.std.specs.List.{filter, list_any}
-use Rattle.std.proofs.lemmas.Bool.{eqb-true, eqb-false, eq-eqb, leb-true, le-leb, cases_Bool, and_parts, and_from, or_cases, or_parts, or_left, or_right, or_from, false≢true, both_ways, not-true, cases_order, false_from_ne_true}
+use Rattle.std.proofs.lemmas.Bool.{leb-true, le-leb, and_parts, and_from, or_parts, or_left, or_right, or_from, false≢true, both_ways, not-true, false_from_ne_true}
 use Rattle.std.proofs.lemmas.List.{append_cancel_right, take_at}
 use Rattle.rowan_green.specs.Forest.{Tree}
 use Rattle.rowan.specs.Place.{term_by, children_in, first_number}
@@ -9,11 +9,11 @@ use Rattle.numbered_tree.specs.Element.{Way, same_way, Element, element_at}
 use Rattle.tree_rewrite.specs.Change.{Change, insert, replace, covers, meets, has_collision, holder_of, owner_of, replaces, is_dropped, is_node_by_node}
 use Rattle.numbered_tree.specs.Mapping.{Mapping}
 use Rattle.tree_rewrite.specs.Moved.{change_in, way_to, change_below, carried, way_above, same_kinds, has_gap}
-use Rattle.tree_rewrite.specs.Marked.{Spot, gap, slot}
-use Rattle.tree_rewrite.specs.Rewrite.{Job, same_sheet, sets, jobs, jobs_from, job_of, change_at, payload_at, own_of, first_way, or_no_jobs, kept, rewritten}
+use Rattle.tree_rewrite.specs.Marked.{slot}
+use Rattle.tree_rewrite.specs.Rewrite.{Job, same_sheet, sets, jobs, jobs_from, job_of, change_at, payload_at, first_way, or_no_jobs, rewritten}
 use Rattle.tree_rewrite.specs.Orders.{test_at, is_owned, owns, is_order, put_in_order}
 use Rattle.tree_rewrite.specs.Laws.{OrdersAgree}
-use Rattle.tree_rewrite.proofs.Plans.{sets_on, IsPlan, JobsArePlan}
+use Rattle.tree_rewrite.proofs.Plans.{sets_on, JobsArePlan}
 use Rattle.tree_rewrite.proofs.OrderLemmas.{same_way-sound, same_way-own, same_sheet-sound, every_order}
 
 abbrev some_or : {A : Type 0} → A → Option A → A

@@ -4,3 +4,4 @@ pub mod PutLemmas
 pub mod OrderLemmas
 pub mod JobLemmas
 pub mod MarkedLemmas
+pub mod NestingLemmas

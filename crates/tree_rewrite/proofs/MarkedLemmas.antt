@@ -1,9 +1,7 @@
 -- What a rewrite leaves alone, and what its parts join to.
-use Rattle.std.proofs.Common.{◌≡◌, ℕ, zero, suc, ◌+◌, List, [], ◌∷◌, ◌++◌, length, Option, Some, None, Bool, true, false, ◌&&◌, ◌||◌, refl, ap, sym, ◌∙◌, append_assoc}
+use Rattle.std.proofs.Common.{◌≡◌, ℕ, ◌+◌, List, [], ◌∷◌, ◌++◌, Option, Some, Bool, true, false, refl, ap, sym, ◌∙◌, append_assoc}
 use Rattle.std.proofs.lemmas.Bool.{or_right}
-use Rattle.std.proofs.lemmas.List.{append-nil}
-use Rattle.rowan_green.specs.Leaf.{Leaf}
-use Rattle.rowan_green.specs.Forest.{Forest, empty, node, leaf, Tree}
+use Rattle.rowan_green.specs.Forest.{Forest, empty, node, leaf}
 use Rattle.numbered_tree.specs.Element.{Way, Element}
 use Rattle.std.proofs.Common.{cond}
 use Rattle.std.specs.List.{filter}
@@ -11,7 +9,7 @@ use Rattle.std.proofs.lemmas.Bool.{false≢true, and_parts}
 use Rattle.tree_rewrite.specs.Change.{Change, insert, replace, is_within, covers}
 use Rattle.tree_rewrite.specs.Rewrite.{Job, same_sheet, sets, set_by, written}
 use Rattle.tree_rewrite.proofs.Plans.{sets_on}
-use Rattle.tree_rewrite.specs.Marked.{Marked, nothing, inner, token, Mark, join, forest_in, origins, origin_at, Spot, gap, slot, Sheet, blank, or_own, filled}
+use Rattle.tree_rewrite.specs.Marked.{Marked, nothing, inner, token, join, forest_in, origins, origin_at, gap, slot, Sheet, blank, or_own, filled}
 
 abbrev pub forest_join : Forest → Forest → Forest
 forest_join empty g = g

@@ -1,15 +1,15 @@
 -- Every admitted order of numbers is an order of jobs.
-use Rattle.std.proofs.Common.{◌≡◌, ℕ, zero, suc, ◌+◌, ◌≤◌, ◌<◌, List, [], ◌∷◌, ◌++◌, length, reverse, Option, Some, None, Bool, true, false, ◌&&◌, ◌||◌, not, eqb, ltb, refl, ap, sym, ◌∙◌, arith, subst, cond, ⊎_elim, ◌⊎◌, inl, inr, length-append, append_assoc, is_none, slice_get}
+use Rattle.std.proofs.Common.{◌≡◌, ℕ, zero, suc, ◌+◌, ◌<◌, List, [], ◌∷◌, ◌++◌, length, reverse, Option, Some, None, Bool, true, false, ◌&&◌, ◌||◌, not, eqb, ltb, refl, ap, sym, ◌∙◌, arith, subst, cond, length-append, append_assoc, is_none, slice_get}
 use Rattle.std.proofs.lemmas.List.{length-reverse}
 use mathlib.Core.List.{reverse_aux}
 use Rattle.std.specs.List.{filter, list_all}
-use Rattle.std.proofs.lemmas.Bool.{eqb-true, eqb-false, eq-eqb, ltb-true, cases_Bool, and_parts, and_cases, and_from, or_cases, false≢true, true≢false, both_ways, not-true}
-use Rattle.numbered_tree.specs.Element.{Way, same_way, Element}
-use Rattle.tree_rewrite.specs.Change.{Change, insert, replace, covers}
-use Rattle.tree_rewrite.specs.Marked.{Marked, Spot, gap, slot, reading_of}
-use Rattle.tree_rewrite.specs.Rewrite.{Job, same_sheet, sets, puts, rewritten}
-use Rattle.tree_rewrite.specs.Orders.{test_at, is_owned, owns, same_gap_at, same_gap, may_follow, in_order, is_order, with_picked, picked, put_in_order}
-use Rattle.tree_rewrite.proofs.Plans.{sets_on, SameAt, SameOwn, NestedFirst, Orders, IsPlan, EveryOrder}
+use Rattle.std.proofs.lemmas.Bool.{eqb-true, eqb-false, eq-eqb, ltb-true, and_parts, and_from, false≢true, not-true}
+use Rattle.numbered_tree.specs.Element.{Way, same_way}
+use Rattle.tree_rewrite.specs.Change.{Change, insert, replace}
+use Rattle.tree_rewrite.specs.Marked.{Spot, gap, slot}
+use Rattle.tree_rewrite.specs.Rewrite.{Job, same_sheet, sets}
+use Rattle.tree_rewrite.specs.Orders.{test_at, is_owned, owns, same_gap_at, same_gap, may_follow, in_order, is_order, with_picked, picked}
+use Rattle.tree_rewrite.proofs.Plans.{sets_on, SameAt, SameOwn, NestedFirst, IsPlan, EveryOrder}
 use Rattle.tree_rewrite.proofs.NumberLemmas.{AllOf, Rising, Apart, upto, passing_same}
 use Rattle.tree_rewrite.proofs.PutLemmas.{puts_rewritten}
 

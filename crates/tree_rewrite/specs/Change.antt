@@ -2,10 +2,8 @@
 use Rattle.std.specs.Prelude.{ℕ, ◌+◌, List, [], ◌∷◌, Option, Some, None, Bool, true, false, ◌&&◌, ◌||◌, not, nat_le, nat_lt, if◌then◌else◌}
 use Rattle.std.specs.List.{list_any}
 use Rattle.rowan_green.specs.Forest.{Tree}
-use Rattle.rowan_green.specs.Term.{Term}
-use Rattle.rowan_green.specs.declared.utility_types.NodeOrToken.TheVariants.{Node, Token}
 use Rattle.rowan.specs.Place.{term_by}
-use Rattle.numbered_tree.specs.Element.{Way, same_way, Element, term_of}
+use Rattle.numbered_tree.specs.Element.{Way, same_way, Element, term_of, is_node}
 
 -- a change of one tree, whose elements it names by their ways
 pub data Change : Type 0 where
@@ -42,11 +40,6 @@ is_nested c (insert p i new) = false
 is_nested (insert p i new) (replace first n others single) = is_within first n p || is_between first n p i
 is_nested (replace [] m new s) (replace first n others single) = false
 is_nested (replace (i ∷ p) m new s) (replace first n others single) = is_within first n p
-
-abbrev pub is_node : Option Term → Bool
-is_node None = false
-is_node (Some (Node t)) = true
-is_node (Some (Token l)) = false
 
 -- a node of the tree, named alone, is replaced by a node
 abbrev pub is_node_by_node : Tree → Change → Bool

@@ -1,7 +1,7 @@
 -- Terms whose elements know where they came from, and sheets, on which changes are made.
 use Rattle.std.specs.Prelude.{ℕ, ◌+◌, List, [], ◌∷◌, ◌++◌, Option, Some, None, Bool, true, false}
 use Rattle.rowan_green.specs.Leaf.{Leaf}
-use Rattle.rowan_green.specs.Forest.{Forest, empty, node, leaf, Tree}
+use Rattle.rowan_green.specs.Forest.{Forest, empty, node, leaf}
 use Rattle.rowan_green.specs.Term.{Term}
 use Rattle.rowan_green.specs.declared.utility_types.NodeOrToken.TheVariants.{Node, Token}
 use Rattle.numbered_tree.specs.Element.{Way, Element, term_of}

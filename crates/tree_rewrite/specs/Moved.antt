@@ -3,7 +3,7 @@ use Rattle.std.specs.Prelude.{ℕ, zero, suc, ◌-◌, ◌+◌, List, [], ◌∷
 use Rattle.rowan_green.specs.Forest.{Tree}
 use Rattle.rowan_green.specs.Term.{Term, kind_of}
 use Rattle.rowan_green.specs.declared.utility_types.NodeOrToken.TheVariants.{Node, Token}
-use Rattle.rowan.specs.Place.{Place, term_by, children_in, first_number}
+use Rattle.rowan.specs.Place.{term_by, children_in, first_number}
 use Rattle.numbered_tree.specs.Element.{Way, Element, same_element, element_at}
 use Rattle.numbered_tree.specs.Mapping.{Mapping, image_of}
 use Rattle.tree_rewrite.specs.Change.{Change, insert, replace}

@@ -1,6 +1,6 @@
 -- A recorded change and a job, as the code has them.
 use Rattle.std.specs.Prelude.{ℕ, ◌-◌, ◌≤◌, List, map, Option, option_map}
-use Rattle.std.specs.Vec.{Vec}
+use Rattle.std.specs.Global.{Vec}
 use Rattle.rowan.specs.Place.{index_of}
 use Rattle.numbered_tree.specs.Element.{Way, Element}
 use Rattle.numbered_tree.specs.Handle.{element_of}

@@ -18,7 +18,6 @@ ghost use Rattle.tree_rewrite.specs.Change.{
 
 use crate::tree_change::{Target, TreeChange};
 use crate::ways::{covers, is_between, is_within};
-use numbered_tree::SyntaxElement;
 use rowan_green::{GreenNode, GreenToken, NodeOrToken};
 
 /// Whether a number lies at most so far after another.
@@ -179,10 +178,10 @@ pub fn is_node_by_node(root: &GreenNode, change: &TreeChange) -> bool
     let Target::Slots { first, single, .. } = change.target() else {
         return false;
     };
-    let [SyntaxElement::Node(_)] = change.payload() else {
+    let [new] = change.payload() else {
         return false;
     };
-    *single && matches!(element_by(root, first), Some(NodeOrToken::Node(_)))
+    *single && new.is_node() && matches!(element_by(root, first), Some(NodeOrToken::Node(_)))
 }
 
 /// Whether a change is dropped with what it lies in.
