@@ -5,3 +5,4 @@ pub mod OrderLemmas
 pub mod JobLemmas
 pub mod MarkedLemmas
 pub mod NestingLemmas
+pub mod ClimbLemmas

@@ -5,3 +5,4 @@ pub mod Rewrite
 pub mod Orders
 pub mod Recorded
 pub mod Laws
+pub mod Climbing

@@ -14,9 +14,9 @@ with_number i w = option_map (λ v. i ∷ v) w
 
 -- on from the output of a mapping, where the payload is, or one step up from there
 abbrev pub way_from_image : (Element → Option Way) → Element → ℕ → Tree → Way → Option Way
-way_from_image on b n t [] = if same_element (element_at n t []) b then Some [] else None
+way_from_image on b n t [] = if same_element b (element_at n t []) then Some [] else None
 way_from_image on b n t (i ∷ up) =
-    if same_element (element_at n t (i ∷ up)) b then Some [] else with_number i (on (element_at n t up))
+    if same_element b (element_at n t (i ∷ up)) then Some [] else with_number i (on (element_at n t up))
 
 -- the way from the output, or this one where the mapping has none
 abbrev pub way_by_image : (Element → Option Way) → Element → Option Element → Option Way → Option Way
@@ -26,10 +26,10 @@ way_by_image on b (Some o) w = way_from_image on b o.number o.place.root o.place
 -- the numbers of the elements from one up to the payload `b`, the way from there on by `on` where a mapping was followed
 abbrev pub way_up : (Element → Option Way) → Mapping → Element → ℕ → Tree → Way → Option Way
 way_up on ms b n t [] =
-    if same_element (element_at n t []) b then Some []
+    if same_element b (element_at n t []) then Some []
     else way_by_image on b (image_of ms (element_at n t [])) None
 way_up on ms b n t (i ∷ up) =
-    if same_element (element_at n t (i ∷ up)) b then Some []
+    if same_element b (element_at n t (i ∷ up)) then Some []
     else way_by_image on b (image_of ms (element_at n t (i ∷ up))) (with_number i (way_up on ms b n t up))
 
 -- the way from an element to the payload `b`, through at most so many mappings: each leads to a tree of a greater number, so no more are met than there are

@@ -6,6 +6,7 @@
 #![tactic(auto)]
 
 pub mod change;
+pub mod climb;
 pub mod job;
 pub mod laws;
 pub mod nesting;
