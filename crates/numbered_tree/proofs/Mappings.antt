@@ -1,7 +1,9 @@
 -- What a longer mapping gives.
-use Rattle.std.proofs.Common.{◌≡◌, ℕ, suc, ◌-◌, ◌<◌, ◌≤◌, nat_eq, ◌&&◌, [], ◌∷◌, ◌++◌, length, take, get_or, Option, Some, None, Bool, true, false, refl, ap, sym, ◌∙◌, cond, arith}
+use Rattle.std.proofs.Common.{◌≡◌, ℕ, suc, ◌-◌, ◌<◌, ◌≤◌, nat_eq, ◌&&◌, List, [], ◌∷◌, ◌++◌, length, take, drop, min, ⊎_elim, get_or, Option, Some, None, Bool, true, false, refl, ap, sym, ◌∙◌, cond, arith}
 use Rattle.std.proofs.Math.Seq.{take-suc}
-use Rattle.std.proofs.lemmas.Bool.{ne_eqb}
+use Rattle.std.proofs.lemmas.Bool.{ne_eqb, cases_lt}
+use Rattle.std.proofs.lemmas.List.{drop_all}
+use Rattle.std.specs.List.{zip}
 use Rattle.numbered_tree.specs.Element.{Element, same_element}
 use Rattle.numbered_tree.specs.Mapping.{Mapping, or_else, image_of}
 
@@ -50,3 +52,14 @@ number_differs a b x h = ap (λ s. s && x) (ne_eqb a b h)
 pub way_differs : (x y : Bool) → y ≡ false → x && y ≡ false
 way_differs true y h = h
 way_differs false y h = refl
+
+zip-nil : (xs : List Element) → zip {K = Element} {X = Element} xs [] ≡ []
+zip-nil [] = refl
+zip-nil (x ∷ xs) = refl
+
+-- past one of the lists nothing is paired
+pub zip-past : (xs ys : List Element) (k : ℕ) → min (length xs) (length ys) ≤ k → zip (drop k xs) (drop k ys) ≡ []
+zip-past xs ys k h = ⊎_elim
+    (λ l. ap (zip (drop k xs)) (drop_all k ys (omega (arith, l, h))) ∙ zip-nil (drop k xs))
+    (λ l. ap (λ v. zip v (drop k ys)) (drop_all k xs l))
+    (cases_lt k (length xs))

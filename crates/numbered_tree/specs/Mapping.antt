@@ -1,5 +1,6 @@
 -- Mappings: which node of another tree stands for a node.
-use Rattle.std.specs.Prelude.{◌≡◌, ℕ, ◌<◌, ◌≤◌, List, [], ◌∷◌, codes, Option, Some, None, Bool, true, false, ◌&&◌, nat_eq, if◌then◌else◌}
+use Rattle.std.specs.Prelude.{◌≡◌, ℕ, ◌<◌, ◌≤◌, List, [], ◌∷◌, length, codes, Option, Some, None, Bool, true, false, ◌&&◌, nat_eq, nat_lt, if◌then◌else◌}
+use Rattle.std.specs.List.{zip, list_all}
 use Rattle.numbered_tree.specs.Element.{Way, same_way, Element, same_element}
 use Rattle.numbered_tree.specs.declared.error.MappingError.{MappingError}
 use Rattle.numbered_tree.specs.declared.error.MappingError.TheVariants.{NotChild, MoreInputs, Order, NoMemory}
@@ -40,6 +41,27 @@ RefusesNode parent i o NoMemory = Unit {0}
 -- one entry is fine
 abbrev pub AcceptsNode : Element → Element → Element → Type 0
 AcceptsNode parent i o = (is_child parent o ≡ true) × (i.number < o.number)
+
+-- all outputs are children of the parent
+abbrev pub are_children : Element → Mapping → Bool
+are_children parent ms = list_all (λ m. is_child parent m.1) ms
+
+-- each output's tree has the greater number
+abbrev pub are_ordered : Mapping → Bool
+are_ordered ms = list_all (λ m. nat_lt m.0.number m.1.number) ms
+
+-- several entries are refused, by the first of these that holds: an output is no child of the parent; there are more inputs than outputs; the numbers are out of order
+abbrev pub RefusesNodes : Element → List Element → List Element → MappingError → Type 0
+RefusesNodes parent is os NotChild = are_children parent (zip is os) ≡ false
+RefusesNodes parent is os MoreInputs = (are_children parent (zip is os) ≡ true) × (length os < length is)
+RefusesNodes parent is os Order = (are_children parent (zip is os) ≡ true) × (length is ≤ length os) × (are_ordered (zip is os) ≡ false)
+RefusesNodes parent is os NoMemory = Unit {0}
+
+-- several entries are fine
+pub record AcceptsNodes (parent : Element) (is os : List Element) : Type 0 where
+  pub children : are_children parent (zip is os) ≡ true
+  pub enough : length is ≤ length os
+  pub ordered : are_ordered (zip is os) ≡ true
 
 abbrev pub message_of : MappingError → List ℕ
 message_of NotChild = codes "an output is no child of the parent"

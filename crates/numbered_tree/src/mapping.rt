@@ -1,9 +1,10 @@
 //! Mappings: which node of another tree stands for a node.
 ghost use Rattle.std.specs.Prelude.{◌≡◌, ◌∷◌, ◌++◌, [], length, IfOk, IfErr, OnOk, OnErr};
+ghost use Rattle.std.specs.List.{zip};
 ghost use Rattle.std.specs.Option.{option_copied};
 ghost use Rattle.rowan_green.specs.Forest.{Tree};
 ghost use Rattle.numbered_tree.specs.Element.{element_at};
-ghost use Rattle.numbered_tree.specs.Mapping.{AcceptsNode, RefusesNode, is_child, image_of};
+ghost use Rattle.numbered_tree.specs.Mapping.{AcceptsNode, RefusesNode, AcceptsNodes, RefusesNodes, is_child, are_children, are_ordered, image_of};
 
 use crate::error::MappingError;
 use crate::handle::SyntaxNode;
@@ -140,6 +141,49 @@ impl SyntaxMappingBuilder {
         Ok(())
     }
 
+    /// Each output stands for the input of its number; outputs past the inputs are not looked at. Refuses as `NotChild` where an output
+    /// is no child of the parent, else as `MoreInputs`, else as `Order` as for one. A refusal records nothing.
+    pub fn map_children(
+        &mut self,
+        alloc: Global,
+        inputs: &[SyntaxNode],
+        outputs: &[SyntaxNode],
+    ) -> Result<(), MappingError>
+        ensures ok { OnOk result (self.new ≡ record self.old { entries = self.old.entries ++ zip inputs.now outputs.now }) }
+        ensures fits { OnOk result (AcceptsNodes self.old.parent inputs.now outputs.now) }
+        ensures refused { IfErr result (RefusesNodes self.old.parent inputs.now outputs.now) }
+        ensures err { OnErr result (self.new ≡ self.old) }
+    {
+        let mut added = pairs_of(alloc, inputs, outputs)?;
+        if !self.is_parent_of_all(alloc, &added)? {
+            return Err(MappingError::NotChild);
+        }
+        if inputs.len() > outputs.len() {
+            return Err(MappingError::MoreInputs);
+        }
+        if !are_ordered(&added) {
+            return Err(MappingError::Order);
+        }
+        self.entries.append(&mut added)?;
+        Ok(())
+    }
+
+    /// Whether all outputs are children of the parent.
+    fn is_parent_of_all(
+        &self,
+        alloc: Global,
+        entries: &[(SyntaxNode, SyntaxNode)],
+    ) -> Result<bool, AllocError>
+        ensures { IfOk result (λ b. b ≡ are_children self.now.parent entries.now) }
+    {
+        for entry in entries {
+            if !self.is_parent_of(alloc, &entry.1)? {
+                return Ok(false);
+            }
+        }
+        Ok(true)
+    }
+
     /// Whether a node is a child of the parent.
     fn is_parent_of(&self, alloc: Global, node: &SyntaxNode) -> Result<bool, AllocError>
         ensures { IfOk result (λ b. b ≡ is_child self.now.parent node.now) }
@@ -161,4 +205,34 @@ impl SyntaxMappingBuilder {
     {
         mapping.add_mapping(self)
     }
+}
+
+/// Inputs with the outputs of their numbers, as many as both have.
+fn pairs_of(
+    alloc: Global,
+    inputs: &[SyntaxNode],
+    outputs: &[SyntaxNode],
+) -> Result<Vec<(SyntaxNode, SyntaxNode)>, AllocError>
+    ensures { IfOk result (λ v. v.items ≡ zip inputs.now outputs.now) }
+{
+    let mut pairs = Vec::new(alloc);
+    let count = inputs.len().min(outputs.len());
+    for k in 0..count {
+        let input = inputs[k].clone()?;
+        let output = outputs[k].clone()?;
+        pairs.push((input, output))?;
+    }
+    Ok(pairs)
+}
+
+/// Whether each output's tree has the greater number.
+fn are_ordered(entries: &[(SyntaxNode, SyntaxNode)]) -> bool
+    ensures { result ≡ are_ordered entries.now }
+{
+    for entry in entries {
+        if entry.0.tree() >= entry.1.tree() {
+            return false;
+        }
+    }
+    true
 }
