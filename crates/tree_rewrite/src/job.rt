@@ -43,6 +43,14 @@ fn same_sheet(a: &Option<Vec<usize>>, b: &Option<Vec<usize>>) -> bool
 }
 
 impl Job {
+    /// A change made on the sheet of a payload, or of the tree; `own` is the node that it replaces by a node. Both name a payload by
+    /// the way of the node that it replaces.
+    pub fn new(sheet: Option<Vec<usize>>, change: TreeChange, own: Option<Vec<usize>>) -> Job
+        ensures { result ≡ record { sheet = way_of sheet; change = change; own = way_of own } }
+    {
+        Job { sheet, change, own }
+    }
+
     /// Whether another job is made in this one's payload.
     fn owns(&self, other: &Job) -> bool
         ensures { result ≡ is_owned self.now.own other.now }
