@@ -1,0 +1,38 @@
+-- What a node or a token that is handed out stands for.
+use Rattle.std.specs.Prelude.{ℕ, List, map, Option, option_map}
+use Rattle.rowan_green.specs.Either.{either}
+use Rattle.rowan.specs.Place.{Place, above}
+use Rattle.rowan.specs.Around.{Cursor}
+use Rattle.rowan.specs.Walk.{Event, entered}
+use Rattle.numbered_tree.specs.Element.{Element}
+use Rattle.numbered_tree.specs.declared.element.SyntaxElement.{SyntaxElement}
+use Rattle.numbered_tree.specs.declared.element.SyntaxElement.TheVariants.{Node, Token}
+
+abbrev pub element_of : SyntaxElement → Element
+element_of (Node e) = e
+element_of (Token e) = e
+
+-- the element at a place of the tree of this number
+abbrev pub with_number : ℕ → Place → Element
+with_number n p = record { number = n; place = p }
+
+-- another place of the same tree
+abbrev pub with_place : Element → Place → Element
+with_place e p = with_number e.number p
+
+-- the node or token at a place of the tree of this number
+abbrev pub with_cursor : ℕ → Cursor → SyntaxElement
+with_cursor n c = either (λ p. Node (with_number n p)) (λ p. Token (with_number n p)) c
+
+-- a walk through the tree of this number, as the events that are left
+pub record Walk : Type 0 where
+  pub number : ℕ
+  pub events : List Event
+
+-- the elements that it still enters
+abbrev pub elements_left : Walk → List SyntaxElement
+elements_left w = map (with_cursor w.number) (entered w.events)
+
+-- the element above
+abbrev pub parent_of : Element → Option Element
+parent_of e = option_map (with_place e) (above e.place)

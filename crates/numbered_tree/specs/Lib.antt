@@ -1,0 +1,5 @@
+pub mod Language
+pub mod Element
+pub mod Handle
+pub mod Mapping
+pub mod Position

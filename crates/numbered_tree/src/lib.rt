@@ -1,0 +1,21 @@
+//! Nodes and tokens of numbered trees, over `rowan`'s cursors.
+//!
+//! A contract sees one as the number of its tree and the place at which it stands: a root term, and the way up to the root. A
+//! cursor is lent for all other reading.
+#![tactic(auto)]
+
+pub mod element;
+pub mod error;
+pub mod handle;
+pub mod iter;
+pub mod language;
+pub mod mapping;
+pub mod position;
+
+pub use element::SyntaxElement;
+pub use error::{MappingError, PositionError};
+pub use handle::{SyntaxNode, SyntaxToken};
+pub use iter::{Ancestors, DescendantsWithTokens, SyntaxElementChildren, SyntaxNodeChildren};
+pub use language::RustLanguage;
+pub use mapping::{SyntaxMapping, SyntaxMappingBuilder};
+pub use position::Position;

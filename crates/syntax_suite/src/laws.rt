@@ -1,0 +1,16 @@
+//! What the definitions of a rewrite give, computed.
+ghost use Rattle.std.specs.Prelude.{◌≡◌, true};
+ghost use Rattle.std.specs.List.{list_all};
+ghost use Rattle.syntax_suite.specs.Case.{agrees};
+ghost use Rattle.syntax_suite.specs.Cases.{cases};
+ghost use Rattle.syntax_suite.specs.Rows.{Rows};
+
+/// Rewrites worked by hand.
+pub fn rows()
+    ensures holds { Rows }
+{}
+
+/// Rewrites that an independent reader of the rules worked, with all orders of their changes.
+pub fn cases_agree()
+    ensures { list_all agrees cases ≡ true }
+{}

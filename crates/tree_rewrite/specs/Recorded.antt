@@ -1,0 +1,30 @@
+-- A recorded change and a job, as the code has them.
+use Rattle.std.specs.Prelude.{ℕ, ◌-◌, ◌≤◌, List, map, Option, option_map}
+use Rattle.std.specs.Global.{Vec}
+use Rattle.rowan.specs.Place.{index_of}
+use Rattle.numbered_tree.specs.Element.{Way, Element}
+use Rattle.numbered_tree.specs.Handle.{element_of}
+use Rattle.tree_rewrite.specs.Change.{Change, insert, replace}
+use Rattle.tree_rewrite.specs.declared.change.Change as declared
+use Rattle.tree_rewrite.specs.declared.change.Change.TheVariants.{Insert, Replace}
+use Rattle.tree_rewrite.specs.declared.tree_change.Target.{Target}
+use Rattle.tree_rewrite.specs.declared.tree_change.Target.TheVariants.{Gap, Slots}
+
+-- the change that puts these elements there
+abbrev pub change_of : Target → List Element → Change
+change_of (Gap p i) new = insert p.items i new
+change_of (Slots first n single) new = replace first.items n new single
+
+-- the way that is kept, if one is
+abbrev pub way_of : Option (Vec ℕ) → Option Way
+way_of w = option_map (λ v. v.items) w
+
+-- the change by the ways of what it changes
+abbrev pub recorded : declared.Change → Change
+recorded (Insert p new) = insert p.parent.place.up p.index (map element_of new.items)
+recorded (Replace first last new single) = replace (element_of first).place.up (index_of (element_of last).place - index_of (element_of first).place) (map element_of new.items) single
+
+-- the ends of what is replaced are in order
+abbrev pub IsOrdered : declared.Change → Type 0
+IsOrdered (Insert p new) = Unit {0}
+IsOrdered (Replace first last new single) = index_of (element_of first).place ≤ index_of (element_of last).place

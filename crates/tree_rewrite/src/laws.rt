@@ -1,0 +1,7 @@
+//! Laws of the definitions. Each is the contract of a function that makes no call.
+ghost use Rattle.tree_rewrite.specs.Laws.{OrdersAgree};
+
+/// Changes that are made one by one, in any order of their jobs, end in the tree with all of them made at once.
+pub fn orders_agree()
+    ensures { OrdersAgree }
+{}

@@ -1,0 +1,86 @@
+//! Recorded changes, by the ways of what they change.
+ghost use Rattle.std.specs.Prelude.{◌≡◌, List, map};
+ghost use Rattle.numbered_tree.specs.Element.{Element};
+ghost use Rattle.numbered_tree.specs.Handle.{element_of};
+ghost use Rattle.tree_rewrite.specs.Rewrite.{payload_of};
+ghost use Rattle.tree_rewrite.specs.Orders.{same_gap_at};
+ghost use Rattle.tree_rewrite.specs.Recorded.{change_of};
+
+use numbered_tree::SyntaxElement;
+use std::marker::Model;
+
+/// What a change changes.
+#[derive(Drop)]
+pub enum Target {
+    /// The gap before the child of this number of the node at a way, or after its last child.
+    Gap {
+        parent: Vec<usize>,
+        index: usize,
+    },
+    /// The element at a way, and so many more after it; `single` where one element was named alone.
+    Slots {
+        first: Vec<usize>,
+        more: usize,
+        single: bool,
+    },
+}
+
+/// A change of a tree, whose elements it names by their ways.
+#[derive(Drop)]
+pub struct TreeChange {
+    target: Target,
+    new: Vec<SyntaxElement>,
+}
+
+impl Model for TreeChange {
+    ghost use Rattle.std.specs.Prelude.{map};
+    ghost use Rattle.std.specs.Coded.{codes};
+    ghost use Rattle.rowan_green.specs.Forest.{tree_code};
+    ghost use Rattle.numbered_tree.specs.Handle.{element_of};
+    ghost use Rattle.tree_rewrite.specs.Change.{Change};
+    ghost use Rattle.tree_rewrite.specs.Recorded.{change_of};
+
+    ghost Value = { Change };
+
+    ghost coded = { Prim.hlevel (codes, tree_code) };
+
+    ghost view = { λ c. change_of c.target (map element_of c.new.items) };
+}
+
+impl TreeChange {
+    /// These elements come there.
+    pub fn new(target: Target, new: Vec<SyntaxElement>) -> TreeChange
+        ensures { result ≡ change_of target (map element_of new.items) }
+    {
+        TreeChange { target, new }
+    }
+
+    pub(crate) fn target(&self) -> &Target
+        ensures { (es : List Element) × (self.now ≡ change_of result.now es) }
+    {
+        &self.target
+    }
+
+    /// What comes there.
+    pub fn payload(&self) -> &[SyntaxElement]
+        ensures { map element_of result.now ≡ payload_of self.now }
+    {
+        &self.new
+    }
+
+    /// Whether both put into one gap.
+    pub fn has_gap_of(&self, other: &TreeChange) -> bool
+        ensures { result ≡ same_gap_at self.now other.now }
+    {
+        match (&self.target, &other.target) {
+            (
+                Target::Gap { parent, index },
+                Target::Gap {
+                    parent: above,
+                    index: number,
+                },
+            ) => { parent.as_slice() == above.as_slice() && *index == *number }
+            _ => false,
+        }
+    }
+}
