@@ -1,0 +1,96 @@
+-- What looks at tokens ahead tell of a reading.
+use Rattle.std.proofs.Common.{◌≡◌, ℕ, zero, suc, ◌+◌, ◌-◌, ◌^◌, ◌<◌, ◌≤◌, Bool, true, false, not, ◌==◌, nat_eq, nat_lt, List, [], ◌∷◌, length, drop, min, get_or, refl, sym, ap, subst, ◌∙◌, arith, inl, inr, ◌⊎◌, if◌then◌else◌, true≢false}
+use Rattle.std.proofs.lemmas.Bool.{cases_lt}
+use Rattle.std.proofs.lemmas.List.{get_or-drop, length-drop}
+use Rattle.parser_input.specs.Kinds.{EOF}
+use Rattle.parser_input.specs.Input.{Token}
+use Rattle.parser_input.specs.Recorded.{token_at, plain}
+use Rattle.parser_events.specs.View.{View}
+use Rattle.rust_grammar.specs.Rule.{Look, Always, Never, Kind, Contextual, Joint, Left, InCondition, Given, Both, Either, Not, shift, in_mode}
+use Rattle.rust_grammar.specs.Meaning.{Reading, ahead, sees}
+use Rattle.grammar_reader.specs.Stands.{left, IsAt}
+
+ahead-past : (n : ℕ) (ts : List Token) → length ts ≤ n → ahead n ts ≡ record { kind = EOF; contextual = EOF; joint = false }
+unfolding ahead
+ahead-past n [] h = refl
+ahead-past zero (t ∷ ts) h = absurd (omega arith)
+ahead-past (suc n) (t ∷ ts) h = ahead-past n ts (omega arith)
+
+-- So far ahead that no number goes further, no token stands.
+pub far : (n m : ℕ) (ts : List Token) → length ts < 2 ^ 64 → n ≡ min m (2 ^ 64 - 1) → ahead n ts ≡ ahead m ts
+far n m ts h e = elim (cases_lt m (2 ^ 64 - 1)) [
+  | inl p ↦ ap (λ (k : ℕ). ahead k ts) (omega (arith, e, p))
+  | inr p ↦ ahead-past n ts (omega (arith, e, h, p)) ∙ sym (ahead-past m ts (omega (arith, h, p)))
+]
+
+token-ahead : (v : View) (n : ℕ) → token_at v.input (v.position + n) ≡ ahead n (left v)
+unfolding ahead
+token-ahead v n = sym (get_or-drop v.position v.input n (plain EOF)) ∙ look n (left v)
+  where
+    look : (n : ℕ) (ts : List Token) → get_or ts n (plain EOF) ≡ ahead n ts
+    look zero [] = refl
+    look (suc n) [] = refl
+    look zero (t ∷ ts) = refl
+    look (suc n) (t ∷ ts) = look n ts
+
+-- what is left of an input that is no longer than this
+few-left : (v : View) → length v.input < 2 ^ 64 → length (left v) < 2 ^ 64
+few-left v h = omega (arith, h, length-drop v.position v.input)
+
+module _ (v : View) (given : Bool) (s : Reading) (at : IsAt given v s) (short : length v.input < 2 ^ 64) where
+  token-there : (n m : ℕ) → n ≡ min m (2 ^ 64 - 1) → token_at v.input (v.position + n) ≡ ahead m s.rest
+  token-there n m e = token-ahead v n ∙ far n m (left v) (few-left v short) e ∙ ap (λ (ts : List Token). ahead m ts) at.rest
+
+  pub kind-seen : (c : Bool) (n m far_off seen raw kind : ℕ) → far_off ≡ min (m + n) (2 ^ 64 - 1) → seen ≡ (token_at v.input (v.position + far_off)).kind → raw ≡ kind → nat_eq seen raw ≡ sees c s (shift m (Kind n kind))
+  unfolding sees shift
+  kind-seen c n m far_off seen raw kind e is same =
+      ap (λ (k : ℕ). nat_eq k raw) (is ∙ ap (λ (t : Token). t.kind) (token-there far_off (n + m) (omega (arith, e)))) ∙ ap (λ (k : ℕ). (ahead (n + m) s.rest).kind == k) same
+
+  pub contextual-seen : (c : Bool) (n m far_off seen raw kind : ℕ) → far_off ≡ min (m + n) (2 ^ 64 - 1) → seen ≡ (token_at v.input (v.position + far_off)).contextual → raw ≡ kind → nat_eq seen raw ≡ sees c s (shift m (Contextual n kind))
+  unfolding sees shift
+  contextual-seen c n m far_off seen raw kind e is same =
+      ap (λ (k : ℕ). nat_eq k raw) (is ∙ ap (λ (t : Token). t.contextual) (token-there far_off (n + m) (omega (arith, e)))) ∙ ap (λ (k : ℕ). (ahead (n + m) s.rest).contextual == k) same
+
+  pub joint-seen : (c : Bool) (n m far_off : ℕ) (seen : Bool) → far_off ≡ min (m + n) (2 ^ 64 - 1) → seen ≡ (token_at v.input (v.position + far_off)).joint → seen ≡ sees c s (shift m (Joint n))
+  unfolding sees shift
+  joint-seen c n m far_off seen e is = is ∙ ap (λ (t : Token). t.joint) (token-there far_off (n + m) (omega (arith, e)))
+
+-- A look changes no more than how many were made.
+pub still-at : {given : Bool} {old new : View} {s : Reading} {looks : ℕ} → new ≡ record old { looks = looks } → IsAt given old s → IsAt given new s
+still-at same at = record { rest = ap left same ∙ at.rest; gave = at.gave }
+
+-- Tests one after the other, of which the second is made where it decides.
+pub both-on : {a b x y : Bool} → a ≡ x → a ≡ true → b ≡ y → b ≡ (if x then y else false)
+both-on e t f = rw (sym e ∙ t) f
+
+pub both-off : {a x : Bool} (y : Bool) → a ≡ x → a ≡ false → a ≡ (if x then y else false)
+both-off y e t = rw (sym e ∙ t) t
+
+pub either-on : {a x : Bool} (y : Bool) → a ≡ x → a ≡ true → a ≡ (if x then true else y)
+either-on y e t = rw (sym e ∙ t) t
+
+pub either-off : {a b x y : Bool} → a ≡ x → a ≡ false → b ≡ y → b ≡ (if x then true else y)
+either-off e t f = rw (sym e ∙ t) f
+
+pub pair-on : {a b z : Bool} (x y : Bool) → a ≡ (if x then y else false) → a ≡ true → b ≡ z → b ≡ (if x then (if y then z else false) else false)
+pair-on {a} {b} {z} x y e t f = nested x y (sym e ∙ t)
+  where
+    nested : (x y : Bool) → (if x then y else false) ≡ true → b ≡ (if x then (if y then z else false) else false)
+    nested true true i = f
+    nested true false i = absurd (true≢false (sym i))
+    nested false y i = absurd (true≢false (sym i))
+
+pub pair-off : {a : Bool} (x y z : Bool) → a ≡ (if x then y else false) → a ≡ false → a ≡ (if x then (if y then z else false) else false)
+pair-off {a} x y z e t = t ∙ nested x y (sym e ∙ t)
+  where
+    nested : (x y : Bool) → (if x then y else false) ≡ false → false ≡ (if x then (if y then z else false) else false)
+    nested true true i = absurd (true≢false i)
+    nested true false i = refl
+    nested false y i = refl
+
+pub gave-seen : {e g : Bool} → e ≡ not g → g ≡ not e
+gave-seen {e} {g} h = rw h (twice g)
+  where
+    twice : (g : Bool) → g ≡ not (not g)
+    twice true = refl
+    twice false = refl

@@ -1,0 +1,8 @@
+//! Reads an input by the table of the grammar: the rules as data, and one reader for all their forms.
+#![tactic(auto)]
+
+mod look;
+mod notation;
+pub mod production;
+pub mod rule;
+pub mod table;
