@@ -11,3 +11,17 @@ pub mod PartsOfWhole
 pub mod Rooted
 pub mod Examples
 pub mod Productions
+pub mod Known
+pub mod Spelling
+pub mod Spelled
+pub mod SpelledTable
+pub mod Shrinks
+pub mod Words
+pub mod Induction
+pub mod InOrder
+pub mod Moving
+pub mod MovedTable
+pub mod Moved
+pub mod EntriesInOrder
+pub mod Covering
+pub mod Fitting

@@ -14,4 +14,5 @@ pub mod Whole
 pub mod Entry
 pub mod Examples
 pub mod Parts
+pub mod Spelled
 pub mod Laws
