@@ -94,3 +94,83 @@ gave-seen {e} {g} h = rw h (twice g)
     twice : (g : Bool) → g ≡ not (not g)
     twice true = refl
     twice false = refl
+
+pub none-on : {a x : Bool} (y : Bool) → a ≡ x → a ≡ false → false ≡ (if x then y else false)
+none-on y e t = rw (sym e ∙ t) refl
+
+pub none-pair : {a : Bool} (x y z : Bool) → a ≡ (if x then y else false) → a ≡ false → false ≡ (if x then (if y then z else false) else false)
+none-pair x y z e t = sym t ∙ pair-off x y z e t
+
+pub all-on : {a x : Bool} (y : Bool) → a ≡ x → a ≡ true → true ≡ (if x then true else y)
+all-on y e t = rw (sym e ∙ t) refl
+
+-- A look leaves the input as it is.
+pub still-short : (old new : View) {looks : ℕ} → new ≡ record old { looks = looks } → length old.input < 2 ^ 64 → length new.input < 2 ^ 64
+still-short old new same h = subst (λ (v : View). length v.input < 2 ^ 64) (sym same) h
+
+-- Looks further ahead.
+pub shift-shift : (m w : ℕ) (l : Look) → shift m (shift w l) ≡ shift (w + m) l
+unfolding shift
+shift-shift m w Always = refl
+shift-shift m w Never = refl
+shift-shift m w (Kind n k) = ap (λ (i : ℕ). Kind i k) (omega arith)
+shift-shift m w (Contextual n k) = ap (λ (i : ℕ). Contextual i k) (omega arith)
+shift-shift m w (Joint n) = ap (λ (i : ℕ). Joint i) (omega arith)
+shift-shift m w Left = refl
+shift-shift m w InCondition = refl
+shift-shift m w Given = refl
+shift-shift m w (Both a b) = rw (shift-shift m w a, shift-shift m w b) refl
+shift-shift m w (Either a b) = rw (shift-shift m w a, shift-shift m w b) refl
+shift-shift m w (Not a) = rw (shift-shift m w a) refl
+
+module _ (c : Bool) (s : Reading) (m n : ℕ) (short : length s.rest < 2 ^ 64) (is : m ≡ min n (2 ^ 64 - 1)) where
+  same-far : (k : ℕ) → ahead (k + m) s.rest ≡ ahead (k + n) s.rest
+  same-far k = elim (cases_lt n (2 ^ 64 - 1)) [
+    | inl p ↦ ap (λ (i : ℕ). ahead i s.rest) (omega (arith, is, p))
+    | inr p ↦ ahead-past (k + m) s.rest (omega (arith, is, short, p)) ∙ sym (ahead-past (k + n) s.rest (omega (arith, short, p)))
+  ]
+
+  pub far-shift : (l : Look) → sees c s (shift m l) ≡ sees c s (shift n l)
+  unfolding sees shift
+  far-shift Always = refl
+  far-shift Never = refl
+  far-shift (Kind k j) = ap (λ (t : Token). t.kind == j) (same-far k)
+  far-shift (Contextual k j) = ap (λ (t : Token). t.contextual == j) (same-far k)
+  far-shift (Joint k) = ap (λ (t : Token). t.joint) (same-far k)
+  far-shift Left = refl
+  far-shift InCondition = refl
+  far-shift Given = refl
+  far-shift (Both a b) = rw (far-shift a, far-shift b) refl
+  far-shift (Either a b) = rw (far-shift a, far-shift b) refl
+  far-shift (Not a) = rw (far-shift a) refl
+
+-- a look where the mode is set
+module _ (c d : Bool) (s : Reading) (m : ℕ) where
+  set-mode : (b : Bool) → sees c s (shift m (if b then Always else Never)) ≡ b
+  unfolding sees shift
+  set-mode true = refl
+  set-mode false = refl
+
+  pub mode-shift : (l : Look) → sees c s (shift m (in_mode d l)) ≡ sees d s (shift m l)
+  unfolding sees shift in_mode
+  mode-shift Always = refl
+  mode-shift Never = refl
+  mode-shift (Kind k j) = refl
+  mode-shift (Contextual k j) = refl
+  mode-shift (Joint k) = refl
+  mode-shift Left = refl
+  mode-shift InCondition = set-mode d
+  mode-shift Given = refl
+  mode-shift (Both a b) = rw (mode-shift a, mode-shift b) refl
+  mode-shift (Either a b) = rw (mode-shift a, mode-shift b) refl
+  mode-shift (Not a) = rw (mode-shift a) refl
+
+-- a spelling of several tokens, the first of which is seen to touch the next
+module _ (c : Bool) (s : Reading) (m n k : ℕ) (l : Look) {a : Bool} (e : a ≡ sees c s (shift m (Both (Kind n k) (Joint n)))) where
+  pub no-joint : a ≡ false → false ≡ sees c s (shift m (Both (Kind n k) (Both (Joint n) l)))
+  unfolding sees shift
+  no-joint t = none-pair (sees c s (shift m (Kind n k))) (sees c s (shift m (Joint n))) (sees c s (shift m l)) e t
+
+  pub joint-then : {b : Bool} → a ≡ true → b ≡ sees c s (shift m l) → b ≡ sees c s (shift m (Both (Kind n k) (Both (Joint n) l)))
+  unfolding sees shift
+  joint-then t f = pair-on (sees c s (shift m (Kind n k))) (sees c s (shift m (Joint n))) e t f

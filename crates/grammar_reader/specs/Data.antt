@@ -110,6 +110,10 @@ later (suc n) r = r
 abbrev pub later_bodies : rules.Rule
 later_bodies = later 5 (whole.rule rules.body)
 
+-- and those of an atom
+abbrev pub later_atoms : rules.Rule
+later_atoms = later 4 (whole.rule rules.atom)
+
 abbrev pub plain : rule.Rule → rules.Rule
 plain rule.Nothing = rules.Nothing
 plain (rule.One x) = rules.One (spelled x)
@@ -131,8 +135,10 @@ plain (rule.Call x) = rules.Call (named x)
 plain (rule.Continue x) = rules.Continue (named x)
 plain (rule.Mode' condition p a) = rules.Mode condition (plain a)
 plain rule.LaterBodies = later_bodies
+plain rule.LaterAtoms = later_atoms
 
 -- whether it stands for another row
 abbrev pub is_reference : rule.Rule → Bool
 is_reference rule.LaterBodies = true
+is_reference rule.LaterAtoms = true
 is_reference r = false

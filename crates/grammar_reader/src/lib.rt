@@ -1,6 +1,7 @@
 //! Reads an input by the table of the grammar: the rules as data, and one reader for all their forms.
 #![tactic(auto)]
 
+mod begin;
 mod look;
 mod notation;
 pub mod production;

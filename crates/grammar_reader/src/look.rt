@@ -99,12 +99,19 @@ pub(crate) fn is_spelled(
         Spelling::Plain(kind) => is_next(p, place, *kind, 0, ahead),
         Spelling::Renamed(_, kind) => is_next(p, place, *kind, 0, ahead),
         Spelling::Pair(_, first, second) => {
-            is_joint(p, place, *first, 0, ahead) && is_next(p, place, *second, 1, ahead)
+            if !is_joint(p, place, *first, 0, ahead) {
+                return false;
+            }
+            is_next(p, place, *second, 1, ahead)
         }
         Spelling::Triple(_, first, second, third) => {
-            is_joint(p, place, *first, 0, ahead)
-                && is_joint(p, place, *second, 1, ahead)
-                && is_next(p, place, *third, 2, ahead)
+            if !is_joint(p, place, *first, 0, ahead) {
+                return false;
+            }
+            if !is_joint(p, place, *second, 1, ahead) {
+                return false;
+            }
+            is_next(p, place, *third, 2, ahead)
         }
     }
 }

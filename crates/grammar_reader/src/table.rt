@@ -1,11 +1,14 @@
 //! The table of the grammar, as data.
 
-ghost use Rattle.std.specs.Prelude.{◌≡◌};
+ghost use Rattle.std.specs.Prelude.{◌≡◌, ◌<◌, false};
 ghost use Rattle.rust_grammar.specs.Whole.{rule};
-ghost use Rattle.grammar_reader.specs.Data.{plain, named};
+ghost use Rattle.grammar_reader.specs.Size.{size};
+ghost use Rattle.grammar_reader.specs.Data.{plain, named, is_reference};
 
 use crate::production::Production;
 use crate::rule::Rule;
+pub use expressions::later_atoms;
+pub use items::later_bodies;
 
 mod expressions;
 mod items;
@@ -16,7 +19,9 @@ mod types;
 
 /// The rule that a production stands for.
 pub fn rule_of(production: Production) -> &'static Rule
-    ensures { plain result.now ≡ rule (named production) }
+    ensures rule { plain result.now ≡ rule (named production) }
+    ensures row { is_reference result.now ≡ false }
+    ensures few { size (plain result.now) < 2048 }
 {
     match production {
         Production::SourceFile => items::source_file(),

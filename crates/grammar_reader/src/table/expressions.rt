@@ -1,9 +1,9 @@
 //! The rows of expressions: ranges and assignments, the layers of operators, what stands after an expression, and the rest.
 
-ghost use Rattle.std.specs.Prelude.{◌≡◌};
+ghost use Rattle.std.specs.Prelude.{◌≡◌, false};
 ghost use Rattle.rust_grammar.specs.Rule as rules;
 ghost use Rattle.rust_grammar.specs.Whole.{rule};
-ghost use Rattle.grammar_reader.specs.Data.{plain};
+ghost use Rattle.grammar_reader.specs.Data.{plain, is_reference, later_atoms};
 
 use crate::notation::*;
 use crate::production::Production;
@@ -44,7 +44,8 @@ macro_rules! closure_params {
 static EXPRESSION: Rule = call!(Operation);
 
 pub fn expression() -> &'static Rule
-    ensures { plain result.now ≡ rule rules.expression }
+    ensures rule { plain result.now ≡ rule rules.expression }
+    ensures row { is_reference result.now ≡ false }
 {
     &EXPRESSION
 }
@@ -57,7 +58,8 @@ static OPERATION: Rule = or!(
 );
 
 pub fn operation() -> &'static Rule
-    ensures { plain result.now ≡ rule rules.operation }
+    ensures rule { plain result.now ≡ rule rules.operation }
+    ensures row { is_reference result.now ≡ false }
 {
     &OPERATION
 }
@@ -89,7 +91,8 @@ static OPERATION_TAIL: Rule = or!(
 );
 
 pub fn operation_tail() -> &'static Rule
-    ensures { plain result.now ≡ rule rules.operation_tail }
+    ensures rule { plain result.now ≡ rule rules.operation_tail }
+    ensures row { is_reference result.now ≡ false }
 {
     &OPERATION_TAIL
 }
@@ -97,7 +100,8 @@ pub fn operation_tail() -> &'static Rule
 static DISJUNCTION: Rule = layer!(Conjunction, op!(PIPE2));
 
 pub fn disjunction() -> &'static Rule
-    ensures { plain result.now ≡ rule rules.disjunction }
+    ensures rule { plain result.now ≡ rule rules.disjunction }
+    ensures row { is_reference result.now ≡ false }
 {
     &DISJUNCTION
 }
@@ -105,7 +109,8 @@ pub fn disjunction() -> &'static Rule
 static CONJUNCTION: Rule = layer!(Comparison, op!(AMP2));
 
 pub fn conjunction() -> &'static Rule
-    ensures { plain result.now ≡ rule rules.conjunction }
+    ensures rule { plain result.now ≡ rule rules.conjunction }
+    ensures row { is_reference result.now ≡ false }
 {
     &CONJUNCTION
 }
@@ -123,7 +128,8 @@ static COMPARISON: Rule = layer!(
 );
 
 pub fn comparison() -> &'static Rule
-    ensures { plain result.now ≡ rule rules.comparison }
+    ensures rule { plain result.now ≡ rule rules.comparison }
+    ensures row { is_reference result.now ≡ false }
 {
     &COMPARISON
 }
@@ -131,7 +137,8 @@ pub fn comparison() -> &'static Rule
 static BIT_OR: Rule = layer!(BitXor, op!(PIPE));
 
 pub fn bit_or() -> &'static Rule
-    ensures { plain result.now ≡ rule rules.bit_or }
+    ensures rule { plain result.now ≡ rule rules.bit_or }
+    ensures row { is_reference result.now ≡ false }
 {
     &BIT_OR
 }
@@ -139,7 +146,8 @@ pub fn bit_or() -> &'static Rule
 static BIT_XOR: Rule = layer!(BitAnd, op!(CARET));
 
 pub fn bit_xor() -> &'static Rule
-    ensures { plain result.now ≡ rule rules.bit_xor }
+    ensures rule { plain result.now ≡ rule rules.bit_xor }
+    ensures row { is_reference result.now ≡ false }
 {
     &BIT_XOR
 }
@@ -147,7 +155,8 @@ pub fn bit_xor() -> &'static Rule
 static BIT_AND: Rule = layer!(BitShift, op!(AMP));
 
 pub fn bit_and() -> &'static Rule
-    ensures { plain result.now ≡ rule rules.bit_and }
+    ensures rule { plain result.now ≡ rule rules.bit_and }
+    ensures row { is_reference result.now ≡ false }
 {
     &BIT_AND
 }
@@ -155,7 +164,8 @@ pub fn bit_and() -> &'static Rule
 static BIT_SHIFT: Rule = layer!(Sum, or!(op!(SHL), op!(SHR)));
 
 pub fn bit_shift() -> &'static Rule
-    ensures { plain result.now ≡ rule rules.bit_shift }
+    ensures rule { plain result.now ≡ rule rules.bit_shift }
+    ensures row { is_reference result.now ≡ false }
 {
     &BIT_SHIFT
 }
@@ -163,7 +173,8 @@ pub fn bit_shift() -> &'static Rule
 static SUM: Rule = layer!(Product, or!(op!(PLUS), op!(MINUS)));
 
 pub fn sum() -> &'static Rule
-    ensures { plain result.now ≡ rule rules.sum }
+    ensures rule { plain result.now ≡ rule rules.sum }
+    ensures row { is_reference result.now ≡ false }
 {
     &SUM
 }
@@ -171,7 +182,8 @@ pub fn sum() -> &'static Rule
 static PRODUCT: Rule = layer!(Cast, or!(op!(STAR), op!(SLASH), op!(PERCENT)));
 
 pub fn product() -> &'static Rule
-    ensures { plain result.now ≡ rule rules.product }
+    ensures rule { plain result.now ≡ rule rules.product }
+    ensures row { is_reference result.now ≡ false }
 {
     &PRODUCT
 }
@@ -182,7 +194,8 @@ static CAST: Rule = then!(
 );
 
 pub fn cast() -> &'static Rule
-    ensures { plain result.now ≡ rule rules.cast }
+    ensures rule { plain result.now ≡ rule rules.cast }
+    ensures row { is_reference result.now ≡ false }
 {
     &CAST
 }
@@ -203,7 +216,8 @@ static PREFIXED: Rule = or!(
 );
 
 pub fn prefixed() -> &'static Rule
-    ensures { plain result.now ≡ rule rules.prefixed }
+    ensures rule { plain result.now ≡ rule rules.prefixed }
+    ensures row { is_reference result.now ≡ false }
 {
     &PREFIXED
 }
@@ -223,7 +237,8 @@ static POSTFIX: Rule = or!(
 );
 
 pub fn postfix() -> &'static Rule
-    ensures { plain result.now ≡ rule rules.postfix }
+    ensures rule { plain result.now ≡ rule rules.postfix }
+    ensures row { is_reference result.now ≡ false }
 {
     &POSTFIX
 }
@@ -248,7 +263,8 @@ static AFTER_DOT: Rule = or!(
 );
 
 pub fn after_dot() -> &'static Rule
-    ensures { plain result.now ≡ rule rules.after_dot }
+    ensures rule { plain result.now ≡ rule rules.after_dot }
+    ensures row { is_reference result.now ≡ false }
 {
     &AFTER_DOT
 }
@@ -259,7 +275,8 @@ static ARGUMENTS: Rule = node!(
 );
 
 pub fn arguments() -> &'static Rule
-    ensures { plain result.now ≡ rule rules.arguments }
+    ensures rule { plain result.now ≡ rule rules.arguments }
+    ensures row { is_reference result.now ≡ false }
 {
     &ARGUMENTS
 }
@@ -314,6 +331,10 @@ static ATOM: Rule = or!(
     call!(BlockLike),
     then!(call!(ExprPath), after_path!()),
     then!(one!(L_PAREN), in_parens!()),
+    Rule::LaterAtoms,
+);
+
+static LATER_ATOMS: Rule = or!(
     node!(ARRAY_EXPR, then!(one!(L_BRACK), in_brackets!())),
     node!(RETURN_EXPR, then!(one!(RETURN_KW), value!())),
     node!(BREAK_EXPR, then!(one!(BREAK_KW), value!())),
@@ -346,9 +367,17 @@ static ATOM: Rule = or!(
 );
 
 pub fn atom() -> &'static Rule
-    ensures { plain result.now ≡ rule rules.atom }
+    ensures rule { plain result.now ≡ rule rules.atom }
+    ensures row { is_reference result.now ≡ false }
 {
     &ATOM
+}
+
+pub fn later_atoms() -> &'static Rule
+    ensures rule { plain result.now ≡ later_atoms }
+    ensures row { is_reference result.now ≡ false }
+{
+    &LATER_ATOMS
 }
 
 static FIELD_VALUES: Rule = node!(
@@ -357,7 +386,8 @@ static FIELD_VALUES: Rule = node!(
 );
 
 pub fn field_values() -> &'static Rule
-    ensures { plain result.now ≡ rule rules.field_values }
+    ensures rule { plain result.now ≡ rule rules.field_values }
+    ensures row { is_reference result.now ≡ false }
 {
     &FIELD_VALUES
 }
@@ -375,7 +405,8 @@ static FIELD_VALUE: Rule = or!(
 );
 
 pub fn field_value() -> &'static Rule
-    ensures { plain result.now ≡ rule rules.field_value }
+    ensures rule { plain result.now ≡ rule rules.field_value }
+    ensures row { is_reference result.now ≡ false }
 {
     &FIELD_VALUE
 }
@@ -430,7 +461,8 @@ static BLOCK_LIKE: Rule = or!(
 );
 
 pub fn block_like() -> &'static Rule
-    ensures { plain result.now ≡ rule rules.block_like }
+    ensures rule { plain result.now ≡ rule rules.block_like }
+    ensures row { is_reference result.now ≡ false }
 {
     &BLOCK_LIKE
 }
@@ -449,7 +481,8 @@ static IF_EXPR: Rule = node!(
 );
 
 pub fn if_expr() -> &'static Rule
-    ensures { plain result.now ≡ rule rules.if_expr }
+    ensures rule { plain result.now ≡ rule rules.if_expr }
+    ensures row { is_reference result.now ≡ false }
 {
     &IF_EXPR
 }
@@ -467,7 +500,8 @@ static MATCH_ARMS: Rule = node!(
 );
 
 pub fn match_arms() -> &'static Rule
-    ensures { plain result.now ≡ rule rules.match_arms }
+    ensures rule { plain result.now ≡ rule rules.match_arms }
+    ensures row { is_reference result.now ≡ false }
 {
     &MATCH_ARMS
 }
@@ -493,7 +527,8 @@ static MATCH_ARM: Rule = node!(
 );
 
 pub fn match_arm() -> &'static Rule
-    ensures { plain result.now ≡ rule rules.match_arm }
+    ensures rule { plain result.now ≡ rule rules.match_arm }
+    ensures row { is_reference result.now ≡ false }
 {
     &MATCH_ARM
 }

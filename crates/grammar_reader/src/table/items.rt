@@ -226,7 +226,8 @@ static SOURCE_FILE: Rule = node!(
 );
 
 pub fn source_file() -> &'static Rule
-    ensures { plain result.now ≡ rule rules.source_file }
+    ensures rule { plain result.now ≡ rule rules.source_file }
+    ensures row { is_reference result.now ≡ false }
 {
     &SOURCE_FILE
 }
@@ -234,7 +235,8 @@ pub fn source_file() -> &'static Rule
 static MACRO_ITEMS: Rule = node!(MACRO_ITEMS, items_until!(at_end!()));
 
 pub fn macro_items() -> &'static Rule
-    ensures { plain result.now ≡ rule rules.macro_items }
+    ensures rule { plain result.now ≡ rule rules.macro_items }
+    ensures row { is_reference result.now ≡ false }
 {
     &MACRO_ITEMS
 }
@@ -242,7 +244,8 @@ pub fn macro_items() -> &'static Rule
 static ITEM: Rule = prefixed!(more!(Body));
 
 pub fn item() -> &'static Rule
-    ensures { plain result.now ≡ rule rules.item }
+    ensures rule { plain result.now ≡ rule rules.item }
+    ensures row { is_reference result.now ≡ false }
 {
     &ITEM
 }
@@ -282,7 +285,8 @@ static LATER_BODIES: Rule = or!(
 );
 
 pub fn body() -> &'static Rule
-    ensures { plain result.now ≡ rule rules.body }
+    ensures rule { plain result.now ≡ rule rules.body }
+    ensures row { is_reference result.now ≡ false }
 {
     &BODY
 }
@@ -297,7 +301,8 @@ pub fn later_bodies() -> &'static Rule
 static ASSOC_ITEMS: Rule = node!(ASSOC_ITEM_LIST, items_in_braces!());
 
 pub fn assoc_items() -> &'static Rule
-    ensures { plain result.now ≡ rule rules.assoc_items }
+    ensures rule { plain result.now ≡ rule rules.assoc_items }
+    ensures row { is_reference result.now ≡ false }
 {
     &ASSOC_ITEMS
 }
@@ -319,7 +324,8 @@ static VARIANTS: Rule = node!(
 );
 
 pub fn variants() -> &'static Rule
-    ensures { plain result.now ≡ rule rules.variants }
+    ensures rule { plain result.now ≡ rule rules.variants }
+    ensures row { is_reference result.now ≡ false }
 {
     &VARIANTS
 }
@@ -338,7 +344,8 @@ static RECORD_FIELDS: Rule = node!(
 );
 
 pub fn record_fields() -> &'static Rule
-    ensures { plain result.now ≡ rule rules.record_fields }
+    ensures rule { plain result.now ≡ rule rules.record_fields }
+    ensures row { is_reference result.now ≡ false }
 {
     &RECORD_FIELDS
 }
@@ -354,7 +361,8 @@ static TUPLE_FIELDS: Rule = node!(
 );
 
 pub fn tuple_fields() -> &'static Rule
-    ensures { plain result.now ≡ rule rules.tuple_fields }
+    ensures rule { plain result.now ≡ rule rules.tuple_fields }
+    ensures row { is_reference result.now ≡ false }
 {
     &TUPLE_FIELDS
 }
@@ -365,7 +373,8 @@ static PARAMS: Rule = node!(
 );
 
 pub fn params() -> &'static Rule
-    ensures { plain result.now ≡ rule rules.params }
+    ensures rule { plain result.now ≡ rule rules.params }
+    ensures row { is_reference result.now ≡ false }
 {
     &PARAMS
 }
@@ -387,7 +396,8 @@ static PARAM: Rule = or!(
 );
 
 pub fn param() -> &'static Rule
-    ensures { plain result.now ≡ rule rules.param }
+    ensures rule { plain result.now ≡ rule rules.param }
+    ensures row { is_reference result.now ≡ false }
 {
     &PARAM
 }
@@ -409,7 +419,8 @@ static VISIBILITY: Rule = node!(
 );
 
 pub fn visibility() -> &'static Rule
-    ensures { plain result.now ≡ rule rules.visibility }
+    ensures rule { plain result.now ≡ rule rules.visibility }
+    ensures row { is_reference result.now ≡ false }
 {
     &VISIBILITY
 }
@@ -426,7 +437,8 @@ static ATTRIBUTE: Rule = node!(
 );
 
 pub fn attribute() -> &'static Rule
-    ensures { plain result.now ≡ rule rules.attribute }
+    ensures rule { plain result.now ≡ rule rules.attribute }
+    ensures row { is_reference result.now ≡ false }
 {
     &ATTRIBUTE
 }
@@ -443,7 +455,8 @@ static META: Rule = node!(
 );
 
 pub fn meta() -> &'static Rule
-    ensures { plain result.now ≡ rule rules.meta }
+    ensures rule { plain result.now ≡ rule rules.meta }
+    ensures row { is_reference result.now ≡ false }
 {
     &META
 }
@@ -464,7 +477,8 @@ static TOKEN_TREE: Rule = or!(
 );
 
 pub fn token_tree() -> &'static Rule
-    ensures { plain result.now ≡ rule rules.token_tree }
+    ensures rule { plain result.now ≡ rule rules.token_tree }
+    ensures row { is_reference result.now ≡ false }
 {
     &TOKEN_TREE
 }
@@ -478,7 +492,8 @@ static USE_TREE: Rule = node!(
 );
 
 pub fn use_tree() -> &'static Rule
-    ensures { plain result.now ≡ rule rules.use_tree }
+    ensures rule { plain result.now ≡ rule rules.use_tree }
+    ensures row { is_reference result.now ≡ false }
 {
     &USE_TREE
 }
@@ -489,7 +504,8 @@ static USE_LIST: Rule = node!(
 );
 
 pub fn use_list() -> &'static Rule
-    ensures { plain result.now ≡ rule rules.use_list }
+    ensures rule { plain result.now ≡ rule rules.use_list }
+    ensures row { is_reference result.now ≡ false }
 {
     &USE_LIST
 }

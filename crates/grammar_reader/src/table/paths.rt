@@ -1,9 +1,9 @@
 //! The rows of names, paths, generic arguments and parameters, bounds and `where`.
 
-ghost use Rattle.std.specs.Prelude.{◌≡◌};
+ghost use Rattle.std.specs.Prelude.{◌≡◌, false};
 ghost use Rattle.rust_grammar.specs.Rule as rules;
 ghost use Rattle.rust_grammar.specs.Whole.{rule};
-ghost use Rattle.grammar_reader.specs.Data.{plain};
+ghost use Rattle.grammar_reader.specs.Data.{plain, is_reference};
 
 use crate::notation::*;
 use crate::production::Production;
@@ -24,7 +24,8 @@ macro_rules! path_with {
 static NAME: Rule = node!(NAME, one!(IDENT));
 
 pub fn name() -> &'static Rule
-    ensures { plain result.now ≡ rule rules.name }
+    ensures rule { plain result.now ≡ rule rules.name }
+    ensures row { is_reference result.now ≡ false }
 {
     &NAME
 }
@@ -32,7 +33,8 @@ pub fn name() -> &'static Rule
 static LIFETIME: Rule = node!(LIFETIME, one!(LIFETIME_IDENT));
 
 pub fn lifetime() -> &'static Rule
-    ensures { plain result.now ≡ rule rules.lifetime }
+    ensures rule { plain result.now ≡ rule rules.lifetime }
+    ensures row { is_reference result.now ≡ false }
 {
     &LIFETIME
 }
@@ -49,7 +51,8 @@ static NAME_REF: Rule = node!(
 );
 
 pub fn name_ref() -> &'static Rule
-    ensures { plain result.now ≡ rule rules.name_ref }
+    ensures rule { plain result.now ≡ rule rules.name_ref }
+    ensures row { is_reference result.now ≡ false }
 {
     &NAME_REF
 }
@@ -57,7 +60,8 @@ pub fn name_ref() -> &'static Rule
 static PATH: Rule = path_with!(Rule::Nothing);
 
 pub fn path() -> &'static Rule
-    ensures { plain result.now ≡ rule rules.path }
+    ensures rule { plain result.now ≡ rule rules.path }
+    ensures row { is_reference result.now ≡ false }
 {
     &PATH
 }
@@ -68,7 +72,8 @@ static TYPE_PATH: Rule = path_with!(opt!(when!(
 )));
 
 pub fn type_path() -> &'static Rule
-    ensures { plain result.now ≡ rule rules.type_path }
+    ensures rule { plain result.now ≡ rule rules.type_path }
+    ensures row { is_reference result.now ≡ false }
 {
     &TYPE_PATH
 }
@@ -76,7 +81,8 @@ pub fn type_path() -> &'static Rule
 static EXPR_PATH: Rule = path_with!(opt!(when!(next!(COLON2 L_ANGLE), call!(GenericArgs))));
 
 pub fn expr_path() -> &'static Rule
-    ensures { plain result.now ≡ rule rules.expr_path }
+    ensures rule { plain result.now ≡ rule rules.expr_path }
+    ensures row { is_reference result.now ≡ false }
 {
     &EXPR_PATH
 }
@@ -93,7 +99,8 @@ static GENERIC_ARGS: Rule = when!(
 );
 
 pub fn generic_args() -> &'static Rule
-    ensures { plain result.now ≡ rule rules.generic_args }
+    ensures rule { plain result.now ≡ rule rules.generic_args }
+    ensures row { is_reference result.now ≡ false }
 {
     &GENERIC_ARGS
 }
@@ -112,7 +119,8 @@ static GENERIC_ARG: Rule = or!(
 );
 
 pub fn generic_arg() -> &'static Rule
-    ensures { plain result.now ≡ rule rules.generic_arg }
+    ensures rule { plain result.now ≡ rule rules.generic_arg }
+    ensures row { is_reference result.now ≡ false }
 {
     &GENERIC_ARG
 }
@@ -123,7 +131,8 @@ static GENERIC_PARAMS: Rule = node!(
 );
 
 pub fn generic_params() -> &'static Rule
-    ensures { plain result.now ≡ rule rules.generic_params }
+    ensures rule { plain result.now ≡ rule rules.generic_params }
+    ensures row { is_reference result.now ≡ false }
 {
     &GENERIC_PARAMS
 }
@@ -144,7 +153,8 @@ static GENERIC_PARAM: Rule = or!(
 );
 
 pub fn generic_param() -> &'static Rule
-    ensures { plain result.now ≡ rule rules.generic_param }
+    ensures rule { plain result.now ≡ rule rules.generic_param }
+    ensures row { is_reference result.now ≡ false }
 {
     &GENERIC_PARAM
 }
@@ -155,7 +165,8 @@ static BOUNDS: Rule = node!(
 );
 
 pub fn bounds() -> &'static Rule
-    ensures { plain result.now ≡ rule rules.bounds }
+    ensures rule { plain result.now ≡ rule rules.bounds }
+    ensures row { is_reference result.now ≡ false }
 {
     &BOUNDS
 }
@@ -169,7 +180,8 @@ static BOUND: Rule = node!(
 );
 
 pub fn bound() -> &'static Rule
-    ensures { plain result.now ≡ rule rules.bound }
+    ensures rule { plain result.now ≡ rule rules.bound }
+    ensures row { is_reference result.now ≡ false }
 {
     &BOUND
 }
@@ -186,7 +198,8 @@ static WHERE_CLAUSE: Rule = node!(
 );
 
 pub fn where_clause() -> &'static Rule
-    ensures { plain result.now ≡ rule rules.where_clause }
+    ensures rule { plain result.now ≡ rule rules.where_clause }
+    ensures row { is_reference result.now ≡ false }
 {
     &WHERE_CLAUSE
 }
@@ -201,7 +214,8 @@ static WHERE_PRED: Rule = node!(
 );
 
 pub fn where_pred() -> &'static Rule
-    ensures { plain result.now ≡ rule rules.where_pred }
+    ensures rule { plain result.now ≡ rule rules.where_pred }
+    ensures row { is_reference result.now ≡ false }
 {
     &WHERE_PRED
 }

@@ -1,9 +1,9 @@
 //! The rows of patterns and literals.
 
-ghost use Rattle.std.specs.Prelude.{◌≡◌};
+ghost use Rattle.std.specs.Prelude.{◌≡◌, false};
 ghost use Rattle.rust_grammar.specs.Rule as rules;
 ghost use Rattle.rust_grammar.specs.Whole.{rule};
-ghost use Rattle.grammar_reader.specs.Data.{plain};
+ghost use Rattle.grammar_reader.specs.Data.{plain, is_reference};
 
 use crate::notation::*;
 use crate::production::Production;
@@ -29,7 +29,8 @@ static PATTERN: Rule = or!(
 );
 
 pub fn pattern() -> &'static Rule
-    ensures { plain result.now ≡ rule rules.pattern }
+    ensures rule { plain result.now ≡ rule rules.pattern }
+    ensures row { is_reference result.now ≡ false }
 {
     &PATTERN
 }
@@ -105,7 +106,8 @@ static SINGLE_PATTERN: Rule = or!(
 );
 
 pub fn single_pattern() -> &'static Rule
-    ensures { plain result.now ≡ rule rules.single_pattern }
+    ensures rule { plain result.now ≡ rule rules.single_pattern }
+    ensures row { is_reference result.now ≡ false }
 {
     &SINGLE_PATTERN
 }
@@ -116,7 +118,8 @@ static PATTERN_FIELDS: Rule = node!(
 );
 
 pub fn pattern_fields() -> &'static Rule
-    ensures { plain result.now ≡ rule rules.pattern_fields }
+    ensures rule { plain result.now ≡ rule rules.pattern_fields }
+    ensures row { is_reference result.now ≡ false }
 {
     &PATTERN_FIELDS
 }
@@ -141,7 +144,8 @@ static PATTERN_FIELD: Rule = or!(
 );
 
 pub fn pattern_field() -> &'static Rule
-    ensures { plain result.now ≡ rule rules.pattern_field }
+    ensures rule { plain result.now ≡ rule rules.pattern_field }
+    ensures row { is_reference result.now ≡ false }
 {
     &PATTERN_FIELD
 }
@@ -162,7 +166,8 @@ static LITERAL: Rule = node!(
 );
 
 pub fn literal() -> &'static Rule
-    ensures { plain result.now ≡ rule rules.literal }
+    ensures rule { plain result.now ≡ rule rules.literal }
+    ensures row { is_reference result.now ≡ false }
 {
     &LITERAL
 }

@@ -1,9 +1,9 @@
 //! The rows of statements and blocks.
 
-ghost use Rattle.std.specs.Prelude.{◌≡◌};
+ghost use Rattle.std.specs.Prelude.{◌≡◌, false};
 ghost use Rattle.rust_grammar.specs.Rule as rules;
 ghost use Rattle.rust_grammar.specs.Whole.{rule};
-ghost use Rattle.grammar_reader.specs.Data.{plain};
+ghost use Rattle.grammar_reader.specs.Data.{plain, is_reference};
 
 use crate::notation::*;
 use crate::production::Production;
@@ -77,7 +77,8 @@ static STATEMENT_LIST: Rule = node!(
 );
 
 pub fn statement_list() -> &'static Rule
-    ensures { plain result.now ≡ rule rules.statement_list }
+    ensures rule { plain result.now ≡ rule rules.statement_list }
+    ensures row { is_reference result.now ≡ false }
 {
     &STATEMENT_LIST
 }
@@ -85,7 +86,8 @@ pub fn statement_list() -> &'static Rule
 static BLOCK: Rule = node!(BLOCK_EXPR, call!(StatementList));
 
 pub fn block() -> &'static Rule
-    ensures { plain result.now ≡ rule rules.block }
+    ensures rule { plain result.now ≡ rule rules.block }
+    ensures row { is_reference result.now ≡ false }
 {
     &BLOCK
 }
@@ -93,7 +95,8 @@ pub fn block() -> &'static Rule
 static STATEMENT: Rule = statement_of!(until!(R_CURLY), StatementEnd);
 
 pub fn statement() -> &'static Rule
-    ensures { plain result.now ≡ rule rules.statement }
+    ensures rule { plain result.now ≡ rule rules.statement }
+    ensures row { is_reference result.now ≡ false }
 {
     &STATEMENT
 }
@@ -101,7 +104,8 @@ pub fn statement() -> &'static Rule
 static STATEMENT_END: Rule = end_of!(until!(R_CURLY));
 
 pub fn statement_end() -> &'static Rule
-    ensures { plain result.now ≡ rule rules.statement_end }
+    ensures rule { plain result.now ≡ rule rules.statement_end }
+    ensures row { is_reference result.now ≡ false }
 {
     &STATEMENT_END
 }
@@ -112,7 +116,8 @@ static MACRO_STATEMENTS: Rule = node!(
 );
 
 pub fn macro_statements() -> &'static Rule
-    ensures { plain result.now ≡ rule rules.macro_statements }
+    ensures rule { plain result.now ≡ rule rules.macro_statements }
+    ensures row { is_reference result.now ≡ false }
 {
     &MACRO_STATEMENTS
 }
@@ -120,7 +125,8 @@ pub fn macro_statements() -> &'static Rule
 static MACRO_STATEMENT: Rule = statement_of!(at_end!(), MacroStatementEnd);
 
 pub fn macro_statement() -> &'static Rule
-    ensures { plain result.now ≡ rule rules.macro_statement }
+    ensures rule { plain result.now ≡ rule rules.macro_statement }
+    ensures row { is_reference result.now ≡ false }
 {
     &MACRO_STATEMENT
 }
@@ -128,7 +134,8 @@ pub fn macro_statement() -> &'static Rule
 static MACRO_STATEMENT_END: Rule = end_of!(at_end!());
 
 pub fn macro_statement_end() -> &'static Rule
-    ensures { plain result.now ≡ rule rules.macro_statement_end }
+    ensures rule { plain result.now ≡ rule rules.macro_statement_end }
+    ensures row { is_reference result.now ≡ false }
 {
     &MACRO_STATEMENT_END
 }

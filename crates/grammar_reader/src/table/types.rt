@@ -1,9 +1,9 @@
 //! The rows of types.
 
-ghost use Rattle.std.specs.Prelude.{◌≡◌};
+ghost use Rattle.std.specs.Prelude.{◌≡◌, false};
 ghost use Rattle.rust_grammar.specs.Rule as rules;
 ghost use Rattle.rust_grammar.specs.Whole.{rule};
-ghost use Rattle.grammar_reader.specs.Data.{plain};
+ghost use Rattle.grammar_reader.specs.Data.{plain, is_reference};
 
 use crate::notation::*;
 use crate::production::Production;
@@ -85,7 +85,8 @@ static ANY_TYPE: Rule = or!(
 );
 
 pub fn any_type() -> &'static Rule
-    ensures { plain result.now ≡ rule rules.any_type }
+    ensures rule { plain result.now ≡ rule rules.any_type }
+    ensures row { is_reference result.now ≡ false }
 {
     &ANY_TYPE
 }
@@ -93,7 +94,8 @@ pub fn any_type() -> &'static Rule
 static RET_TYPE: Rule = node!(RET_TYPE, then!(one!(THIN_ARROW), want_type!()));
 
 pub fn ret_type() -> &'static Rule
-    ensures { plain result.now ≡ rule rules.ret_type }
+    ensures rule { plain result.now ≡ rule rules.ret_type }
+    ensures row { is_reference result.now ≡ false }
 {
     &RET_TYPE
 }

@@ -8,8 +8,9 @@ use Rattle.rust_grammar.specs.Rule.{there_at, width}
 use Rattle.rust_grammar.specs.Statements.{statements}
 use Rattle.rust_grammar.specs.Types.{types}
 use Rattle.rust_grammar.specs.Whole.{rule}
+use Rattle.grammar_reader.specs.Data.{later}
 use Rattle.grammar_reader.proofs.table.expressions.atom.Goals as goal
 
-pub returns : goal.returns
-unfolding rule items statements expressions patterns types paths there_at width row one_of any_of expected wanted op no_longer is_longer
-returns c = refl
+pub returns-clause-rule : goal.returns-clause-rule
+unfolding later rule items statements expressions patterns types paths there_at width row one_of any_of expected wanted op no_longer is_longer
+returns-clause-rule c = refl

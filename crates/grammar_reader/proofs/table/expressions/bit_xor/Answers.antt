@@ -10,6 +10,6 @@ use Rattle.rust_grammar.specs.Types.{types}
 use Rattle.rust_grammar.specs.Whole.{rule}
 use Rattle.grammar_reader.proofs.table.expressions.bit_xor.Goals as goal
 
-pub returns : goal.returns
+pub returns-clause-rule : goal.returns-clause-rule
 unfolding rule items statements expressions patterns types paths there_at width row one_of any_of expected wanted op no_longer is_longer
-returns c = refl
+returns-clause-rule c = refl

@@ -11,6 +11,6 @@ use Rattle.rust_grammar.specs.Whole.{rule}
 use Rattle.grammar_reader.specs.Data.{later}
 use Rattle.grammar_reader.proofs.table.items.body.Goals as goal
 
-pub returns : goal.returns
+pub returns-clause-rule : goal.returns-clause-rule
 unfolding later rule items statements expressions patterns types paths there_at width row one_of any_of expected wanted op no_longer is_longer
-returns c = refl
+returns-clause-rule c = refl
