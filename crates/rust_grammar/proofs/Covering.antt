@@ -1,19 +1,17 @@
 -- Trees that stand in order over all tokens of a text cover its leaves.
-use Rattle.std.proofs.Common.{◌≡◌, ℕ, zero, suc, ◌+◌, Bool, true, false, not, ◌&&◌, ◌||◌, ◌==◌, List, [], ◌∷◌, ◌++◌, length, take, drop, Option, Some, None, refl, ap, sym, subst, ◌∙◌, append_assoc, arith, inl, inr, if◌then◌else◌, true≢false}
+use Rattle.std.proofs.Common.{◌≡◌, ℕ, suc, ◌+◌, Bool, true, false, not, ◌&&◌, ◌||◌, ◌==◌, List, [], ◌∷◌, ◌++◌, length, take, drop, Option, Some, None, refl, ap, sym, subst, ◌∙◌, arith, inl, inr, if◌then◌else◌, true≢false}
 use Rattle.std.specs.List.{prefix_len}
 use Rattle.std.proofs.lemmas.Bool.{cases_Bool, eqb-true, or_cases}
 use Rattle.parser_input.specs.Input.{Token, input, token_of, is_joint, touches, ends_in_dot}
 use Rattle.parser_input.specs.Kinds.{FLOAT_NUMBER}
 use Rattle.parser_input.specs.Leaf.{Leaf, is_trivia}
 use Rattle.parser_input.specs.declared.edition.Edition.{Edition}
-use Rattle.parser_events.specs.Fits.{from_token, is_unbroken, is_split_at, is_none_left, covers, leaves_root, has_one_root, fits, IsRooted}
-use Rattle.parser_events.specs.Forest as forest
+use Rattle.parser_events.specs.Fits.{from_token, is_unbroken, is_split_at, is_none_left, covers}
 use Rattle.parser_events.specs.Forest.{Forest}
-use Rattle.parser_events.specs.Steps as walk
 use Rattle.parser_events.specs.Steps.{Step, steps}
 use Rattle.parser_events.specs.Trivia.{pending}
 use Rattle.rust_grammar.specs.Rule.{Rule, One}
-use Rattle.rust_grammar.specs.Spelled.{marks, are_next, is_token, is_contextual, is_one_of, is_spelled, is_float, drop_if, then_after, tokens_after}
+use Rattle.rust_grammar.specs.Spelled.{marks, are_next, is_token, is_contextual, is_one_of, is_spelled, is_float, drop_if, then_after}
 use Rattle.rust_grammar.proofs.Plain.{and_l, and_r}
 use Rattle.rust_grammar.proofs.Spelling.{or-first}
 
@@ -31,7 +29,7 @@ at-token : (l : Leaf) (ls : List Leaf) → is_trivia l ≡ false → from_token 
 unfolding pending
 at-token l ls t = rw t refl
 
--- the leaf that the next token is of, and the leaves behind it
+-- the leaf that the next token is of, and the leaves after it
 record Next (edition : Edition) (ls : List Leaf) (t : Token) (ts : List Token) : Type 0 where
   pub leaf : Leaf
   pub rest : List Leaf
@@ -61,20 +59,20 @@ no-next edition (l ∷ ls) e = elim (cases_Bool (is_trivia l)) [
 ]
 
 -- spellings of a token at least, none of which is a float
-unfoldable no_float : List ℕ → Bool
+unfoldable pub no_float : List ℕ → Bool
 no_float [] = true
 no_float (k ∷ ks) = not (k == FLOAT_NUMBER) && no_float ks
 
-unfoldable are_plain : List Rule → Bool
+unfoldable pub are_plain : List Rule → Bool
 are_plain [] = true
 are_plain (One x ∷ rs) = not (length x.parts == 0) && no_float x.parts && are_plain rs
 are_plain (r ∷ rs) = are_plain rs
 
-marks-plain : are_plain marks ≡ true
+pub marks-plain : are_plain marks ≡ true
 unfolding are_plain no_float marks
 marks-plain = refl
 
--- so many leaves stand next unbroken, and the tokens of those behind them are the rest
+-- so many leaves stand next unbroken, and the tokens of those after them are the rest
 pub record Stands (edition : Edition) (count : ℕ) (ls : List Leaf) (ts : List Token) : Type 0 where
   pub unbroken : is_unbroken count ls ≡ true
   pub more : input edition (drop count ls) ≡ ts
@@ -108,7 +106,7 @@ unbroken-row edition k (j ∷ ks) l ls own plain e =
     let same = own-input edition after.0 after.1.0 after.1.1.1 in
     let tokens : input edition ls ≡ token_of edition after.0 after.1.0 ∷ input edition after.1.0 = ap (λ (us : List Leaf). input edition us) after.1.1.0 ∙ same in
     let more = unbroken-row edition j ks after.0 after.1.0 after.1.1.1 (and_r (not (k == FLOAT_NUMBER)) (no_float (j ∷ ks)) plain)
-      (subst (λ (ts : List Token). are_next (j ∷ ks) ts ≡ true) tokens (and_r ((l.kind == k) && is_joint l ls) _ e)) in
+    (subst (λ (ts : List Token). are_next (j ∷ ks) ts ≡ true) tokens (and_r ((l.kind == k) && is_joint l ls) _ e)) in
     record {
       unbroken = rw own (ap (λ (us : List Leaf). is_unbroken (length (j ∷ ks)) us) after.1.1.0 ∙ more.unbroken);
       more = ap (λ (us : List Leaf). input edition (drop (length (j ∷ ks)) us)) after.1.1.0 ∙ more.more ∙ ap (λ (ts : List Token). drop (length (j ∷ ks)) ts) (sym tokens);
@@ -169,15 +167,15 @@ float-stands edition e ls (t ∷ ts) i f =
     let kind : (n.leaf.kind == FLOAT_NUMBER) ≡ true = ap (λ (u : Token). u.kind == FLOAT_NUMBER) n.token ∙ and_l (t.kind == FLOAT_NUMBER) _ f in
     let joint : not (ends_in_dot n.leaf.text) ≡ t.joint = sym (rw kind refl) ∙ ap (λ (u : Token). u.joint) n.token in
     let mark : (if e then not t.joint else t.joint) ≡ true = and_r (t.kind == FLOAT_NUMBER) _ f in
-    let split : is_split_at e (n.leaf ∷ n.rest) ≡ true = rw kind (told e (ends_in_dot n.leaf.text) t.joint joint mark) in
+    let split : is_split_at e (n.leaf ∷ n.rest) ≡ true = rw kind (marked e (ends_in_dot n.leaf.text) t.joint joint mark) in
     (ap (λ (us : List Leaf). is_split_at e us) n.are ∙ split, ap (λ (us : List Leaf). input edition (drop 1 us)) n.are ∙ n.more)
   where
-    told : (e d j : Bool) → not d ≡ j → (if e then not j else j) ≡ true → (if e then d else not d) ≡ true
-    told true true j i m = refl
-    told true false j i m = ap not i ∙ m
-    told false d j i m = i ∙ m
+    marked : (e d j : Bool) → not d ≡ j → (if e then not j else j) ≡ true → (if e then d else not d) ≡ true
+    marked true true j i m = refl
+    marked true false j i m = ap not i ∙ m
+    marked false d j i m = i ∙ m
 
--- where trees lead: the steps behind them cover the leaves that are left
+-- where trees lead: the steps after them cover the leaves that are left
 pub record Covers (edition : Edition) (f : Forest) (ss : List Step) (ls : List Leaf) (us : List Token) : Type 0 where
   pub rest : List Leaf
   pub tokens : input edition rest ≡ us

@@ -1,13 +1,10 @@
 -- The tree of an entry stands over all tokens, in order, as it is spelled.
-use Rattle.std.proofs.Common.{◌≡◌, Bool, true, false, List, [], ◌∷◌, Option, Some, None, refl, sym, ap, subst, ◌∙◌, inl, inr, if◌then◌else◌, true≢false}
-use Rattle.std.proofs.lemmas.Bool.{cases_Bool}
-use Rattle.parser_input.specs.Kinds.{ERROR}
+use Rattle.std.proofs.Common.{◌≡◌, Bool, true, false, List, [], ◌∷◌, Some, refl, sym, ap, ◌∙◌, if◌then◌else◌, true≢false}
 use Rattle.parser_input.specs.Input.{Token}
 use Rattle.parser_events.specs.Forest as forest
 use Rattle.parser_events.specs.Forest.{Forest, UnexpectedTokens, ◌then◌}
 use Rattle.rust_grammar.specs.Rule.{Production, source_file, macro_items, macro_statements}
 use Rattle.rust_grammar.specs.Meaning.{Reading, meaning, sees, look_of}
-use Rattle.rust_grammar.specs.Notation.{wanted}
 use Rattle.rust_grammar.specs.Entry.{leaves, is_used_up, takes_all, entry}
 use Rattle.rust_grammar.specs.Spelled.{then_after, tokens_after}
 use Rattle.rust_grammar.specs.Whole.{whole}
@@ -58,13 +55,13 @@ entries-in-order x ts =
     chosen-forest (IsAll ts) (takes_all x) _ _
     (λ e. all-read x ts (list-begun x ts (lists-begin x e)) (lists-take-all x e false (from ts)))
     (λ e. chosen-forest (IsAll ts) (sees false (from ts) (look_of whole x)) _ _
-      (λ f.
-        let b : IsBegun x false (from ts) = if-second (asks_nothing x) (sees false (from ts) (look_of whole x)) f in
-        let s = meaning whole x false (from ts) in
-        chosen-forest (IsAll ts) (is_used_up s.rest) _ _
-        (λ u. all-read x ts b (used-up s.rest u))
-        (λ u. rw (more-in-order s (forest.Said UnexpectedTokens (leaves s.rest)) ts [] (read-in-order x ts b) (leaves-in-order s.rest)) refl))
-      (λ f. rw (leaves-in-order ts) refl))
+    (λ f.
+    let b : IsBegun x false (from ts) = if-second (asks_nothing x) (sees false (from ts) (look_of whole x)) f in
+    let s = meaning whole x false (from ts) in
+    chosen-forest (IsAll ts) (is_used_up s.rest) _ _
+    (λ u. all-read x ts b (used-up s.rest u))
+    (λ u. rw (more-in-order s (forest.Said UnexpectedTokens (leaves s.rest)) ts [] (read-in-order x ts b) (leaves-in-order s.rest)) refl))
+    (λ f. rw (leaves-in-order ts) refl))
   where
     list-begun : (x : Production) (ts : List Token) → asks_nothing x ≡ true → (if asks_nothing x then true else sees false (from ts) (look_of whole x)) ≡ true
     list-begun x ts e = rw e refl

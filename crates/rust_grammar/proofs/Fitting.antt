@@ -1,9 +1,9 @@
 -- The steps of a node that stands in order over all tokens of a text fit its leaves.
-use Rattle.std.proofs.Common.{◌≡◌, ℕ, zero, suc, Bool, true, false, ◌&&◌, List, [], ◌∷◌, ◌++◌, drop, Option, Some, None, refl, ap, sym, subst, ◌∙◌, append_assoc, if◌then◌else◌}
+use Rattle.std.proofs.Common.{◌≡◌, ℕ, suc, Bool, true, false, ◌&&◌, List, [], ◌∷◌, ◌++◌, drop, Some, refl, ap, sym, ◌∙◌, append_assoc}
 use Rattle.parser_input.specs.Input.{Token, input}
 use Rattle.parser_input.specs.Leaf.{Leaf}
 use Rattle.parser_input.specs.declared.edition.Edition.{Edition}
-use Rattle.parser_events.specs.Fits.{from_token, is_unbroken, is_split_at, is_none_left, covers, leaves_root, has_one_root, fits, IsRooted}
+use Rattle.parser_events.specs.Fits.{from_token, covers, leaves_root, has_one_root, fits, IsRooted}
 use Rattle.parser_events.specs.Forest as forest
 use Rattle.parser_events.specs.Forest.{Forest}
 use Rattle.parser_events.specs.Steps as walk
@@ -99,12 +99,12 @@ one-root (forest.Leaf k n f) r = absurd r
 one-root (forest.Said m f) r = absurd r
 one-root (forest.ErrorLeaf m k f) r = absurd r
 
-nothing-behind : (ss : List Step) → ss ++ [] ≡ ss
-nothing-behind [] = refl
-nothing-behind (s ∷ ss) = ap (λ (ts : List Step). s ∷ ts) (nothing-behind ss)
+nothing-after : (ss : List Step) → ss ++ [] ≡ ss
+nothing-after [] = refl
+nothing-after (s ∷ ss) = ap (λ (ts : List Step). s ∷ ts) (nothing-after ss)
 
 pub rooted-fits : (edition : Edition) (ls : List Leaf) (f : Forest) → IsRooted f → tokens_after f (input edition ls) ≡ Some [] → fits (steps f) ls ≡ true
 rooted-fits edition ls f rooted all =
     let end = covers-forest edition f [] ls [] all in
-    let covered : covers (steps f) ls ≡ true = ap (λ (ss : List Step). covers ss ls) (sym (nothing-behind (steps f))) ∙ end.same ∙ no-next edition end.rest end.tokens in
+    let covered : covers (steps f) ls ≡ true = ap (λ (ss : List Step). covers ss ls) (sym (nothing-after (steps f))) ∙ end.same ∙ no-next edition end.rest end.tokens in
     ap (λ (b : Bool). b && covers (steps f) ls) (one-root f rooted) ∙ covered

@@ -1,28 +1,21 @@
 -- What a production of the whole grammar gives stands over the tokens that it takes, in order, as it is spelled.
-use Rattle.std.proofs.Common.{◌≡◌, ℕ, zero, suc, Bool, true, false, not, ◌==◌, List, [], ◌∷◌, length, drop, nat_lt, Option, Some, None, refl, sym, ap, ◌∙◌, inl, inr, if◌then◌else◌, true≢false, arith}
+use Rattle.std.proofs.Common.{◌≡◌, suc, Bool, true, false, ◌==◌, List, [], ◌∷◌, length, drop, nat_lt, Some, None, refl, sym, ◌∙◌, if◌then◌else◌, true≢false, arith}
 use Rattle.std.proofs.lemmas.Bool.{lt-ltb}
-use Rattle.parser_input.specs.Kinds.{ERROR, COLON, BANG, IDENT}
+use Rattle.parser_input.specs.Kinds.{ERROR, IDENT}
 use Rattle.parser_input.specs.Input.{Token}
 use Rattle.parser_events.specs.Forest as forest
 use Rattle.parser_events.specs.Forest.{Forest, ◌then◌}
-use Rattle.rust_grammar.specs.Rule.{Production, path, expr_path, visibility, attribute, Look, Always, Kind, Both, Either, Not, there_at}
+use Rattle.rust_grammar.specs.Rule.{Production, path, expr_path, visibility, attribute, Always, there_at}
 use Rattle.rust_grammar.specs.Meaning.{Reading, Calls, read, meaning, sees, ahead, look_of, is_end, leaf, node, wrapped}
 use Rattle.rust_grammar.specs.Entry.{leaves}
-use Rattle.rust_grammar.specs.Spelled.{is_spelled, drop_if, then_after, tokens_after}
-use Rattle.rust_grammar.specs.Shared.{colons_before_more}
-use Rattle.rust_grammar.specs.Notation.{row, one_of}
+use Rattle.rust_grammar.specs.Spelled.{drop_if, then_after, tokens_after}
 use Rattle.rust_grammar.specs.Items.{items}
-use Rattle.rust_grammar.specs.Statements.{statements}
-use Rattle.rust_grammar.specs.Expressions.{expressions}
-use Rattle.rust_grammar.specs.Patterns.{patterns}
-use Rattle.rust_grammar.specs.Types.{types}
-use Rattle.rust_grammar.specs.Paths.{paths}
 use Rattle.rust_grammar.specs.Whole.{rule, whole}
 use Rattle.rust_grammar.proofs.Known.{both-if-l, both-if-r}
-use Rattle.rust_grammar.proofs.Spelling.{Claims, Sound, IsInOrder, more-in-order}
+use Rattle.rust_grammar.proofs.Spelling.{Sound, IsInOrder, more-in-order}
 use Rattle.rust_grammar.proofs.Spelled.{chosen, in-order, any-there, then-some}
 use Rattle.rust_grammar.proofs.SpelledTable.{claims, asks_nothing, gives_something, is_one_word, ends_before, known, all_safe}
-use Rattle.rust_grammar.proofs.Words.{word-path, path-ends}
+use Rattle.rust_grammar.proofs.WordPaths.{word-path, path-ends}
 use Rattle.rust_grammar.proofs.Induction.{HoldOf, meaning-holds}
 
 -- begun where it is read

@@ -1,12 +1,12 @@
 -- What holds of what each rule gives, if it holds of what its calls give, holds of what productions mean.
 use Rattle.std.proofs.Common.{◌≡◌, ℕ, zero, suc, ◌<◌, ◌≤◌, Bool, true, false, ◌&&◌, ◌||◌, length, nat_lt, nat_le, refl, sym, subst, ◌∙◌, arith, inl, inr, if◌then◌else◌}
-use Rattle.std.proofs.lemmas.Bool.{cases_Bool, ltb-true, leb-true, lt-ltb, le-leb, or_cases}
+use Rattle.std.proofs.lemmas.Bool.{ltb-true, leb-true, lt-ltb, le-leb, or_cases}
 use Rattle.rust_grammar.specs.Rule.{Production}
 use Rattle.rust_grammar.specs.Meaning.{Reading, Calls, read, look_of, meaning}
-use Rattle.rust_grammar.specs.Whole.{rule, rank, whole}
+use Rattle.rust_grammar.specs.Whole.{rule, whole}
 use Rattle.rust_grammar.proofs.Plain.{IsBelow, AgreesBelow, all_facts, plain_step, meaning_is_plain, fine-rank, and_l, and_r}
 use Rattle.rust_grammar.proofs.WholeTable.{claim, all_fine}
-use Rattle.rust_grammar.proofs.Spelling.{or-first, or-second}
+use Rattle.rust_grammar.proofs.Spelling.{both-true, or-first, or-second}
 
 -- a call that a production makes which began with so many tokens
 unfoldable is_made : Production → ℕ → Production → Reading → Bool
@@ -15,10 +15,6 @@ is_made x n y t = nat_lt (length t.rest) n || (nat_le (length t.rest) n && nat_l
 -- It gives what the called production means. Of other calls it makes no difference what they give.
 unfoldable made : Calls → Production → ℕ → Calls
 made other x n y d t = if is_made x n y t then meaning whole y d t else other y d t
-
-both-true : (a b : Bool) → a ≡ true → b ≡ true → (a && b) ≡ true
-both-true true b e f = f
-both-true false b e f = e
 
 is-made : (x : Production) (n : ℕ) (y : Production) (t : Reading) → IsBelow whole x n y t → is_made x n y t ≡ true
 unfolding is_made
@@ -53,8 +49,8 @@ module _ (P : Fact) (E : Fact) (other : Calls) (otherwise : HoldOf P other) (als
   by-rule x c s below =
       let call = made other x (length s.rest) in
       let same : meaning whole x c s ≡ read (look_of whole) call c (rule x) s =
-          meaning_is_plain whole claim all_fine x c s
-          ∙ sym (plain_step whole claim all_fine x c s call (agrees other x (length s.rest)) (λ y d t h. all_facts whole claim all_fine y d t)).same in
+      meaning_is_plain whole claim all_fine x c s
+      ∙ sym (plain_step whole claim all_fine x c s call (agrees other x (length s.rest)) (λ y d t h. all_facts whole claim all_fine y d t)).same in
       subst (λ (u : Reading). P x c s u) (sym same) (step call
       (λ y d t. chosen-call (is_made x (length s.rest) y t) (P y d t) (meaning whole y d t) (other y d t) (λ e. below y d t (made-below x (length s.rest) y t e)) (otherwise y d t))
       (λ y d t. chosen-call (is_made x (length s.rest) y t) (E y d t) (meaning whole y d t) (other y d t) (λ e. plain y d t) (also y d t))

@@ -1,12 +1,11 @@
 -- What follows from a look that is seen at a place.
-use Rattle.std.proofs.Common.{◌≡◌, ℕ, zero, suc, ◌+◌, ◌-◌, ◌<◌, arith, Bool, true, false, not, ◌&&◌, ◌==◌, List, [], ◌∷◌, length, drop, nat_lt, nat_eq, Option, Some, None, refl, sym, ap, subst, ◌∙◌, ◌⊎◌, inl, inr, if◌then◌else◌, true≢false}
+use Rattle.std.proofs.Common.{◌≡◌, ℕ, zero, suc, arith, Bool, true, false, not, ◌&&◌, ◌==◌, List, [], ◌∷◌, length, nat_lt, nat_eq, refl, sym, ap, subst, ◌∙◌, ◌⊎◌, inl, inr, if◌then◌else◌, true≢false}
 use Rattle.std.proofs.lemmas.Bool.{cases_Bool, eqb-true, lt-ltb}
 use Rattle.parser_input.specs.Kinds.{EOF}
 use Rattle.parser_input.specs.Input.{Token}
-use Rattle.rust_grammar.specs.Rule.{Look, Always, Never, Kind, Contextual, Joint, Left, InCondition, Given, Both, Either, Not, shift, in_mode}
-use Rattle.rust_grammar.specs.Meaning.{Reading, ahead, sees, fresh, is_end}
+use Rattle.rust_grammar.specs.Rule.{Look, Always, Never, Kind, Contextual, Joint, Left, InCondition, Given, Both, Either, Not}
+use Rattle.rust_grammar.specs.Meaning.{Reading, ahead, sees}
 use Rattle.rust_grammar.proofs.Plain.{and_l, and_r}
-use Rattle.rust_grammar.proofs.Parts.{asks_tokens, shifted}
 
 -- tests that ask their second part only where the first does not decide
 pub either-if : (a b : Bool) → (if a then true else b) ≡ true → (a ≡ true) ⊎ (b ≡ true)
@@ -33,11 +32,11 @@ pub if-both : (a b : Bool) → a ≡ true → b ≡ true → (if a then b else f
 if-both true b e f = f
 if-both false b e f = e
 
-neither-l : (a b : Bool) → (if a then true else b) ≡ false → a ≡ false
+pub neither-l : (a b : Bool) → (if a then true else b) ≡ false → a ≡ false
 neither-l true b e = e
 neither-l false b e = refl
 
-neither-r : (a b : Bool) → (if a then true else b) ≡ false → b ≡ false
+pub neither-r : (a b : Bool) → (if a then true else b) ≡ false → b ≡ false
 neither-r true b e = absurd (true≢false e)
 neither-r false b e = e
 
@@ -152,60 +151,6 @@ sift (Either a b) l = Either (sift a l) (sift b l)
 sift (Not a) l = if same_look a l then Never else Not a
 sift k l = k
 
--- a look where nothing is given
-unfoldable pub anew : Look → Look
-anew Given = Never
-anew (Both a b) = Both (anew a) (anew b)
-anew (Either a b) = Either (anew a) (anew b)
-anew (Not a) = Not (anew a)
-anew l = l
-
--- whether a look asks what is given, or for condition mode
-unfoldable pub asks : (given condition : Bool) → Look → Bool
-asks g d Given = g
-asks g d InCondition = d
-asks g d (Both a b) = if asks g d a then true else asks g d b
-asks g d (Either a b) = if asks g d a then true else asks g d b
-asks g d (Not a) = asks g d a
-asks g d l = false
-
--- what is left of a look that must not ask so
-unfoldable pub without : (given condition : Bool) → Look → Look
-without g d Given = if g then Always else Given
-without g d InCondition = if d then Always else InCondition
-without g d (Both a b) = Both (without g d a) (without g d b)
-without g d (Either a b) = Either (without g d a) (without g d b)
-without g d (Not a) = if asks g d a then Always else Not a
-without g d l = l
-
--- a look from so many tokens further on
-unfoldable pub down : ℕ → Look → Look
-down n (Kind m k) = Kind (m - n) k
-down n (Contextual m k) = Contextual (m - n) k
-down n (Joint m) = Joint (m - n)
-down n (Both a b) = Both (down n a) (down n b)
-down n (Either a b) = Either (down n a) (down n b)
-down n (Not a) = Not (down n a)
-down n l = l
-
-unfoldable pub all_down : ℕ → Look → Look
-all_down n l = let m = down n l in if same_look (shift n m) l && asks_tokens m then m else Always
-
--- what is left of a look after so many tokens
-unfoldable pub back : ℕ → Look → Look
-back n (Both a b) = Both (back n a) (back n b)
-back n (Either a b) = Either (back n a) (back n b)
-back n l = all_down n l
-
--- the look where the mode is known
-unfoldable pub asked : Option Bool → Look → Look
-asked None l = l
-asked (Some d) l = in_mode d l
-
-abbrev pub IsMode : Option Bool → Bool → Type 0
-IsMode None c = Unit {0}
-IsMode (Some d) c = d ≡ c
-
 pub token-left : (k : ℕ) (ts : List Token) → not (EOF == k) ≡ true → ((ahead 0 ts).kind == k) ≡ true → nat_lt 0 (length ts) ≡ true
 unfolding ahead
 token-left k [] e h = absurd (true≢false (sym h ∙ is-false (EOF == k) e))
@@ -230,51 +175,51 @@ module _ (c : Bool) (s : Reading) where
   left-seen zero k (Not a) e h = absurd (true≢false (sym e))
   left-seen (suc n) k m e h = absurd (true≢false (sym e))
 
-  told : (b : Bool) (l m : Look) → tells b l m ≡ true → sees c s l ≡ b → sees c s m ≡ true
+  follows : (b : Bool) (l m : Look) → tells b l m ≡ true → sees c s l ≡ b → sees c s m ≡ true
   unfolding tells sees
-  told true (Both a b) m e h = elim (either-if (same_look (Both a b) m) _ e) [
+  follows true (Both a b) m e h = elim (either-if (same_look (Both a b) m) _ e) [
     | inl i ↦ same-seen true (Both a b) m i h
     | inr i ↦ elim (either-if (tells true a m) (tells true b m) i) [
-      | inl j ↦ told true a m j (both-if-l (sees c s a) (sees c s b) h)
-      | inr j ↦ told true b m j (both-if-r (sees c s a) (sees c s b) h)
+      | inl j ↦ follows true a m j (both-if-l (sees c s a) (sees c s b) h)
+      | inr j ↦ follows true b m j (both-if-r (sees c s a) (sees c s b) h)
     ]
   ]
-  told true (Either a b) m e h = elim (either-if (same_look (Either a b) m) _ e) [
+  follows true (Either a b) m e h = elim (either-if (same_look (Either a b) m) _ e) [
     | inl i ↦ same-seen true (Either a b) m i h
     | inr i ↦ elim (either-if (sees c s a) (sees c s b) h) [
-      | inl j ↦ told true a m (both-if-l (tells true a m) (tells true b m) i) j
-      | inr j ↦ told true b m (both-if-r (tells true a m) (tells true b m) i) j
+      | inl j ↦ follows true a m (both-if-l (tells true a m) (tells true b m) i) j
+      | inr j ↦ follows true b m (both-if-r (tells true a m) (tells true b m) i) j
     ]
   ]
-  told true (Not a) m e h = elim (either-if (same_look (Not a) m) (tells false a m) e) [
+  follows true (Not a) m e h = elim (either-if (same_look (Not a) m) (tells false a m) e) [
     | inl i ↦ same-seen true (Not a) m i h
-    | inr i ↦ told false a m i (is-false (sees c s a) h)
+    | inr i ↦ follows false a m i (is-false (sees c s a) h)
   ]
-  told true (Kind n k) m e h = elim (either-if (same_look (Kind n k) m) (is_left n k m) e) [
+  follows true (Kind n k) m e h = elim (either-if (same_look (Kind n k) m) (is_left n k m) e) [
     | inl i ↦ same-seen true (Kind n k) m i h
     | inr i ↦ left-seen n k m i h
   ]
-  told true Never m e h = absurd (true≢false (sym h))
-  told true Always m e h = same-seen true Always m e h
-  told true (Contextual n k) m e h = same-seen true (Contextual n k) m e h
-  told true (Joint n) m e h = same-seen true (Joint n) m e h
-  told true Left m e h = same-seen true Left m e h
-  told true InCondition m e h = same-seen true InCondition m e h
-  told true Given m e h = same-seen true Given m e h
-  told false (Not a) m e h = told true a m e (is-true (sees c s a) h)
-  told false (Either a b) m e h = elim (either-if (tells false a m) (tells false b m) e) [
-    | inl i ↦ told false a m i (neither-l (sees c s a) (sees c s b) h)
-    | inr i ↦ told false b m i (neither-r (sees c s a) (sees c s b) h)
+  follows true Never m e h = absurd (true≢false (sym h))
+  follows true Always m e h = same-seen true Always m e h
+  follows true (Contextual n k) m e h = same-seen true (Contextual n k) m e h
+  follows true (Joint n) m e h = same-seen true (Joint n) m e h
+  follows true Left m e h = same-seen true Left m e h
+  follows true InCondition m e h = same-seen true InCondition m e h
+  follows true Given m e h = same-seen true Given m e h
+  follows false (Not a) m e h = follows true a m e (is-true (sees c s a) h)
+  follows false (Either a b) m e h = elim (either-if (tells false a m) (tells false b m) e) [
+    | inl i ↦ follows false a m i (neither-l (sees c s a) (sees c s b) h)
+    | inr i ↦ follows false b m i (neither-r (sees c s a) (sees c s b) h)
   ]
-  told false Always m e h = absurd (true≢false (sym e))
-  told false Never m e h = absurd (true≢false (sym e))
-  told false (Kind n k) m e h = absurd (true≢false (sym e))
-  told false (Contextual n k) m e h = absurd (true≢false (sym e))
-  told false (Joint n) m e h = absurd (true≢false (sym e))
-  told false Left m e h = absurd (true≢false (sym e))
-  told false InCondition m e h = absurd (true≢false (sym e))
-  told false Given m e h = absurd (true≢false (sym e))
-  told false (Both a b) m e h = absurd (true≢false (sym e))
+  follows false Always m e h = absurd (true≢false (sym e))
+  follows false Never m e h = absurd (true≢false (sym e))
+  follows false (Kind n k) m e h = absurd (true≢false (sym e))
+  follows false (Contextual n k) m e h = absurd (true≢false (sym e))
+  follows false (Joint n) m e h = absurd (true≢false (sym e))
+  follows false Left m e h = absurd (true≢false (sym e))
+  follows false InCondition m e h = absurd (true≢false (sym e))
+  follows false Given m e h = absurd (true≢false (sym e))
+  follows false (Both a b) m e h = absurd (true≢false (sym e))
 
   pub never-seen : (l : Look) → is_never l ≡ true → sees c s l ≡ false
   unfolding is_never sees
@@ -294,26 +239,26 @@ module _ (c : Bool) (s : Reading) where
   unfolding weakens sees
   weakened l Always e h = refl
   weakened l (Both a b) e h = elim (either-if (tells true l (Both a b)) _ e) [
-    | inl i ↦ told true l (Both a b) i h
+    | inl i ↦ follows true l (Both a b) i h
     | inr i ↦ if-both (sees c s a) (sees c s b) (weakened l a (both-if-l (weakens l a) (weakens l b) i) h) (weakened l b (both-if-r (weakens l a) (weakens l b) i) h)
   ]
   weakened l (Either a b) e h = elim (either-if (tells true l (Either a b)) _ e) [
-    | inl i ↦ told true l (Either a b) i h
+    | inl i ↦ follows true l (Either a b) i h
     | inr i ↦ elim (either-if (weakens l a) (weakens l b) i) [
       | inl j ↦ if-first (sees c s a) (sees c s b) (weakened l a j h)
       | inr j ↦ if-second (sees c s a) (sees c s b) (weakened l b j h)
     ]
   ]
-  weakened l Never e h = told true l Never e h
-  weakened l (Kind n k) e h = told true l (Kind n k) e h
-  weakened l (Contextual n k) e h = told true l (Contextual n k) e h
-  weakened l (Joint n) e h = told true l (Joint n) e h
-  weakened l Left e h = told true l Left e h
-  weakened l InCondition e h = told true l InCondition e h
-  weakened l Given e h = told true l Given e h
+  weakened l Never e h = follows true l Never e h
+  weakened l (Kind n k) e h = follows true l (Kind n k) e h
+  weakened l (Contextual n k) e h = follows true l (Contextual n k) e h
+  weakened l (Joint n) e h = follows true l (Joint n) e h
+  weakened l Left e h = follows true l Left e h
+  weakened l InCondition e h = follows true l InCondition e h
+  weakened l Given e h = follows true l Given e h
   weakened l (Not a) e h = elim (either-if (is_never a) (tells true l (Not a)) e) [
     | inl i ↦ ap not (never-seen a i)
-    | inr i ↦ told true l (Not a) i h
+    | inr i ↦ follows true l (Not a) i h
   ]
 
   pub implied : (l m : Look) → implies l m ≡ true → sees c s l ≡ true → sees c s m ≡ true
@@ -391,121 +336,3 @@ module _ (c : Bool) (s : Reading) where
   sift-seen Left l own h = h
   sift-seen InCondition l own h = h
   sift-seen Given l own h = h
-
-  pub anew-seen : (l : Look) → sees c s (anew l) ≡ sees c (fresh s) l
-  unfolding anew sees fresh is_end
-  anew-seen Given = refl
-  anew-seen (Both a b) = rw (anew-seen a, anew-seen b) refl
-  anew-seen (Either a b) = rw (anew-seen a, anew-seen b) refl
-  anew-seen (Not a) = ap not (anew-seen a)
-  anew-seen Always = refl
-  anew-seen Never = refl
-  anew-seen (Kind n k) = refl
-  anew-seen (Contextual n k) = refl
-  anew-seen (Joint n) = refl
-  anew-seen Left = refl
-  anew-seen InCondition = refl
-
-  mode-seen : (l : Look) → sees c s (in_mode c l) ≡ sees c s l
-  unfolding sees in_mode
-  mode-seen InCondition = of c
-    where
-      of : (b : Bool) → sees c s (if b then Always else Never) ≡ b
-      of true = refl
-      of false = refl
-  mode-seen (Both a b) = rw (mode-seen a, mode-seen b) refl
-  mode-seen (Either a b) = rw (mode-seen a, mode-seen b) refl
-  mode-seen (Not a) = ap not (mode-seen a)
-  mode-seen Always = refl
-  mode-seen Never = refl
-  mode-seen (Kind n k) = refl
-  mode-seen (Contextual n k) = refl
-  mode-seen (Joint n) = refl
-  mode-seen Left = refl
-  mode-seen Given = refl
-
-  pub asked-seen : (m : Option Bool) (l : Look) → IsMode m c → sees c s (asked m l) ≡ sees c s l
-  unfolding asked
-  asked-seen None l i = refl
-  asked-seen (Some d) l i = ap (λ (b : Bool). sees c s (in_mode b l)) i ∙ mode-seen l
-
--- From one place to another with the same tokens, where what is given is asked or is the same, and so the mode.
-module _ (c d : Bool) (s t : Reading) (rest : t.rest ≡ s.rest) (g b : Bool) (given : g ≡ false → is_end t.given ≡ is_end s.given) (mode : b ≡ false → d ≡ c) where
-  unasked : (l : Look) → asks g b l ≡ false → sees d t l ≡ sees c s l
-  unfolding sees asks
-  unasked Given e = ap not (given e)
-  unasked InCondition e = mode e
-  unasked (Both x y) e = rw (unasked x (neither-l (asks g b x) (asks g b y) e), unasked y (neither-r (asks g b x) (asks g b y) e)) refl
-  unasked (Either x y) e = rw (unasked x (neither-l (asks g b x) (asks g b y) e), unasked y (neither-r (asks g b x) (asks g b y) e)) refl
-  unasked (Not x) e = ap not (unasked x e)
-  unasked Always e = refl
-  unasked Never e = refl
-  unasked (Kind n k) e = ap (λ (ts : List Token). (ahead n ts).kind == k) rest
-  unasked (Contextual n k) e = ap (λ (ts : List Token). (ahead n ts).contextual == k) rest
-  unasked (Joint n) e = ap (λ (ts : List Token). (ahead n ts).joint) rest
-  unasked Left e = ap (λ (ts : List Token). nat_lt 0 (length ts)) rest
-
-  unless-dropped : (a : Bool) (l : Look) → (a ≡ false → sees d t l ≡ sees c s l) → sees c s l ≡ true → sees d t (if a then Always else l) ≡ true
-  unfolding sees
-  unless-dropped true l same h = refl
-  unless-dropped false l same h = same refl ∙ h
-
-  pub without-seen : (l : Look) → sees c s l ≡ true → sees d t (without g b l) ≡ true
-  unfolding sees without asks
-  without-seen Given h = unless-dropped g Given (unasked Given) h
-  without-seen InCondition h = unless-dropped b InCondition (unasked InCondition) h
-  without-seen (Both x y) h = if-both (sees d t (without g b x)) (sees d t (without g b y)) (without-seen x (both-if-l (sees c s x) (sees c s y) h)) (without-seen y (both-if-r (sees c s x) (sees c s y) h))
-  without-seen (Either x y) h = elim (either-if (sees c s x) (sees c s y) h) [
-    | inl i ↦ if-first (sees d t (without g b x)) (sees d t (without g b y)) (without-seen x i)
-    | inr i ↦ if-second (sees d t (without g b x)) (sees d t (without g b y)) (without-seen y i)
-  ]
-  without-seen (Not x) h = unless-dropped (asks g b x) (Not x) (unasked (Not x)) h
-  without-seen Always h = refl
-  without-seen Never h = h
-  without-seen (Kind n k) h = unasked (Kind n k) refl ∙ h
-  without-seen (Contextual n k) h = unasked (Contextual n k) refl ∙ h
-  without-seen (Joint n) h = unasked (Joint n) refl ∙ h
-  without-seen Left h = unasked Left refl ∙ h
-
--- From a place to the one so many tokens further on.
-module _ (c : Bool) (s t : Reading) (n : ℕ) (rest : t.rest ≡ drop n s.rest) where
-  further : (l : Look) → asks_tokens l ≡ true → sees c t l ≡ sees c (record { given = s.given; rest = drop n s.rest }) l
-  unfolding sees asks_tokens
-  further Always e = refl
-  further Never e = refl
-  further (Kind m k) e = ap (λ (ts : List Token). (ahead m ts).kind == k) rest
-  further (Contextual m k) e = ap (λ (ts : List Token). (ahead m ts).contextual == k) rest
-  further (Joint m) e = ap (λ (ts : List Token). (ahead m ts).joint) rest
-  further Left e = absurd (true≢false (sym e))
-  further Given e = absurd (true≢false (sym e))
-  further InCondition e = refl
-  further (Both a b) e = rw (further a (and_l (asks_tokens a) (asks_tokens b) e), further b (and_r (asks_tokens a) (asks_tokens b) e)) refl
-  further (Either a b) e = rw (further a (and_l (asks_tokens a) (asks_tokens b) e), further b (and_r (asks_tokens a) (asks_tokens b) e)) refl
-  further (Not a) e = ap not (further a e)
-
-  down-seen : (l : Look) → sees c s l ≡ true → sees c t (all_down n l) ≡ true
-  unfolding all_down sees
-  down-seen l h = elim (cases_Bool (same_look (shift n (down n l)) l && asks_tokens (down n l))) [
-    | inl e ↦
-        let same = same-look (shift n (down n l)) l (and_l (same_look (shift n (down n l)) l) (asks_tokens (down n l)) e) in
-        let tokens = and_r (same_look (shift n (down n l)) l) (asks_tokens (down n l)) e in
-        rw e (further (down n l) tokens ∙ sym (shifted c n (down n l) s tokens) ∙ ap (λ (k : Look). sees c s k) same ∙ h)
-    | inr e ↦ rw e refl
-  ]
-
-  pub back-seen : (l : Look) → sees c s l ≡ true → sees c t (back n l) ≡ true
-  unfolding back sees
-  back-seen (Both a b) h = if-both (sees c t (back n a)) (sees c t (back n b)) (back-seen a (both-if-l (sees c s a) (sees c s b) h)) (back-seen b (both-if-r (sees c s a) (sees c s b) h))
-  back-seen (Either a b) h = elim (either-if (sees c s a) (sees c s b) h) [
-    | inl i ↦ if-first (sees c t (back n a)) (sees c t (back n b)) (back-seen a i)
-    | inr i ↦ if-second (sees c t (back n a)) (sees c t (back n b)) (back-seen b i)
-  ]
-  back-seen Always h = down-seen Always h
-  back-seen Never h = down-seen Never h
-  back-seen (Kind m k) h = down-seen (Kind m k) h
-  back-seen (Contextual m k) h = down-seen (Contextual m k) h
-  back-seen (Joint m) h = down-seen (Joint m) h
-  back-seen Left h = down-seen Left h
-  back-seen InCondition h = down-seen InCondition h
-  back-seen Given h = down-seen Given h
-  back-seen (Not a) h = down-seen (Not a) h

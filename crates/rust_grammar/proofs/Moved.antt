@@ -1,10 +1,9 @@
 -- Productions take tokens; lists of items and of statements take all.
-use Rattle.std.proofs.Common.{◌≡◌, ℕ, zero, suc, ◌<◌, ◌≤◌, Bool, true, false, not, List, [], ◌∷◌, length, drop, nat_lt, None, refl, sym, ap, subst, ◌∙◌, arith, inl, inr, if◌then◌else◌, true≢false}
+use Rattle.std.proofs.Common.{◌≡◌, ℕ, suc, ◌<◌, ◌≤◌, Bool, true, false, not, List, [], ◌∷◌, length, nat_lt, None, refl, sym, ap, ◌∙◌, arith, inl, inr, if◌then◌else◌, true≢false}
 use Rattle.std.proofs.lemmas.Bool.{cases_Bool, ltb-true, lt-ltb}
-use Rattle.std.proofs.lemmas.List.{length-drop}
 use Rattle.parser_input.specs.Input.{Token}
-use Rattle.rust_grammar.specs.Rule.{Production, source_file, macro_items, macro_statements, item, macro_statement, path, Look, Left, Not, Rule, Node, Then, Opt, Or, When, Star, Unless, begins, passes, is_silent, width, shift, in_mode, there_at}
-use Rattle.rust_grammar.specs.Meaning.{Reading, Calls, read, meaning, sees, look_of, begins_below, node, fresh, wrapped, leaf}
+use Rattle.rust_grammar.specs.Rule.{Production, source_file, macro_items, macro_statements, Look, Left, Rule, Node, Then, Opt, When, Star, Unless, begins, passes, is_silent, width, shift, in_mode, there_at}
+use Rattle.rust_grammar.specs.Meaning.{Reading, Calls, read, meaning, sees, look_of, begins_below, node, fresh}
 use Rattle.rust_grammar.specs.Notation.{◌or◌, ◌before◌, at_end, expected, wanted, row, one_of, any_of, is_longer, no_longer, op}
 use Rattle.rust_grammar.specs.Words.{'#', '!', 'shebang', 'frontmatter'}
 use Rattle.rust_grammar.specs.Calls.{Item, Attribute, MacroStatement}
@@ -15,15 +14,15 @@ use Rattle.rust_grammar.specs.Expressions.{expressions}
 use Rattle.rust_grammar.specs.Statements.{statements}
 use Rattle.rust_grammar.specs.Items.{items}
 use Rattle.rust_grammar.specs.Whole.{rule, rank, whole}
-use Rattle.rust_grammar.specs.Entry.{leaves, takes_all}
+use Rattle.rust_grammar.specs.Entry.{takes_all}
 use Rattle.rust_grammar.proofs.Plain.{all_facts}
 use Rattle.rust_grammar.proofs.WholeTable.{claim, all_fine, whole-means}
 use Rattle.rust_grammar.proofs.Parts.{asks_tokens}
-use Rattle.rust_grammar.proofs.Known.{same_look, is_left, is_never, tells, weakens, implies, implied, never-seen, either-if, both-if-l, cut, sift, anew, asks, without, down, all_down, back, asked}
+use Rattle.rust_grammar.proofs.Known.{same_look, is_left, is_never, tells, weakens, implies, implied, never-seen, either-if, cut, sift}
+use Rattle.rust_grammar.proofs.Elsewhere.{anew, asks, without, down, all_down, back, asked}
 use Rattle.rust_grammar.proofs.Spelling.{at}
-use Rattle.rust_grammar.proofs.Spelled.{chosen}
-use Rattle.rust_grammar.proofs.Words.{gives, star-ends}
-use Rattle.rust_grammar.proofs.Moving.{Movers, Moved, unmoved_calls, unmoved_option, unmoved, moves, takes-token}
+use Rattle.rust_grammar.proofs.WordPaths.{gives, star-ends}
+use Rattle.rust_grammar.proofs.Moving.{Moved, unmoved_calls, unmoved_option, unmoved, moves, takes-token}
 use Rattle.rust_grammar.proofs.MovedTable.{moves_where, movers, is_mover, all_move}
 use Rattle.rust_grammar.proofs.Induction.{HoldOf, meaning-holds}
 
@@ -97,7 +96,7 @@ module _ (a : Rule) (begun : implies Left (begins (look_of whole) a) ≡ true) (
   takes-list c s =
       let w = gives c (Star (Unless at_end a)) s in
       let last : sees c w (begins (look_of whole) (Unless at_end a)) ≡ false = star-ends (Unless at_end a) c s (λ v e.
-        takes-token movers (meaning whole) all-moved (Unless at_end a) None (begins (look_of whole) (Unless at_end a)) c v move tt e (ltb-true _ _ (left-there c v e))) in
+      takes-token movers (meaning whole) all-moved (Unless at_end a) None (begins (look_of whole) (Unless at_end a)) c v move tt e (ltb-true _ _ (left-there c v e))) in
       none-left w.rest (elim (cases_Bool (nat_lt 0 (length w.rest))) [
         | inl e ↦ absurd (true≢false (sym (begins-there c w e) ∙ last))
         | inr e ↦ e

@@ -1,12 +1,13 @@
 -- A test of a table: where this is known, a rule takes a token.
-use Rattle.std.proofs.Common.{◌≡◌, ℕ, zero, suc, ◌<◌, ◌≤◌, Bool, true, false, ◌&&◌, ◌||◌, List, length, drop, nat_lt, Option, Some, None, refl, sym, ap, subst, ◌∙◌, arith, ◌⊎◌, inl, inr, if◌then◌else◌, true≢false}
+use Rattle.std.proofs.Common.{◌≡◌, ℕ, zero, suc, ◌<◌, ◌≤◌, Bool, true, false, ◌&&◌, List, length, drop, nat_lt, Option, Some, refl, sym, subst, ◌∙◌, arith, ◌⊎◌, inl, inr, if◌then◌else◌, true≢false}
 use Rattle.std.proofs.lemmas.Bool.{cases_Bool, ltb-true, lt-ltb}
 use Rattle.std.proofs.lemmas.List.{length-drop}
 use Rattle.parser_input.specs.Input.{Token}
 use Rattle.rust_grammar.specs.Rule.{Production, Rule, Look, Always, Never, Nothing, One, Any, Then, Near, Or, Opt, Star, Node, Wrap, Want, Say, Skip, Split, When, Unless, Call, Continue, Mode, begins, there_at}
 use Rattle.rust_grammar.specs.Meaning.{Reading, Calls, read, sees, fresh, leaf, say, skip, split, node, wrapped, behind, turns}
 use Rattle.rust_grammar.proofs.Plain.{and_l, and_r}
-use Rattle.rust_grammar.proofs.Known.{either-if, both-if-l, both-if-r, implies, implied, cut, cut-seen, anew, anew-seen, without, without-seen, asked, asked-seen, IsMode}
+use Rattle.rust_grammar.proofs.Known.{either-if, implies, implied, cut, cut-seen}
+use Rattle.rust_grammar.proofs.Elsewhere.{anew, anew-seen, without, without-seen, asked, asked-seen, IsMode}
 use Rattle.rust_grammar.proofs.Spelling.{at}
 use Rattle.rust_grammar.proofs.Spelled.{chosen, at-seen}
 use Rattle.rust_grammar.proofs.Shrinks.{shorter-after, turns-shrink, no-turns}

@@ -1,5 +1,5 @@
 -- The test is sound: what passes it is read as it is spelled.
-use Rattle.std.proofs.Common.{◌≡◌, ℕ, zero, suc, Bool, true, false, not, ◌&&◌, ◌||◌, ◌==◌, List, [], ◌∷◌, length, drop, nat_lt, nat_eq, Option, Some, None, refl, sym, ap, subst, ◌∙◌, ◌⊎◌, inl, inr, if◌then◌else◌, true≢false}
+use Rattle.std.proofs.Common.{◌≡◌, ℕ, zero, suc, Bool, true, false, not, ◌&&◌, ◌||◌, ◌==◌, List, [], ◌∷◌, length, drop, nat_lt, Option, Some, refl, sym, ap, subst, ◌∙◌, ◌⊎◌, inl, inr, if◌then◌else◌, true≢false}
 use Rattle.std.proofs.lemmas.Bool.{cases_Bool, eqb-true, or_cases}
 use Rattle.parser_input.specs.Kinds.{EOF, FLOAT_NUMBER}
 use Rattle.parser_input.specs.Input.{Token}
@@ -7,9 +7,10 @@ use Rattle.parser_events.specs.Forest as forest
 use Rattle.parser_events.specs.Forest.{Forest, ◌then◌}
 use Rattle.rust_grammar.specs.Rule.{Production, Rule, Spelling, Look, Always, Never, Kind, Contextual, Joint, Left, InCondition, Given, Both, Either, Not, Nothing, One, Any, Then, Near, Or, Opt, Star, Node, Wrap, Want, Say, Skip, Split, When, Unless, Call, Continue, Mode, begins, there_at, width}
 use Rattle.rust_grammar.specs.Meaning.{Reading, Calls, read, sees, ahead, fresh, is_end, leaf, say, skip, split, node, wrapped, behind, turns}
-use Rattle.rust_grammar.specs.Spelled.{marks, are_next, is_token, is_contextual, is_one_of, is_spelled, is_float, drop_if, then_after, tokens_after}
+use Rattle.rust_grammar.specs.Spelled.{marks, is_token, is_contextual, is_one_of, is_spelled, drop_if, then_after, tokens_after}
 use Rattle.rust_grammar.proofs.Plain.{and_l, and_r}
-use Rattle.rust_grammar.proofs.Known.{either-if, both-if-l, both-if-r, if-first, if-second, if-both, implies, implied, cut, cut-seen, sift, sift-seen, anew, anew-seen, without, without-seen, back, back-seen, asked, asked-seen, IsMode}
+use Rattle.rust_grammar.proofs.Known.{either-if, both-if-l, both-if-r, if-first, if-second, if-both, implies, implied, cut, cut-seen, sift, sift-seen}
+use Rattle.rust_grammar.proofs.Elsewhere.{anew, anew-seen, without, without-seen, back-seen, asked, asked-seen, IsMode}
 use Rattle.rust_grammar.proofs.Spelling.{Claims, Sound, IsInOrder, counts, denies, denies_first, decided, past, after_call, after_calls, after_option, after_other, after, at, no_end, is_among, is_word, is_mark, safe, more-in-order, or-first, or-second, token-seen, contextual-seen, own-token, float-seen, spelling-seen, among-marks, unlike}
 
 -- one of two readings
@@ -108,7 +109,7 @@ module _ (c : Bool) (s t : Reading) (ps : List ℕ) (taken : sees c s (there_at 
   past-seen Given h = decided-seen Given Always h refl
   past-seen (Not a) h = decided-seen (Not a) Always h refl
 
--- what is given does not end where more is given behind it
+-- something is given where more is given after it
 pub then-some : (f h : Forest) → is_end h ≡ false → is_end (f then h) ≡ false
 unfolding is_end
 then-some forest.End h e = e
@@ -125,11 +126,11 @@ turns-some zero test turn s some = inl refl
 turns-some (suc n) test turn s some = elim (cases_Bool (test s)) [
   | inr e ↦ inl (rw e refl)
   | inl e ↦ inr (rw e (chosen (λ (u : Reading). is_end u.given ≡ false) (nat_lt (length (turn s).rest) (length s.rest)) _ _
-    (λ i. elim (turns-some n test turn (turn s) some) [
-      | inl j ↦ subst (λ (u : Reading). is_end u.given ≡ false) (sym j) (some s)
-      | inr j ↦ j
-    ])
-    (λ i. some s)))
+      (λ i. elim (turns-some n test turn (turn s) some) [
+        | inl j ↦ subst (λ (u : Reading). is_end u.given ≡ false) (sym j) (some s)
+        | inr j ↦ j
+      ])
+      (λ i. some s)))
 ]
 
 turns-in-order :

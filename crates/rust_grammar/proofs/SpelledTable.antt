@@ -14,7 +14,8 @@ use Rattle.rust_grammar.specs.Statements.{statements}
 use Rattle.rust_grammar.specs.Items.{items}
 use Rattle.rust_grammar.specs.Whole.{rule, rank, whole}
 use Rattle.rust_grammar.proofs.Parts.{asks_tokens}
-use Rattle.rust_grammar.proofs.Known.{same_look, is_left, is_never, tells, weakens, implies, cut, sift, anew, asks, without, down, all_down, back, asked}
+use Rattle.rust_grammar.proofs.Known.{same_look, is_left, is_never, tells, weakens, implies, cut, sift}
+use Rattle.rust_grammar.proofs.Elsewhere.{anew, asks, without, down, all_down, back, asked}
 use Rattle.rust_grammar.proofs.Spelling.{Claims, counts, denies, denies_first, decided, past, after_call, after_calls, after_option, after_other, after, at, no_end, same_parts, is_among, is_word, is_mark, safe}
 
 -- the productions whose last part asks nothing

@@ -1,15 +1,16 @@
 -- A test of a table: what its rules read stands over the tokens as it is spelled.
-use Rattle.std.proofs.Common.{◌≡◌, ℕ, zero, suc, ◌+◌, ◌<◌, Bool, true, false, not, ◌&&◌, ◌||◌, ◌==◌, List, [], ◌∷◌, length, drop, nat_lt, nat_eq, Option, Some, None, refl, sym, ap, subst, ◌∙◌, ◌⊎◌, inl, inr, if◌then◌else◌, true≢false, arith}
-use Rattle.std.proofs.lemmas.Bool.{cases_Bool, eqb-true, eq-eqb, ltb-true, or_cases}
-use Rattle.parser_input.specs.Kinds.{EOF, FLOAT_NUMBER, ERROR}
+use Rattle.std.proofs.Common.{◌≡◌, ℕ, zero, suc, ◌+◌, Bool, true, false, not, ◌&&◌, ◌||◌, ◌==◌, List, [], ◌∷◌, length, drop, nat_lt, nat_eq, Option, Some, None, refl, sym, ap, subst, ◌∙◌, inl, inr, if◌then◌else◌, true≢false, arith}
+use Rattle.std.proofs.lemmas.Bool.{eqb-true, eq-eqb, ltb-true, or_cases}
+use Rattle.parser_input.specs.Kinds.{EOF, FLOAT_NUMBER}
 use Rattle.parser_input.specs.Input.{Token}
 use Rattle.parser_events.specs.Forest as forest
 use Rattle.parser_events.specs.Forest.{Forest, ◌then◌}
-use Rattle.rust_grammar.specs.Rule.{Production, Rule, Spelling, Look, Always, Never, Kind, Contextual, Joint, Left, InCondition, Given, Both, Either, Not, Nothing, One, Any, Then, Near, Or, Opt, Star, Node, Wrap, Want, Say, Skip, Split, When, Unless, Call, Continue, Mode, begins, there_at, width}
-use Rattle.rust_grammar.specs.Meaning.{Reading, Calls, read, sees, ahead, fresh, is_end, leaf, say, skip, split, node, wrapped, behind, turns}
+use Rattle.rust_grammar.specs.Rule.{Production, Rule, Spelling, Look, Always, Kind, Contextual, Left, Given, Both, Either, Nothing, One, Any, Then, Near, Or, Opt, Star, Node, Wrap, Want, Say, Skip, Split, When, Unless, Call, Continue, Mode, begins, there_at, width}
+use Rattle.rust_grammar.specs.Meaning.{Reading, Calls, sees, ahead, is_end}
 use Rattle.rust_grammar.specs.Spelled.{marks, are_next, is_token, is_contextual, is_one_of, is_spelled, is_float, drop_if, then_after, tokens_after}
 use Rattle.rust_grammar.proofs.Plain.{and_l, and_r}
-use Rattle.rust_grammar.proofs.Known.{either-if, both-if-l, both-if-r, if-first, if-second, if-both, same_look, implies, implied, cut, cut-seen, sift, sift-seen, anew, anew-seen, without, without-seen, back, back-seen, asked, asked-seen, IsMode}
+use Rattle.rust_grammar.proofs.Known.{both-if-l, both-if-r, implies, cut, sift}
+use Rattle.rust_grammar.proofs.Elsewhere.{anew, without, back, asked}
 
 -- What is taken as known of productions.
 pub record Claims : Type 0 where
@@ -166,6 +167,10 @@ pub or-first : (a b : Bool) → a ≡ true → (a || b) ≡ true
 or-first true b e = refl
 or-first false b e = absurd (true≢false (sym e))
 
+pub both-true : (a b : Bool) → a ≡ true → b ≡ true → (a && b) ≡ true
+both-true true b e f = f
+both-true false b e f = e
+
 pub or-second : (a b : Bool) → b ≡ true → (a || b) ≡ true
 or-second true b e = refl
 or-second false b e = e
@@ -247,7 +252,7 @@ among-marks (One y ∷ rs) x ts e h = elim (or_cases (nat_eq y.kind x.kind && sa
       let parts = same-parts y.parts x.parts (and_r (nat_eq y.kind x.kind) (same_parts y.parts x.parts) i) in
       let count : (length y.parts == length x.parts) ≡ true = eq-eqb _ _ (ap length parts) in
       let next : are_next y.parts ts ≡ true = subst (λ (ks : List ℕ). are_next ks ts ≡ true) (sym parts) h in
-      rw (kind, count, next) refl
+      or-first (nat_eq y.kind x.kind && nat_eq (length y.parts) (length x.parts) && are_next y.parts ts) (is_one_of rs x.kind (length x.parts) ts) (both-true (nat_eq y.kind x.kind && nat_eq (length y.parts) (length x.parts)) (are_next y.parts ts) (both-true (nat_eq y.kind x.kind) (nat_eq (length y.parts) (length x.parts)) kind count) next)
   | inr i ↦ or-second (nat_eq y.kind x.kind && (length y.parts == length x.parts) && are_next y.parts ts) (is_one_of rs x.kind (length x.parts) ts) (among-marks rs x ts i h)
 ]
 among-marks (Nothing ∷ rs) x ts e h = among-marks rs x ts e h

@@ -1,11 +1,16 @@
 -- What holds of the grammar.
-use Rattle.std.specs.Prelude.{◌≡◌, ℕ, ◌<◌, Bool, true, false, List, All, length, drop, nat_lt, if◌then◌else◌}
-use Rattle.parser_input.specs.Input.{Token}
-use Rattle.parser_events.specs.Fits.{IsRooted}
-use Rattle.rust_grammar.specs.Rule.{Production, source_file, macro_items, macro_statements, meta, Look, Rule, Nothing, Star, begins, shift}
+use Rattle.std.specs.Prelude.{◌≡◌, ℕ, ◌<◌, Bool, true, false, List, [], Some, All, length, drop, nat_lt, if◌then◌else◌}
+use Rattle.parser_input.specs.Input.{Token, input}
+use Rattle.parser_input.specs.Leaf.{Leaf}
+use Rattle.parser_input.specs.declared.edition.Edition.{Edition}
+use Rattle.parser_events.specs.Fits.{IsRooted, fits}
+use Rattle.parser_events.specs.Forest.{Forest, End}
+use Rattle.parser_events.specs.Steps.{steps}
+use Rattle.rust_grammar.specs.Rule.{Production, source_file, macro_items, macro_statements, meta, any_type, pattern, expression, Look, Rule, Nothing, Star, begins, shift}
 use Rattle.rust_grammar.specs.Meaning.{Reading, Calls, read, sees, fresh, look_of, meaning}
 use Rattle.rust_grammar.specs.Parts.{repeated, nearby}
 use Rattle.rust_grammar.specs.Entry.{entry}
+use Rattle.rust_grammar.specs.Spelled.{tokens_after}
 use Rattle.rust_grammar.specs.Whole as all
 
 -- These are places where the productions of the whole grammar can begin: each begins where its rule does.
@@ -79,12 +84,40 @@ CallsBeginAnew =
     (x : Production) (in_condition : Bool) (s : Reading)
     → 0 < length s.rest → sees in_condition s (look_of all.whole x) ≡ sees in_condition (fresh s) (look_of all.whole x)
 
--- A file, and the items and the statements of a macro, are one node, whatever the tokens are.
-abbrev pub ListsAreRooted : Type 0
-ListsAreRooted =
-    (tokens : List Token)
-    → IsRooted (entry all.whole source_file tokens) × IsRooted (entry all.whole macro_items tokens) × IsRooted (entry all.whole macro_statements tokens)
+-- Where a production begins, what it gives stands over the tokens that it takes: its leaves one after another, each over tokens
+-- that are spelled as its kind says.
+abbrev pub ProductionsTakeInOrder : Type 0
+ProductionsTakeInOrder =
+    (x : Production) (in_condition : Bool) (tokens : List Token)
+    → let start : Reading = record { given = End; rest = tokens } in
+    let s = meaning all.whole x in_condition start in
+    sees in_condition start (look_of all.whole x) ≡ true → tokens_after s.given tokens ≡ Some s.rest
 
--- So is the inside of an attribute.
-abbrev pub AttributesAreRooted : Type 0
-AttributesAreRooted = (tokens : List Token) → IsRooted (entry all.whole meta tokens)
+-- An entry's tree stands so over all tokens.
+abbrev pub EntriesTakeAllInOrder : Type 0
+EntriesTakeAllInOrder = (x : Production) (tokens : List Token) → tokens_after (entry all.whole x tokens) tokens ≡ Some []
+
+-- what a text can be asked to be
+unfoldable pub is_entry : Production → Bool
+is_entry source_file = true
+is_entry macro_items = true
+is_entry macro_statements = true
+is_entry pattern = true
+is_entry any_type = true
+is_entry expression = true
+is_entry meta = true
+is_entry x = false
+
+-- The tree of such an entry is one node, whatever the tokens are.
+abbrev pub EntriesAreRooted : Type 0
+EntriesAreRooted = (x : Production) (tokens : List Token) → is_entry x ≡ true → IsRooted (entry all.whole x tokens)
+
+-- the tree of an entry with these leaves
+abbrev pub entry_of : Production → Edition → List Leaf → Forest
+entry_of x edition leaves = entry all.whole x (input edition leaves)
+
+-- Its steps fit every text with that input.
+abbrev pub EntriesFit : Type 0
+EntriesFit =
+    (x : Production) (edition : Edition) (leaves : List Leaf)
+    → is_entry x ≡ true → fits (steps (entry_of x edition leaves)) leaves ≡ true

@@ -1,7 +1,7 @@
 //! Laws of the definitions. Each is the contract of a function that makes no call.
 
 ghost use Rattle.rust_grammar.specs.Examples.{ExamplesAreRight};
-ghost use Rattle.rust_grammar.specs.Laws.{AttributesAreRooted, CallsBeginAnew, EachProductionHasARule, ListsAreRooted, OnlyOneBeginning, OnlyOneReading, PartsLookAhead, RepetitionsAreReadTurnByTurn, WholeProductionsBeginAsTheirRules, WholeProductionsMeanTheirRules};
+ghost use Rattle.rust_grammar.specs.Laws.{CallsBeginAnew, EachProductionHasARule, EntriesAreRooted, EntriesFit, EntriesTakeAllInOrder, OnlyOneBeginning, OnlyOneReading, PartsLookAhead, ProductionsTakeInOrder, RepetitionsAreReadTurnByTurn, WholeProductionsBeginAsTheirRules, WholeProductionsMeanTheirRules};
 
 /// A production gives what its rule gives, where each production that the rule calls gives what it means; each has a rule, and
 /// begins where its rule does.
@@ -29,10 +29,17 @@ pub fn looks_are_of_their_place()
     ensures anew { CallsBeginAnew }
 {}
 
-/// The tree of a file, of the items or the statements of a macro, and of an attribute's inside is one node.
-pub fn lists_are_rooted()
-    ensures lists { ListsAreRooted }
-    ensures attributes { AttributesAreRooted }
+/// What a production gives stands over the tokens that it takes, one leaf after another, each over tokens that are spelled as
+/// its kind says; the tree of an entry stands so over all tokens.
+pub fn leaves_are_spelled()
+    ensures productions { ProductionsTakeInOrder }
+    ensures entries { EntriesTakeAllInOrder }
+{}
+
+/// The tree of each of the seven entries is one node, whatever the tokens are; its steps fit every text with that input.
+pub fn entries_fit()
+    ensures rooted { EntriesAreRooted }
+    ensures fit { EntriesFit }
 {}
 
 /// Some inputs, with the trees that the grammar gives them.

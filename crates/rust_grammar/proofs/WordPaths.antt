@@ -1,12 +1,12 @@
 -- Paths: one of one word takes that word; one without arguments ends where no further segment begins.
-use Rattle.std.proofs.Common.{◌≡◌, ℕ, zero, suc, ◌<◌, ◌≤◌, Bool, true, false, not, ◌==◌, List, [], ◌∷◌, length, drop, nat_lt, refl, sym, ap, subst, ◌∙◌, arith, inl, inr, if◌then◌else◌, true≢false}
-use Rattle.std.proofs.lemmas.Bool.{cases_Bool, eqb-true, ltb-true}
+use Rattle.std.proofs.Common.{◌≡◌, ℕ, ◌<◌, Bool, true, false, not, ◌==◌, List, [], ◌∷◌, length, drop, refl, sym, ap, subst, ◌∙◌, arith, if◌then◌else◌}
+use Rattle.std.proofs.lemmas.Bool.{eqb-true, ltb-true}
 use Rattle.std.proofs.lemmas.List.{length-drop}
 use Rattle.parser_input.specs.Kinds.{COLON, COLON2, BANG, IDENT, PATH, PATH_SEGMENT}
 use Rattle.parser_input.specs.Input.{Token}
 use Rattle.parser_events.specs.Forest.{Forest, Message}
-use Rattle.rust_grammar.specs.Rule.{Production, name_ref, path, expr_path, Rule, Look, Kind, Both, Either, Not, Nothing, Then, Opt, Star, Want, When, Unless, begins, passes, is_silent, width, there_at}
-use Rattle.rust_grammar.specs.Meaning.{Reading, read, meaning, sees, ahead, look_of, begins_below, leaf, fresh, node, wrapped, behind, turns}
+use Rattle.rust_grammar.specs.Rule.{name_ref, path, expr_path, Rule, Look, Either, Not, Nothing, Then, Opt, Star, Want, When, Unless, begins, passes, is_silent, width, there_at}
+use Rattle.rust_grammar.specs.Meaning.{Reading, read, meaning, sees, ahead, look_of, leaf, fresh, node, wrapped, behind}
 use Rattle.rust_grammar.specs.Notation.{◌▸◌, ⁅◌⁆, ◌!, ◌⟨◌⟩, ◌<⟨◌⟩, ◌before◌, expected, wanted, row, one_of}
 use Rattle.rust_grammar.specs.Words.{'::', '<'}
 use Rattle.rust_grammar.specs.Calls.{Ref, GenericArgs}
@@ -17,11 +17,11 @@ use Rattle.rust_grammar.specs.Patterns.{patterns}
 use Rattle.rust_grammar.specs.Expressions.{expressions}
 use Rattle.rust_grammar.specs.Statements.{statements}
 use Rattle.rust_grammar.specs.Items.{items}
-use Rattle.rust_grammar.specs.Whole.{rule, rank, whole}
+use Rattle.rust_grammar.specs.Whole.{rule, whole}
 use Rattle.rust_grammar.proofs.WholeTable.{whole-means, whole-begins}
-use Rattle.rust_grammar.proofs.Known.{token-left, either-if, both-if-l, both-if-r, if-first, if-second}
+use Rattle.rust_grammar.proofs.Known.{token-left, both-if-l, both-if-r, if-first}
 use Rattle.rust_grammar.proofs.Spelling.{counts}
-use Rattle.rust_grammar.proofs.Spelled.{chosen, counted}
+use Rattle.rust_grammar.proofs.Spelled.{counted}
 use Rattle.rust_grammar.proofs.Shrinks.{shrinks, turns-end, no-turns}
 
 -- the word of a segment is one token
