@@ -174,3 +174,6 @@ module _ (c : Bool) (s : Reading) (m n k : ℕ) (l : Look) {a : Bool} (e : a ≡
   pub joint-then : {b : Bool} → a ≡ true → b ≡ sees c s (shift m l) → b ≡ sees c s (shift m (Both (Kind n k) (Both (Joint n) l)))
   unfolding sees shift
   joint-then t f = pair-on (sees c s (shift m (Kind n k))) (sees c s (shift m (Joint n))) e t f
+
+pub still-total : (total : ℕ) (old new : View) {looks : ℕ} → new ≡ record old { looks = looks } → total ≡ length old.input → total ≡ length new.input
+still-total total old new same h = h ∙ sym (ap (λ (v : View). length v.input) same)

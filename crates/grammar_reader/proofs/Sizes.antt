@@ -172,3 +172,9 @@ falls a b h = omega (arith, h, least (is_reference a))
     least : (b : Bool) → (if b then 1 else 0) ≤ 1
     least true = omega arith
     least false = omega arith
+
+pub falls-in : (small large : rows.Rule) (n : ℕ) → size (plain small) < size (plain large) → 8192 * n + weight small < 8192 * n + weight large
+falls-in a b n h = omega (arith, falls a b h)
+
+pub below-measure : {a b m : ℕ} → b ≡ m → a < b → a < m
+below-measure e h = omega (arith, e, h)

@@ -1,3 +1,5 @@
 pub mod Data
 pub mod Size
 pub mod Stands
+pub mod Moves
+pub mod CanRead

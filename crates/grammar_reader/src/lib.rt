@@ -4,6 +4,7 @@
 mod begin;
 mod look;
 mod notation;
+mod open;
 pub mod production;
 pub mod rule;
 pub mod table;
