@@ -15,7 +15,7 @@ use Rattle.rust_grammar.specs.Meaning.{leaf, say, wrapped}
 use Rattle.grammar_reader.specs.Moves.{Opens, Closes, Leaves, Does}
 
 -- what a call makes of the open nodes, unless a growth is refused
-becomes : (f : List Marked → List Marked) (old new : Option (List Marked)) (nodes : List Marked) → Becomes f old new → Holds old nodes → Holds new (f nodes)
+pub becomes : (f : List Marked → List Marked) (old new : Option (List Marked)) (nodes : List Marked) → Becomes f old new → Holds old nodes → Holds new (f nodes)
 becomes f None None nodes b h = tt
 becomes f None (Some new) nodes b h = absurd b
 becomes f (Some old) None nodes b h = tt
@@ -132,7 +132,7 @@ child kind around place (Some (f ∷ g ∷ below)) (Some n) i b p = record {
 }
 
 -- what is opened around a closed node has that node alone
-around-closed :
+pub around-closed :
     (kind around : ℕ) (place : Place) (old mid new : Option (List Marked))
     → IsInnermost around old
     → Becomes (closed kind) old mid
