@@ -1,11 +1,11 @@
 -- How what calls of a parser do carries a reading on.
-use Rattle.std.proofs.Common.{◌≡◌, ℕ, suc, Bool, true, false, not, List, [], ◌∷◌, ◌+◌, drop, Option, Some, None, refl, sym, ap, subst, ◌∙◌, true≢false, if◌then◌else◌}
+use Rattle.std.proofs.Common.{◌≡◌, ℕ, suc, Bool, true, false, not, List, [], ◌∷◌, ◌+◌, drop, Option, Some, None, IfSome, refl, sym, ap, subst, ◌∙◌, true≢false, if◌then◌else◌}
 use Rattle.std.proofs.lemmas.List.{drop-drop}
-use Rattle.parser_input.specs.Kinds.{ERROR}
+use Rattle.parser_input.specs.Kinds.{ERROR, FIELD_EXPR}
 use Rattle.parser_events.specs.Marked as marks
 use Rattle.parser_events.specs.Stack as stack
-use Rattle.parser_events.specs.Stack.{Becomes}
-use Rattle.grammar_reader.proofs.Moves.{becomes}
+use Rattle.parser_events.specs.Stack.{Becomes, IsInnermost}
+use Rattle.grammar_reader.proofs.Moves.{becomes, around-closed}
 use Rattle.parser_events.specs.Forest as forest
 use Rattle.parser_events.specs.Forest.{Forest, Message, ◌then◌}
 use Rattle.parser_events.specs.Marked.{Marked, End, ◌beside◌, marked}
@@ -103,7 +103,7 @@ ends-in-dot f nodes v h = h
 
 -- a message and a token in an error are an error leaf
 pub stands-skipped : {v : View} (m : Message) (k : ℕ) (s : Reading) {below : Option (List Marked)} → k ≡ (ahead 0 s.rest).kind → Stands true v (node ERROR s (leaf k 1 (say m (fresh s)))) below → Stands true v (skip m s) below
-unfolding node leaf say fresh skip
+unfolding node leaf say fresh skip is_end
 stands-skipped {v} m k s {below} e h = record {
   at = record { rest = h.at.rest; gave = gives-more s.given (forest.ErrorLeaf m (ahead 0 s.rest).kind forest.End) refl };
   trees = trees below h.trees;
@@ -119,6 +119,32 @@ stands-skipped {v} m k s {below} e h = record {
     trees None u = tt
     trees (Some nodes) u = subst (λ (t : Marked). Holds v.nodes (t ∷ nodes)) (same k ∙ ap (λ (j : ℕ). marked (s.given then forest.ErrorLeaf m j forest.End)) e) u
 
+in-access : (f : Forest) (nodes : List Marked) (v : View) → Holds v.nodes (marks.Node FIELD_EXPR (marks.Split false (marked f) End) End ∷ nodes) → Holds v.nodes (marked (forest.Float false f forest.End) ∷ nodes)
+unfolding marked
+in-access f nodes v h = h
+
+-- a float that does not end in a dot stands in a field access
+pub stands-access :
+    {old mid end new : View} {given : Bool} {s : Reading} {below : Option (List Marked)} (b : Bool) (around : ℕ) (place : stack.Place)
+    → b ≡ (ahead 0 s.rest).joint → b ≡ true
+    → Becomes (stack.split (not b)) old.nodes mid.nodes → mid ≡ record old { position = old.position + 1; nodes = mid.nodes }
+    → IsInnermost around mid.nodes → Becomes (stack.closed FIELD_EXPR) mid.nodes end.nodes → end ≡ record mid { nodes = end.nodes } → IfSome mid.nodes (λ nodes. place ≡ stack.place_of nodes)
+    → Becomes (stack.wrapped place.before) end.nodes new.nodes → new ≡ record end { nodes = new.nodes }
+    → Stands given old s below → Stands true new (split s) below
+unfolding split is_end
+stands-access {old} {mid} {end} {new} {given} {s} {below} b around place e f n same i closed same2 is w same3 h = record {
+  at = record { rest = ap left same3 ∙ ap left same2 ∙ ap left same ∙ sym (drop-drop 1 old.position old.input) ∙ ap (λ ts. drop 1 ts) h.at.rest; gave = refl };
+  trees = trees below h.trees;
+}
+  where
+    trees : (a : Option (List Marked)) → HasTrees a (marked s.given) old → HasTrees a (marked (forest.Float (not (ahead 0 s.rest).joint) s.given forest.End)) new
+    trees None t = tt
+    trees (Some nodes) t =
+        subst (λ (j : Bool). Holds new.nodes (marked (forest.Float (not j) s.given forest.End) ∷ nodes)) e
+        (subst (λ (j : Bool). Holds new.nodes (marks.Node FIELD_EXPR (marks.Split (not j) (marked s.given) End) End ∷ nodes) → Holds new.nodes (marked (forest.Float (not j) s.given forest.End) ∷ nodes)) (sym f) (λ u. in-access s.given nodes new u)
+        (around-closed FIELD_EXPR around place mid.nodes end.nodes new.nodes i closed is w (marks.Split (not b) (marked s.given) End) nodes
+        (becomes (stack.split (not b)) old.nodes mid.nodes (marked s.given ∷ nodes) n t)))
+
 -- a float that ends in a dot, and one that does not
 pub stands-split : {old new : View} {given : Bool} {s : Reading} {below : Option (List Marked)} (b : Bool) → b ≡ (ahead 0 s.rest).joint → b ≡ false → Becomes (stack.split (not b)) old.nodes new.nodes → new ≡ record old { position = old.position + 1; nodes = new.nodes } → Stands given old s below → Stands true new (split s) below
 unfolding split is_end
@@ -133,3 +159,13 @@ stands-split {old} {new} {given} {s} {below} b e f n same h = record {
         subst (λ (j : Bool). Holds new.nodes (marked (forest.Float (not j) s.given forest.End) ∷ nodes)) e
         (subst (λ (j : Bool). Holds new.nodes (marks.Split (not j) (marked s.given) End ∷ nodes) → Holds new.nodes (marked (forest.Float (not j) s.given forest.End) ∷ nodes)) (sym f) (λ u. ends-in-dot s.given nodes new u)
         (becomes (stack.split (not b)) old.nodes new.nodes (marked s.given ∷ nodes) n t))
+
+pub split-innermost : (b : Bool) (around : ℕ) (old new : Option (List Marked)) → IsInnermost around old → Becomes (stack.split b) old new → IsInnermost around new
+split-innermost b around None None i n = tt
+split-innermost b around None (Some new) i n = absurd n
+split-innermost b around (Some old) None i n = tt
+split-innermost b around (Some []) (Some new) i n = absurd (let z : 0 ≡ suc around = i in cc)
+split-innermost b around (Some (f ∷ below)) (Some new) i n = ap stack.level n ∙ i
+
+pub still-innermost : (around : ℕ) (old new : View) {looks : ℕ} → new ≡ record old { looks = looks } → IsInnermost around old.nodes → IsInnermost around new.nodes
+still-innermost around old new same i = subst (λ (n : Option (List Marked)). IsInnermost around n) (sym (ap (λ (v : View). v.nodes) same)) i

@@ -6,5 +6,6 @@ mod look;
 mod notation;
 mod open;
 pub mod production;
+mod reader;
 pub mod rule;
 pub mod table;
