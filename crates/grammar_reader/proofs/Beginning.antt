@@ -1,10 +1,10 @@
 -- Where a rule begins, form by form, so many tokens ahead.
-use Rattle.std.proofs.Common.{◌≡◌, ℕ, zero, suc, ◌+◌, ◌-◌, ◌^◌, ◌<◌, Bool, true, false, not, length, min, refl, sym, ap, subst, ◌∙◌, arith, if◌then◌else◌, true≢false}
+use Rattle.std.proofs.Common.{◌≡◌, ℕ, zero, suc, ◌+◌, ◌-◌, ◌^◌, ◌<◌, Bool, true, false, not, length, min, refl, sym, ap, subst, ◌∙◌, arith, if◌then◌else◌}
 use Rattle.std.proofs.lemmas.List.{length-drop}
 use Rattle.parser_events.specs.View.{View}
 use Rattle.grammar_reader.specs.Stands.{IsAt}
-use Rattle.rust_grammar.specs.Rule.{Production, Rule, Look, Always, Never, Not, Nothing, Then, Near, Or, Opt, Star, Node, Wrap, Want, Say, Unless, Call, Mode, Both, Either, begins, shift, in_mode, passes, is_silent, width}
-use Rattle.rust_grammar.specs.Meaning.{Reading, sees, begins_below}
+use Rattle.rust_grammar.specs.Rule.{Production, Rule, Look, Always, Never, Kind, Contextual, Joint, Left, InCondition, Given, Not, Then, Near, Or, Unless, Mode, Both, Either, begins, shift, passes, is_silent, width}
+use Rattle.rust_grammar.specs.Meaning.{Reading, sees, begins_below, look_of}
 use Rattle.rust_grammar.specs.Whole.{rule, whole}
 use Rattle.grammar_reader.proofs.Looking.{shift-shift, far-shift, mode-shift, both-on, none-on, either-off, all-on}
 
@@ -90,3 +90,22 @@ one-less (suc k) e = omega arith
 
 pub rest-short : {given : Bool} {v : View} {s : Reading} → IsAt given v s → length v.input < 2 ^ 64 → length s.rest < 2 ^ 64
 rest-short {given} {v} {s} at h = omega (arith, h, ap length at.rest, length-drop v.position v.input)
+
+-- no further ahead
+pub shift-none : (l : Look) → shift 0 l ≡ l
+unfolding shift
+shift-none Always = refl
+shift-none Never = refl
+shift-none (Kind n k) = ap (λ (i : ℕ). Kind i k) (omega arith)
+shift-none (Contextual n k) = ap (λ (i : ℕ). Contextual i k) (omega arith)
+shift-none (Joint n) = ap (λ (i : ℕ). Joint i) (omega arith)
+shift-none Left = refl
+shift-none InCondition = refl
+shift-none Given = refl
+shift-none (Both a b) = rw (shift-none a, shift-none b) refl
+shift-none (Either a b) = rw (shift-none a, shift-none b) refl
+shift-none (Not a) = rw (shift-none a) refl
+
+pub begun-here : (c : Bool) (s : Reading) (r : Rule) {b : Bool} → b ≡ sees c s (shift 0 (begins (begins_below whole 20) r)) → b ≡ sees c s (begins (look_of whole) r)
+unfolding look_of whole
+begun-here c s r e = e ∙ ap (λ (l : Look). sees c s l) (shift-none (begins (begins_below whole 20) r))

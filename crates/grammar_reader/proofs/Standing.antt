@@ -13,7 +13,7 @@ use Rattle.parser_events.specs.View.{View}
 use Rattle.parser_events.proofs.Forests.{marked-then}
 use Rattle.rust_grammar.specs.Meaning.{Reading, ahead, is_end, fresh, leaf, say, skip, split, node, behind}
 use Rattle.rust_grammar.proofs.Spelled.{then-some}
-use Rattle.grammar_reader.specs.Stands.{left, Holds, HasTrees, IsAt, Stands}
+use Rattle.grammar_reader.specs.Stands.{left, Holds, HasTrees, Stands}
 use Rattle.grammar_reader.specs.Moves.{Does, Opens, Closes, Leaves}
 
 pub stands-after : {f : Reading → Reading} {old new : View} {given : Bool} {s : Reading} {below : Option (List Marked)} (gave : Bool) → Does f old new → is_end (f s).given ≡ not gave → Stands given old s below → Stands gave new (f s) below

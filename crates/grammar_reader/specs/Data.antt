@@ -1,5 +1,5 @@
 -- The rules that the code has as data, as what they are.
-use Rattle.std.specs.Prelude.{ℕ, zero, suc, Bool, true, false, List, [], ◌∷◌}
+use Rattle.std.specs.Prelude.{ℕ, zero, suc, Bool, true, false, [], ◌∷◌}
 use Rattle.parser_input.specs.Kind.{raw_of}
 use Rattle.parser_events.specs.Seen.{message_of}
 use Rattle.rust_grammar.specs.Rule as rules

@@ -2,4 +2,3 @@ pub mod Data
 pub mod Size
 pub mod Stands
 pub mod Moves
-pub mod CanRead

@@ -1,6 +1,6 @@
 -- How large a rule is.
 use Rattle.std.specs.Prelude.{ℕ, suc, ◌+◌}
-use Rattle.rust_grammar.specs.Rule.{Rule, Nothing, One, Any, Then, Near, Or, Opt, Star, Node, Wrap, Want, Say, Skip, Split, When, Unless, Call, Continue, Mode}
+use Rattle.rust_grammar.specs.Rule.{Rule, Then, Near, Or, Opt, Star, Node, Wrap, Want, When, Unless, Mode}
 
 -- how many forms stand in a rule, itself one
 unfoldable pub size : Rule → ℕ

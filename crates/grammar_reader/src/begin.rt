@@ -15,7 +15,7 @@ use parser_events::parser::Parser;
 
 /// Whether the rule begins so many tokens ahead. Of a production that is asked so many calls deep the answer is no, as in the
 /// definition.
-pub(crate) fn begins(
+pub fn begins(
     p: &mut Parser<'_>,
     place: Place,
     rule: &'static Rule,

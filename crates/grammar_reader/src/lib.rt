@@ -1,11 +1,13 @@
-//! Reads an input by the table of the grammar: the rules as data, and one reader for all their forms.
+//! The table of the grammar as data, and where its rules begin in an input.
+//!
+//! [`table::rule_of`] gives the rule of each production, as the definitions have it. [`begin::begins`] tells whether a rule begins
+//! where a parser stands. [`open`] has what leaves, messages and wraps make of the node that a production fills.
 #![tactic(auto)]
 
-mod begin;
-mod look;
+pub mod begin;
+pub mod look;
 mod notation;
-mod open;
+pub mod open;
 pub mod production;
-mod reader;
 pub mod rule;
 pub mod table;

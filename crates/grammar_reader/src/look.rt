@@ -13,17 +13,17 @@ use parser_input::syntax_kind::SyntaxKind;
 
 /// What looks ask of besides the tokens ahead.
 #[derive(Clone, Copy)]
-pub(crate) struct Place {
+pub struct Place {
     /// How many tokens the input has.
-    pub(crate) total: usize,
+    pub total: usize,
     /// Whether condition mode is on.
-    pub(crate) condition: bool,
+    pub condition: bool,
     /// Whether the present production gave something.
-    pub(crate) given: bool,
+    pub given: bool,
 }
 
 /// How many tokens are left.
-pub(crate) fn tokens_left(p: &Parser<'_>, total: usize) -> usize
+pub fn tokens_left(p: &Parser<'_>, total: usize) -> usize
     requires { total ≡ length p.now.input }
     ensures { result ≡ length (left p.now) }
 {
@@ -57,7 +57,7 @@ fn is_joint(p: &mut Parser<'_>, place: Place, kind: SyntaxKind, n: u8, ahead: us
 }
 
 /// Whether the look is there, so many tokens further ahead.
-pub(crate) fn is_there(p: &mut Parser<'_>, place: Place, look: &Look, ahead: usize) -> bool
+pub fn is_there(p: &mut Parser<'_>, place: Place, look: &Look, ahead: usize) -> bool
     requires total { place.total ≡ length p.old.input }
     requires short { length p.old.input < 2 ^ 64 }
     ensures sees { (s : Reading) → IsAt place.given p.old s
@@ -83,12 +83,7 @@ pub(crate) fn is_there(p: &mut Parser<'_>, place: Place, look: &Look, ahead: usi
 }
 
 /// Whether a spelling stands so many tokens ahead.
-pub(crate) fn is_spelled(
-    p: &mut Parser<'_>,
-    place: Place,
-    spelling: &Spelling,
-    ahead: usize,
-) -> bool
+pub fn is_spelled(p: &mut Parser<'_>, place: Place, spelling: &Spelling, ahead: usize) -> bool
     requires total { place.total ≡ length p.old.input }
     requires short { length p.old.input < 2 ^ 64 }
     ensures sees { (s : Reading) → IsAt place.given p.old s

@@ -16,19 +16,13 @@ use parser_events::parser::{Marker, Parser};
 use parser_input::syntax_kind::SyntaxKind;
 
 /// The innermost open node, and whether the present production gave something that stands in it.
-pub(crate) struct Open {
-    pub(crate) marker: Marker,
-    pub(crate) given: bool,
+pub struct Open {
+    pub marker: Marker,
+    pub given: bool,
 }
 
 /// Takes so many tokens as a leaf of this kind, if they are there.
-pub(crate) fn take(
-    p: &mut Parser<'_>,
-    open: Open,
-    kind: SyntaxKind,
-    count: u8,
-    total: usize,
-) -> Open
+pub fn take(p: &mut Parser<'_>, open: Open, kind: SyntaxKind, count: u8, total: usize) -> Open
     requires total { total ≡ length p.old.input }
     requires some { 1 ≤ count }
     requires open { IsInnermost open.marker p.old.nodes }
@@ -50,7 +44,7 @@ pub(crate) fn take(
 }
 
 /// Adds a message.
-pub(crate) fn tell(p: &mut Parser<'_>, open: Open, message: Message) -> Open
+pub fn tell(p: &mut Parser<'_>, open: Open, message: Message) -> Open
     requires open { IsInnermost open.marker p.old.nodes }
     ensures input { p.new.input ≡ p.old.input }
     ensures open { IsInnermost result.marker p.new.nodes }
@@ -67,7 +61,7 @@ pub(crate) fn tell(p: &mut Parser<'_>, open: Open, message: Message) -> Open
 }
 
 /// Closes the node as one of this kind, and opens one around it.
-pub(crate) fn wrap(p: &mut Parser<'_>, open: Open, kind: SyntaxKind) -> Open
+pub fn wrap(p: &mut Parser<'_>, open: Open, kind: SyntaxKind) -> Open
     requires open { IsInnermost open.marker p.old.nodes }
     ensures input { p.new.input ≡ p.old.input }
     ensures open { IsInnermost result.marker p.new.nodes }
@@ -84,7 +78,7 @@ pub(crate) fn wrap(p: &mut Parser<'_>, open: Open, kind: SyntaxKind) -> Open
 }
 
 /// Takes the next token as it is, if one is left.
-pub(crate) fn take_any(p: &mut Parser<'_>, open: Open, total: usize) -> Open
+pub fn take_any(p: &mut Parser<'_>, open: Open, total: usize) -> Open
     requires total { total ≡ length p.old.input }
     requires open { IsInnermost open.marker p.old.nodes }
     ensures input { p.new.input ≡ p.old.input }
@@ -98,7 +92,7 @@ pub(crate) fn take_any(p: &mut Parser<'_>, open: Open, total: usize) -> Open
 }
 
 /// Takes the next token into an error, behind the message, if one is left.
-pub(crate) fn skip(p: &mut Parser<'_>, open: Open, message: Message, total: usize) -> Open
+pub fn skip(p: &mut Parser<'_>, open: Open, message: Message, total: usize) -> Open
     requires total { total ≡ length p.old.input }
     requires open { IsInnermost open.marker p.old.nodes }
     ensures input { p.new.input ≡ p.old.input }
@@ -119,7 +113,7 @@ pub(crate) fn skip(p: &mut Parser<'_>, open: Open, message: Message, total: usiz
 }
 
 /// Opens a node in the innermost one.
-pub(crate) fn start(p: &mut Parser<'_>) -> Open
+pub fn start(p: &mut Parser<'_>) -> Open
     ensures opens { Opens p.old p.new }
     ensures open { IsInnermost result.marker p.new.nodes }
     ensures given { result.given ≡ false }
@@ -132,7 +126,7 @@ pub(crate) fn start(p: &mut Parser<'_>) -> Open
 }
 
 /// Closes the node as one of this kind.
-pub(crate) fn close(p: &mut Parser<'_>, open: Open, kind: SyntaxKind)
+pub fn close(p: &mut Parser<'_>, open: Open, kind: SyntaxKind)
     requires open { IsInnermost open.marker p.old.nodes }
     ensures closes { Closes (raw_of kind) p.old p.new }
     ensures input { p.new.input ≡ p.old.input }
@@ -142,7 +136,7 @@ pub(crate) fn close(p: &mut Parser<'_>, open: Open, kind: SyntaxKind)
 }
 
 /// Leaves the node out: what it has goes to the one around it. Whether anything does is the answer.
-pub(crate) fn leave_out(p: &mut Parser<'_>, open: Open) -> bool
+pub fn leave_out(p: &mut Parser<'_>, open: Open) -> bool
     requires open { IsInnermost open.marker p.old.nodes }
     ensures leaves { Leaves p.old p.new }
     ensures given { result ≡ open.given }
@@ -154,7 +148,7 @@ pub(crate) fn leave_out(p: &mut Parser<'_>, open: Open) -> bool
 }
 
 /// Closes the node as a field access by the float that is next, and opens one around it. Nothing where no float is next.
-pub(crate) fn split(p: &mut Parser<'_>, open: Open) -> Open
+pub fn split(p: &mut Parser<'_>, open: Open) -> Open
     requires open { IsInnermost open.marker p.old.nodes }
     ensures input { p.new.input ≡ p.old.input }
     ensures open { IsInnermost result.marker p.new.nodes }

@@ -1,5 +1,5 @@
 -- Form by form.
-use Rattle.std.proofs.Common.{ℕ, ◌<◌, ◌*◌, ◌+◌, ◌-◌, ◌^◌, refl, sym, ap, ◌∙◌, arith, length, min, nat_lt}
+use Rattle.std.proofs.Common.{ℕ, ◌+◌, ◌-◌, ◌^◌, refl, sym, ap, ◌∙◌, arith, length, min, nat_lt}
 use Rattle.rust_grammar.specs.Rule.{begins, shift}
 use Rattle.rust_grammar.specs.Meaning.{sees}
 use Rattle.grammar_reader.specs.Data.{plain, plain_look, named}

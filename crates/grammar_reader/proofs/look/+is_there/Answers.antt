@@ -1,7 +1,6 @@
-use Rattle.std.proofs.Common.{◌≡◌, ◌∙◌, ℕ, Bool, not, refl, ap, length, nat_lt, arith}
+use Rattle.std.proofs.Common.{◌∙◌, ℕ, not, refl, ap, length, nat_lt, arith}
 use Rattle.rust_grammar.specs.Rule.{shift}
 use Rattle.rust_grammar.specs.Meaning.{sees}
-use Rattle.grammar_reader.specs.Data.{plain_look}
 use Rattle.grammar_reader.proofs.Looking.{contextual-seen, joint-seen, still-at, both-on, both-off, either-on, either-off, gave-seen}
 use Rattle.grammar_reader.proofs.look.+is_there.Goals as goal
 

@@ -1,4 +1,4 @@
-use Rattle.std.proofs.Common.{◌∙◌, arith}
+use Rattle.std.proofs.Common.{arith}
 use Rattle.rust_grammar.specs.Rule.{shift}
 use Rattle.rust_grammar.specs.Meaning.{sees}
 use Rattle.grammar_reader.proofs.Looking.{joint-seen, still-at, still-short, both-on, none-on}

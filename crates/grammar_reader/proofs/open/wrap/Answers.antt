@@ -1,5 +1,4 @@
 use Rattle.std.proofs.Common.{refl}
-use Rattle.parser_events.specs.Forest as forest
 use Rattle.rust_grammar.specs.Meaning.{is_end, leaf, say, wrapped}
 use Rattle.grammar_reader.proofs.Moves.{does-wrap}
 use Rattle.grammar_reader.proofs.Standing.{stands-after}

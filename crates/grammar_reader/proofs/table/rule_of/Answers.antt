@@ -1,7 +1,4 @@
 -- Each production has its row.
-use Rattle.std.proofs.Common.{ap, ◌∙◌, sym, refl}
-use Rattle.rust_grammar.specs.Whole.{rule}
-use Rattle.grammar_reader.specs.Data.{named}
 use Rattle.grammar_reader.proofs.Sizes.{few-forms}
 use Rattle.grammar_reader.proofs.table.rule_of.Goals as goal
 
