@@ -1,0 +1,111 @@
+-- Where a rule begins, form by form, so many tokens ahead.
+use Rattle.std.proofs.Common.{◌≡◌, ℕ, zero, suc, ◌+◌, ◌-◌, ◌^◌, ◌<◌, Bool, true, false, not, length, min, refl, sym, ap, subst, ◌∙◌, arith, if◌then◌else◌}
+use Rattle.std.proofs.lemmas.List.{length-drop}
+use Rattle.parser_events.specs.View.{View}
+use Rattle.grammar_reader.specs.Stands.{IsAt}
+use Rattle.rust_grammar.specs.Rule.{Production, Rule, Look, Always, Never, Kind, Contextual, Joint, Left, InCondition, Given, Not, Then, Near, Or, Unless, Mode, Both, Either, begins, shift, passes, is_silent, width}
+use Rattle.rust_grammar.specs.Meaning.{Reading, sees, begins_below, look_of}
+use Rattle.rust_grammar.specs.Whole.{rule, whole}
+use Rattle.grammar_reader.proofs.Looking.{shift-shift, far-shift, mode-shift, both-on, none-on, either-off, all-on}
+
+module _ (c : Bool) (s : Reading) (m k : ℕ) where
+  -- whether a rule begins there
+  abbrev pub at : Rule → Bool
+  at r = sees c s (shift m (begins (begins_below whole k) r))
+
+  pub silent-then : (a b : Rule) {r : Bool} → is_silent a ≡ true → r ≡ at b → r ≡ at (Then a b)
+  unfolding begins
+  silent-then a b e f = rw e f
+
+  pub first-then : (a b : Rule) {r : Bool} → is_silent a ≡ false → r ≡ at a → r ≡ true → true ≡ at (Then a b)
+  unfolding begins sees shift
+  first-then a b e f t = rw e (both (passes a))
+    where
+      both : (p : Bool) → true ≡ sees c s (shift m (if p then Either (begins (begins_below whole k) a) (begins (begins_below whole k) b) else begins (begins_below whole k) a))
+      both true = all-on (at b) f t
+      both false = sym t ∙ f
+
+  pub no-then : (a b : Rule) {r : Bool} → is_silent a ≡ false → r ≡ at a → r ≡ false → passes a ≡ false → false ≡ at (Then a b)
+  unfolding begins
+  no-then a b e f t p = rw (e, p) (sym t ∙ f)
+
+  pub second-then : (a b : Rule) {r q : Bool} → is_silent a ≡ false → r ≡ at a → r ≡ false → passes a ≡ true → q ≡ at b → q ≡ at (Then a b)
+  unfolding begins sees shift
+  second-then a b {r} {q} e f t p g = rw (e, p) either
+    where
+      either : q ≡ sees c s (shift m (Either (begins (begins_below whole k) a) (begins (begins_below whole k) b)))
+      either = either-off f t g
+
+  pub no-near : (a b : Rule) {r : Bool} → r ≡ at a → r ≡ false → false ≡ at (Near a b)
+  unfolding begins sees shift
+  no-near a b f t = none-on (sees c s (shift m (shift (width a) (begins (begins_below whole k) b)))) f t
+
+  pub both-near : (a b : Rule) {r q : Bool} (n : ℕ) → length s.rest < 2 ^ 64 → n ≡ min (m + width a) (2 ^ 64 - 1) → r ≡ at a → r ≡ true → q ≡ sees c s (shift n (begins (begins_below whole k) b)) → q ≡ at (Near a b)
+  unfolding begins sees shift
+  both-near a b {r} {q} n short is f t g = both-on f t (g ∙ further (begins (begins_below whole k) b))
+    where
+      further : (l : Look) → sees c s (shift n l) ≡ sees c s (shift m (shift (width a) l))
+      further l =
+          far-shift c s n (width a + m) short (is ∙ ap (λ (i : ℕ). min i (2 ^ 64 - 1)) (omega arith)) l
+          ∙ sym (ap (λ (h : Look). sees c s h) (shift-shift m (width a) l))
+
+  pub first-or : (a b : Rule) {r : Bool} → r ≡ at a → r ≡ true → true ≡ at (Or a b)
+  unfolding begins sees shift
+  first-or a b f t = all-on (at b) f t
+
+  pub second-or : (a b : Rule) {r q : Bool} → r ≡ at a → r ≡ false → q ≡ at b → q ≡ at (Or a b)
+  unfolding begins sees shift
+  second-or a b f t g = either-off f t g
+
+  pub no-unless : (l : Look) (a : Rule) {r : Bool} → r ≡ sees c s (shift m l) → r ≡ true → false ≡ at (Unless l a)
+  unfolding begins sees shift
+  no-unless l a f t = none-on (at a) (ap not f) (ap not t)
+
+  pub unless : (l : Look) (a : Rule) {r q : Bool} → r ≡ sees c s (shift m l) → r ≡ false → q ≡ at a → q ≡ at (Unless l a)
+  unfolding begins sees shift
+  unless l a f t g = both-on (ap not f) (ap not t) g
+
+  pub in-mode : (d : Bool) (a : Rule) {r : Bool} → r ≡ sees d s (shift m (begins (begins_below whole k) a)) → r ≡ at (Mode d a)
+  unfolding begins
+  in-mode d a f = f ∙ sym (mode-shift c d s m (begins (begins_below whole k) a))
+
+-- a production, of which is asked one call less deep
+pub no-rank : (c : Bool) (s : Reading) (m k : ℕ) (x : Production) → k ≡ 0 → false ≡ sees c s (shift m (begins_below whole k x))
+unfolding begins_below sees shift
+no-rank c s m k x e = subst (λ (i : ℕ). false ≡ sees c s (shift m (begins_below whole i x))) (sym e) zero-rank
+  where
+    zero-rank : false ≡ sees c s (shift m (begins_below whole 0 x))
+    zero-rank = refl
+
+pub one-rank : (c : Bool) (s : Reading) (m k j : ℕ) (x : Production) (row : Rule) {r : Bool} → k ≡ suc j → row ≡ rule x → r ≡ sees c s (shift m (begins (begins_below whole j) row)) → r ≡ sees c s (shift m (begins_below whole k x))
+unfolding begins_below whole
+one-rank c s m k j x row {r} e i f = subst (λ (n : ℕ). r ≡ sees c s (shift m (begins_below whole n x))) (sym e) deeper
+  where
+    deeper : r ≡ sees c s (shift m (begins_below whole (suc j) x))
+    deeper = f ∙ ap (λ (q : Rule). sees c s (shift m (begins (begins_below whole j) q))) i
+
+pub one-less : (k : ℕ) → (k ≡ 0 → ⊥) → k ≡ suc (k - 1)
+one-less zero e = absurd (e refl)
+one-less (suc k) e = omega arith
+
+pub rest-short : {given : Bool} {v : View} {s : Reading} → IsAt given v s → length v.input < 2 ^ 64 → length s.rest < 2 ^ 64
+rest-short {given} {v} {s} at h = omega (arith, h, ap length at.rest, length-drop v.position v.input)
+
+-- no further ahead
+pub shift-none : (l : Look) → shift 0 l ≡ l
+unfolding shift
+shift-none Always = refl
+shift-none Never = refl
+shift-none (Kind n k) = ap (λ (i : ℕ). Kind i k) (omega arith)
+shift-none (Contextual n k) = ap (λ (i : ℕ). Contextual i k) (omega arith)
+shift-none (Joint n) = ap (λ (i : ℕ). Joint i) (omega arith)
+shift-none Left = refl
+shift-none InCondition = refl
+shift-none Given = refl
+shift-none (Both a b) = rw (shift-none a, shift-none b) refl
+shift-none (Either a b) = rw (shift-none a, shift-none b) refl
+shift-none (Not a) = rw (shift-none a) refl
+
+pub begun-here : (c : Bool) (s : Reading) (r : Rule) {b : Bool} → b ≡ sees c s (shift 0 (begins (begins_below whole 20) r)) → b ≡ sees c s (begins (look_of whole) r)
+unfolding look_of whole
+begun-here c s r e = e ∙ ap (λ (l : Look). sees c s l) (shift-none (begins (begins_below whole 20) r))

@@ -1,0 +1,5 @@
+pub mod Looking
+pub mod Sizes
+pub mod Beginning
+pub mod Moves
+pub mod Standing

@@ -1,0 +1,183 @@
+-- Form by form.
+use Rattle.std.proofs.Common.{ℕ, ◌+◌, ◌-◌, ◌^◌, refl, sym, ap, ◌∙◌, arith, length, min, nat_lt}
+use Rattle.rust_grammar.specs.Rule.{begins, shift}
+use Rattle.rust_grammar.specs.Meaning.{sees}
+use Rattle.grammar_reader.specs.Data.{plain, plain_look, named}
+use Rattle.grammar_reader.specs.Size.{size}
+use Rattle.grammar_reader.specs.declared.rule.Rule as rows
+use Rattle.grammar_reader.proofs.Beginning.{silent-then, first-then, no-then, second-then, no-near, both-near, first-or, second-or, no-unless, unless, in-mode, no-rank, one-rank, one-less, rest-short}
+use Rattle.grammar_reader.proofs.Looking.{still-at, still-short, still-total}
+use Rattle.grammar_reader.proofs.Sizes.{falls-in, below-measure}
+use Rattle.grammar_reader.proofs.begin.+begins.Goals as goal
+
+pub returns-then-is_silent-clause-sees : goal.returns-then-is_silent-clause-sees
+unfolding begins
+returns-then-is_silent-clause-sees t c s at = rw c.in-Then.is (silent-then c.args.place.condition s c.args.ahead c.args.ranks (plain c.in-Then.first.now) (plain c.in-Then.second.now) (sym c.is_silent.ensures ∙ c.if-is_silent.true) (c.begins.ensures.sees s at))
+
+pub returns-then-begins-clause-sees : goal.returns-then-begins-clause-sees
+unfolding begins
+returns-then-begins-clause-sees t c s at = rw c.in-Then.is (first-then c.args.place.condition s c.args.ahead c.args.ranks (plain c.in-Then.first.now) (plain c.in-Then.second.now) (sym c.is_silent.ensures ∙ c.if-is_silent.false) (c.begins-in-Then.ensures.sees s at) c.if-begins.true)
+
+pub returns-then-not-is_passed-clause-sees : goal.returns-then-not-is_passed-clause-sees
+unfolding begins
+returns-then-not-is_passed-clause-sees t c s at = rw c.in-Then.is (no-then c.args.place.condition s c.args.ahead c.args.ranks (plain c.in-Then.first.now) (plain c.in-Then.second.now) (sym c.is_silent.ensures ∙ c.if-is_silent.false) (c.begins-in-Then.ensures.sees s at) c.if-begins.false (sym c.is_passed.ensures ∙ c.if-not-is_passed.true))
+
+pub returns-else-not-is_passed-clause-sees : goal.returns-else-not-is_passed-clause-sees
+unfolding begins
+returns-else-not-is_passed-clause-sees t c s at = rw c.in-Then.is (second-then c.args.place.condition s c.args.ahead c.args.ranks (plain c.in-Then.first.now) (plain c.in-Then.second.now) (sym c.is_silent.ensures ∙ c.if-is_silent.false) (c.begins-in-Then.ensures.sees s at) c.if-begins.false (sym c.is_passed.ensures ∙ c.if-not-is_passed.false) (c.begins-in-Then-2.ensures.sees s (still-at c.begins-in-Then.ensures.same at)))
+
+pub returns-then-not-begins-clause-sees : goal.returns-then-not-begins-clause-sees
+unfolding begins
+returns-then-not-begins-clause-sees t c s at = rw c.in-Near.is (no-near c.args.place.condition s c.args.ahead c.args.ranks (plain c.in-Near.first.now) (plain c.in-Near.second.now) (c.begins-in-Near.ensures.sees s at) c.if-not-begins.true)
+
+pub returns-else-not-begins-clause-sees : goal.returns-else-not-begins-clause-sees
+unfolding begins
+returns-else-not-begins-clause-sees t c s at = rw c.in-Near.is (both-near c.args.place.condition s c.args.ahead c.args.ranks (plain c.in-Near.first.now) (plain c.in-Near.second.now) c.saturating_add-behind.result (rest-short at c.requires.short) (c.saturating_add-behind.ensures ∙ ap (λ (i : ℕ). min (c.args.ahead + i) (2 ^ 64 - 1)) (c.from.ensures ∙ c.width.ensures)) (c.begins-in-Near.ensures.sees s at) c.if-not-begins.false (c.begins-in-Near-2.ensures.sees s (still-at c.begins-in-Near.ensures.same at)))
+
+pub returns-then-begins-2-clause-sees : goal.returns-then-begins-2-clause-sees
+unfolding begins
+returns-then-begins-2-clause-sees t c s at = rw c.in-Or.is (first-or c.args.place.condition s c.args.ahead c.args.ranks (plain c.in-Or.first.now) (plain c.in-Or.second.now) (c.begins-in-Or.ensures.sees s at) c.if-begins-2.true)
+
+pub returns-else-begins-2-clause-sees : goal.returns-else-begins-2-clause-sees
+unfolding begins
+returns-else-begins-2-clause-sees t c s at = rw c.in-Or.is (second-or c.args.place.condition s c.args.ahead c.args.ranks (plain c.in-Or.first.now) (plain c.in-Or.second.now) (c.begins-in-Or.ensures.sees s at) c.if-begins-2.false (c.begins-in-Or-2.ensures.sees s (still-at c.begins-in-Or.ensures.same at)))
+
+pub returns-then-is_there-clause-sees : goal.returns-then-is_there-clause-sees
+unfolding begins
+returns-then-is_there-clause-sees t c s at = rw c.in-Unless.is (no-unless c.args.place.condition s c.args.ahead c.args.ranks (plain_look c.in-Unless.look) (plain c.in-Unless.inner.now) (c.is_there-in-Unless.ensures.sees s at) c.if-is_there.true)
+
+pub returns-else-is_there-clause-sees : goal.returns-else-is_there-clause-sees
+unfolding begins
+returns-else-is_there-clause-sees t c s at = rw c.in-Unless.is (unless c.args.place.condition s c.args.ahead c.args.ranks (plain_look c.in-Unless.look) (plain c.in-Unless.inner.now) (c.is_there-in-Unless.ensures.sees s at) c.if-is_there.false (c.begins-in-Unless.ensures.sees s (still-at c.is_there-in-Unless.ensures.same at)))
+
+pub returns-in-Nothing-clause-sees : goal.returns-in-Nothing-clause-sees
+unfolding begins sees shift
+returns-in-Nothing-clause-sees t c s at = rw c.in-Nothing.is refl
+
+pub returns-in-Say-clause-sees : goal.returns-in-Say-clause-sees
+unfolding begins sees shift
+returns-in-Say-clause-sees t c s at = rw c.in-Say.is refl
+
+pub returns-in-One-clause-sees : goal.returns-in-One-clause-sees
+unfolding begins
+returns-in-One-clause-sees t c s at = rw c.in-One.is (c.is_spelled.ensures.sees s at)
+
+pub returns-in-Any-clause-sees : goal.returns-in-Any-clause-sees
+unfolding begins sees shift
+returns-in-Any-clause-sees t c s at = rw c.in-Any.is (ap (λ (n : ℕ). nat_lt 0 n) (c.tokens_left.ensures ∙ ap length at.rest))
+
+pub returns-in-Skip-clause-sees : goal.returns-in-Skip-clause-sees
+unfolding begins sees shift
+returns-in-Skip-clause-sees t c s at = rw c.in-Skip.is (ap (λ (n : ℕ). nat_lt 0 n) (c.tokens_left-in-Skip.ensures ∙ ap length at.rest))
+
+pub returns-in-Split-clause-sees : goal.returns-in-Split-clause-sees
+unfolding begins sees shift
+returns-in-Split-clause-sees t c s at = rw c.in-Split.is (ap (λ (n : ℕ). nat_lt 0 n) (c.tokens_left-in-Split.ensures ∙ ap length at.rest))
+
+pub returns-in-When-clause-sees : goal.returns-in-When-clause-sees
+unfolding begins
+returns-in-When-clause-sees t c s at = rw c.in-When.is (c.is_there.ensures.sees s at)
+
+pub returns-in-Opt-clause-sees : goal.returns-in-Opt-clause-sees
+unfolding begins
+returns-in-Opt-clause-sees t c s at = rw c.in-Opt.is (c.begins-in-Opt.ensures.sees s at)
+
+pub returns-in-Star-clause-sees : goal.returns-in-Star-clause-sees
+unfolding begins
+returns-in-Star-clause-sees t c s at = rw c.in-Star.is (c.begins-in-Star.ensures.sees s at)
+
+pub returns-in-Node-clause-sees : goal.returns-in-Node-clause-sees
+unfolding begins
+returns-in-Node-clause-sees t c s at = rw c.in-Node.is (c.begins-in-Node.ensures.sees s at)
+
+pub returns-in-Wrap-clause-sees : goal.returns-in-Wrap-clause-sees
+unfolding begins
+returns-in-Wrap-clause-sees t c s at = rw c.in-Wrap.is (c.begins-in-Wrap.ensures.sees s at)
+
+pub returns-in-Want-clause-sees : goal.returns-in-Want-clause-sees
+unfolding begins
+returns-in-Want-clause-sees t c s at = rw c.in-Want.is (c.begins-in-Want.ensures.sees s at)
+
+pub returns-then-ranks-eq0-clause-sees : goal.returns-then-ranks-eq0-clause-sees
+unfolding begins
+returns-then-ranks-eq0-clause-sees t c s at = rw c.in-Call.is (no-rank c.args.place.condition s c.args.ahead c.args.ranks (named c.in-Call.production) c.if-ranks-eq0.true)
+
+pub returns-else-ranks-eq0-clause-sees : goal.returns-else-ranks-eq0-clause-sees
+unfolding begins
+returns-else-ranks-eq0-clause-sees t c s at = rw c.in-Call.is (one-rank c.args.place.condition s c.args.ahead c.args.ranks (c.args.ranks - 1) (named c.in-Call.production) _ (one-less c.args.ranks c.if-ranks-eq0.false) c.rule_of.ensures.rule (c.begins-in-Call.ensures.sees s at))
+
+pub returns-then-ranks-eq0-2-clause-sees : goal.returns-then-ranks-eq0-2-clause-sees
+unfolding begins
+returns-then-ranks-eq0-2-clause-sees t c s at = rw c.in-Continue.is (no-rank c.args.place.condition s c.args.ahead c.args.ranks (named c.in-Continue.production) c.if-ranks-eq0-2.true)
+
+pub returns-else-ranks-eq0-2-clause-sees : goal.returns-else-ranks-eq0-2-clause-sees
+unfolding begins
+returns-else-ranks-eq0-2-clause-sees t c s at = rw c.in-Continue.is (one-rank c.args.place.condition s c.args.ahead c.args.ranks (c.args.ranks - 1) (named c.in-Continue.production) _ (one-less c.args.ranks c.if-ranks-eq0-2.false) c.rule_of-in-Continue.ensures.rule (c.begins-in-Continue.ensures.sees s at))
+
+pub returns-in-Mode-clause-sees : goal.returns-in-Mode-clause-sees
+unfolding begins
+returns-in-Mode-clause-sees t c s at = rw c.in-Mode.is (in-mode c.args.place.condition s c.args.ahead c.args.ranks c.in-Mode.condition (plain c.in-Mode.inner.now) (c.begins-in-Mode.ensures.sees s (record { rest = at.rest; gave = at.gave })))
+
+pub returns-in-LaterBodies-clause-sees : goal.returns-in-LaterBodies-clause-sees
+unfolding begins
+returns-in-LaterBodies-clause-sees t c s at = rw (c.in-LaterBodies.is, sym c.later_bodies.ensures.rule) (c.begins-in-LaterBodies.ensures.sees s at)
+
+pub returns-in-LaterAtoms-clause-sees : goal.returns-in-LaterAtoms-clause-sees
+unfolding begins
+returns-in-LaterAtoms-clause-sees t c s at = rw (c.in-LaterAtoms.is, sym c.later_atoms.ensures.rule) (c.begins-in-LaterAtoms.ensures.sees s at)
+
+pub begins-requires : goal.begins-requires
+unfolding size
+begins-requires t c = (below-measure c.decreases (falls-in c.in-Then.second.now c.args.rule.now c.args.ranks (omega (arith, ap (λ (d : rows.Rule). size (plain d)) c.in-Then.is))), (c.requires.total, c.requires.short))
+
+pub begins-requires-in-Then : goal.begins-requires-in-Then
+unfolding size
+begins-requires-in-Then t c = (below-measure c.decreases (falls-in c.in-Then.first.now c.args.rule.now c.args.ranks (omega (arith, ap (λ (d : rows.Rule). size (plain d)) c.in-Then.is))), (c.requires.total, c.requires.short))
+
+pub begins-requires-in-Then-2 : goal.begins-requires-in-Then-2
+unfolding size
+begins-requires-in-Then-2 t c = (below-measure c.decreases (falls-in c.in-Then.second.now c.args.rule.now c.args.ranks (omega (arith, ap (λ (d : rows.Rule). size (plain d)) c.in-Then.is))), (still-total _ c.args.p.now c.begins-in-Then.new.p c.begins-in-Then.ensures.same c.requires.total, still-short c.args.p.now c.begins-in-Then.new.p c.begins-in-Then.ensures.same c.requires.short))
+
+pub begins-requires-in-Near : goal.begins-requires-in-Near
+unfolding size
+begins-requires-in-Near t c = (below-measure c.decreases (falls-in c.in-Near.first.now c.args.rule.now c.args.ranks (omega (arith, ap (λ (d : rows.Rule). size (plain d)) c.in-Near.is))), (c.requires.total, c.requires.short))
+
+pub begins-requires-in-Near-2 : goal.begins-requires-in-Near-2
+unfolding size
+begins-requires-in-Near-2 t c = (below-measure c.decreases (falls-in c.in-Near.second.now c.args.rule.now c.args.ranks (omega (arith, ap (λ (d : rows.Rule). size (plain d)) c.in-Near.is))), (still-total _ c.args.p.now c.begins-in-Near.new.p c.begins-in-Near.ensures.same c.requires.total, still-short c.args.p.now c.begins-in-Near.new.p c.begins-in-Near.ensures.same c.requires.short))
+
+pub begins-requires-in-Or : goal.begins-requires-in-Or
+unfolding size
+begins-requires-in-Or t c = (below-measure c.decreases (falls-in c.in-Or.first.now c.args.rule.now c.args.ranks (omega (arith, ap (λ (d : rows.Rule). size (plain d)) c.in-Or.is))), (c.requires.total, c.requires.short))
+
+pub begins-requires-in-Or-2 : goal.begins-requires-in-Or-2
+unfolding size
+begins-requires-in-Or-2 t c = (below-measure c.decreases (falls-in c.in-Or.second.now c.args.rule.now c.args.ranks (omega (arith, ap (λ (d : rows.Rule). size (plain d)) c.in-Or.is))), (still-total _ c.args.p.now c.begins-in-Or.new.p c.begins-in-Or.ensures.same c.requires.total, still-short c.args.p.now c.begins-in-Or.new.p c.begins-in-Or.ensures.same c.requires.short))
+
+pub begins-requires-in-Unless : goal.begins-requires-in-Unless
+unfolding size
+begins-requires-in-Unless t c = (below-measure c.decreases (falls-in c.in-Unless.inner.now c.args.rule.now c.args.ranks (omega (arith, ap (λ (d : rows.Rule). size (plain d)) c.in-Unless.is))), (still-total _ c.args.p.now c.is_there-in-Unless.new.p c.is_there-in-Unless.ensures.same c.requires.total, still-short c.args.p.now c.is_there-in-Unless.new.p c.is_there-in-Unless.ensures.same c.requires.short))
+
+pub begins-requires-in-Opt : goal.begins-requires-in-Opt
+unfolding size
+begins-requires-in-Opt t c = (below-measure c.decreases (falls-in c.in-Opt.inner.now c.args.rule.now c.args.ranks (omega (arith, ap (λ (d : rows.Rule). size (plain d)) c.in-Opt.is))), (c.requires.total, c.requires.short))
+
+pub begins-requires-in-Star : goal.begins-requires-in-Star
+unfolding size
+begins-requires-in-Star t c = (below-measure c.decreases (falls-in c.in-Star.inner.now c.args.rule.now c.args.ranks (omega (arith, ap (λ (d : rows.Rule). size (plain d)) c.in-Star.is))), (c.requires.total, c.requires.short))
+
+pub begins-requires-in-Node : goal.begins-requires-in-Node
+unfolding size
+begins-requires-in-Node t c = (below-measure c.decreases (falls-in c.in-Node.inner.now c.args.rule.now c.args.ranks (omega (arith, ap (λ (d : rows.Rule). size (plain d)) c.in-Node.is))), (c.requires.total, c.requires.short))
+
+pub begins-requires-in-Wrap : goal.begins-requires-in-Wrap
+unfolding size
+begins-requires-in-Wrap t c = (below-measure c.decreases (falls-in c.in-Wrap.inner.now c.args.rule.now c.args.ranks (omega (arith, ap (λ (d : rows.Rule). size (plain d)) c.in-Wrap.is))), (c.requires.total, c.requires.short))
+
+pub begins-requires-in-Want : goal.begins-requires-in-Want
+unfolding size
+begins-requires-in-Want t c = (below-measure c.decreases (falls-in c.in-Want.inner.now c.args.rule.now c.args.ranks (omega (arith, ap (λ (d : rows.Rule). size (plain d)) c.in-Want.is))), (c.requires.total, c.requires.short))
+
+pub begins-requires-in-Mode : goal.begins-requires-in-Mode
+unfolding size
+begins-requires-in-Mode t c = (below-measure c.decreases (falls-in c.in-Mode.inner.now c.args.rule.now c.args.ranks (omega (arith, ap (λ (d : rows.Rule). size (plain d)) c.in-Mode.is))), (c.requires.total, c.requires.short))

@@ -1,0 +1,41 @@
+use Rattle.std.proofs.Common.{[], ◌∷◌}
+use Rattle.parser_input.specs.Kind.{raw_of}
+use Rattle.rust_grammar.specs.Rule.{Kind, there_at}
+use Rattle.grammar_reader.proofs.Looking.{still-at, no-joint, joint-then}
+use Rattle.grammar_reader.proofs.look.is_spelled.Goals as goal
+
+pub returns-in-Plain-clause-sees : goal.returns-in-Plain-clause-sees
+unfolding there_at
+returns-in-Plain-clause-sees c s at = rw c.in-Plain.is (c.is_next.ensures.sees s at)
+
+pub returns-in-Renamed-clause-sees : goal.returns-in-Renamed-clause-sees
+unfolding there_at
+returns-in-Renamed-clause-sees c s at = rw c.in-Renamed.is (c.is_next-in-Renamed.ensures.sees s at)
+
+pub returns-then-not-is_joint-clause-sees : goal.returns-then-not-is_joint-clause-sees
+unfolding there_at
+returns-then-not-is_joint-clause-sees c s at = rw c.in-Pair.is (no-joint _ s c.args.ahead 0 (raw_of c.in-Pair.first) (Kind 1 (raw_of c.in-Pair.second)) (c.is_joint.ensures.sees s at) c.if-not-is_joint.true)
+
+pub returns-else-not-is_joint-clause-sees : goal.returns-else-not-is_joint-clause-sees
+unfolding there_at
+returns-else-not-is_joint-clause-sees c s at =
+    rw c.in-Pair.is (joint-then _ s c.args.ahead 0 (raw_of c.in-Pair.first) (Kind 1 (raw_of c.in-Pair.second)) (c.is_joint.ensures.sees s at) c.if-not-is_joint.false
+    (c.is_next-in-Pair.ensures.sees s (still-at c.is_joint.ensures.same at)))
+
+pub returns-then-not-is_joint-2-clause-sees : goal.returns-then-not-is_joint-2-clause-sees
+unfolding there_at
+returns-then-not-is_joint-2-clause-sees c s at =
+    rw c.in-Triple.is (no-joint _ s c.args.ahead 0 (raw_of c.in-Triple.first) (there_at 1 (raw_of c.in-Triple.second ∷ raw_of c.in-Triple.third ∷ [])) (c.is_joint-in-Triple.ensures.sees s at) c.if-not-is_joint-2.true)
+
+pub returns-then-not-is_joint-3-clause-sees : goal.returns-then-not-is_joint-3-clause-sees
+unfolding there_at
+returns-then-not-is_joint-3-clause-sees c s at =
+    rw c.in-Triple.is (joint-then _ s c.args.ahead 0 (raw_of c.in-Triple.first) (there_at 1 (raw_of c.in-Triple.second ∷ raw_of c.in-Triple.third ∷ [])) (c.is_joint-in-Triple.ensures.sees s at) c.if-not-is_joint-2.false
+    (no-joint _ s c.args.ahead 1 (raw_of c.in-Triple.second) (Kind 2 (raw_of c.in-Triple.third)) (c.is_joint-in-Triple-2.ensures.sees s (still-at c.is_joint-in-Triple.ensures.same at)) c.if-not-is_joint-3.true))
+
+pub returns-else-not-is_joint-3-clause-sees : goal.returns-else-not-is_joint-3-clause-sees
+unfolding there_at
+returns-else-not-is_joint-3-clause-sees c s at =
+    let next = still-at c.is_joint-in-Triple.ensures.same at in
+    rw c.in-Triple.is (joint-then _ s c.args.ahead 0 (raw_of c.in-Triple.first) (there_at 1 (raw_of c.in-Triple.second ∷ raw_of c.in-Triple.third ∷ [])) (c.is_joint-in-Triple.ensures.sees s at) c.if-not-is_joint-2.false
+    (joint-then _ s c.args.ahead 1 (raw_of c.in-Triple.second) (Kind 2 (raw_of c.in-Triple.third)) (c.is_joint-in-Triple-2.ensures.sees s next) c.if-not-is_joint-3.false (c.is_next-in-Triple.ensures.sees s (still-at c.is_joint-in-Triple-2.ensures.same next))))

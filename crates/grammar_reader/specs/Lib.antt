@@ -1,0 +1,4 @@
+pub mod Data
+pub mod Size
+pub mod Stands
+pub mod Moves

@@ -1,0 +1,98 @@
+//! Where a rule begins.
+
+ghost use Rattle.std.specs.Prelude.{◌≡◌, ◌<◌, ◌^◌, length};
+ghost use Rattle.rust_grammar.specs.Rule as rules;
+ghost use Rattle.rust_grammar.specs.Rule.{shift};
+ghost use Rattle.rust_grammar.specs.Meaning.{Reading, sees, begins_below};
+ghost use Rattle.rust_grammar.specs.Whole.{whole};
+ghost use Rattle.grammar_reader.specs.Data.{plain};
+ghost use Rattle.grammar_reader.specs.Stands.{IsAt};
+
+use crate::look::{Place, is_spelled, is_there, tokens_left};
+use crate::rule::Rule;
+use crate::table::{later_atoms, later_bodies, rule_of};
+use parser_events::parser::Parser;
+
+/// Whether the rule begins so many tokens ahead. Of a production that is asked so many calls deep the answer is no, as in the
+/// definition.
+pub fn begins(
+    p: &mut Parser<'_>,
+    place: Place,
+    rule: &'static Rule,
+    ahead: usize,
+    ranks: u8,
+) -> bool
+    requires total { place.total ≡ length p.old.input }
+    requires short { length p.old.input < 2 ^ 64 }
+    ensures sees { (s : Reading) → IsAt place.given p.old s
+        → result ≡ sees place.condition s (shift ahead (rules.begins (begins_below whole ranks) (plain rule.now))) }
+    ensures same { p.new ≡ record p.old { looks = p.new.looks } }
+{
+    match rule {
+        Rule::Nothing => true,
+        Rule::Say(_) => true,
+        Rule::One(spelling) => is_spelled(p, place, spelling, ahead),
+        Rule::Any => tokens_left(p, place.total) > 0,
+        Rule::Skip(_) => tokens_left(p, place.total) > 0,
+        Rule::Split => tokens_left(p, place.total) > 0,
+        Rule::Then(first, second) => {
+            if first.is_silent() {
+                return begins(p, place, second, ahead, ranks);
+            }
+            if begins(p, place, first, ahead, ranks) {
+                return true;
+            }
+            if !first.is_passed() {
+                return false;
+            }
+            begins(p, place, second, ahead, ranks)
+        }
+        Rule::Near(first, second) => {
+            if !begins(p, place, first, ahead, ranks) {
+                return false;
+            }
+            let behind = ahead.saturating_add(usize::from(first.width()));
+            begins(p, place, second, behind, ranks)
+        }
+        Rule::Or(first, second) => {
+            if begins(p, place, first, ahead, ranks) {
+                return true;
+            }
+            begins(p, place, second, ahead, ranks)
+        }
+        Rule::When(look, _) => is_there(p, place, look, ahead),
+        Rule::Unless(look, inner) => {
+            if is_there(p, place, look, ahead) {
+                return false;
+            }
+            begins(p, place, inner, ahead, ranks)
+        }
+        Rule::Opt(inner) => begins(p, place, inner, ahead, ranks),
+        Rule::Star(inner) => begins(p, place, inner, ahead, ranks),
+        Rule::Node(_, inner) => begins(p, place, inner, ahead, ranks),
+        Rule::Wrap(_, inner) => begins(p, place, inner, ahead, ranks),
+        Rule::Want(inner, _) => begins(p, place, inner, ahead, ranks),
+        Rule::Call(production) => {
+            if ranks == 0 {
+                return false;
+            }
+            begins(p, place, rule_of(*production), ahead, ranks - 1)
+        }
+        Rule::Continue(production) => {
+            if ranks == 0 {
+                return false;
+            }
+            begins(p, place, rule_of(*production), ahead, ranks - 1)
+        }
+        Rule::Mode(condition, inner) => {
+            let there = Place {
+                total: place.total,
+                condition: *condition,
+                given: place.given,
+            };
+            begins(p, there, inner, ahead, ranks)
+        }
+        Rule::LaterBodies => begins(p, place, later_bodies(), ahead, ranks),
+        Rule::LaterAtoms => begins(p, place, later_atoms(), ahead, ranks),
+    }
+}

@@ -1,0 +1,112 @@
+//! Looks at the tokens ahead.
+
+ghost use Rattle.std.specs.Prelude.{◌≡◌, ◌<◌, ◌^◌, length};
+ghost use Rattle.parser_input.specs.Kind.{raw_of};
+ghost use Rattle.rust_grammar.specs.Rule.{shift, there_at, Kind, Joint, Both};
+ghost use Rattle.rust_grammar.specs.Meaning.{Reading, sees};
+ghost use Rattle.grammar_reader.specs.Data.{plain_look, spelled};
+ghost use Rattle.grammar_reader.specs.Stands.{IsAt, left};
+
+use crate::rule::{Look, Spelling};
+use parser_events::parser::Parser;
+use parser_input::syntax_kind::SyntaxKind;
+
+/// What looks ask of besides the tokens ahead.
+#[derive(Clone, Copy)]
+pub struct Place {
+    /// How many tokens the input has.
+    pub total: usize,
+    /// Whether condition mode is on.
+    pub condition: bool,
+    /// Whether the present production gave something.
+    pub given: bool,
+}
+
+/// How many tokens are left.
+pub fn tokens_left(p: &Parser<'_>, total: usize) -> usize
+    requires { total ≡ length p.now.input }
+    ensures { result ≡ length (left p.now) }
+{
+    total.saturating_sub(p.position())
+}
+
+/// Whether a token of this kind is the n-th, so many tokens further ahead.
+fn is_next(p: &mut Parser<'_>, place: Place, kind: SyntaxKind, n: u8, ahead: usize) -> bool
+    requires total { place.total ≡ length p.old.input }
+    requires short { length p.old.input < 2 ^ 64 }
+    ensures sees { (s : Reading) → IsAt place.given p.old s
+        → result ≡ sees place.condition s (shift ahead (Kind n (raw_of kind))) }
+    ensures same { p.new ≡ record p.old { looks = p.new.looks } }
+{
+    let far = ahead.saturating_add(usize::from(n));
+    p.kind_at(far).to_raw() == kind.to_raw()
+}
+
+/// Whether a token of this kind is the n-th, so many tokens further ahead, and touches the next one.
+fn is_joint(p: &mut Parser<'_>, place: Place, kind: SyntaxKind, n: u8, ahead: usize) -> bool
+    requires total { place.total ≡ length p.old.input }
+    requires short { length p.old.input < 2 ^ 64 }
+    ensures sees { (s : Reading) → IsAt place.given p.old s
+        → result ≡ sees place.condition s (shift ahead (Both (Kind n (raw_of kind)) (Joint n))) }
+    ensures same { p.new ≡ record p.old { looks = p.new.looks } }
+{
+    if !is_next(p, place, kind, n, ahead) {
+        return false;
+    }
+    p.joint_at(ahead.saturating_add(usize::from(n)))
+}
+
+/// Whether the look is there, so many tokens further ahead.
+pub fn is_there(p: &mut Parser<'_>, place: Place, look: &Look, ahead: usize) -> bool
+    requires total { place.total ≡ length p.old.input }
+    requires short { length p.old.input < 2 ^ 64 }
+    ensures sees { (s : Reading) → IsAt place.given p.old s
+        → result ≡ sees place.condition s (shift ahead (plain_look look.now)) }
+    ensures same { p.new ≡ record p.old { looks = p.new.looks } }
+{
+    match look {
+        Look::Always => true,
+        Look::Never => false,
+        Look::Kind(n, kind) => is_next(p, place, *kind, *n, ahead),
+        Look::Contextual(n, kind) => {
+            let far = ahead.saturating_add(usize::from(*n));
+            p.contextual_at(far).to_raw() == kind.to_raw()
+        }
+        Look::Joint(n) => p.joint_at(ahead.saturating_add(usize::from(*n))),
+        Look::Left => tokens_left(p, place.total) > 0,
+        Look::InCondition => place.condition,
+        Look::Given => place.given,
+        Look::Both(a, b) => is_there(p, place, a, ahead) && is_there(p, place, b, ahead),
+        Look::Either(a, b) => is_there(p, place, a, ahead) || is_there(p, place, b, ahead),
+        Look::Not(a) => !is_there(p, place, a, ahead),
+    }
+}
+
+/// Whether a spelling stands so many tokens ahead.
+pub fn is_spelled(p: &mut Parser<'_>, place: Place, spelling: &Spelling, ahead: usize) -> bool
+    requires total { place.total ≡ length p.old.input }
+    requires short { length p.old.input < 2 ^ 64 }
+    ensures sees { (s : Reading) → IsAt place.given p.old s
+        → result ≡ sees place.condition s (shift ahead (there_at 0 (spelled spelling.now).parts)) }
+    ensures same { p.new ≡ record p.old { looks = p.new.looks } }
+{
+    match spelling {
+        Spelling::Plain(kind) => is_next(p, place, *kind, 0, ahead),
+        Spelling::Renamed(_, kind) => is_next(p, place, *kind, 0, ahead),
+        Spelling::Pair(_, first, second) => {
+            if !is_joint(p, place, *first, 0, ahead) {
+                return false;
+            }
+            is_next(p, place, *second, 1, ahead)
+        }
+        Spelling::Triple(_, first, second, third) => {
+            if !is_joint(p, place, *first, 0, ahead) {
+                return false;
+            }
+            if !is_joint(p, place, *second, 1, ahead) {
+                return false;
+            }
+            is_next(p, place, *third, 2, ahead)
+        }
+    }
+}

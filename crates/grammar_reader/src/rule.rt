@@ -1,0 +1,180 @@
+//! The forms of a rule, as data.
+
+ghost use Rattle.std.specs.Prelude.{◌≡◌, ◌≤◌, length};
+ghost use Rattle.parser_input.specs.Kind.{raw_of};
+ghost use Rattle.rust_grammar.specs.Rule as rules;
+ghost use Rattle.grammar_reader.specs.Data.{plain, spelled};
+
+use crate::production::Production;
+use parser_events::message::Message;
+use parser_input::syntax_kind::SyntaxKind;
+
+/// How a leaf is spelled: its kind, and the kinds of its input tokens, all but the last joint.
+pub enum Spelling {
+    /// One token of the leaf's kind.
+    Plain(SyntaxKind),
+    /// One token of another kind.
+    Renamed(SyntaxKind, SyntaxKind),
+    /// Two tokens.
+    Pair(SyntaxKind, SyntaxKind, SyntaxKind),
+    /// Three tokens.
+    Triple(SyntaxKind, SyntaxKind, SyntaxKind, SyntaxKind),
+}
+
+/// What a choice asks of the place. A number says how many tokens ahead.
+pub enum Look {
+    Always,
+    Never,
+    Kind(u8, SyntaxKind),
+    Contextual(u8, SyntaxKind),
+    Joint(u8),
+    Left,
+    InCondition,
+    Given,
+    Both(&'static Look, &'static Look),
+    Either(&'static Look, &'static Look),
+    Not(&'static Look),
+}
+
+/// A rule.
+pub enum Rule {
+    Nothing,
+    One(Spelling),
+    Any,
+    Then(&'static Rule, &'static Rule),
+    Near(&'static Rule, &'static Rule),
+    Or(&'static Rule, &'static Rule),
+    When(Look, &'static Rule),
+    Unless(Look, &'static Rule),
+    Opt(&'static Rule),
+    Star(&'static Rule),
+    Node(SyntaxKind, &'static Rule),
+    Wrap(SyntaxKind, &'static Rule),
+    Want(&'static Rule, Message),
+    Say(Message),
+    Skip(Message),
+    Split,
+    Call(Production),
+    Continue(Production),
+    Mode(bool, &'static Rule),
+    /// The later alternatives of an item's body: its row is kept as two.
+    LaterBodies,
+    /// The later alternatives of an atom, in the same way.
+    LaterAtoms,
+}
+
+impl Spelling {
+    /// The kind of the leaf.
+    pub fn kind(&self) -> SyntaxKind
+        ensures { raw_of result ≡ (spelled self.now).kind }
+    {
+        match self {
+            Spelling::Plain(kind) => *kind,
+            Spelling::Renamed(kind, _) => *kind,
+            Spelling::Pair(kind, _, _) => *kind,
+            Spelling::Triple(kind, _, _, _) => *kind,
+        }
+    }
+
+    /// How many tokens the leaf stands over.
+    pub fn count(&self) -> u8
+        ensures count { result ≡ length (spelled self.now).parts }
+        ensures some { 1 ≤ result }
+    {
+        match self {
+            Spelling::Plain(_) => 1,
+            Spelling::Renamed(_, _) => 1,
+            Spelling::Pair(_, _, _) => 2,
+            Spelling::Triple(_, _, _, _) => 3,
+        }
+    }
+}
+
+impl Rule {
+    /// Whether it asks nothing and takes nothing.
+    pub fn is_silent(&self) -> bool
+        ensures { result ≡ rules.is_silent (plain self.now) }
+    {
+        match self {
+            Rule::Nothing => true,
+            Rule::One(_) => false,
+            Rule::Any => false,
+            Rule::Then(_, _) => false,
+            Rule::Near(_, _) => false,
+            Rule::Or(_, _) => false,
+            Rule::When(_, _) => false,
+            Rule::Unless(_, _) => false,
+            Rule::Opt(_) => false,
+            Rule::Star(_) => false,
+            Rule::Node(_, _) => false,
+            Rule::Wrap(_, _) => false,
+            Rule::Want(_, _) => false,
+            Rule::Say(_) => true,
+            Rule::Skip(_) => false,
+            Rule::Split => false,
+            Rule::Call(_) => false,
+            Rule::Continue(_) => false,
+            Rule::Mode(_, _) => false,
+            Rule::LaterBodies => false,
+            Rule::LaterAtoms => false,
+        }
+    }
+
+    /// Whether it may give nothing where its looks fail.
+    pub fn is_passed(&self) -> bool
+        ensures { result ≡ rules.passes (plain self.now) }
+    {
+        match self {
+            Rule::Nothing => false,
+            Rule::One(_) => false,
+            Rule::Any => false,
+            Rule::Then(_, _) => false,
+            Rule::Near(_, _) => false,
+            Rule::Or(_, _) => false,
+            Rule::When(_, _) => false,
+            Rule::Unless(_, _) => false,
+            Rule::Opt(_) => true,
+            Rule::Star(_) => true,
+            Rule::Node(_, _) => false,
+            Rule::Wrap(_, _) => false,
+            Rule::Want(_, _) => false,
+            Rule::Say(_) => false,
+            Rule::Skip(_) => false,
+            Rule::Split => false,
+            Rule::Call(_) => false,
+            Rule::Continue(_) => false,
+            Rule::Mode(_, inner) => inner.is_passed(),
+            Rule::LaterBodies => false,
+            Rule::LaterAtoms => false,
+        }
+    }
+
+    /// How many tokens the leaf stands over that it begins with.
+    pub fn width(&self) -> u8
+        ensures { result ≡ rules.width (plain self.now) }
+    {
+        match self {
+            Rule::Nothing => 1,
+            Rule::One(spelling) => spelling.count(),
+            Rule::Any => 1,
+            Rule::Then(_, _) => 1,
+            Rule::Near(_, _) => 1,
+            Rule::Or(first, _) => first.width(),
+            Rule::When(_, inner) => inner.width(),
+            Rule::Unless(_, _) => 1,
+            Rule::Opt(_) => 1,
+            Rule::Star(_) => 1,
+            Rule::Node(_, inner) => inner.width(),
+            Rule::Wrap(_, _) => 1,
+            Rule::Want(_, _) => 1,
+            Rule::Say(_) => 1,
+            Rule::Skip(_) => 1,
+            Rule::Split => 1,
+            Rule::Call(_) => 1,
+            Rule::Continue(_) => 1,
+            Rule::Mode(_, _) => 1,
+            Rule::LaterBodies => 1,
+            Rule::LaterAtoms => 1,
+        }
+    }
+}

@@ -1,0 +1,96 @@
+//! The table of the grammar, as data.
+
+ghost use Rattle.std.specs.Prelude.{◌≡◌, ◌<◌, false};
+ghost use Rattle.rust_grammar.specs.Whole.{rule};
+ghost use Rattle.grammar_reader.specs.Size.{size};
+ghost use Rattle.grammar_reader.specs.Data.{plain, named, is_reference};
+
+use crate::production::Production;
+use crate::rule::Rule;
+pub use expressions::later_atoms;
+pub use items::later_bodies;
+
+mod expressions;
+mod items;
+mod paths;
+mod patterns;
+mod statements;
+mod types;
+
+/// The rule that a production stands for.
+pub fn rule_of(production: Production) -> &'static Rule
+    ensures rule { plain result.now ≡ rule (named production) }
+    ensures row { is_reference result.now ≡ false }
+    ensures few { size (plain result.now) < 2048 }
+{
+    match production {
+        Production::SourceFile => items::source_file(),
+        Production::MacroItems => items::macro_items(),
+        Production::MacroStatements => statements::macro_statements(),
+        Production::Item => items::item(),
+        Production::Body => items::body(),
+        Production::AssocItems => items::assoc_items(),
+        Production::Variants => items::variants(),
+        Production::RecordFields => items::record_fields(),
+        Production::TupleFields => items::tuple_fields(),
+        Production::Visibility => items::visibility(),
+        Production::Attribute => items::attribute(),
+        Production::Meta => items::meta(),
+        Production::TokenTree => items::token_tree(),
+        Production::UseTree => items::use_tree(),
+        Production::UseList => items::use_list(),
+        Production::Params => items::params(),
+        Production::Param => items::param(),
+        Production::Name => paths::name(),
+        Production::Lifetime => paths::lifetime(),
+        Production::NameRef => paths::name_ref(),
+        Production::Path => paths::path(),
+        Production::TypePath => paths::type_path(),
+        Production::ExprPath => paths::expr_path(),
+        Production::GenericArgs => paths::generic_args(),
+        Production::GenericArg => paths::generic_arg(),
+        Production::GenericParams => paths::generic_params(),
+        Production::GenericParam => paths::generic_param(),
+        Production::Bounds => paths::bounds(),
+        Production::Bound => paths::bound(),
+        Production::WhereClause => paths::where_clause(),
+        Production::WherePred => paths::where_pred(),
+        Production::AnyType => types::any_type(),
+        Production::RetType => types::ret_type(),
+        Production::Pattern => patterns::pattern(),
+        Production::SinglePattern => patterns::single_pattern(),
+        Production::PatternFields => patterns::pattern_fields(),
+        Production::PatternField => patterns::pattern_field(),
+        Production::Literal => patterns::literal(),
+        Production::StatementList => statements::statement_list(),
+        Production::Block => statements::block(),
+        Production::Statement => statements::statement(),
+        Production::MacroStatement => statements::macro_statement(),
+        Production::StatementEnd => statements::statement_end(),
+        Production::MacroStatementEnd => statements::macro_statement_end(),
+        Production::Expression => expressions::expression(),
+        Production::Operation => expressions::operation(),
+        Production::OperationTail => expressions::operation_tail(),
+        Production::Disjunction => expressions::disjunction(),
+        Production::Conjunction => expressions::conjunction(),
+        Production::Comparison => expressions::comparison(),
+        Production::BitOr => expressions::bit_or(),
+        Production::BitXor => expressions::bit_xor(),
+        Production::BitAnd => expressions::bit_and(),
+        Production::BitShift => expressions::bit_shift(),
+        Production::Sum => expressions::sum(),
+        Production::Product => expressions::product(),
+        Production::Cast => expressions::cast(),
+        Production::Prefixed => expressions::prefixed(),
+        Production::Postfix => expressions::postfix(),
+        Production::AfterDot => expressions::after_dot(),
+        Production::Arguments => expressions::arguments(),
+        Production::Atom => expressions::atom(),
+        Production::FieldValues => expressions::field_values(),
+        Production::FieldValue => expressions::field_value(),
+        Production::BlockLike => expressions::block_like(),
+        Production::IfExpr => expressions::if_expr(),
+        Production::MatchArms => expressions::match_arms(),
+        Production::MatchArm => expressions::match_arm(),
+    }
+}
