@@ -1,3 +1,4 @@
+pub mod CanRead
 pub mod Data
 pub mod Size
 pub mod Stands

@@ -9,5 +9,6 @@ pub mod look;
 mod notation;
 pub mod open;
 pub mod production;
+pub mod reader;
 pub mod rule;
 pub mod table;

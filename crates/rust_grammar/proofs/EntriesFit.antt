@@ -11,8 +11,8 @@ use Rattle.rust_grammar.specs.Entry.{is_used_up, takes_all, entry}
 use Rattle.rust_grammar.specs.Laws.{is_entry, entry_of, EntriesAreRooted, EntriesFit, ProductionsTakeInOrder, EntriesTakeAllInOrder}
 use Rattle.rust_grammar.specs.Spelled.{tokens_after}
 use Rattle.rust_grammar.specs.Whole.{rule, whole}
+use Rattle.rust_grammar.specs.Begun.{asks_nothing}
 use Rattle.rust_grammar.proofs.Known.{if-second}
-use Rattle.rust_grammar.proofs.SpelledTable.{asks_nothing}
 use Rattle.rust_grammar.proofs.InOrder.{productions-in-order}
 use Rattle.rust_grammar.proofs.EntriesInOrder.{chosen-forest, entries-in-order}
 use Rattle.rust_grammar.proofs.Fitting.{rooted-fits}

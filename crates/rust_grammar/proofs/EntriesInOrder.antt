@@ -8,10 +8,10 @@ use Rattle.rust_grammar.specs.Meaning.{Reading, meaning, sees, look_of}
 use Rattle.rust_grammar.specs.Entry.{leaves, is_used_up, takes_all, entry}
 use Rattle.rust_grammar.specs.Spelled.{then_after, tokens_after}
 use Rattle.rust_grammar.specs.Whole.{whole}
+use Rattle.rust_grammar.specs.Begun.{asks_nothing, IsBegun}
 use Rattle.rust_grammar.proofs.Known.{if-second}
 use Rattle.rust_grammar.proofs.Spelling.{IsInOrder, more-in-order}
-use Rattle.rust_grammar.proofs.SpelledTable.{asks_nothing}
-use Rattle.rust_grammar.proofs.InOrder.{IsBegun, productions-in-order, leaves-in-order}
+use Rattle.rust_grammar.proofs.InOrder.{productions-in-order, leaves-in-order}
 use Rattle.rust_grammar.proofs.Moved.{lists-take-all}
 
 used-up : (ts : List Token) → is_used_up ts ≡ true → ts ≡ []

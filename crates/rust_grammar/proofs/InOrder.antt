@@ -11,16 +11,13 @@ use Rattle.rust_grammar.specs.Entry.{leaves}
 use Rattle.rust_grammar.specs.Spelled.{drop_if, then_after, tokens_after}
 use Rattle.rust_grammar.specs.Items.{items}
 use Rattle.rust_grammar.specs.Whole.{rule, whole}
+use Rattle.rust_grammar.specs.Begun.{asks_nothing, IsBegun}
 use Rattle.rust_grammar.proofs.Known.{both-if-l, both-if-r}
 use Rattle.rust_grammar.proofs.Spelling.{Sound, IsInOrder, more-in-order}
 use Rattle.rust_grammar.proofs.Spelled.{chosen, in-order, any-there, then-some}
-use Rattle.rust_grammar.proofs.SpelledTable.{claims, asks_nothing, gives_something, is_one_word, ends_before, known, all_safe}
+use Rattle.rust_grammar.proofs.SpelledTable.{claims, gives_something, is_one_word, ends_before, known, all_safe}
 use Rattle.rust_grammar.proofs.WordPaths.{word-path, path-ends}
 use Rattle.rust_grammar.proofs.Induction.{HoldOf, meaning-holds}
-
--- begun where it is read
-abbrev pub IsBegun : Production → Bool → Reading → Type 0
-IsBegun y d t = (if asks_nothing y then true else sees d t (look_of whole y)) ≡ true
 
 record Ordered (y : Production) (d : Bool) (t u : Reading) : Type 0 where
   pub in_order : (ts : List Token) → IsBegun y d t → IsInOrder ts t → IsInOrder ts u
@@ -101,7 +98,7 @@ sound call p e = record {
   ends_so = λ y d t v. (e y d t).ends_so v;
 }
 
-known-there : (x : Production) (c : Bool) (s : Reading) → IsBegun x c s → sees c s (known x) ≡ true
+pub known-there : (x : Production) (c : Bool) (s : Reading) → IsBegun x c s → sees c s (known x) ≡ true
 unfolding known sees
 known-there x c s b = of (asks_nothing x) b
   where
@@ -123,6 +120,13 @@ rules-ordered call p e x c s = record {
   gives_some = λ h. gives-node call x c s h;
 }
 
+productions-ordered : HoldOf Ordered (meaning whole)
+productions-ordered = meaning-holds Ordered Bounded other other-ordered other-bounded plain-bounded rules-ordered
+
+-- the claims hold of what the productions mean
+pub productions-sound : Sound claims (meaning whole)
+productions-sound = sound (meaning whole) productions-ordered plain-bounded
+
 -- THE law of productions.
 pub productions-in-order : (x : Production) (c : Bool) (s : Reading) (ts : List Token) → IsBegun x c s → IsInOrder ts s → IsInOrder ts (meaning whole x c s)
-productions-in-order x c s ts b i = (meaning-holds Ordered Bounded other other-ordered other-bounded plain-bounded rules-ordered x c s).in_order ts b i
+productions-in-order x c s ts b i = (productions-ordered x c s).in_order ts b i

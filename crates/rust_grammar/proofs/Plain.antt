@@ -42,7 +42,7 @@ if-lt : (b : Bool) (u v : Reading) (m : ℕ) → length u.rest < m → length v.
 if-lt true u v m p q = p
 if-lt false u v m p q = q
 
-some_or_none : (m : ℕ) → (0 < m) ⊎ (m ≤ 0)
+pub some_or_none : (m : ℕ) → (0 < m) ⊎ (m ≤ 0)
 some_or_none zero = inr (omega arith)
 some_or_none (suc m) = inl (omega arith)
 
@@ -67,7 +67,7 @@ abbrev pub AgreesBelow : Table → (x : Production) → (n : ℕ) → Calls → 
 AgreesBelow g x n call = (y : Production) (d : Bool) (t : Reading) → IsBelow g x n y t → call y d t ≡ meaning g y d t
 
 module _ (g : Table) (f : Production → Bool) (x : Production) (n : ℕ) (call : Calls) (agreed : AgreesBelow g x n call) where
-  low : Production → Bool
+  unfoldable pub low : Production → Bool
   low y = nat_lt (g.rank y) (g.rank x)
 
   abbrev pub Known : Type 0
@@ -101,12 +101,12 @@ module _ (g : Table) (f : Production → Bool) (x : Production) (n : ℕ) (call 
       both : {a b m : ℕ} → b < m → a ≤ b → a < m
       both p q = omega arith
 
-  falls : (t : Bool) (y : Production) (s : Reading) → (t || low y) ≡ true → length s.rest ≤ n → (t ≡ true → length s.rest < n) →
+  pub falls : (t : Bool) (y : Production) (s : Reading) → (t || low y) ≡ true → length s.rest ≤ n → (t ≡ true → length s.rest < n) →
       IsBelow g x n y s
   unfolding low
   falls t y s e le lt = elim (or_cases t (low y) e) [ inl p ↦ inl (lt p) | inr p ↦ inr (le, ltb-true _ _ p) ]
 
-  after : (a : Rule) (t c : Bool) (s : Reading) → 0 < n → length s.rest ≤ n → (t ≡ true → length s.rest < n) → Same c a s →
+  pub after : (a : Rule) (t c : Bool) (s : Reading) → 0 < n → length s.rest ≤ n → (t ≡ true → length s.rest < n) → Same c a s →
       (t || takes f a) ≡ true → length (read (look_of g) (meaning g) c a s).rest < n
   after a t c s z le lt p e = elim (or_cases t (takes f a) e) [
     | inl h ↦ both (lt h) p.shrinks
@@ -170,7 +170,7 @@ module _ (g : Table) (f : Production → Bool) (x : Production) (n : ℕ) (call 
     took = λ h z. if-lt (sees c s (begins (look_of g) a)) _ _ _ (p.took (and_l _ _ h) z) (q.took (and_r _ _ h) z);
   }
 
-  agrees : Known → 0 < n → (r : Rule) (t c : Bool) (s : Reading) → ranked f low t r ≡ true → length s.rest ≤ n → (t ≡ true → length s.rest < n) → Same c r s
+  pub agrees : Known → 0 < n → (r : Rule) (t c : Bool) (s : Reading) → ranked f low t r ≡ true → length s.rest ≤ n → (t ≡ true → length s.rest < n) → Same c r s
   unfolding read ranked takes fresh node wrapped behind say skip split leaf
   agrees k z Nothing t c s e le lt = record { same = refl; shrinks = omega arith; took = λ p q. absurd (true≢false (sym p)) }
   agrees k z (One y) t c s e le lt = record { same = refl; shrinks = drops (length y.parts) s.rest; took = λ p q. drops_some (length y.parts) s.rest (ltb-true _ _ p) q }
@@ -255,7 +255,7 @@ module _ (g : Table) (f : Production → Bool) (x : Production) (n : ℕ) (call 
       through : {a b m : ℕ} → a ≤ b → b ≤ m → a ≤ m
       through p q = omega arith
 
-  ends : Known → (r : Rule) (c : Bool) (s : Reading) → ranked_at_end (look_of g) low r ≡ true → length s.rest ≤ 0 → Same c r s
+  pub ends : Known → (r : Rule) (c : Bool) (s : Reading) → ranked_at_end (look_of g) low r ≡ true → length s.rest ≤ 0 → Same c r s
   unfolding read ranked_at_end takes fresh node wrapped behind say skip split leaf low
   ends k Nothing c s e z = record { same = refl; shrinks = omega arith; took = λ p q. absurd (true≢false (sym p)) }
   ends k (One y) c s e z = record { same = refl; shrinks = drops (length y.parts) s.rest; took = λ p q. absurd (omega arith) }

@@ -37,7 +37,7 @@ mark-seen k x c s e h =
     let there = implied c s k (there_at 0 x.parts) (and_l (implies k (there_at 0 x.parts)) (no_end x.parts && is_among marks x) e) h in
     among-marks marks x s.rest (and_r (no_end x.parts) (is_among marks x) more) (spelling-seen c s x.parts 0 s.rest refl (and_l (no_end x.parts) (is_among marks x) more) there)
 
-spelled-there : (k : Look) (x : Spelling) (c : Bool) (s : Reading) → (is_word k x.kind x.parts || is_mark k x) ≡ true → sees c s k ≡ true → is_spelled x.kind (length x.parts) s.rest ≡ true
+pub spelled-there : (k : Look) (x : Spelling) (c : Bool) (s : Reading) → (is_word k x.kind x.parts || is_mark k x) ≡ true → sees c s k ≡ true → is_spelled x.kind (length x.parts) s.rest ≡ true
 unfolding is_spelled
 spelled-there k x c s e h = elim (or_cases (is_word k x.kind x.parts) (is_mark k x) e) [
   | inl i ↦ or-first (length x.parts == 1 && (is_token x.kind s.rest || is_contextual x.kind s.rest)) (is_one_of marks x.kind (length x.parts) s.rest) (word-seen k x.kind x.parts c s i h)
@@ -277,14 +277,14 @@ module _ (g : Claims) (call : Calls) (ok : Sound g call) where
   other-seen (Continue y) k c s h = refl
   other-seen (Mode d a) k c s h = refl
 
-  after-seen : (a : Rule) (k : Look) (c : Bool) (s : Reading) → sees c s k ≡ true → sees c (read g.looks call c a s) (after g k a) ≡ true
+  pub after-seen : (a : Rule) (k : Look) (c : Bool) (s : Reading) → sees c s k ≡ true → sees c (read g.looks call c a s) (after g k a) ≡ true
   unfolding after
   after-seen a k c s h = elim (cases_Bool (counts (width a) a)) [
     | inl e ↦ rw e (back-seen c s (read g.looks call c a s) (width a) (counted g.looks call a (width a) c s e) k h)
     | inr e ↦ rw e (other-seen a k c s h)
   ]
 
-  begun : (y : Production) (k l : Look) (c : Bool) (s t : Reading) → (if g.free y then true else implies k l) ≡ true → sees c s k ≡ true → (sees c s l ≡ true → sees c t (g.looks y) ≡ true) → (if g.free y then true else sees c t (g.looks y)) ≡ true
+  pub begun : (y : Production) (k l : Look) (c : Bool) (s t : Reading) → (if g.free y then true else implies k l) ≡ true → sees c s k ≡ true → (sees c s l ≡ true → sees c t (g.looks y) ≡ true) → (if g.free y then true else sees c t (g.looks y)) ≡ true
   begun y k l c s t e h there = elim (either-if (g.free y) (implies k l) e) [
     | inl i ↦ if-first (g.free y) (sees c t (g.looks y)) i
     | inr i ↦ if-second (g.free y) (sees c t (g.looks y)) (there (implied c s k l i h))

@@ -13,36 +13,11 @@ use Rattle.rust_grammar.specs.Expressions.{expressions}
 use Rattle.rust_grammar.specs.Statements.{statements}
 use Rattle.rust_grammar.specs.Items.{items}
 use Rattle.rust_grammar.specs.Whole.{rule, rank, whole}
+use Rattle.rust_grammar.specs.Begun.{asks_nothing}
 use Rattle.rust_grammar.proofs.Parts.{asks_tokens}
 use Rattle.rust_grammar.proofs.Known.{same_look, is_left, is_never, tells, weakens, implies, cut, sift}
 use Rattle.rust_grammar.proofs.Elsewhere.{anew, asks, without, down, all_down, back, asked}
 use Rattle.rust_grammar.proofs.Spelling.{Claims, counts, denies, denies_first, decided, past, after_call, after_calls, after_option, after_other, after, at, no_end, same_parts, is_among, is_word, is_mark, safe}
-
--- the productions whose last part asks nothing
-unfoldable pub asks_nothing : Production → Bool
-asks_nothing source_file = true
-asks_nothing macro_items = true
-asks_nothing macro_statements = true
-asks_nothing meta = true
-asks_nothing use_tree = true
-asks_nothing param = true
-asks_nothing path = true
-asks_nothing type_path = true
-asks_nothing expr_path = true
-asks_nothing generic_arg = true
-asks_nothing bounds = true
-asks_nothing bound = true
-asks_nothing where_pred = true
-asks_nothing any_type = true
-asks_nothing pattern = true
-asks_nothing single_pattern = true
-asks_nothing pattern_field = true
-asks_nothing statement_end = true
-asks_nothing macro_statement_end = true
-asks_nothing operation_tail = true
-asks_nothing after_dot = true
-asks_nothing match_arm = true
-asks_nothing x = false
 
 -- the productions that give something before a visibility or a body
 unfoldable pub gives_something : Production → Bool

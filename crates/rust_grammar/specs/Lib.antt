@@ -11,6 +11,7 @@ pub mod Expressions
 pub mod Statements
 pub mod Items
 pub mod Whole
+pub mod Begun
 pub mod Entry
 pub mod Examples
 pub mod Parts

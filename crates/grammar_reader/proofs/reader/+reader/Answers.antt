@@ -1,0 +1,313 @@
+-- Form by form.
+use Rattle.std.proofs.Common.{◌≡◌, ℕ, ◌+◌, ◌*◌, ◌<◌, ◌≤◌, ◌^◌, Bool, true, false, List, Option, sym, ap, subst, ◌∙◌, arith, length, if◌then◌else◌}
+use Rattle.parser_events.specs.Marked.{marked}
+use Rattle.parser_events.specs.View.{View}
+use Rattle.parser_input.specs.Input.{Token}
+use Rattle.rust_grammar.specs.Rule.{Rule}
+use Rattle.rust_grammar.specs.Meaning.{Reading, read, fresh, behind, leaf, meaning}
+use Rattle.rust_grammar.specs.Whole.{rank, rule, whole}
+use Rattle.rust_grammar.specs.Laws.{reads}
+use Rattle.rust_grammar.proofs.WholeTable.{whole-means}
+use Rattle.grammar_reader.specs.CanRead.{CanRead, HasRank, is_begun}
+use Rattle.grammar_reader.proofs.Below.{can-read}
+use Rattle.grammar_reader.specs.Data.{plain, named}
+use Rattle.grammar_reader.specs.Size.{size}
+use Rattle.grammar_reader.specs.Stands.{Stands}
+use Rattle.grammar_reader.specs.declared.rule.Rule as rows
+use Rattle.grammar_reader.proofs.Sizes.{weight, falls, below-measure}
+use Rattle.grammar_reader.proofs.Standing.{inside, stands-still, stands-opened, stands-closed, stands-left-out, still-innermost}
+use Rattle.grammar_reader.proofs.Turning.{no-turn, last-turn, next-turn, zero-turns}
+use Rattle.grammar_reader.proofs.reader.+reader.Goals as goal
+use Rattle.grammar_reader.proofs.reader.+reader.Goals.{call-then-given, call-else-given}
+
+falls-read : (small large : rows.Rule) (n : ℕ) → size (plain small) < size (plain large) → 16384 * n + 2 * weight small < 16384 * n + 2 * weight large
+falls-read a b n h = omega (arith, falls a b h)
+
+falls-turns : (small large : rows.Rule) (n : ℕ) → size (plain small) < size (plain large) → 16384 * n + (2 * weight small + 1) < 16384 * n + 2 * weight large
+falls-turns a b n h = omega (arith, falls a b h)
+
+falls-call : (large : rows.Rule) (n : ℕ) → 0 < size (plain large) → 16384 * n + 1 < 16384 * n + 2 * weight large
+falls-call b n h = omega (arith, h)
+
+total-still : (total : ℕ) (old new : List Token) → new ≡ old → total ≡ length old → total ≡ length new
+total-still total old new e h = h ∙ ap (λ (ts : List Token). length ts) (sym e)
+
+short-still : (old new : List Token) → new ≡ old → length old < 2 ^ 64 → length new < 2 ^ 64
+short-still old new e h = subst (λ (ts : List Token). length ts < 2 ^ 64) (sym e) h
+
+pub call-returns-in_default-clause-reads : goal.call-returns-in_default-clause-reads
+call-returns-in_default-clause-reads t c = λ x s below low h b e.
+    absurd (subst (λ (o : Option ℕ). HasRank (rank (named c.args.called)) o) c.in_default.is (c.ranks_below.ensures.some x (named c.args.called) s h.at.rest low b))
+
+pub go_on-returns-in_default-clause-reads : goal.go_on-returns-in_default-clause-reads
+go_on-returns-in_default-clause-reads t c = λ x s below low h b e.
+    absurd (subst (λ (o : Option ℕ). HasRank (rank (named c.args.called)) o) c.in_default.is (c.ranks_below.ensures.some x (named c.args.called) s h.at.rest low b))
+
+pub go_on-returns-clause-reads : goal.go_on-returns-clause-reads
+go_on-returns-clause-reads t c = λ x s below low h b e.
+    let ok : rank (named c.args.called) ≤ c.in-Some.ranks = subst (λ (o : Option ℕ). HasRank (rank (named c.args.called)) o) c.in-Some.is (c.ranks_below.ensures.some x (named c.args.called) s h.at.rest low b) in
+    c.production.ensures.reads s below ok h e
+
+pub call-returns-clause-reads : goal.call-returns-clause-reads
+unfolding fresh
+call-returns-clause-reads t c = λ x s below low h b e.
+    let ok : rank (named c.args.called) ≤ c.in-Some.ranks = subst (λ (o : Option ℕ). HasRank (rank (named c.args.called)) o) c.in-Some.is (c.ranks_below.ensures.some x (named c.args.called) s h.at.rest low b) in
+    let inner = c.production-inner.ensures.reads (fresh s) (inside below (marked s.given)) ok (stands-opened c.start-inner.ensures.opens c.start-inner.ensures.given h) e in
+    let out = stands-left-out s _ c.leave_out-gave.ensures.leaves h inner in
+    let both : Bool → Bool = λ g. if g then true else c.production-inner.result.given in
+    elim c.if-given.branch [
+      | call-then-given w ↦ subst (λ (g : Bool). Stands g c.leave_out-gave.new.p (behind s (meaning whole (named c.args.called) c.args.condition (fresh s))) below) (ap both w.if-given.true ∙ sym w.if-given.true ∙ sym w.result-is) out
+      | call-else-given w ↦ subst (λ (g : Bool). Stands g c.leave_out-gave.new.p (behind s (meaning whole (named c.args.called) c.args.condition (fresh s))) below) (ap both w.if-given.false ∙ sym c.leave_out-gave.ensures.given ∙ sym w.result-is) out
+    ]
+
+pub production-returns-clause-reads : goal.production-returns-clause-reads
+production-returns-clause-reads t c = λ s below low h b.
+    let x = named c.args.production in
+    let began : c.tokens_left-began.result ≡ length s.rest = c.tokens_left-began.ensures ∙ ap (λ (ts : List Token). length ts) h.at.rest in
+    let whole_row = subst (λ (n : ℕ). CanRead x n c.args.condition (rule x) s) (sym began) (can-read x c.args.condition s b) in
+    let can = subst (λ (r : Rule). CanRead x c.tokens_left-began.result c.args.condition r s) (sym c.rule_of.ensures.rule) whole_row in
+    subst (λ (u : Reading). Stands c.read.result.given c.read.new.p u below)
+    (ap (λ (r : Rule). reads c.args.condition r s) c.rule_of.ensures.rule ∙ sym (whole-means x c.args.condition s))
+    (c.read.ensures.reads x s below low h can)
+
+pub read-read-open-requires : goal.read-read-open-requires
+unfolding size
+read-read-open-requires t c =
+    (below-measure c.decreases (falls-read c.in-Then.first.now c.args.rule.now (32 * c.args.caller.began + c.args.caller.ranks) (omega (arith, ap (λ (d : rows.Rule). size (plain d)) c.in-Then.is))), (c.requires.total, (c.requires.short, (c.requires.few, c.requires.«open»))))
+
+pub read-read-requires : goal.read-read-requires
+unfolding size
+read-read-requires t c =
+    (below-measure c.decreases (falls-read c.in-Then.second.now c.args.rule.now (32 * c.args.caller.began + c.args.caller.ranks) (omega (arith, ap (λ (d : rows.Rule). size (plain d)) c.in-Then.is))), (total-still _ _ _ c.read-open.ensures.input c.requires.total, (short-still _ _ c.read-open.ensures.input c.requires.short, (c.requires.few, c.read-open.ensures.«open»))))
+
+pub read-read-open-requires-in-Near : goal.read-read-open-requires-in-Near
+unfolding size
+read-read-open-requires-in-Near t c =
+    (below-measure c.decreases (falls-read c.in-Near.first.now c.args.rule.now (32 * c.args.caller.began + c.args.caller.ranks) (omega (arith, ap (λ (d : rows.Rule). size (plain d)) c.in-Near.is))), (c.requires.total, (c.requires.short, (c.requires.few, c.requires.«open»))))
+
+pub read-read-requires-in-Near : goal.read-read-requires-in-Near
+unfolding size
+read-read-requires-in-Near t c =
+    (below-measure c.decreases (falls-read c.in-Near.second.now c.args.rule.now (32 * c.args.caller.began + c.args.caller.ranks) (omega (arith, ap (λ (d : rows.Rule). size (plain d)) c.in-Near.is))), (total-still _ _ _ c.read-open-in-Near.ensures.input c.requires.total, (short-still _ _ c.read-open-in-Near.ensures.input c.requires.short, (c.requires.few, c.read-open-in-Near.ensures.«open»))))
+
+pub read-read-requires-then-at : goal.read-read-requires-then-at
+unfolding size
+read-read-requires-then-at t c =
+    (below-measure c.decreases (falls-read c.in-Or.first.now c.args.rule.now (32 * c.args.caller.began + c.args.caller.ranks) (omega (arith, ap (λ (d : rows.Rule). size (plain d)) c.in-Or.is))), (total-still _ _ _ (ap (λ (v : View). v.input) c.at.ensures.same) c.requires.total, (short-still _ _ (ap (λ (v : View). v.input) c.at.ensures.same) c.requires.short, (c.requires.few, still-innermost _ c.args.p.now c.at.new.p c.at.ensures.same c.requires.«open»))))
+
+pub read-read-requires-in-Or : goal.read-read-requires-in-Or
+unfolding size
+read-read-requires-in-Or t c =
+    (below-measure c.decreases (falls-read c.in-Or.second.now c.args.rule.now (32 * c.args.caller.began + c.args.caller.ranks) (omega (arith, ap (λ (d : rows.Rule). size (plain d)) c.in-Or.is))), (total-still _ _ _ (ap (λ (v : View). v.input) c.at.ensures.same) c.requires.total, (short-still _ _ (ap (λ (v : View). v.input) c.at.ensures.same) c.requires.short, (c.requires.few, still-innermost _ c.args.p.now c.at.new.p c.at.ensures.same c.requires.«open»))))
+
+pub read-read-requires-in-When : goal.read-read-requires-in-When
+unfolding size
+read-read-requires-in-When t c =
+    (below-measure c.decreases (falls-read c.in-When.inner.now c.args.rule.now (32 * c.args.caller.began + c.args.caller.ranks) (omega (arith, ap (λ (d : rows.Rule). size (plain d)) c.in-When.is))), (c.requires.total, (c.requires.short, (c.requires.few, c.requires.«open»))))
+
+pub read-read-requires-in-Unless : goal.read-read-requires-in-Unless
+unfolding size
+read-read-requires-in-Unless t c =
+    (below-measure c.decreases (falls-read c.in-Unless.inner.now c.args.rule.now (32 * c.args.caller.began + c.args.caller.ranks) (omega (arith, ap (λ (d : rows.Rule). size (plain d)) c.in-Unless.is))), (c.requires.total, (c.requires.short, (c.requires.few, c.requires.«open»))))
+
+pub read-read-requires-then-at-2 : goal.read-read-requires-then-at-2
+unfolding size
+read-read-requires-then-at-2 t c =
+    (below-measure c.decreases (falls-read c.in-Opt.inner.now c.args.rule.now (32 * c.args.caller.began + c.args.caller.ranks) (omega (arith, ap (λ (d : rows.Rule). size (plain d)) c.in-Opt.is))), (total-still _ _ _ (ap (λ (v : View). v.input) c.at-in-Opt.ensures.same) c.requires.total, (short-still _ _ (ap (λ (v : View). v.input) c.at-in-Opt.ensures.same) c.requires.short, (c.requires.few, still-innermost _ c.args.p.now c.at-in-Opt.new.p c.at-in-Opt.ensures.same c.requires.«open»))))
+
+pub read-turns-requires : goal.read-turns-requires
+unfolding size
+read-turns-requires t c =
+    (below-measure c.decreases (falls-turns c.in-Star.inner.now c.args.rule.now (32 * c.args.caller.began + c.args.caller.ranks) (omega (arith, ap (λ (d : rows.Rule). size (plain d)) c.in-Star.is))), (c.requires.total, (c.requires.short, (c.requires.few, c.requires.«open»))))
+
+pub read-read-node-requires : goal.read-read-node-requires
+unfolding size
+read-read-node-requires t c =
+    (below-measure c.decreases (falls-read c.in-Node.inner.now c.args.rule.now (32 * c.args.caller.began + c.args.caller.ranks) (omega (arith, ap (λ (d : rows.Rule). size (plain d)) c.in-Node.is))), (total-still _ _ _ c.start-node.ensures.input c.requires.total, (short-still _ _ c.start-node.ensures.input c.requires.short, (c.requires.few, c.start-node.ensures.«open»))))
+
+pub read-read-open-requires-in-Wrap : goal.read-read-open-requires-in-Wrap
+unfolding size
+read-read-open-requires-in-Wrap t c =
+    (below-measure c.decreases (falls-read c.in-Wrap.inner.now c.args.rule.now (32 * c.args.caller.began + c.args.caller.ranks) (omega (arith, ap (λ (d : rows.Rule). size (plain d)) c.in-Wrap.is))), (c.requires.total, (c.requires.short, (c.requires.few, c.requires.«open»))))
+
+pub read-read-requires-then-at-3 : goal.read-read-requires-then-at-3
+unfolding size
+read-read-requires-then-at-3 t c =
+    (below-measure c.decreases (falls-read c.in-Want.inner.now c.args.rule.now (32 * c.args.caller.began + c.args.caller.ranks) (omega (arith, ap (λ (d : rows.Rule). size (plain d)) c.in-Want.is))), (total-still _ _ _ (ap (λ (v : View). v.input) c.at-in-Want.ensures.same) c.requires.total, (short-still _ _ (ap (λ (v : View). v.input) c.at-in-Want.ensures.same) c.requires.short, (c.requires.few, still-innermost _ c.args.p.now c.at-in-Want.new.p c.at-in-Want.ensures.same c.requires.«open»))))
+
+pub read-call-requires : goal.read-call-requires
+unfolding size
+read-call-requires t c =
+    (below-measure c.decreases (falls-call c.args.rule.now (32 * c.args.caller.began + c.args.caller.ranks) (omega (arith, ap (λ (d : rows.Rule). size (plain d)) c.in-Call.is))), (c.requires.total, (c.requires.short, (c.requires.few, c.requires.«open»))))
+
+pub read-go_on-requires : goal.read-go_on-requires
+unfolding size
+read-go_on-requires t c =
+    (below-measure c.decreases (falls-call c.args.rule.now (32 * c.args.caller.began + c.args.caller.ranks) (omega (arith, ap (λ (d : rows.Rule). size (plain d)) c.in-Continue.is))), (c.requires.total, (c.requires.short, (c.requires.few, c.requires.«open»))))
+
+pub read-read-requires-in-Mode : goal.read-read-requires-in-Mode
+unfolding size
+read-read-requires-in-Mode t c =
+    (below-measure c.decreases (falls-read c.in-Mode.inner.now c.args.rule.now (32 * c.args.caller.began + c.args.caller.ranks) (omega (arith, ap (λ (d : rows.Rule). size (plain d)) c.in-Mode.is))), (c.requires.total, (c.requires.short, (c.requires.few, c.requires.«open»))))
+
+pub read-returns-in-Nothing-clause-reads : goal.read-returns-in-Nothing-clause-reads
+unfolding read
+read-returns-in-Nothing-clause-reads t c = rw c.in-Nothing.is (λ x s below low h can. h)
+
+pub read-returns-in-One-clause-reads : goal.read-returns-in-One-clause-reads
+unfolding read
+read-returns-in-One-clause-reads t c = rw c.in-One.is (λ x s below low h can.
+    let n : c.count.result ≤ length s.rest = omega (arith, c.count.ensures.count, can) in
+    subst (λ (r : Reading). Stands c.take.result.given c.take.new.p r below) (λ i. leaf (c.kind.ensures i) (c.count.ensures.count i) s) (c.take.ensures.does s below h n))
+
+pub read-returns-in-Any-clause-reads : goal.read-returns-in-Any-clause-reads
+unfolding read
+read-returns-in-Any-clause-reads t c = rw c.in-Any.is (λ x s below low h can. c.take_any.ensures.does s below h can)
+
+pub read-returns-in-Then-clause-reads : goal.read-returns-in-Then-clause-reads
+unfolding read
+read-returns-in-Then-clause-reads t c = rw c.in-Then.is (λ x s below low h can. c.read.ensures.reads x _ below low (c.read-open.ensures.reads x s below low h can.0) can.1)
+
+pub read-returns-in-Near-clause-reads : goal.read-returns-in-Near-clause-reads
+unfolding read
+read-returns-in-Near-clause-reads t c = rw c.in-Near.is (λ x s below low h can. c.read-in-Near.ensures.reads x _ below low (c.read-open-in-Near.ensures.reads x s below low h can.0) can.1)
+
+pub read-returns-then-at-clause-reads : goal.read-returns-then-at-clause-reads
+unfolding read
+read-returns-then-at-clause-reads t c = rw c.in-Or.is (λ x s below low h can.
+    let e : is_begun c.args.condition (plain c.in-Or.first.now) s ≡ true = sym (c.at.ensures.sees s below h) ∙ c.if-at.true in
+    rw e (c.read-then-at.ensures.reads x s below low (stands-still c.at.ensures.same h) (can.0 e)))
+
+pub read-returns-else-at-clause-reads : goal.read-returns-else-at-clause-reads
+unfolding read
+read-returns-else-at-clause-reads t c = rw c.in-Or.is (λ x s below low h can.
+    let e : is_begun c.args.condition (plain c.in-Or.first.now) s ≡ false = sym (c.at.ensures.sees s below h) ∙ c.if-at.false in
+    rw e (c.read-in-Or.ensures.reads x s below low (stands-still c.at.ensures.same h) (can.1 e)))
+
+pub read-returns-then-at-2-clause-reads : goal.read-returns-then-at-2-clause-reads
+unfolding read
+read-returns-then-at-2-clause-reads t c = rw c.in-Opt.is (λ x s below low h can.
+    let e : is_begun c.args.condition (plain c.in-Opt.inner.now) s ≡ true = sym (c.at-in-Opt.ensures.sees s below h) ∙ c.if-at-2.true in
+    rw e (c.read-then-at-2.ensures.reads x s below low (stands-still c.at-in-Opt.ensures.same h) (can e)))
+
+pub read-returns-else-at-2-clause-reads : goal.read-returns-else-at-2-clause-reads
+unfolding read
+read-returns-else-at-2-clause-reads t c = rw c.in-Opt.is (λ x s below low h can.
+    let e : is_begun c.args.condition (plain c.in-Opt.inner.now) s ≡ false = sym (c.at-in-Opt.ensures.sees s below h) ∙ c.if-at-2.false in
+    rw e (stands-still c.at-in-Opt.ensures.same h))
+
+pub read-returns-then-at-3-clause-reads : goal.read-returns-then-at-3-clause-reads
+unfolding read
+read-returns-then-at-3-clause-reads t c = rw c.in-Want.is (λ x s below low h can.
+    let e : is_begun c.args.condition (plain c.in-Want.inner.now) s ≡ true = sym (c.at-in-Want.ensures.sees s below h) ∙ c.if-at-3.true in
+    rw e (c.read-then-at-3.ensures.reads x s below low (stands-still c.at-in-Want.ensures.same h) (can e)))
+
+pub read-returns-else-at-3-clause-reads : goal.read-returns-else-at-3-clause-reads
+unfolding read
+read-returns-else-at-3-clause-reads t c = rw c.in-Want.is (λ x s below low h can.
+    let e : is_begun c.args.condition (plain c.in-Want.inner.now) s ≡ false = sym (c.at-in-Want.ensures.sees s below h) ∙ c.if-at-3.false in
+    rw e (c.tell.ensures.does s below (stands-still c.at-in-Want.ensures.same h)))
+
+pub read-returns-in-When-clause-reads : goal.read-returns-in-When-clause-reads
+unfolding read
+read-returns-in-When-clause-reads t c = rw c.in-When.is (λ x s below low h can. c.read-in-When.ensures.reads x s below low h can)
+
+pub read-returns-in-Unless-clause-reads : goal.read-returns-in-Unless-clause-reads
+unfolding read
+read-returns-in-Unless-clause-reads t c = rw c.in-Unless.is (λ x s below low h can. c.read-in-Unless.ensures.reads x s below low h can)
+
+pub read-returns-in-Mode-clause-reads : goal.read-returns-in-Mode-clause-reads
+unfolding read
+read-returns-in-Mode-clause-reads t c = rw c.in-Mode.is (λ x s below low h can. c.read-in-Mode.ensures.reads x s below low h can)
+
+pub read-returns-in-Star-clause-reads : goal.read-returns-in-Star-clause-reads
+unfolding read
+read-returns-in-Star-clause-reads t c = rw c.in-Star.is (λ x s below low h can. c.turns.ensures.reads x s below low h can)
+
+pub read-returns-in-Node-clause-reads : goal.read-returns-in-Node-clause-reads
+unfolding read
+read-returns-in-Node-clause-reads t c = rw c.in-Node.is (λ x s below low h can.
+    stands-closed _ s _ c.close.ensures.closes
+    (c.read-node.ensures.reads x (fresh s) (inside below (marked s.given)) low (stands-opened c.start-node.ensures.opens c.start-node.ensures.given h) can))
+
+pub read-returns-in-Wrap-clause-reads : goal.read-returns-in-Wrap-clause-reads
+unfolding read
+read-returns-in-Wrap-clause-reads t c = rw c.in-Wrap.is (λ x s below low h can. c.wrap.ensures.does _ below (c.read-open-in-Wrap.ensures.reads x s below low h can))
+
+pub read-returns-in-Say-clause-reads : goal.read-returns-in-Say-clause-reads
+unfolding read
+read-returns-in-Say-clause-reads t c = rw c.in-Say.is (λ x s below low h can. c.tell-in-Say.ensures.does s below h)
+
+pub read-returns-in-Skip-clause-reads : goal.read-returns-in-Skip-clause-reads
+unfolding read
+read-returns-in-Skip-clause-reads t c = rw c.in-Skip.is (λ x s below low h can. c.skip.ensures.does s below h can)
+
+pub read-returns-in-Split-clause-reads : goal.read-returns-in-Split-clause-reads
+unfolding read
+read-returns-in-Split-clause-reads t c = rw c.in-Split.is (λ x s below low h can. c.split.ensures.does s below h can.1)
+
+pub read-returns-in-Call-clause-reads : goal.read-returns-in-Call-clause-reads
+unfolding read fresh
+read-returns-in-Call-clause-reads t c = rw c.in-Call.is (λ x s below low h can. c.call.ensures.reads x s below low h can.0 can.1)
+
+pub read-returns-in-Continue-clause-reads : goal.read-returns-in-Continue-clause-reads
+unfolding read
+read-returns-in-Continue-clause-reads t c = rw c.in-Continue.is (λ x s below low h can. c.go_on.ensures.reads x s below low h can.0 can.1)
+
+pub read-returns-in-LaterBodies-clause-reads : goal.read-returns-in-LaterBodies-clause-reads
+unfolding read
+read-returns-in-LaterBodies-clause-reads t c = rw (c.in-LaterBodies.is, sym c.later_bodies.ensures.rule) (λ x s below low h can. c.read-in-LaterBodies.ensures.reads x s below low h can)
+
+pub read-returns-in-LaterAtoms-clause-reads : goal.read-returns-in-LaterAtoms-clause-reads
+unfolding read
+read-returns-in-LaterAtoms-clause-reads t c = rw (c.in-LaterAtoms.is, sym c.later_atoms.ensures.rule) (λ x s below low h can. c.read-in-LaterAtoms.ensures.reads x s below low h can)
+
+pub turns-returns-then-not-at-clause-reads : goal.turns-returns-then-not-at-clause-reads
+unfolding read
+turns-returns-then-not-at-clause-reads t c = λ x s below low h can.
+    let b = c.turns.invariant.between x s below low h can in
+    let e : is_begun c.args.condition (plain c.args.rule.now) b.now ≡ false = sym (c.at.ensures.sees b.now below b.stands) ∙ c.if-not-at.true in
+    subst (λ (u : Reading). Stands c.turns.open.given c.at.new.p u below) (sym (no-turn c.turns.turns c.args.condition (plain c.args.rule.now) b.now e) ∙ b.same) (stands-still c.at.ensures.same b.stands)
+
+pub turns-returns-then-tokens_left-before-clause-reads : goal.turns-returns-then-tokens_left-before-clause-reads
+unfolding read
+turns-returns-then-tokens_left-before-clause-reads t c = λ x s below low h can.
+    let b = c.turns.invariant.between x s below low h can in
+    let e : is_begun c.args.condition (plain c.args.rule.now) b.now ≡ true = sym (c.at.ensures.sees b.now below b.stands) ∙ c.if-not-at.false in
+    let some : 0 < length s.rest = omega (arith, c.turns-test.true, b.most) in
+    let stood = stands-still c.at.ensures.same b.stands in
+    let turn = c.read-open.ensures.reads x b.now below low stood (can b.now some b.shorter e) in
+    let first : c.tokens_left-before.result ≡ length b.now.rest = c.tokens_left-before.ensures ∙ ap (λ (ts : List Token). length ts) stood.at.rest in
+    let then_left : c.tokens_left.result ≡ length (reads c.args.condition (plain c.args.rule.now) b.now).rest = c.tokens_left.ensures ∙ ap (λ (ts : List Token). length ts) turn.at.rest in
+    subst (λ (u : Reading). Stands c.read-open.result.given c.read-open.new.p u below)
+    (sym (last-turn c.turns.turns c.args.condition (plain c.args.rule.now) b.now c.turns-test.true e (omega (arith, first, then_left, c.if-tokens_left-before.true))) ∙ b.same) turn
+
+pub turns-turns-preserved : goal.turns-turns-preserved
+turns-turns-preserved t c =
+    record {
+      input = c.read-open.ensures.input ∙ ap (λ (v : View). v.input) c.at.ensures.same ∙ c.turns.invariant.input;
+      marker = c.read-open.ensures.«open»;
+      innermost = λ n i. c.read-open.ensures.innermost n (still-innermost n c.turns.p c.at.new.p c.at.ensures.same (c.turns.invariant.innermost n i));
+      between = λ x s below low h can.
+          let b = c.turns.invariant.between x s below low h can in
+          let e : is_begun c.args.condition (plain c.args.rule.now) b.now ≡ true = sym (c.at.ensures.sees b.now below b.stands) ∙ c.if-not-at.false in
+          let some : 0 < length s.rest = omega (arith, c.turns-test.true, b.most) in
+          let stood = stands-still c.at.ensures.same b.stands in
+          let turn = c.read-open.ensures.reads x b.now below low stood (can b.now some b.shorter e) in
+          let first : c.tokens_left-before.result ≡ length b.now.rest = c.tokens_left-before.ensures ∙ ap (λ (ts : List Token). length ts) stood.at.rest in
+          let then_left : c.tokens_left.result ≡ length (reads c.args.condition (plain c.args.rule.now) b.now).rest = c.tokens_left.ensures ∙ ap (λ (ts : List Token). length ts) turn.at.rest in
+          let fewer : length (reads c.args.condition (plain c.args.rule.now) b.now).rest < length b.now.rest = omega (arith, first, then_left, c.if-tokens_left-before.false) in
+          record {
+            now = reads c.args.condition (plain c.args.rule.now) b.now;
+            stands = turn;
+            shorter = omega (arith, fewer, b.shorter);
+            most = omega (arith, b.most);
+            same = next-turn c.turns.turns c.args.condition (plain c.args.rule.now) b.now c.turns-test.true e fewer ∙ b.same;
+          };
+    }
+
+pub turns-returns-clause-reads : goal.turns-returns-clause-reads
+unfolding read
+turns-returns-clause-reads t c = λ x s below low h can.
+    let b = c.turns.invariant.between x s below low h can in
+    subst (λ (u : Reading). Stands c.turns.open.given c.turns.p u below) (sym (zero-turns c.turns.turns c.args.condition (plain c.args.rule.now) b.now (omega (arith, c.turns-test.false))) ∙ b.same) b.stands

@@ -1,0 +1,34 @@
+-- What is left shrinks from call to call: tokens, then ranks, then forms.
+use Rattle.std.specs.Prelude.{◌≡◌, ℕ, ◌+◌, ◌*◌, length}
+use Rattle.parser_events.specs.Stack.{IsInnermost}
+use Rattle.grammar_reader.specs.Data.{plain}
+use Rattle.grammar_reader.proofs.Turning.{Midway}
+use Rattle.grammar_reader.specs.Stands.{left}
+use Rattle.grammar_reader.proofs.Sizes.{weight}
+use Rattle.grammar_reader.proofs.reader.+reader.Given as goal
+
+abbrev pub decreases-production : goal.decreases-production
+decreases-production l = 16384 * (32 * length (left l.p.now) + l.ranks) + 16383
+
+abbrev pub decreases-call : goal.decreases-call
+decreases-call l = 16384 * (32 * l.caller.began + l.caller.ranks) + 1
+
+abbrev pub decreases-go_on : goal.decreases-go_on
+decreases-go_on l = 16384 * (32 * l.caller.began + l.caller.ranks) + 1
+
+abbrev pub decreases-turns : goal.decreases-turns
+decreases-turns l = 16384 * (32 * l.caller.began + l.caller.ranks) + (2 * weight l.rule.now + 1)
+
+abbrev pub decreases-read : goal.decreases-read
+decreases-read l = 16384 * (32 * l.caller.began + l.caller.ranks) + 2 * weight l.rule.now
+
+abbrev pub invariant-turns-turns : goal.invariant-turns-turns
+invariant-turns-turns l = record {
+  input : l.p.input ≡ l.initial.p.input;
+  marker : IsInnermost l.open.marker l.p.nodes;
+  innermost : (n : ℕ) → IsInnermost n l.initial.p.nodes → IsInnermost n l.p.nodes;
+  between : Midway l.caller.began l.caller.ranks l.condition (plain l.rule) l.turns l.initial.open.given l.initial.p l.open.given l.p;
+}
+
+abbrev pub decreases-turns-turns : goal.decreases-turns-turns
+decreases-turns-turns l = l.turns

@@ -1,0 +1,5 @@
+use Rattle.grammar_reader.proofs.Beginning.{begun-here}
+use Rattle.grammar_reader.proofs.reader.at.Goals as goal
+
+pub returns-clause-sees : goal.returns-clause-sees
+returns-clause-sees c s below h = begun-here _ s _ (c.begins.ensures.sees s (record { rest = h.at.rest; gave = h.at.gave }))

@@ -1,0 +1,273 @@
+//! Reads what a rule says: one function for all forms.
+
+ghost use Rattle.std.specs.Prelude.{◌≡◌, ◌≤◌, ◌<◌, ◌+◌, ◌*◌, ◌^◌, ℕ, List, Option, IfSome, length};
+ghost use Rattle.parser_events.specs.Marked.{Marked};
+ghost use Rattle.parser_events.specs.Stack.{IsInnermost};
+ghost use Rattle.rust_grammar.specs.Rule as rules;
+ghost use Rattle.rust_grammar.specs.Meaning.{Reading, behind, fresh, meaning};
+ghost use Rattle.rust_grammar.specs.Whole.{rank, whole};
+ghost use Rattle.rust_grammar.specs.Begun.{IsBegun};
+ghost use Rattle.rust_grammar.specs.Laws.{reads};
+ghost use Rattle.grammar_reader.specs.CanRead.{CanRead, HasRank, IsBelow, is_begun};
+ghost use Rattle.grammar_reader.specs.Data.{named, plain};
+ghost use Rattle.grammar_reader.specs.Stands.{Stands, left};
+
+use crate::begin::begins;
+use crate::look::{Place, tokens_left};
+use crate::open::{Open, close, leave_out, skip, split, start, take, take_any, tell, wrap};
+use crate::production::Production;
+use crate::rule::Rule;
+use crate::table::{later_atoms, later_bodies, rule_of};
+use parser_events::parser::Parser;
+
+/// On whose behalf a rule is read.
+#[derive(Clone, Copy)]
+pub(crate) struct Caller {
+    /// How many tokens were left where the production began.
+    began: usize,
+    /// Its rank at most.
+    ranks: u8,
+    /// How many tokens the input has.
+    total: usize,
+}
+
+/// Whether the rule begins here.
+pub fn at(
+    p: &mut Parser<'_>,
+    given: bool,
+    rule: &'static Rule,
+    condition: bool,
+    total: usize,
+) -> bool
+    requires total { total ≡ length p.old.input }
+    requires short { length p.old.input < 2 ^ 64 }
+    ensures sees { (s : Reading) (below : Option (List Marked)) → Stands given p.old s below
+        → result ≡ is_begun condition (plain rule.now) s }
+    ensures same { p.new ≡ record p.old { looks = p.new.looks } }
+{
+    let place = Place {
+        total,
+        condition,
+        given,
+    };
+    begins(p, place, rule, 0, 20)
+}
+
+/// The rank at most of a production that is called now: any where tokens were taken since the caller began, a lower one
+/// where none were.
+fn ranks_below(p: &Parser<'_>, caller: Caller) -> Option<u8>
+    requires total { caller.total ≡ length p.now.input }
+    requires few { caller.ranks ≤ 20 }
+    ensures few { IfSome result (λ ranks. ranks ≤ 20) }
+    ensures falls { IfSome result (λ ranks. 32 * length (left p.now) + ranks < 32 * caller.began + caller.ranks) }
+    ensures some { (x y : rules.Production) (s : Reading) → left p.now ≡ s.rest → rank x ≤ caller.ranks
+        → IsBelow x caller.began y s → HasRank (rank y) result }
+{
+    let left = tokens_left(p, caller.total);
+    if left < caller.began {
+        return Some(20);
+    }
+    if left > caller.began || caller.ranks == 0 {
+        return None;
+    }
+    Some(caller.ranks - 1)
+}
+
+/// Reads a production as a continuation of the present one.
+#[cycle(reader)]
+pub fn production(
+    p: &mut Parser<'_>,
+    open: Open,
+    production: Production,
+    condition: bool,
+    ranks: u8,
+    total: usize,
+) -> Open
+    requires total { total ≡ length p.old.input }
+    requires short { length p.old.input < 2 ^ 64 }
+    requires few { ranks ≤ 20 }
+    requires open { IsInnermost open.marker p.old.nodes }
+    ensures input { p.new.input ≡ p.old.input }
+    ensures open { IsInnermost result.marker p.new.nodes }
+    ensures innermost { (n : ℕ) → IsInnermost n p.old.nodes → IsInnermost n p.new.nodes }
+    ensures reads { (s : Reading) (below : Option (List Marked)) → rank (named production) ≤ ranks
+        → Stands open.given p.old s below → IsBegun (named production) condition s
+        → Stands result.given p.new (meaning whole (named production) condition s) below }
+{
+    let began = tokens_left(p, total);
+    let caller = Caller {
+        began,
+        ranks,
+        total,
+    };
+    read(p, open, rule_of(production), condition, caller)
+}
+
+/// Reads a production in a node that is left out in the end.
+#[cycle(reader)]
+fn call(p: &mut Parser<'_>, open: Open, called: Production, condition: bool, caller: Caller) -> Open
+    requires total { caller.total ≡ length p.old.input }
+    requires short { length p.old.input < 2 ^ 64 }
+    requires few { caller.ranks ≤ 20 }
+    requires open { IsInnermost open.marker p.old.nodes }
+    ensures input { p.new.input ≡ p.old.input }
+    ensures open { IsInnermost result.marker p.new.nodes }
+    ensures innermost { (n : ℕ) → IsInnermost n p.old.nodes → IsInnermost n p.new.nodes }
+    ensures reads { (x : rules.Production) (s : Reading) (below : Option (List Marked)) → rank x ≤ caller.ranks
+        → Stands open.given p.old s below → IsBelow x caller.began (named called) s
+        → IsBegun (named called) condition (fresh s)
+        → Stands result.given p.new (behind s (meaning whole (named called) condition (fresh s))) below }
+{
+    let Some(ranks) = ranks_below(p, caller) else {
+        return open;
+    };
+    let inner = start(p);
+    let inner = production(p, inner, called, condition, ranks, caller.total);
+    let gave = leave_out(p, inner);
+    let Open { marker, given } = open;
+    Open {
+        marker,
+        given: given || gave,
+    }
+}
+
+/// Reads a production as a continuation of the one that calls it.
+#[cycle(reader)]
+fn go_on(
+    p: &mut Parser<'_>,
+    open: Open,
+    called: Production,
+    condition: bool,
+    caller: Caller,
+) -> Open
+    requires total { caller.total ≡ length p.old.input }
+    requires short { length p.old.input < 2 ^ 64 }
+    requires few { caller.ranks ≤ 20 }
+    requires open { IsInnermost open.marker p.old.nodes }
+    ensures input { p.new.input ≡ p.old.input }
+    ensures open { IsInnermost result.marker p.new.nodes }
+    ensures innermost { (n : ℕ) → IsInnermost n p.old.nodes → IsInnermost n p.new.nodes }
+    ensures reads { (x : rules.Production) (s : Reading) (below : Option (List Marked)) → rank x ≤ caller.ranks
+        → Stands open.given p.old s below → IsBelow x caller.began (named called) s
+        → IsBegun (named called) condition s
+        → Stands result.given p.new (meaning whole (named called) condition s) below }
+{
+    let Some(ranks) = ranks_below(p, caller) else {
+        return open;
+    };
+    production(p, open, called, condition, ranks, caller.total)
+}
+
+/// Reads turns of a rule, one for each token at most; a turn that takes no token is the last.
+#[cycle(reader)]
+fn turns(
+    p: &mut Parser<'_>,
+    open: Open,
+    rule: &'static Rule,
+    condition: bool,
+    caller: Caller,
+) -> Open
+    requires total { caller.total ≡ length p.old.input }
+    requires short { length p.old.input < 2 ^ 64 }
+    requires few { caller.ranks ≤ 20 }
+    requires open { IsInnermost open.marker p.old.nodes }
+    ensures input { p.new.input ≡ p.old.input }
+    ensures open { IsInnermost result.marker p.new.nodes }
+    ensures innermost { (n : ℕ) → IsInnermost n p.old.nodes → IsInnermost n p.new.nodes }
+    ensures reads { (x : rules.Production) (s : Reading) (below : Option (List Marked)) → rank x ≤ caller.ranks
+        → Stands open.given p.old s below → CanRead x caller.began condition (rules.Star (plain rule.now)) s
+        → Stands result.given p.new (reads condition (rules.Star (plain rule.now)) s) below }
+{
+    let mut open = open;
+    let mut turns = tokens_left(p, caller.total);
+    'turns: while turns > 0 {
+        if !at(p, open.given, rule, condition, caller.total) {
+            return open;
+        }
+        let before = tokens_left(p, caller.total);
+        open = read(p, open, rule, condition, caller);
+        if tokens_left(p, caller.total) >= before {
+            return open;
+        }
+        turns -= 1;
+    }
+    open
+}
+
+/// Reads what a rule says.
+#[cycle(reader)]
+fn read(
+    p: &mut Parser<'_>,
+    open: Open,
+    rule: &'static Rule,
+    condition: bool,
+    caller: Caller,
+) -> Open
+    requires total { caller.total ≡ length p.old.input }
+    requires short { length p.old.input < 2 ^ 64 }
+    requires few { caller.ranks ≤ 20 }
+    requires open { IsInnermost open.marker p.old.nodes }
+    ensures input { p.new.input ≡ p.old.input }
+    ensures open { IsInnermost result.marker p.new.nodes }
+    ensures innermost { (n : ℕ) → IsInnermost n p.old.nodes → IsInnermost n p.new.nodes }
+    ensures reads { (x : rules.Production) (s : Reading) (below : Option (List Marked)) → rank x ≤ caller.ranks
+        → Stands open.given p.old s below → CanRead x caller.began condition (plain rule.now) s
+        → Stands result.given p.new (reads condition (plain rule.now) s) below }
+{
+    match rule {
+        Rule::Nothing => open,
+        Rule::One(spelling) => take(p, open, spelling.kind(), spelling.count(), caller.total),
+        Rule::Any => take_any(p, open, caller.total),
+        Rule::Then(first, second) => {
+            let open = read(p, open, first, condition, caller);
+            read(p, open, second, condition, caller)
+        }
+        Rule::Near(first, second) => {
+            let open = read(p, open, first, condition, caller);
+            read(p, open, second, condition, caller)
+        }
+        Rule::Or(first, second) => {
+            if at(p, open.given, first, condition, caller.total) {
+                return read(p, open, first, condition, caller);
+            }
+            read(p, open, second, condition, caller)
+        }
+        Rule::When(_, inner) => read(p, open, inner, condition, caller),
+        Rule::Unless(_, inner) => read(p, open, inner, condition, caller),
+        Rule::Opt(inner) => {
+            if at(p, open.given, inner, condition, caller.total) {
+                return read(p, open, inner, condition, caller);
+            }
+            open
+        }
+        Rule::Star(inner) => turns(p, open, inner, condition, caller),
+        Rule::Node(kind, inner) => {
+            let node = start(p);
+            let node = read(p, node, inner, condition, caller);
+            close(p, node, *kind);
+            let Open { marker, given: _ } = open;
+            Open {
+                marker,
+                given: true,
+            }
+        }
+        Rule::Wrap(kind, inner) => {
+            let open = read(p, open, inner, condition, caller);
+            wrap(p, open, *kind)
+        }
+        Rule::Want(inner, message) => {
+            if at(p, open.given, inner, condition, caller.total) {
+                return read(p, open, inner, condition, caller);
+            }
+            tell(p, open, *message)
+        }
+        Rule::Say(message) => tell(p, open, *message),
+        Rule::Skip(message) => skip(p, open, *message, caller.total),
+        Rule::Split => split(p, open),
+        Rule::Call(called) => call(p, open, *called, condition, caller),
+        Rule::Continue(called) => go_on(p, open, *called, condition, caller),
+        Rule::Mode(mode, inner) => read(p, open, inner, *mode, caller),
+        Rule::LaterBodies => read(p, open, later_bodies(), condition, caller),
+        Rule::LaterAtoms => read(p, open, later_atoms(), condition, caller),
+    }
+}
