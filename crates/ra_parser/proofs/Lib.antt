@@ -14,3 +14,5 @@ pub mod Seen
 pub mod Begins
 pub mod Powers
 pub mod Sums
+pub mod Taking
+pub mod Entered

@@ -6,3 +6,4 @@ pub mod Stands
 pub mod Layers
 pub mod Looks
 pub mod Laws
+pub mod Entries

@@ -5,7 +5,11 @@
 //! and `;` so far: [`parse::source_file`].
 #![tactic(auto)]
 
+mod entries;
+pub mod entry_points;
 mod grammar;
 pub mod laws;
 pub mod parse;
 mod small;
+
+pub use entry_points::{ParseError, TopEntryPoint};

@@ -14,12 +14,12 @@ use Rattle.rust_grammar.proofs.Spelling.{IsInOrder, more-in-order}
 use Rattle.rust_grammar.proofs.InOrder.{productions-in-order, leaves-in-order}
 use Rattle.rust_grammar.proofs.Moved.{lists-take-all}
 
-used-up : (ts : List Token) → is_used_up ts ≡ true → ts ≡ []
+pub used-up : (ts : List Token) → is_used_up ts ≡ true → ts ≡ []
 unfolding is_used_up
 used-up [] e = refl
 used-up (t ∷ ts) e = absurd (true≢false (sym e))
 
-lists-begin : (x : Production) → takes_all x ≡ true → asks_nothing x ≡ true
+pub lists-begin : (x : Production) → takes_all x ≡ true → asks_nothing x ≡ true
 unfolding takes_all asks_nothing
 lists-begin source_file e = refl
 lists-begin macro_items e = refl

@@ -1,0 +1,15 @@
+use Rattle.std.specs.Prelude.{◌≡◌, length}
+use Rattle.parser_events.specs.Stack.{IsInnermost}
+use Rattle.grammar_reader.specs.Stands.{left}
+use Rattle.ra_parser.proofs.Taking.{Midway}
+use Rattle.ra_parser.proofs.entries.take_rest.Given as goal
+
+abbrev pub invariant-tokens : goal.invariant-tokens
+invariant-tokens l = record {
+  input : l.p.input ≡ l.initial.p.input;
+  marker : IsInnermost l.open.marker l.p.nodes;
+  taking : Midway l.initial.open.given l.initial.p l.open.given l.p;
+}
+
+abbrev pub decreases-tokens : goal.decreases-tokens
+decreases-tokens l = length (left l.p)

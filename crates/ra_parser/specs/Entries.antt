@@ -1,0 +1,44 @@
+-- Entries: what a text is asked to be.
+use Rattle.std.specs.Prelude.{ℕ, ◌<◌, ◌≤◌, Bool, true, false, List, [], length, if◌then◌else◌}
+use Rattle.parser_input.specs.Kinds.{ERROR}
+use Rattle.parser_input.specs.Input.{Token}
+use Rattle.parser_events.specs.Forest.{Forest, Message, End, Said, Node, ◌then◌}
+use Rattle.rust_grammar.specs.Rule.{Production, source_file, macro_items, macro_statements, pattern, any_type, expression, meta}
+use Rattle.rust_grammar.specs.Meaning.{Reading, sees, look_of}
+use Rattle.rust_grammar.specs.Entry.{leaves, takes_all}
+use Rattle.rust_grammar.specs.Whole.{whole}
+use Rattle.ra_parser.specs.declared.entry_points.TopEntryPoint.{TopEntryPoint}
+use Rattle.ra_parser.specs.declared.entry_points.TopEntryPoint.TheVariants.{SourceFile, MacroStmts, MacroItems, Pattern, Ty, Expr, MetaItem}
+use Rattle.ra_parser.specs.declared.entry_points.ParseError.{ParseError}
+use Rattle.ra_parser.specs.declared.entry_points.ParseError.TheVariants.{TooLong, NoMemory}
+
+-- the production that an entry asks for
+abbrev pub production_of : TopEntryPoint → Production
+production_of SourceFile = source_file
+production_of MacroStmts = macro_statements
+production_of MacroItems = macro_items
+production_of Pattern = pattern
+production_of Ty = any_type
+production_of Expr = expression
+production_of MetaItem = meta
+
+-- an entry takes every input, or its production begins here
+unfoldable pub can_enter : Production → Reading → Bool
+can_enter x s = if takes_all x then true else sees false s (look_of whole x)
+
+-- so many tokens are read at most
+abbrev pub most_tokens : ℕ
+most_tokens = 16777216
+
+-- Why an input is not read: it is too long, or memory was refused for one that is not.
+abbrev pub RefusesParse : List Token → ParseError → Type 0
+RefusesParse ts TooLong = most_tokens < length ts
+RefusesParse ts NoMemory = length ts ≤ most_tokens
+
+-- the tokens that are left, taken as leaves
+unfoldable pub with_leaves : Reading → Reading
+with_leaves s = record { given = s.given then leaves s.rest; rest = [] }
+
+-- what was given, a message and the tokens that are left, in an error
+unfoldable pub strayed : Message → Reading → Forest
+strayed m s = Node ERROR (s.given then Said m (leaves s.rest)) End

@@ -1,0 +1,133 @@
+//! Reads all of an input as one thing: what is left over, or cannot begin it, stands in an error.
+
+ghost use Rattle.std.specs.Prelude.{◌≡◌, ◌<◌, ◌^◌, ℕ, List, [], ◌∷◌, Option, Some, false, length};
+ghost use Rattle.parser_events.specs.Marked.{Marked, End, marked};
+ghost use Rattle.parser_events.specs.Seen.{message_of};
+ghost use Rattle.parser_events.specs.Stack.{IsInnermost};
+ghost use Rattle.rust_grammar.specs.Entry.{entry, takes_all};
+ghost use Rattle.rust_grammar.specs.Meaning.{Reading};
+ghost use Rattle.rust_grammar.specs.Notation.{wanted};
+ghost use Rattle.rust_grammar.specs.Whole.{whole};
+ghost use Rattle.grammar_reader.specs.Data.{named};
+ghost use Rattle.grammar_reader.specs.Stands.{Holds, Stands, left};
+ghost use Rattle.ra_parser.specs.Entries.{can_enter, production_of, strayed, with_leaves};
+
+use crate::entry_points::TopEntryPoint;
+use grammar_reader::look::tokens_left;
+use grammar_reader::open::{Open, close, leave_out, start, take_any, tell};
+use grammar_reader::production::Production;
+use grammar_reader::reader::{at, production};
+use grammar_reader::table::rule_of;
+use parser_events::message::Message;
+use parser_events::parser::Parser;
+use parser_input::syntax_kind::SyntaxKind;
+
+/// Takes the tokens that are left, each as a leaf.
+fn take_rest(p: &mut Parser<'_>, open: Open, total: usize) -> Open
+    requires total { total ≡ length p.old.input }
+    requires open { IsInnermost open.marker p.old.nodes }
+    ensures open { IsInnermost result.marker p.new.nodes }
+    ensures does { (s : Reading) (below : Option (List Marked)) → Stands open.given p.old s below
+        → Stands result.given p.new (with_leaves s) below }
+{
+    let mut open = open;
+    'tokens: while tokens_left(p, total) > 0 {
+        open = take_any(p, open, total);
+    }
+    open
+}
+
+/// Closes the only open node as an error, with this message and the tokens that are left.
+fn stray(p: &mut Parser<'_>, open: Open, message: Message, total: usize)
+    requires total { total ≡ length p.old.input }
+    requires open { IsInnermost open.marker p.old.nodes }
+    ensures { (s : Reading) → Stands open.given p.old s (Some (End ∷ []))
+        → Holds p.new.nodes (marked (strayed (message_of message) s) ∷ []) }
+{
+    let open = tell(p, open, message);
+    let open = take_rest(p, open, total);
+    close(p, open, SyntaxKind::ERROR);
+}
+
+/// The production that an entry asks for.
+fn asked(entry_point: TopEntryPoint) -> Production
+    ensures { named result ≡ production_of entry_point }
+{
+    match entry_point {
+        TopEntryPoint::SourceFile => Production::SourceFile,
+        TopEntryPoint::MacroStmts => Production::MacroStatements,
+        TopEntryPoint::MacroItems => Production::MacroItems,
+        TopEntryPoint::Pattern => Production::Pattern,
+        TopEntryPoint::Ty => Production::AnyType,
+        TopEntryPoint::Expr => Production::Expression,
+        TopEntryPoint::MetaItem => Production::Meta,
+    }
+}
+
+/// Whether an entry takes every input.
+#[tactic(auto, unfolding(rust_grammar::specs::Entry::takes_all))]
+fn takes_every_input(entry_point: TopEntryPoint) -> bool
+    ensures { result ≡ takes_all (production_of entry_point) }
+{
+    match entry_point {
+        TopEntryPoint::SourceFile | TopEntryPoint::MacroStmts | TopEntryPoint::MacroItems => true,
+        TopEntryPoint::Pattern
+        | TopEntryPoint::Ty
+        | TopEntryPoint::Expr
+        | TopEntryPoint::MetaItem => false,
+    }
+}
+
+/// What is said where an entry does not begin.
+#[tactic(auto, unfolding(rust_grammar::specs::Notation::wanted))]
+fn missing(entry_point: TopEntryPoint) -> Message
+    ensures { message_of result ≡ wanted (production_of entry_point) }
+{
+    match entry_point {
+        TopEntryPoint::Pattern => Message::ExpectedPattern,
+        TopEntryPoint::Ty => Message::ExpectedType,
+        TopEntryPoint::MetaItem => Message::Expected(SyntaxKind::META),
+        TopEntryPoint::SourceFile
+        | TopEntryPoint::MacroStmts
+        | TopEntryPoint::MacroItems
+        | TopEntryPoint::Expr => Message::ExpectedExpression,
+    }
+}
+
+/// Whether an entry can be read.
+fn is_entered(p: &mut Parser<'_>, entry_point: TopEntryPoint, total: usize) -> bool
+    requires total { total ≡ length p.old.input }
+    requires short { length p.old.input < 2 ^ 64 }
+    ensures sees { (s : Reading) (below : Option (List Marked)) → Stands false p.old s below
+        → result ≡ can_enter (production_of entry_point) s }
+    ensures same { p.new ≡ record p.old { looks = p.new.looks } }
+{
+    if takes_every_input(entry_point) {
+        return true;
+    }
+    at(p, false, rule_of(asked(entry_point)), false, total)
+}
+
+/// Reads an input that no token was taken of.
+pub(crate) fn read_entry(p: &mut Parser<'_>, entry_point: TopEntryPoint, total: usize)
+    requires total { total ≡ length p.old.input }
+    requires short { length p.old.input < 2 ^ 64 }
+    requires nodes { p.old.nodes ≡ Some (End ∷ []) }
+    ensures { Holds p.new.nodes (marked (entry whole (production_of entry_point) (left p.old)) ∷ []) }
+{
+    let open = start(p);
+    if !is_entered(p, entry_point, total) {
+        stray(p, open, missing(entry_point), total);
+        return;
+    }
+    let open = production(p, open, asked(entry_point), false, 20, total);
+    if takes_every_input(entry_point) {
+        leave_out(p, open);
+        return;
+    }
+    if tokens_left(p, total) > 0 {
+        stray(p, open, Message::UnexpectedTokens, total);
+        return;
+    }
+    leave_out(p, open);
+}

@@ -1,0 +1,71 @@
+//! What a text is asked to be.
+
+ghost use Rattle.std.specs.Prelude.{◌≡◌, ◌≤◌, length, IfOk, IfErr};
+ghost use Rattle.parser_events.specs.Steps.{steps};
+ghost use Rattle.rust_grammar.specs.Entry.{entry};
+ghost use Rattle.rust_grammar.specs.Whole.{whole};
+ghost use Rattle.ra_parser.specs.Entries.{most_tokens, production_of, RefusesParse};
+
+use crate::entries::read_entry;
+use parser_events::output::Output;
+use parser_events::parser::Parser;
+use parser_input::input::Input;
+use std::alloc::{AllocError, Global};
+
+/// So many tokens of an input are read at most.
+pub const MOST_TOKENS: usize = 16_777_216;
+
+/// What a text is read as.
+#[derive(Clone, Copy, Debug, PartialEq, Eq)]
+pub enum TopEntryPoint {
+    SourceFile,
+    MacroStmts,
+    MacroItems,
+    Pattern,
+    Ty,
+    Expr,
+    MetaItem,
+}
+
+/// Why an input was not read.
+#[derive(Clone, Copy, Debug, PartialEq, Eq)]
+pub enum ParseError {
+    /// It has more than [`MOST_TOKENS`] tokens.
+    TooLong = 1,
+    /// Memory was refused.
+    NoMemory = 2,
+}
+
+impl From<AllocError> for ParseError {
+    ghost use Rattle.ra_parser.specs.declared.entry_points.ParseError.TheVariants.{NoMemory};
+    ghost use Rattle.std.specs.Prelude.{◌≡◌};
+
+    ghost from_gives = { λ _ error. error ≡ NoMemory };
+
+    fn from(_refused: AllocError) -> ParseError {
+        ParseError::NoMemory
+    }
+}
+
+impl TopEntryPoint {
+    /// Reads the tokens of an input as the one thing that is asked. Every input has a tree: what is wrong with it is said by messages
+    /// in it, and tokens that have no place stand in errors.
+    ///
+    /// # Errors
+    ///
+    /// An input of more than [`MOST_TOKENS`] tokens, and want of memory.
+    pub fn parse(self, alloc: Global, input: &Input) -> Result<Output, ParseError>
+        ensures parsed { IfOk result (λ output. output.steps ≡ steps (entry whole (production_of self) input.now)) }
+        ensures short { IfOk result (λ output. length input.now ≤ most_tokens) }
+        ensures refused { IfErr result (RefusesParse input.now) }
+    {
+        let total = input.len();
+        if total > MOST_TOKENS {
+            return Err(ParseError::TooLong);
+        }
+        let mut parser = Parser::new(alloc, input);
+        read_entry(&mut parser, self, total);
+        let output = parser.finish()?;
+        Ok(output)
+    }
+}
