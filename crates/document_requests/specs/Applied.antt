@@ -41,7 +41,7 @@ stop_of_payload payloads.NotOneToken = Refused refusals.Payload
 stop_of_payload payloads.TooLong = Refused refusals.Payload
 stop_of_payload payloads.NoTreeNumber = Refused refusals.NoTreeNumber
 stop_of_payload payloads.NoMemory = NoMemory
-stop_of_payload payloads.Later = Refused refusals.Later
+stop_of_payload payloads.Message = Refused refusals.Payload
 
 abbrev pub stop_of_record : RecordError → Stop
 stop_of_record records.Foreign = Refused refusals.NoTarget
@@ -55,4 +55,3 @@ stop_of_commit commits.TooLong = Refused refusals.TooLong
 stop_of_commit commits.Unfaithful = Refused refusals.Unfaithful
 stop_of_commit commits.NoTreeNumber = Refused refusals.NoTreeNumber
 stop_of_commit commits.NoMemory = NoMemory
-stop_of_commit commits.Later = Refused refusals.Later

@@ -1,10 +1,9 @@
 -- What is written for a request, and the exit status.
-use Rattle.std.specs.Prelude.{ℕ, List, ◌++◌, length, chars, nat_lt, Option, Some, None, option_and_then, if◌then◌else◌}
+use Rattle.std.specs.Prelude.{ℕ, List, ◌++◌, length, nat_lt, Option, Some, None, option_and_then, if◌then◌else◌}
 use Rattle.std.specs.Str.{is_utf8}
 use Rattle.serde_json.specs.Read.{read}
 use Rattle.parser_input.specs.declared.edition.Edition.{Edition}
 use Rattle.rust_document.specs.Step.{MAX_TEXT}
-use Rattle.rust_document.specs.Thin.{is_thin}
 use Rattle.document_requests.specs.Reply.{Refused, line, lines}
 use Rattle.document_requests.specs.Request.{Request, request_of}
 use Rattle.document_requests.specs.Session.{Session, Run, run}
@@ -30,8 +29,7 @@ first_session edition text = record { document = record { edition = edition; tex
 abbrev pub served : Request → Output
 served r =
     if nat_lt MAX_TEXT (length r.text) then not_run refusals.TooLong
-    else if is_thin r.edition (chars r.text) then ended (run r.commands (first_session r.edition r.text))
-    else not_run refusals.Later
+    else ended (run r.commands (first_session r.edition r.text))
 
 -- the request that these bytes are: UTF-8, JSON, and of a request's shape
 abbrev pub request_in : List ℕ → Option Request

@@ -2,13 +2,16 @@
 use Rattle.std.specs.Prelude.{ℕ, ◌+◌, ◌^◌, ◌==◌, ◌&&◌, nat_lt, nat_le, List, [], ◌∷◌, length, Option, Some, None, option_map, if◌then◌else◌}
 use Rattle.parser_input.specs.Kind.{raw_of}
 use Rattle.parser_input.specs.Kinds.{TOMBSTONE}
-use Rattle.rowan_green.specs.Forest.{tree_text}
+use Rattle.rowan_green.specs.Forest.{Tree, tree_text}
 use Rattle.rowan_green.specs.Leaf.{Leaf}
 use Rattle.rowan_green.specs.Term.{tree_of}
 use Rattle.rowan_green.specs.declared.utility_types.NodeOrToken.TheVariants as terms
 use Rattle.syntax_tree.specs.Handle.{Handle, element_of}
 use Rattle.rust_document.specs.Payload as payload
-use Rattle.rust_document.specs.Payload.{Payload, token_payload}
+use Rattle.rust_document.specs.Payload.{Payload, payload_of}
+use Rattle.ra_parser.specs.declared.entry_points.TopEntryPoint.TheVariants as tops
+use Rattle.rust_document.specs.declared.payload_entry.PayloadEntry.{PayloadEntry}
+use Rattle.rust_document.specs.declared.payload_entry.PayloadEntry.TheVariants as payloads
 use Rattle.rust_document.specs.Record as record_of
 use Rattle.rust_document.specs.Record.{Recording, recording}
 use Rattle.rust_document.specs.Rewrite.{Editing, rewritten, changed}
@@ -18,6 +21,8 @@ use Rattle.document_requests.specs.Reply.{Reply, Changed, Refused}
 use Rattle.document_requests.specs.Request.{Command, Commit, Change, Put}
 use Rattle.document_requests.specs.declared.reply.Refusal.{Refusal}
 use Rattle.document_requests.specs.declared.reply.Refusal.TheVariants as refusals
+use Rattle.document_requests.specs.declared.request.Entry.{Entry}
+use Rattle.document_requests.specs.declared.request.Entry.TheVariants as entries
 use Rattle.document_requests.specs.declared.request.Target.{Target}
 
 -- a document, and the number that the next tree gets, 2^32 where none is left
@@ -60,7 +65,6 @@ accepted s e =
 abbrev pub judged : Verdict → Session → Editing → Answer
 judged step.Foreign s e = refused refusals.NoTarget s
 judged step.TooLong s e = refused refusals.TooLong s
-judged step.Later s e = refused refusals.Later s
 judged step.Unfaithful s e = refused refusals.Unfaithful s
 judged step.Accepted s e = accepted s e
 
@@ -78,20 +82,36 @@ replaced s old new = recorded (recording (editor_of s.document) old new) s old n
 abbrev pub detached : ℕ → Leaf → Handle
 detached number l = record { number = number; root = tree_of TOMBSTONE (terms.Token l ∷ []); path = 0 ∷ [] }
 
+-- what a word has a text read as
+abbrev pub payload_entry : Entry → PayloadEntry
+payload_entry entries.Token = payloads.Token
+payload_entry entries.Expr = payloads.Top tops.Expr
+payload_entry entries.Ty = payloads.Top tops.Ty
+payload_entry entries.Pattern = payloads.Top tops.Pattern
+
+-- the root of a tree
+abbrev pub root_of : ℕ → Tree → Handle
+root_of number t = record { number = number; root = t; path = [] }
+
+-- an element takes the place of another, if a number is left for its tree
+abbrev pub put_element : Handle → Session → Handle → Answer
+put_element new s old = if s.next == 2 ^ 32 then refused refusals.NoTreeNumber s else replaced (numbered s) old new
+
 abbrev pub put : Payload → Session → Handle → Answer
 put payload.TooLong s old = refused refusals.Payload s
 put payload.NotOneToken s old = refused refusals.Payload s
-put payload.Later s old = refused refusals.Later s
-put (payload.One l) s old = if s.next == 2 ^ 32 then refused refusals.NoTreeNumber s else replaced (numbered s) old (detached s.next l)
+put payload.Message s old = refused refusals.Payload s
+put (payload.One l) s old = put_element (detached s.next l) s old
+put (payload.Whole t) s old = put_element (root_of s.next t) s old
 
 -- The target comes first, then the text, then the recording.
-abbrev pub put_at : Option Handle → Session → List ℕ → Answer
-put_at None s text = refused refusals.NoTarget s
-put_at (Some old) s text = put (token_payload s.document.edition text) s old
+abbrev pub put_at : Option Handle → Session → Entry → List ℕ → Answer
+put_at None s entry text = refused refusals.NoTarget s
+put_at (Some old) s entry text = put (payload_of (payload_entry entry) s.document.edition text) s old
 
--- So far a commit replaces one element by one token.
+-- So far a commit replaces one element.
 abbrev pub changed_by : Change → Session → Answer
-changed_by (Put op target entry text) s = put_at (found s.document target) s text
+changed_by (Put op target entry text) s = put_at (found s.document target) s entry text
 
 abbrev pub answer : Command → Session → Answer
 answer (Commit (change ∷ [])) s = changed_by change s

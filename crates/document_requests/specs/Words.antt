@@ -9,7 +9,7 @@ use Rattle.parser_input.proofs.KindTable.{all_kinds}
 use Rattle.document_requests.specs.declared.request.Op.{Op}
 use Rattle.document_requests.specs.declared.request.Op.TheVariants.{Replace}
 use Rattle.document_requests.specs.declared.request.Entry.{Entry}
-use Rattle.document_requests.specs.declared.request.Entry.TheVariants.{Token}
+use Rattle.document_requests.specs.declared.request.Entry.TheVariants.{Token, Expr, Ty, Pattern}
 
 abbrev pub edition_named : List ℕ → Option Edition
 edition_named word =
@@ -23,7 +23,12 @@ abbrev pub op_named : List ℕ → Option Op
 op_named word = if bytes_eq word (codes "replace") then Some Replace else None
 
 abbrev pub entry_named : List ℕ → Option Entry
-entry_named word = if bytes_eq word (codes "token") then Some Token else None
+entry_named word =
+    if bytes_eq word (codes "token") then Some Token
+    else if bytes_eq word (codes "expr") then Some Expr
+    else if bytes_eq word (codes "type") then Some Ty
+    else if bytes_eq word (codes "pattern") then Some Pattern
+    else None
 
 -- the kind of this name
 unfoldable pub kind_named : List ℕ → Option SyntaxKind

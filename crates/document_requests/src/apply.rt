@@ -4,11 +4,12 @@ ghost use Rattle.syntax_tree.specs.Element.{handle_of};
 ghost use Rattle.document_requests.specs.Answered.{reply as answered};
 ghost use Rattle.document_requests.specs.Applied.{session, IsChanged, IsStopped, Runs, RunsFront};
 ghost use Rattle.document_requests.specs.Asked.{change as change_in, command as command_in};
-ghost use Rattle.document_requests.specs.Session.{found, replaced, changed_by, answer, run};
+ghost use Rattle.document_requests.specs.Session.{answer, changed_by, found, payload_entry, replaced, run};
 
 use crate::reply::{Refusal, Reply};
 use crate::request::{Change, Command, Entry, Op, Target};
 use crate::stop::Stop;
+use ra_parser::TopEntryPoint;
 use rowan_green::{TextRange, TextSize};
 use rust_document::{Document, PayloadEntry, payload};
 use std::alloc::{AllocError, Global};
@@ -54,6 +55,18 @@ fn replace(
     Ok(committed.changed)
 }
 
+/// What a change has its text read as.
+fn payload_entry(entry: Entry) -> PayloadEntry
+    ensures { result ≡ payload_entry entry }
+{
+    match entry {
+        Entry::Token => PayloadEntry::Token,
+        Entry::Expr => PayloadEntry::Top(TopEntryPoint::Expr),
+        Entry::Ty => PayloadEntry::Top(TopEntryPoint::Ty),
+        Entry::Pattern => PayloadEntry::Top(TopEntryPoint::Pattern),
+    }
+}
+
 /// Makes the one change of a commit.
 fn put(
     alloc: Global,
@@ -72,13 +85,13 @@ fn put(
     let Change::Put {
         op: Op::Replace,
         target,
-        entry: Entry::Token,
+        entry,
         text,
     } = change;
     let Some(old) = find(alloc, document, target)? else {
         return Err(Stop::Refused(Refusal::NoTarget));
     };
-    let new = payload(alloc, PayloadEntry::Token, document.edition(), text, ids)?;
+    let new = payload(alloc, payload_entry(entry), document.edition(), text, ids)?;
     prove!(new.tree() <= u32::MAX);
     replace(alloc, document, &old, &new, ids)
 }

@@ -41,6 +41,12 @@ pub enum Op {
 pub enum Entry {
     /// One token.
     Token,
+    /// An expression.
+    Expr,
+    /// A type.
+    Ty,
+    /// A pattern.
+    Pattern,
 }
 
 /// An element of the present tree: the first in preorder that is of this kind and has the bytes from `start` to just before

@@ -37,7 +37,6 @@ fn serve(alloc: Global, request: &Request<'_>) -> Result<Outcome, AllocError>
         Err(OpenError::TooLong) => return Ok(Outcome::NotRun(Refusal::TooLong)),
         Err(OpenError::NoTreeNumber) => unreachable!(),
         Err(OpenError::NoMemory) => return Err(AllocError),
-        Err(OpenError::Later) => return Ok(Outcome::NotRun(Refusal::Later)),
     };
     let mut replies = Vec::new(alloc);
     apply(

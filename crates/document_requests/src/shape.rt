@@ -39,6 +39,9 @@ fn entry_named(word: &str) -> Option<Entry>
 {
     match word {
         "token" => Some(Entry::Token),
+        "expr" => Some(Entry::Expr),
+        "type" => Some(Entry::Ty),
+        "pattern" => Some(Entry::Pattern),
         _ => None,
     }
 }

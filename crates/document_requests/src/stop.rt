@@ -31,10 +31,11 @@ impl From<PayloadError> for Stop {
 
     fn from(error: PayloadError) -> Stop {
         match error {
-            PayloadError::NotOneToken | PayloadError::TooLong => Stop::Refused(Refusal::Payload),
+            PayloadError::Message | PayloadError::NotOneToken | PayloadError::TooLong => {
+                Stop::Refused(Refusal::Payload)
+            }
             PayloadError::NoTreeNumber => Stop::Refused(Refusal::NoTreeNumber),
             PayloadError::NoMemory => Stop::NoMemory,
-            PayloadError::Later => Stop::Refused(Refusal::Later),
         }
     }
 }
@@ -66,7 +67,6 @@ impl From<CommitError> for Stop {
             CommitError::Unfaithful => Stop::Refused(Refusal::Unfaithful),
             CommitError::NoTreeNumber => Stop::Refused(Refusal::NoTreeNumber),
             CommitError::NoMemory => Stop::NoMemory,
-            CommitError::Later => Stop::Refused(Refusal::Later),
         }
     }
 }

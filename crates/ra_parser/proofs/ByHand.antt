@@ -6,8 +6,7 @@ use Rattle.parser_events.specs.Forest.{Forest, Message, ◌then◌}
 use Rattle.parser_events.specs.Marked.{Marked, ◌beside◌, marked}
 use Rattle.parser_events.specs.View.{View}
 use Rattle.parser_events.proofs.Forests.{marked-then}
-use Rattle.ra_parser.specs.Adds.{Holds}
-use Rattle.ra_parser.specs.Left.{left}
+use Rattle.grammar_reader.specs.Stands.{left, Holds}
 use Rattle.rust_grammar.specs.Rule.{Production, Look, Spelling, Rule, Nothing, One, Any, Then, Near, Or, Opt, Node, Wrap, Want, Say, Skip, When, Unless, Call, Continue, Mode, begins}
 use Rattle.rust_grammar.specs.Meaning.{Reading, ahead, fresh, behind, node, wrapped, say, skip, leaf, read, meaning}
 use Rattle.rust_grammar.specs.Whole.{rule, whole}

@@ -3,8 +3,7 @@ use Rattle.std.proofs.Common.{◌≡◌, ℕ, zero, suc, Bool, true, false, List
 use Rattle.parser_events.specs.Marked.{Marked, marked}
 use Rattle.parser_events.specs.View.{View}
 use Rattle.parser_events.proofs.Forests.{marked-then}
-use Rattle.ra_parser.specs.Adds as adds
-use Rattle.ra_parser.specs.Left.{left}
+use Rattle.grammar_reader.specs.Stands.{left, Holds}
 use Rattle.rust_grammar.specs.Rule.{Production, Rule, Nothing, One, Any, Then, Near, Or, Opt, Star, Node, Wrap, Want, Say, Skip, Split, When, Unless, Call, Continue, Mode, begins}
 use Rattle.rust_grammar.specs.Meaning.{Reading, sees, fresh, behind, node, wrapped, say, turns, read, meaning}
 use Rattle.rust_grammar.specs.Whole.{rule, whole}
@@ -131,7 +130,7 @@ anew-completes {c} {r} {old} {mid} {new} o q = record {
   does = record {
     rest = λ s e. q.rest (fresh s) (o.rest ∙ e);
     nodes = λ s below e h.
-        subst (λ (t : Marked). adds.Holds new.nodes (t ∷ below)) (sym (marked-then s.given (read looks (meaning whole) c r (fresh s)).given))
+        subst (λ (t : Marked). Holds new.nodes (t ∷ below)) (sym (marked-then s.given (read looks (meaning whole) c r (fresh s)).given))
         (q.nodes (fresh s) (marked s.given) below (o.rest ∙ e) (o.nodes (marked s.given) below h));
     innermost = λ around i. q.innermost around (o.innermost around i);
   };

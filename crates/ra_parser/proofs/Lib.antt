@@ -1,10 +1,4 @@
-pub mod Table
-pub mod Items
-pub mod Adding
-pub mod Fitting
-pub mod Lengths
 pub mod ByHand
-pub mod Moves
 pub mod Turns
 pub mod Prefixes
 pub mod Looking

@@ -1,24 +1,36 @@
 -- What looks tell of the tokens left, and what they and tokens cost.
-use Rattle.std.proofs.Common.{◌≡◌, ◌≢◌, ℕ, zero, suc, ◌+◌, ◌*◌, ◌^◌, ◌-◌, ◌≤◌, ◌<◌, ◌==◌, Bool, true, false, not, nat_lt, List, [], ◌∷◌, Option, length, min, nat_eq, sym, ap, subst, refl, ◌∙◌, arith}
+use Rattle.std.proofs.Common.{◌≡◌, ◌≢◌, ℕ, zero, suc, ◌+◌, ◌*◌, ◌^◌, ◌-◌, ◌≤◌, ◌<◌, ◌==◌, Bool, true, false, not, nat_lt, List, [], ◌∷◌, get_or, Option, length, min, nat_eq, sym, ap, subst, refl, ◌∙◌, arith}
 use Rattle.std.proofs.lemmas.Bool.{eqb-true, eq-eqb, lt-ltb}
-use Rattle.std.proofs.lemmas.List.{length-drop}
+use Rattle.std.proofs.lemmas.List.{length-drop, get_or-drop}
 use Rattle.parser_input.specs.Input.{Token}
 use Rattle.parser_input.specs.Kind.{raw_of}
 use Rattle.parser_input.specs.Kinds.{EOF}
-use Rattle.parser_input.specs.Recorded.{token_at}
+use Rattle.parser_input.specs.Recorded.{token_at, plain}
 use Rattle.parser_input.specs.declared.syntax_kind.SyntaxKind.{SyntaxKind}
 use Rattle.parser_input.specs.declared.syntax_kind.SyntaxKind.TheVariants as kinds
 use Rattle.parser_input.proofs.KindTable.{slice_get-kinds}
 use Rattle.parser_events.specs.Marked.{Marked}
 use Rattle.parser_events.specs.View.{View}
-use Rattle.ra_parser.specs.Left.{left}
+use Rattle.grammar_reader.specs.Stands.{left}
 use Rattle.ra_parser.specs.Looks.{tokens, spent}
 use Rattle.rust_grammar.specs.Rule.{Kind, Contextual, Joint, Left}
 use Rattle.rust_grammar.specs.Meaning.{Reading, sees, ahead}
 use Rattle.ra_parser.specs.Stands.{Saw}
-use Rattle.ra_parser.proofs.Adding.{seen, seen-token}
 
 -- a look at a token ahead
+seen-token : (v : View) (n : ℕ) → token_at v.input (v.position + n) ≡ ahead n (left v)
+unfolding ahead
+seen-token v n = sym (get_or-drop v.position v.input n (plain EOF)) ∙ look n (left v)
+  where
+    look : (n : ℕ) (ts : List Token) → get_or ts n (plain EOF) ≡ ahead n ts
+    look zero [] = refl
+    look (suc n) [] = refl
+    look zero (t ∷ ts) = refl
+    look (suc n) (t ∷ ts) = look n ts
+
+seen : (v : View) (n : ℕ) → (token_at v.input (v.position + n)).kind ≡ (ahead n (left v)).kind
+seen v n = ap (λ (t : Token). t.kind) (seen-token v n)
+
 pub saw-next : (c : Bool) (n : ℕ) (v : View) (kind : ℕ) (answer : Bool) → answer ≡ nat_eq (token_at v.input (v.position + n)).kind kind → Saw c (Kind n kind) v answer
 unfolding sees
 saw-next c n v kind answer is = record {

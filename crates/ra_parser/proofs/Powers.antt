@@ -1,7 +1,7 @@
 -- Layers of operators, one within the other, that one loop reads: it keeps the layers whose operators may still follow.
 use Rattle.std.proofs.Common.{◌≡◌, ◌<◌, Bool, true, false, List, [], ◌∷◌, ◌++◌, length, refl, sym, ap, ◌∙◌, arith}
 use Rattle.parser_events.specs.View.{View}
-use Rattle.ra_parser.specs.Left.{left}
+use Rattle.grammar_reader.specs.Stands.{left}
 use Rattle.ra_parser.specs.Layers.{repeated}
 use Rattle.rust_grammar.specs.Rule.{Production, Rule, Then, Star, Call, begins}
 use Rattle.rust_grammar.specs.Meaning.{Reading, sees, fresh, behind, read, meaning}

@@ -7,7 +7,7 @@ use Rattle.rust_grammar.specs.Rule.{Production, Look, Always, Never, Kind, Conte
 use Rattle.rust_grammar.specs.Meaning.{Reading, Calls, ahead, sees, fresh, behind, node, say, skip, leaf, turns, read, look_of, meaning}
 use Rattle.rust_grammar.specs.Whole.{whole}
 use Rattle.ra_parser.specs.Stands.{looks}
-use Rattle.ra_parser.proofs.Items.{then-end, then-assoc}
+use Rattle.ra_parser.proofs.Taking.{then-end, then-assoc}
 
 -- a look that does not ask what was given
 abbrev pub no_given : Look → Bool

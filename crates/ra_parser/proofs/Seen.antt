@@ -5,7 +5,7 @@ use Rattle.parser_input.specs.Kinds.{EOF}
 use Rattle.parser_events.specs.Forest as forest
 use Rattle.parser_events.specs.Forest.{Message}
 use Rattle.parser_events.specs.View.{View}
-use Rattle.ra_parser.specs.Left.{left}
+use Rattle.grammar_reader.specs.Stands.{left}
 use Rattle.rust_grammar.specs.Rule.{Production, Spelling, Look, Always, Never, Kind, Contextual, Joint, Left, InCondition, Given, Both, Either, Not, Rule, One, Call, begins, shift}
 use Rattle.rust_grammar.specs.Meaning.{Reading, ahead, sees, leaf, read}
 use Rattle.rust_grammar.specs.Whole.{rule}

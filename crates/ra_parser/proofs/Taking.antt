@@ -14,7 +14,7 @@ use Rattle.grammar_reader.specs.Stands.{left, Holds, Stands}
 use Rattle.grammar_reader.specs.Moves.{Opens}
 use Rattle.ra_parser.specs.Entries.{with_leaves, strayed}
 
-then-end : (f : Forest) → (f then forest.End) ≡ f
+pub then-end : (f : Forest) → (f then forest.End) ≡ f
 then-end forest.End = refl
 then-end (forest.Leaf k n f) = ap (λ (x : Forest). forest.Leaf k n x) (then-end f)
 then-end (forest.Said m f) = ap (λ (x : Forest). forest.Said m x) (then-end f)

@@ -2,7 +2,7 @@
 use Rattle.std.proofs.Common.{◌≡◌, ℕ, zero, suc, ◌<◌, ◌≤◌, Bool, true, false, length, nat_lt, refl, sym, ap, arith, if◌then◌else◌}
 use Rattle.std.proofs.lemmas.Bool.{ltb-true, lt-ltb}
 use Rattle.parser_events.specs.View.{View}
-use Rattle.ra_parser.specs.Left.{left}
+use Rattle.grammar_reader.specs.Stands.{left}
 use Rattle.rust_grammar.specs.Rule.{Rule, Star, begins}
 use Rattle.rust_grammar.specs.Meaning.{Reading, sees, read, look_of, meaning, turns}
 use Rattle.rust_grammar.specs.Whole.{whole}

@@ -1,7 +1,7 @@
 -- How many looks the functions of the grammar make: each token that is taken pays for those made on the way to it.
 use Rattle.std.specs.Prelude.{ℕ, ◌+◌, ◌*◌, length}
 use Rattle.parser_events.specs.View.{View}
-use Rattle.ra_parser.specs.Left.{left}
+use Rattle.grammar_reader.specs.Stands.{left}
 
 -- how many tokens are left
 unfoldable pub tokens : View → ℕ

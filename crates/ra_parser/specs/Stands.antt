@@ -1,42 +1,17 @@
 -- What a function of the grammar makes of the parser.
 use Rattle.std.specs.Prelude.{◌≡◌, ℕ, suc, Bool, List, ◌∷◌}
-use Rattle.parser_events.specs.Marked.{Marked, End, Node, ◌beside◌, marked}
+use Rattle.parser_events.specs.Marked.{Marked, ◌beside◌, marked}
 use Rattle.parser_events.specs.Stack.{IsInnermost}
 use Rattle.parser_events.specs.View.{View}
-use Rattle.ra_parser.specs.Adds.{Holds}
-use Rattle.ra_parser.specs.Left.{left}
+use Rattle.grammar_reader.specs.Stands.{left, Holds}
 use Rattle.rust_grammar.specs.Rule.{Production, Look, Rule}
 use Rattle.rust_grammar.specs.Meaning.{Reading, sees, fresh, behind, read, look_of, meaning}
 use Rattle.rust_grammar.specs.Whole.{whole}
+pub use Rattle.grammar_reader.specs.Moves.{Does, Opens, Closes, Leaves}
 
 -- where the productions begin
 abbrev pub looks : Production → Look
 looks = look_of whole
-
--- The tokens left, and the trees of the innermost node unless a growth was refused, become what this makes of them. The node
--- that was the innermost is so again.
-pub record Does (f : Reading → Reading) (old new : View) : Type 0 where
-  pub rest : (s : Reading) → left old ≡ s.rest → left new ≡ (f s).rest
-  pub nodes : (s : Reading) (below : List Marked) → left old ≡ s.rest → Holds old.nodes (marked s.given ∷ below) → Holds new.nodes (marked (f s).given ∷ below)
-  pub innermost : (around : ℕ) → IsInnermost around old.nodes → IsInnermost around new.nodes
-
--- a node is opened in the innermost one
-pub record Opens (old new : View) : Type 0 where
-  pub rest : left new ≡ left old
-  pub nodes : (given : Marked) (below : List Marked) → Holds old.nodes (given ∷ below) → Holds new.nodes (End ∷ given ∷ below)
-  pub innermost : (around : ℕ) → IsInnermost around old.nodes → IsInnermost (suc around) new.nodes
-
--- the innermost node is closed as one of this kind
-pub record Closes (kind : ℕ) (old new : View) : Type 0 where
-  pub rest : left new ≡ left old
-  pub nodes : (inside given : Marked) (below : List Marked) → Holds old.nodes (inside ∷ given ∷ below) → Holds new.nodes ((given beside Node kind inside End) ∷ below)
-  pub innermost : (around : ℕ) → IsInnermost (suc around) old.nodes → IsInnermost around new.nodes
-
--- the innermost node is left out
-pub record Leaves (old new : View) : Type 0 where
-  pub rest : left new ≡ left old
-  pub nodes : (inside given : Marked) (below : List Marked) → Holds old.nodes (inside ∷ given ∷ below) → Holds new.nodes ((given beside inside) ∷ below)
-  pub innermost : (around : ℕ) → IsInnermost (suc around) old.nodes → IsInnermost around new.nodes
 
 -- It reads what the production means.
 pub record Gives (x : Production) (c : Bool) (old new : View) : Type 0 where

@@ -1,15 +1,11 @@
 //! The functions that read by the grammar of Rust: its table, and what a rule means on an input, are `rust_grammar`'s.
 //!
-//! Names, literals, paths without arguments, visibilities, use trees and token trees are read by the table of the whole grammar. An
-//! input is read as a source file by a table of the kinds `struct`, identifier
-//! and `;` so far: [`parse::source_file`].
+//! An input is read as what is asked of it: [`TopEntryPoint::parse`]. The rules are read one by one as the table has them, by
+//! `grammar_reader`; the functions of `grammar`, one for each production, are to take its place.
 #![tactic(auto)]
 
 mod entries;
 pub mod entry_points;
 mod grammar;
-pub mod laws;
-pub mod parse;
-mod small;
 
 pub use entry_points::{ParseError, TopEntryPoint};

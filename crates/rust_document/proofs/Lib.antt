@@ -1,4 +1,3 @@
-pub mod Lexing
 pub mod Sizes
 pub mod Whole
 pub mod Bares
@@ -8,7 +7,7 @@ pub mod Recordings
 pub mod Payloads
 pub mod Changes
 pub mod TreeTexts
-pub mod Prefaces
+pub mod Contents
 pub mod TreeSinks
 pub mod TreeRefusals
 pub mod Faults

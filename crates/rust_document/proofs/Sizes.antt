@@ -1,20 +1,25 @@
 -- How many leaves a text has, and how many bytes these have.
-use Rattle.std.proofs.Common.{◌≡◌, ℕ, suc, ◌≤◌, ◌<◌, true, List, [], ◌∷◌, length, refl, sym, ◌∙◌, ap, arith, chars, length-append, get_or, flat_map, ◌++◌}
+use Rattle.std.proofs.Common.{◌≡◌, ℕ, zero, suc, ◌≤◌, ◌<◌, ◌+◌, ◌-◌, ◌==◌, pred, true, false, List, [], ◌∷◌, length, take, drop, refl, sym, subst, ◌∙◌, ap, arith, chars, length-append, flat_map, ◌++◌, inl, inr, is_some, Option, Some, None, Result, Ok, Err}
 use Rattle.std.specs.Str.{IsUtf8}
 use Rattle.std.proofs.Math.Utf8.{encodes}
-use Rattle.std.proofs.lemmas.List.{length-map}
+use Rattle.std.proofs.lemmas.Bool.{eqb-true}
+use Rattle.std.proofs.lemmas.List.{length-drop}
 use Rattle.std.proofs.lemmas.Str.{encodes-chars, length-le-encodes}
-use Rattle.rustc_lexer.specs.Tokens as lexer
-use Rattle.rustc_lexer.specs.Tokens.{Lexeme, joined}
-use Rattle.rustc_lexer.proofs.Cutting.{tokens-joined, each-takes}
-use Rattle.parser_input.specs.Leaf as leaves
-use Rattle.parser_input.specs.Lexed.{Lexed, lexed, leaves_of}
-use Rattle.parser_input.proofs.LexedTexts as whole
+use Rattle.rustc_lexer.specs.Shebang.{shebang, has_shebang, ends_line, line_len}
+use Rattle.rustc_lexer.specs.Scan.{peek, run_len}
+use Rattle.rustc_lexer.specs.Tokens.{first_lexeme}
+use Rattle.rustc_lexer.proofs.Booleans.{bool_cases, and_left}
+use Rattle.rustc_lexer.proofs.Lines.{shebang-none}
+use Rattle.parser_input.specs.Lexed.{Lexed, lexed, leaves_of, next_leaf, cut, preface, content, content_of, shebang_leaf, frontmatter_leaf}
+use Rattle.parser_input.specs.Lines.{behind_line, blank_len, dashes}
+use Rattle.parser_input.specs.Preface.{Piece, Source, bare, behind_shebang, fenced, opening_line, shebang_piece, source}
 use Rattle.parser_input.specs.declared.edition.Edition.{Edition}
+use Rattle.parser_input.specs.declared.frontmatter_error.FrontmatterError.{FrontmatterError}
+use Rattle.parser_input.proofs.LexedTexts as whole
+use Rattle.parser_input.proofs.PrefaceSteps.{Form, Bare, Refused, Closed, form, Suffix, behind-suffix}
+use Rattle.parser_input.proofs.Prefaces.{behind-some, behind-none, piece-some, piece-none, behind-shorter, source-bare}
 use Rattle.parser_events.specs.Dress as dress
 use Rattle.rust_document.specs.Reading.{leaves_in}
-use Rattle.rust_document.specs.Thin.{is_thin}
-use Rattle.rust_document.proofs.Prefaces.{thin-leaves}
 
 all-texts : (ls : List Lexed) → dress.joined (leaves_of ls) ≡ flat_map (λ (l : Lexed). l.leaf.text) ls
 unfolding dress.joined
@@ -27,21 +32,98 @@ bytes-all edition bs u =
     ap (λ (t : List ℕ). length (encodes t)) (all-texts (lexed edition (chars bs)) ∙ whole.leaves-joined edition (chars bs))
     ∙ ap (λ (t : List ℕ). length t) (encodes-chars bs u)
 
-long-enough : (ls : List Lexeme) → ((i : ℕ) → (d : Lexeme) → i < length ls → 1 ≤ length (get_or ls i d).text) → length ls ≤ length (joined ls)
-long-enough [] each = omega arith
-long-enough (l ∷ ls) each = omega (arith, each 0 l (omega arith), long-enough ls (λ i d h. each (suc i) d (omega (arith, h))), length-append l.text (joined ls))
+-- each leaf of a content begins with a character of its own
+few-cut : (edition : Edition) (held : ℕ) (cs : List ℕ) → length (cut edition held cs) ≤ length cs
+unfolding cut
+few-cut edition held [] = omega arith
+few-cut edition zero (c ∷ cs) = omega (arith, few-cut edition (pred (length (next_leaf edition (first_lexeme (c ∷ cs))).leaf.text)) cs)
+few-cut edition (suc held) (c ∷ cs) = omega (arith, few-cut edition held cs)
 
--- and a thin text has no more leaves than bytes
-pub count-all : (edition : Edition) (bs : List ℕ) → IsUtf8 bs → is_thin edition (chars bs) ≡ true → length (lexed edition (chars bs)) ≤ length bs
-unfolding leaves.leaves
-count-all edition bs u thin =
-    let ts = lexer.tokens (chars bs) in
-    let same : length (lexed edition (chars bs)) ≡ length ts =
-    sym (length-map (lexed edition (chars bs)) (λ (l : Lexed). l.leaf))
-    ∙ ap (λ (ls : List leaves.Leaf). length ls) (thin-leaves edition (chars bs) thin)
-    ∙ length-map ts (leaves.leaf_of edition) in
-    let few : length ts ≤ length (joined ts) = long-enough ts (each-takes (chars bs)) in
-    let whole_text : length (joined ts) ≡ length (chars bs) = ap (λ (t : List ℕ). length t) (tokens-joined (chars bs)) in
-    let wide : length (chars bs) ≤ length (encodes (chars bs)) = length-le-encodes (chars bs) in
-    let back : length (encodes (chars bs)) ≡ length bs = ap (λ (t : List ℕ). length t) (encodes-chars bs u) in
-    omega (arith, same, few, whole_text, wide, back)
+-- the line of a shebang has a character
+line-goes : (c : ℕ) (cs : List ℕ) → c ≡ 35 → 1 ≤ line_len (c ∷ cs)
+unfolding line_len
+line-goes c cs e = subst (λ (x : ℕ). 1 ≤ line_len (x ∷ cs)) (sym e) (omega arith)
+
+hash-line : (text : List ℕ) → has_shebang text ≡ true → 1 ≤ line_len text
+hash-line [] h = absurd (let z : false ≡ true = h in cc)
+hash-line (c ∷ cs) h = line-goes c cs (eqb-true c 35 (and_left (c == 35) (peek 1 (c ∷ cs) == 33) h))
+
+shebang-line : (text : List ℕ) → is_some (shebang text) ≡ true → 1 ≤ line_len text
+shebang-line text h = elim (bool_cases (has_shebang text)) [
+  | inl there ↦ hash-line text there
+  | inr none ↦ let z : false ≡ true = sym (ap is_some (shebang-none text none)) ∙ h in absurd (cc)
+]
+
+abbrev with_shebang : List ℕ → ℕ
+with_shebang t = length (shebang_leaf (shebang_piece t)) + length (behind_shebang t)
+
+one-less : (n : ℕ) (t : List ℕ) → 1 ≤ n → 1 ≤ length t → 1 + length (drop n t) ≤ length t
+one-less n t some long = omega (arith, length-drop n t, some, long)
+
+line-within : (t : List ℕ) → 1 ≤ line_len t → 1 ≤ length t
+unfolding line_len
+line-within [] h = absurd (omega (arith, h))
+line-within (c ∷ cs) h = omega arith
+
+few-shebang : (t : List ℕ) → with_shebang t ≤ length t
+few-shebang t = elim (bool_cases (is_some (shebang t))) [
+  | inl there ↦
+      let line = shebang-line t there in
+      omega (
+        arith,
+        ap (λ (o : Option Piece). length (shebang_leaf o)) (piece-some t there),
+        ap (λ (r : List ℕ). length r) (behind-some t there),
+        one-less (line_len t) t line (line-within t line),
+      )
+  | inr none ↦
+      omega (arith, ap (λ (o : Option Piece). length (shebang_leaf o)) (piece-none t none), ap (λ (r : List ℕ). length r) (behind-none t none))
+]
+
+abbrev with_frontmatter : List ℕ → ℕ
+with_frontmatter t = length (frontmatter_leaf t (source t)) + length (content t)
+
+suffix-within : (xs ys : List ℕ) → Suffix xs ys → length xs ≤ length ys
+suffix-within xs ys s = omega (arith, ap (λ (l : List ℕ). length l) s.1, length-drop s.0 ys)
+
+-- a closed frontmatter was opened by dashes
+never-closed : (t closing : List ℕ) → source t ≡ Ok (fenced t (opening_line t) closing) → opening_line t ≡ [] → ⊥
+unfolding bare fenced dashes run_len
+never-closed t closing is none =
+    let z : Ok (bare t) ≡ Ok (fenced t (opening_line t) closing) = source-bare t (ap dashes none) ∙ is in
+    let closings : Result Source FrontmatterError → Option Piece = λ r. elim r [ Ok s ↦ s.closing | Err e ↦ None ] in
+    let y = ap closings z in cc
+
+few-frontmatter : (t : List ℕ) → Form t → with_frontmatter t ≤ length (behind_shebang t)
+unfolding content bare fenced opening_line
+few-frontmatter t (Bare is) =
+    omega (arith, ap (λ (r : Result Source FrontmatterError). length (frontmatter_leaf t r)) is, ap (λ (r : Result Source FrontmatterError). length (content_of t r)) is)
+few-frontmatter t (Refused e is) =
+    omega (arith, ap (λ (r : Result Source FrontmatterError). length (frontmatter_leaf t r)) is, ap (λ (r : Result Source FrontmatterError). length (content_of t r)) is)
+few-frontmatter t (Closed closing is at) =
+    omega (
+      arith,
+      ap (λ (r : Result Source FrontmatterError). length (frontmatter_leaf t r)) is,
+      ap (λ (r : Result Source FrontmatterError). length (content_of t r)) is,
+      suffix-within (behind_line closing) closing (behind-suffix closing),
+      suffix-within closing (behind_line (opening_line t)) at,
+      behind-shorter (opening_line t) (never-closed t closing is),
+      length-drop (blank_len (behind_shebang t)) (behind_shebang t),
+    )
+
+-- a text has no more leaves than characters
+few-leaves : (edition : Edition) (t : List ℕ) → length (lexed edition t) ≤ length t
+unfolding lexed preface
+few-leaves edition t =
+    omega (
+      arith,
+      length-append (preface t) (cut edition 0 (content t)),
+      length-append (shebang_leaf (shebang_piece t)) (frontmatter_leaf t (source t)),
+      few-cut edition 0 (content t),
+      few-frontmatter t (form t),
+      few-shebang t,
+    )
+
+-- and no more than bytes
+pub count-all : (edition : Edition) (bs : List ℕ) → IsUtf8 bs → length (lexed edition (chars bs)) ≤ length bs
+count-all edition bs u =
+    omega (arith, few-leaves edition (chars bs), length-le-encodes (chars bs), ap (λ (t : List ℕ). length t) (encodes-chars bs u))

@@ -25,9 +25,9 @@ use Rattle.syntax_tree.specs.Path.{Path, at}
 use Rattle.syntax_tree.specs.Replacement.{start_of}
 use Rattle.syntax_tree.proofs.Slices.{text_from}
 use Rattle.rust_document.specs.Open.{IsOpened}
-use Rattle.rust_document.specs.Reading.{terms_of, root_of, dressed_file, tree, leaves_in}
-use Rattle.rust_document.specs.Step.{State, MAX_TEXT, present, bare_tree, is_faithful, Accepted, Foreign, TooLong, Later, Unfaithful}
-use Rattle.rust_document.specs.Thin.{is_thin}
+use Rattle.rust_document.specs.Reading.{terms_of, root_of, dressed_by, tree_by, tree, leaves_in}
+use Rattle.rust_grammar.specs.Rule.{Production, source_file}
+use Rattle.rust_document.specs.Step.{State, MAX_TEXT, present, bare_tree, is_faithful, Accepted, Foreign, TooLong, Unfaithful}
 use Rattle.rust_document.specs.Laws.{IsKept}
 
 -- the text of terms is the text of what was dressed, in bytes
@@ -70,12 +70,15 @@ joined-leaves [] = refl
 joined-leaves (l ∷ ls) = ap (λ (cs : List ℕ). l.leaf.text ++ cs) (joined-leaves ls)
 
 -- the leaves of the tree, joined, are the text
-pub tree-text : (edition : Edition) (text : List ℕ) → tree_text (tree edition text) ≡ encodes text
-unfolding tree dressed_file
-tree-text edition text =
+pub tree-text-by : (x : Production) (edition : Edition) (text : List ℕ) → tree_text (tree_by x edition text) ≡ encodes text
+unfolding tree_by dressed_by
+tree-text-by x edition text =
     root-text _ (leaves_in edition text)
     ∙ terms-text (dress_root _ (leaves_in edition text))
     ∙ ap encodes (text-is-text _ (leaves_in edition text) ∙ joined-leaves (lexed edition text) ∙ leaves-joined edition text)
+
+pub tree-text : (edition : Edition) (text : List ℕ) → tree_text (tree edition text) ≡ encodes text
+tree-text = tree-text-by source_file
 
 -- the present tree has the document's text
 pub present-text : (d : State) → IsUtf8 d.text → tree_text (present d) ≡ d.text
@@ -93,17 +96,16 @@ faithful-itself : (d : State) → IsUtf8 d.text → is_faithful d.edition (prese
 faithful-itself d u =
     ap (λ (bs : List ℕ). same_tree (bare_tree (present d)) (bare_tree (tree d.edition (chars bs)))) (present-text d u) ∙ same-itself (bare_tree (present d))
 
-rows-false : (f l t u : Bool) → f ≡ false → l ≡ false → t ≡ false → u ≡ false → first_fit (row f Foreign ∷ row l TooLong ∷ row t Later ∷ row u Unfaithful ∷ []) Accepted ≡ Accepted
+rows-false : (f l u : Bool) → f ≡ false → l ≡ false → u ≡ false → first_fit (row f Foreign ∷ row l TooLong ∷ row u Unfaithful ∷ []) Accepted ≡ Accepted
 unfolding first_fit
-rows-false f l t u p q r s = rw (p, q, r, s) refl
+rows-false f l u p q r = rw (p, q, r) refl
 
-pub untouched-kept : (d : State) → IsUtf8 d.text → IsOpened d.edition d.text → IsKept d
+pub untouched-kept : (d : State) → IsUtf8 d.text → IsOpened d.text → IsKept d
 untouched-kept d u o = record {
   accepted =
-      rows-false _ _ _ _
+      rows-false _ _ _
       (ap (λ (b : Bool). not b || not (same_tree (present d) (present d))) (eq-eqb d.number d.number refl) ∙ ap not (same-itself (present d)))
-      (ap (λ (bs : List ℕ). nat_lt MAX_TEXT (length bs)) (present-text d u) ∙ le-ltb MAX_TEXT (length d.text) o.0)
-      (ap (λ (bs : List ℕ). not (is_thin d.edition (chars bs))) (present-text d u) ∙ ap not o.1)
+      (ap (λ (bs : List ℕ). nat_lt MAX_TEXT (length bs)) (present-text d u) ∙ le-ltb MAX_TEXT (length d.text) o)
       (ap not (faithful-itself d u));
   same_text = present-text d u;
 }

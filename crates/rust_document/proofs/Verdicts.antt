@@ -4,9 +4,8 @@ use Rattle.std.proofs.lemmas.Bool.{lt-ltb, le-ltb}
 use Rattle.rustc_lexer.specs.Rows.{row, first_fit}
 use Rattle.rowan_green.specs.Forest.{same_tree, tree_text}
 use Rattle.parser_input.specs.declared.edition.Edition.{Edition}
-use Rattle.rust_document.specs.Thin.{is_thin}
 use Rattle.rust_document.specs.Rewrite.{Editing, rewritten}
-use Rattle.rust_document.specs.Step.{State, MAX_TEXT, present, is_faithful, Verdict, verdict, Foreign, TooLong, Later, Unfaithful, Accepted}
+use Rattle.rust_document.specs.Step.{State, MAX_TEXT, present, is_faithful, Verdict, verdict, Foreign, TooLong, Unfaithful, Accepted}
 use Rattle.syntax_tree.specs.Refusal.{RefusesTree}
 use Rattle.syntax_tree.specs.declared.error.TreeError.{TreeError}
 use Rattle.syntax_tree.specs.declared.error.TreeError.TheVariants as trees
@@ -19,8 +18,8 @@ use Rattle.rust_document.specs.declared.error.CommitError.TheVariants as refusal
 abbrev of_tree : State → Editing → Bool
 of_tree d e = (e.number == d.number) && same_tree e.root (present d)
 
-abbrev chosen : Bool → Bool → Bool → Bool → Verdict
-chosen f l t u = first_fit (row f Foreign ∷ row l TooLong ∷ row t Later ∷ row u Unfaithful ∷ []) Accepted
+abbrev chosen : Bool → Bool → Bool → Verdict
+chosen f l u = first_fit (row f Foreign ∷ row l TooLong ∷ row u Unfaithful ∷ []) Accepted
 
 foreign-test : (n s b : Bool) → b ≡ (n && s) → b ≡ false → (not n || not s) ≡ true
 foreign-test true true b e f = absurd (let z : true ≡ false = sym e ∙ f in cc)
@@ -33,31 +32,29 @@ own-test true false b e f = absurd (let z : true ≡ false = sym f ∙ e in cc)
 own-test false s b e f = absurd (let z : true ≡ false = sym f ∙ e in cc)
 
 verdict-is :
-    (d : State) (e : Editing) (f l t u : Bool) → (not (e.number == d.number) || not (same_tree e.root (present d))) ≡ f → nat_lt MAX_TEXT (length (tree_text (rewritten e))) ≡ l → not (is_thin d.edition (chars (tree_text (rewritten e)))) ≡ t → not (is_faithful d.edition (rewritten e)) ≡ u → verdict d e ≡ chosen f l t u
-verdict-is d e f l t u p q r s = rw (p, q, r, s) refl
+    (d : State) (e : Editing) (f l u : Bool) → (not (e.number == d.number) || not (same_tree e.root (present d))) ≡ f → nat_lt MAX_TEXT (length (tree_text (rewritten e))) ≡ l → not (is_faithful d.edition (rewritten e)) ≡ u → verdict d e ≡ chosen f l u
+verdict-is d e f l u p q r = rw (p, q, r) refl
 
 -- an editor of another tree
 pub foreign : (d : State) (e : Editing) (b : Bool) → b ≡ of_tree d e → b ≡ false → verdict d e ≡ Foreign
 unfolding first_fit
 foreign d e b is other =
-    verdict-is d e true _ _ _ (foreign-test (e.number == d.number) (same_tree e.root (present d)) b is other) refl refl refl
+    verdict-is d e true _ _ (foreign-test (e.number == d.number) (same_tree e.root (present d)) b is other) refl refl
 
 by-refusal : (d : State) (e : Editing) (b : Bool) (number : ℕ) (error : CommitError) → b ≡ of_tree d e → b ≡ true → RefusesRewritten d.edition (rewritten e) error → RefusesCommit (verdict d e) number error
 unfolding first_fit
 by-refusal d e b number refusals.Foreign is own h = absurd h
 by-refusal d e b number refusals.TooLong is own h =
-    verdict-is d e false true _ _ (own-test (e.number == d.number) (same_tree e.root (present d)) b is own) (lt-ltb MAX_TEXT (length (tree_text (rewritten e))) h) refl refl
-by-refusal d e b number refusals.Later is own h =
-    verdict-is d e false false true _ (own-test (e.number == d.number) (same_tree e.root (present d)) b is own) (le-ltb MAX_TEXT (length (tree_text (rewritten e))) h.0) (ap not h.1) refl
+    verdict-is d e false true _ (own-test (e.number == d.number) (same_tree e.root (present d)) b is own) (lt-ltb MAX_TEXT (length (tree_text (rewritten e))) h) refl
 by-refusal d e b number refusals.Unfaithful is own h =
-    verdict-is d e false false false true (own-test (e.number == d.number) (same_tree e.root (present d)) b is own) (le-ltb MAX_TEXT (length (tree_text (rewritten e))) h.0) (ap not h.1) (ap not h.2)
+    verdict-is d e false false true (own-test (e.number == d.number) (same_tree e.root (present d)) b is own) (le-ltb MAX_TEXT (length (tree_text (rewritten e))) h.0) (ap not h.1)
 by-refusal d e b number refusals.NoTreeNumber is own h = absurd h
 by-refusal d e b number refusals.NoMemory is own h = tt
 
 by-reading : (d : State) (e : Editing) (b : Bool) (text : List ℕ) (reading : Reading) → b ≡ of_tree d e → b ≡ true → IsRewritten d.edition (rewritten e) text reading → verdict d e ≡ Accepted
 unfolding first_fit
 by-reading d e b text reading is own h =
-    verdict-is d e false false false false (own-test (e.number == d.number) (same_tree e.root (present d)) b is own) (le-ltb MAX_TEXT (length (tree_text (rewritten e))) h.fits) (ap not h.reading_is.thin) (ap not h.faithful)
+    verdict-is d e false false false (own-test (e.number == d.number) (same_tree e.root (present d)) b is own) (le-ltb MAX_TEXT (length (tree_text (rewritten e))) h.fits) (ap not h.faithful)
 
 -- a rewrite that was refused
 pub refused : (d : State) (e : Editing) (b : Bool) (number : ℕ) (error : CommitError) (edition : Edition) → b ≡ of_tree d e → b ≡ true → edition ≡ d.edition → RefusesRewritten edition (rewritten e) error → RefusesCommit (verdict d e) number error

@@ -3,7 +3,7 @@ use Rattle.std.specs.Prelude.{◌≡◌, ℕ, ◌^◌, List, codes}
 use Rattle.rust_document.specs.Step.{Verdict}
 use Rattle.rust_document.specs.Step as step
 use Rattle.rust_document.specs.declared.error.CommitError.{CommitError}
-use Rattle.rust_document.specs.declared.error.CommitError.TheVariants.{Foreign, TooLong, Unfaithful, NoTreeNumber, NoMemory, Later}
+use Rattle.rust_document.specs.declared.error.CommitError.TheVariants.{Foreign, TooLong, Unfaithful, NoTreeNumber, NoMemory}
 use Rattle.syntax_tree.specs.declared.error.TreeError.{TreeError}
 use Rattle.syntax_tree.specs.declared.error.TreeError.TheVariants as trees
 
@@ -11,7 +11,6 @@ use Rattle.syntax_tree.specs.declared.error.TreeError.TheVariants as trees
 abbrev pub RefusesCommit : Verdict → ℕ → CommitError → Type 0
 RefusesCommit v number Foreign = v ≡ step.Foreign
 RefusesCommit v number TooLong = v ≡ step.TooLong
-RefusesCommit v number Later = v ≡ step.Later
 RefusesCommit v number Unfaithful = v ≡ step.Unfaithful
 RefusesCommit v number NoTreeNumber = (v ≡ step.Accepted) × (number ≡ 2 ^ 32)
 RefusesCommit v number NoMemory = Unit {0}
@@ -22,7 +21,6 @@ commit_message_of TooLong = codes "too long"
 commit_message_of Unfaithful = codes "not what its text says"
 commit_message_of NoTreeNumber = codes "no tree number is left"
 commit_message_of NoMemory = codes "out of memory"
-commit_message_of Later = codes "not read yet"
 
 -- a tree that could not be made
 abbrev pub commit_error_of : TreeError → CommitError

@@ -1,11 +1,9 @@
 -- What holds of every document.
-use Rattle.std.specs.Prelude.{◌≡◌, ℕ, true, List, take, drop, length, encode_utf8_all, Some, None}
+use Rattle.std.specs.Prelude.{◌≡◌, ℕ, List, take, drop, length, encode_utf8_all, Some, None}
 use Rattle.std.specs.Str.{IsUtf8}
 use Rattle.rowan_green.specs.Leaf.{Leaf}
 use Rattle.rowan_green.specs.Forest.{tree_text}
 use Rattle.rowan_green.specs.declared.utility_types.NodeOrToken.TheVariants.{Node, Token}
-use Rattle.parser_input.specs.Leaf.{leaves}
-use Rattle.parser_input.specs.Lexed.{lexed, leaves_of}
 use Rattle.parser_input.specs.declared.edition.Edition.{Edition}
 use Rattle.syntax_tree.specs.Path.{Path, at}
 use Rattle.syntax_tree.specs.Replacement.{start_of}
@@ -13,7 +11,6 @@ use Rattle.rust_document.specs.Open.{IsOpened}
 use Rattle.rust_document.specs.Reading.{tree}
 use Rattle.rust_document.specs.Rewrite.{Editing, rewritten}
 use Rattle.rust_document.specs.Step.{State, present, verdict, Accepted}
-use Rattle.rust_document.specs.Thin.{is_thin}
 
 -- the leaves of a text's tree, joined, are the text
 abbrev pub TreesHaveTheirTexts : Type 0
@@ -34,8 +31,4 @@ pub record IsKept (d : State) : Type 0 where
   pub same_text : tree_text (rewritten (untouched d)) ≡ d.text
 
 abbrev pub UntouchedIsKept : Type 0
-UntouchedIsKept = (d : State) → IsUtf8 d.text → IsOpened d.edition d.text → IsKept d
-
--- a thin text has no preface, and none of its tokens is cut anew: its leaves are its tokens
-abbrev pub ThinLeavesAreLexed : Type 0
-ThinLeavesAreLexed = (edition : Edition) (text : List ℕ) → is_thin edition text ≡ true → leaves_of (lexed edition text) ≡ leaves edition text
+UntouchedIsKept = (d : State) → IsUtf8 d.text → IsOpened d.text → IsKept d

@@ -1,5 +1,4 @@
 pub mod Reading
-pub mod Thin
 pub mod Rewrite
 pub mod Step
 pub mod IsReading

@@ -1,5 +1,5 @@
 -- The reading of a text: its leaves, its messages and its tree. No earlier text and no command enters.
-use Rattle.std.specs.Prelude.{ℕ, ◌+◌, List, [], ◌∷◌, ◌++◌, map, Option, None, Some, false, encode_utf8_all}
+use Rattle.std.specs.Prelude.{ℕ, ◌+◌, List, [], ◌∷◌, ◌++◌, map, Option, None, Some, encode_utf8_all}
 use Rattle.rustc_lexer.specs.Characters.{size}
 use Rattle.rowan_green.specs.Forest.{Forest, empty, node, leaf, Tree}
 use Rattle.parser_input.specs.Kinds.{ERROR}
@@ -14,9 +14,9 @@ use Rattle.parser_events.specs.Forest as forest
 use Rattle.parser_events.specs.Dressed as dressed
 use Rattle.parser_events.specs.Dressed.{Dressed, Saying, sayings_of}
 use Rattle.parser_events.specs.Dress.{dress_root}
-use Rattle.rust_grammar.specs.Rule.{source_file}
-use Rattle.rust_grammar.specs.Meaning.{meaning}
-use Rattle.ra_parser.specs.Grammar.{grammar}
+use Rattle.rust_grammar.specs.Entry.{entry}
+use Rattle.rust_grammar.specs.Rule.{Production, source_file}
+use Rattle.rust_grammar.specs.Whole.{whole}
 
 -- the leaves of a text, preface and all
 abbrev pub leaves_in : Edition → List ℕ → List Leaf
@@ -34,14 +34,21 @@ abbrev pub root_of : Forest → Tree
 root_of (node k f r) = record { kind = k; forest = f }
 root_of f = record { kind = ERROR; forest = f }
 
--- what a source file means, dressed with its leaves
-unfoldable pub dressed_file : Edition → List Leaf → Dressed
-dressed_file edition ls =
-    dress_root (meaning grammar source_file false (record { given = forest.End; rest = input edition ls })).given ls
+-- what an entry reads of leaves, as trees of the parser
+abbrev pub forest_by : Production → Edition → List Leaf → forest.Forest
+forest_by x edition ls = entry whole x (input edition ls)
 
--- the tree of a text
-unfoldable pub tree : Edition → List ℕ → Tree
-tree edition text = root_of (terms_of (dressed_file edition (leaves_in edition text)))
+-- the same, dressed with these leaves
+unfoldable pub dressed_by : Production → Edition → List Leaf → Dressed
+dressed_by x edition ls = dress_root (forest_by x edition ls) ls
+
+-- the tree of a text that is read by an entry
+unfoldable pub tree_by : Production → Edition → List ℕ → Tree
+tree_by x edition text = root_of (terms_of (dressed_by x edition (leaves_in edition text)))
+
+-- the tree of a text, which is read as a source file
+abbrev pub tree : Edition → List ℕ → Tree
+tree = tree_by source_file
 
 -- what is wrong at a place: by the grammar, or with a leaf, in words
 pub data Fault : Type 0 where
@@ -70,7 +77,12 @@ abbrev pub of_leaves : ℕ → List Lexed → List Message
 of_leaves place [] = []
 of_leaves place (l ∷ ls) = of_leaf place l.message ++ of_leaves (place + size l.leaf.text) ls
 
--- the messages of a text: the parser's in the order of its steps, then the lexer's in the order of the leaves
-unfoldable pub messages : Edition → List ℕ → List Message
-messages edition text =
-    map of_grammar (sayings_of (dressed_file edition (leaves_in edition text))) ++ of_leaves 0 (lexed edition text)
+-- the messages of a text that is read by an entry: the parser's in the order of its steps, then the lexer's in the order of
+-- the leaves
+unfoldable pub messages_by : Production → Edition → List ℕ → List Message
+messages_by x edition text =
+    map of_grammar (sayings_of (dressed_by x edition (leaves_in edition text))) ++ of_leaves 0 (lexed edition text)
+
+-- the messages of a text, which is read as a source file
+abbrev pub messages : Edition → List ℕ → List Message
+messages = messages_by source_file

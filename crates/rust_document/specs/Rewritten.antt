@@ -4,10 +4,9 @@ use Rattle.rowan_green.specs.Forest.{Tree, tree_text}
 use Rattle.parser_input.specs.declared.edition.Edition.{Edition}
 use Rattle.rust_document.specs.IsReading.{IsReading}
 use Rattle.rust_document.specs.Step.{MAX_TEXT, is_faithful}
-use Rattle.rust_document.specs.Thin.{is_thin}
 use Rattle.rust_document.specs.declared.read.Reading.{Reading}
 use Rattle.rust_document.specs.declared.error.CommitError.{CommitError}
-use Rattle.rust_document.specs.declared.error.CommitError.TheVariants.{Foreign, TooLong, Unfaithful, NoTreeNumber, NoMemory, Later}
+use Rattle.rust_document.specs.declared.error.CommitError.TheVariants.{Foreign, TooLong, Unfaithful, NoTreeNumber, NoMemory}
 
 -- the text is the tree's and within the limit, the reading is the text's, and the tree is faithful to it
 pub record IsRewritten (edition : Edition) (t : Tree) (text : List ℕ) (reading : Reading) : Type 0 where
@@ -20,7 +19,6 @@ pub record IsRewritten (edition : Edition) (t : Tree) (text : List ℕ) (reading
 abbrev pub RefusesRewritten : Edition → Tree → CommitError → Type 0
 RefusesRewritten edition t Foreign = ⊥
 RefusesRewritten edition t TooLong = MAX_TEXT < length (tree_text t)
-RefusesRewritten edition t Later = (length (tree_text t) ≤ MAX_TEXT) × (is_thin edition (chars (tree_text t)) ≡ false)
-RefusesRewritten edition t Unfaithful = (length (tree_text t) ≤ MAX_TEXT) × (is_thin edition (chars (tree_text t)) ≡ true) × (is_faithful edition t ≡ false)
+RefusesRewritten edition t Unfaithful = (length (tree_text t) ≤ MAX_TEXT) × (is_faithful edition t ≡ false)
 RefusesRewritten edition t NoTreeNumber = ⊥
 RefusesRewritten edition t NoMemory = Unit {0}

@@ -6,7 +6,6 @@ use Rattle.parser_input.specs.declared.edition.Edition.{Edition}
 use Rattle.syntax_tree.specs.Handle.{Handle, placed_handle}
 use Rattle.syntax_tree.specs.Path.{first_of}
 use Rattle.rust_document.specs.Reading.{tree}
-use Rattle.rust_document.specs.Thin.{is_thin}
 use Rattle.rust_document.specs.Rewrite.{Editing, rewritten, bare}
 
 -- what contracts see of a document: the edition, the bytes of the text, and the number of the present tree. Tokens, messages
@@ -43,7 +42,6 @@ is_faithful edition t = same_tree (bare_tree t) (bare_tree (tree edition (chars 
 pub data Verdict : Type 0 where
   Foreign : Verdict
   TooLong : Verdict
-  Later : Verdict
   Unfaithful : Verdict
   Accepted : Verdict
 
@@ -54,7 +52,6 @@ verdict d e =
     first_fit
     (row (not (e.number == d.number) || not (same_tree e.root (present d))) Foreign
     ∷ row (nat_lt MAX_TEXT (length (tree_text (rewritten e)))) TooLong
-    ∷ row (not (is_thin d.edition (chars (tree_text (rewritten e))))) Later
     ∷ row (not (is_faithful d.edition (rewritten e))) Unfaithful
     ∷ [])
     Accepted

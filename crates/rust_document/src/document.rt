@@ -20,6 +20,7 @@ use crate::syntax_error::SyntaxError;
 use crate::tokens::{LexedToken, Tokens};
 use parser_input::edition::Edition;
 use parser_input::syntax_kind::SyntaxKind;
+use ra_parser::TopEntryPoint;
 use rowan_green::TextRange;
 use std::alloc::{AllocError, Global};
 use std::marker::Model;
@@ -61,8 +62,7 @@ impl Model for Document {
 impl Document {
     /// Reads a text, and gives its tree the next number of `ids`.
     ///
-    /// Refuses a text of more than 16,777,216 bytes as too long, then a text with a token other than white space, ended
-    /// comments, `struct`, names and `;` as one for later, then for want of a tree number. A refusal takes no number.
+    /// Refuses a text of more than 16,777,216 bytes as too long, then for want of a tree number. A refusal takes no number.
     pub fn open(
         alloc: Global,
         edition: Edition,
@@ -71,21 +71,18 @@ impl Document {
     ) -> Result<Document, OpenError>
         ensures opened { IfOk result (λ d. d ≡ record { edition = edition; text = text.now; number = ids.old }) }
         ensures number { OnOk result (ids.new ≡ ids.old + 1) }
-        ensures is_read { OnOk result (IsOpened edition text.now) }
-        ensures refused { IfErr result (RefusesOpen edition text.now ids.old) }
+        ensures is_read { OnOk result (IsOpened text.now) }
+        ensures refused { IfErr result (RefusesOpen text.now ids.old) }
         ensures kept { IfErr result (λ _. ids.new ≡ ids.old) }
     {
         if text.len() > MAX_TEXT {
             return Err(OpenError::TooLong);
         }
-        let Some(reading) = read(alloc, edition, text)? else {
-            return Err(OpenError::Later);
-        };
         let Reading {
             tokens,
             root,
             errors,
-        } = reading;
+        } = read(alloc, TopEntryPoint::SourceFile, edition, text)?;
         let text = String::from_str(alloc, text)?;
         let root = SyntaxNode::new_root(alloc, root, ids)?;
         Ok(Document {
@@ -163,9 +160,9 @@ impl Document {
     /// Makes an editor's recorded change, where its text reads as the rewritten tree; the text is the rewritten tree's, and its
     /// tree gets the next number of `ids`.
     ///
-    /// Refuses, in this order, an editor of another tree, a new text of more than 16,777,216 bytes, one for later, and one that
-    /// does not read as the rewritten tree, white space and comments aside; and for want of a tree number. A refusal changes
-    /// nothing. The editor is spent.
+    /// Refuses, in this order, an editor of another tree, a new text of more than 16,777,216 bytes, and one that does not read
+    /// as the rewritten tree, white space and comments aside; and for want of a tree number. A refusal changes nothing. The
+    /// editor is spent.
     pub fn commit(
         &mut self,
         alloc: Global,

@@ -13,8 +13,6 @@ pub enum OpenError {
     NoTreeNumber = 2,
     /// Memory was refused.
     NoMemory = 3,
-    /// The text has a token that documents do not read yet.
-    Later = 90,
 }
 
 impl fmt::Display for OpenError {
@@ -28,7 +26,6 @@ impl fmt::Display for OpenError {
             OpenError::TooLong => write!(f, "too long"),
             OpenError::NoTreeNumber => write!(f, "no tree number is left"),
             OpenError::NoMemory => write!(f, "out of memory"),
-            OpenError::Later => write!(f, "not read yet"),
         }
     }
 }
@@ -73,8 +70,6 @@ pub enum CommitError {
     NoTreeNumber = 6,
     /// Memory was refused.
     NoMemory = 7,
-    /// The new text has a token that documents do not read yet.
-    Later = 90,
 }
 
 impl fmt::Display for CommitError {
@@ -90,7 +85,6 @@ impl fmt::Display for CommitError {
             CommitError::Unfaithful => write!(f, "not what its text says"),
             CommitError::NoTreeNumber => write!(f, "no tree number is left"),
             CommitError::NoMemory => write!(f, "out of memory"),
-            CommitError::Later => write!(f, "not read yet"),
         }
     }
 }
@@ -167,6 +161,8 @@ impl From<AllocError> for RecordError {
 /// A refusal of `payload`. No number was taken.
 #[derive(Clone, Copy, Debug, PartialEq, Eq)]
 pub enum PayloadError {
+    /// The lexer or the parser has a message about the text.
+    Message = 1,
     /// The text is no token, or more than one.
     NotOneToken = 2,
     /// The text has more than 16,777,216 bytes.
@@ -175,8 +171,6 @@ pub enum PayloadError {
     NoTreeNumber = 4,
     /// Memory was refused.
     NoMemory = 5,
-    /// The text has a token that documents do not read yet.
-    Later = 90,
 }
 
 impl fmt::Display for PayloadError {
@@ -187,11 +181,11 @@ impl fmt::Display for PayloadError {
 
     fn fmt<W: fmt::Write>(&self, f: &mut fmt::Formatter<W>) -> fmt::Result {
         match self {
+            PayloadError::Message => write!(f, "has messages"),
             PayloadError::NotOneToken => write!(f, "not one token"),
             PayloadError::TooLong => write!(f, "too long"),
             PayloadError::NoTreeNumber => write!(f, "no tree number is left"),
             PayloadError::NoMemory => write!(f, "out of memory"),
-            PayloadError::Later => write!(f, "not read yet"),
         }
     }
 }

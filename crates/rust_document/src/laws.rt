@@ -1,6 +1,6 @@
 //! Laws of the definitions. Each is the contract of a function that makes no call.
 
-ghost use Rattle.rust_document.specs.Laws.{TreesHaveTheirTexts, LeavesAreSlices, UntouchedIsKept, ThinLeavesAreLexed};
+ghost use Rattle.rust_document.specs.Laws.{TreesHaveTheirTexts, LeavesAreSlices, UntouchedIsKept};
 
 /// The leaves of a text's tree, joined, are the text.
 pub fn trees_have_their_texts()
@@ -15,10 +15,4 @@ pub fn leaves_are_slices()
 /// An editor of the present tree with nothing recorded is accepted, and the text stays: so tokens, messages and tree do.
 pub fn untouched_is_kept()
     ensures { UntouchedIsKept }
-{}
-
-/// The leaves that a document reads are those of the whole definition, preface and all: a text that is opened has no preface,
-/// and none of its tokens is cut anew.
-pub fn thin_leaves_are_lexed()
-    ensures { ThinLeavesAreLexed }
 {}

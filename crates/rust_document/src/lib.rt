@@ -1,6 +1,6 @@
 //! A text with its reading: its messages and its tree, and nothing that an earlier text left.
 //!
-//! So far a document reads texts of white space, comments, the word `struct`, names and `;`.
+//! A text is read by the whole grammar; a change of it replaces one element by a token so far.
 #![tactic(auto)]
 
 mod bare;
@@ -13,7 +13,6 @@ mod read;
 mod rewrite;
 pub mod syntax_editor;
 pub mod syntax_error;
-mod thin;
 pub mod tokens;
 mod tree_sink;
 

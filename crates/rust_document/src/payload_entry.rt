@@ -1,30 +1,36 @@
 //! Texts that are put in the place of an element.
-ghost use Rattle.std.specs.Prelude.{◌≡◌, ◌+◌, ◌<◌, ◌^◌, ℕ, length, IfOk, IfErr, OnOk};
+ghost use Rattle.std.specs.Prelude.{◌≡◌, ◌+◌, ◌<◌, ◌^◌, ℕ, nat_lt, chars, length, IfOk, IfErr, OnOk};
 ghost use Rattle.syntax_tree.specs.Element.{handle_of};
-ghost use Rattle.rust_document.specs.Payload.{token_payload, One, IsDetached, RefusesPayload};
+ghost use Rattle.ra_parser.specs.Entries.{production_of};
+ghost use Rattle.rust_document.specs.Payload.{entry_payload, lexer_messages, payload_of, token_payload, One, Whole, IsDetached, RefusesPayload};
 ghost use Rattle.rust_document.specs.Seen.{seen};
 
 use crate::document::MAX_TEXT;
 use crate::error::PayloadError;
 use crate::leaf::Leaf;
-use crate::thin::is_thin;
+use crate::read::read;
 use parser_input::edition::Edition;
 use parser_input::lexed_str::LexedStr;
-use std::alloc::Global;
+use ra_parser::TopEntryPoint;
+use rowan_green::GreenNode;
+use std::alloc::{AllocError, Global};
 use syntax_tree::elements::token;
-use syntax_tree::{SyntaxElement, SyntaxToken, TreeIds};
+use syntax_tree::{SyntaxElement, SyntaxNode, SyntaxToken, TreeIds};
 
 /// What a text is to be read as.
 #[derive(Clone, Copy, Debug, PartialEq, Eq)]
 pub enum PayloadEntry {
+    /// What an entry of the parser reads: the tree's root is given.
+    Top(TopEntryPoint),
     /// One token.
     Token,
 }
 
-/// Reads a text to be put in the place of an element: a token, in a tree of its own with the next number of `ids`.
+/// Reads a text to be put in the place of an element: the tree of an entry, or a token in a tree of its own, with the next
+/// number of `ids`.
 ///
-/// Refuses a text of more than 16,777,216 bytes as too long, then a text with a token other than white space, ended
-/// comments, `struct`, names and `;` as one for later, then a text that is not one token, then for want of a tree number. A refusal takes no number.
+/// Refuses a text of more than 16,777,216 bytes as too long, then a text about which there is a message, then as a token a text
+/// that is not one, then for want of a tree number. In a token no shebang and no frontmatter is read. A refusal takes no number.
 pub fn payload(
     alloc: Global,
     entry: PayloadEntry,
@@ -32,21 +38,58 @@ pub fn payload(
     text: &str,
     ids: &mut TreeIds,
 ) -> Result<SyntaxElement, PayloadError>
-    ensures given { IfOk result (λ e. IsDetached ids.old (token_payload edition text.now) (handle_of e)) }
+    ensures given { IfOk result (λ e. IsDetached ids.old (payload_of entry edition text.now) (handle_of e)) }
     ensures number { OnOk result (ids.new ≡ ids.old + 1) }
-    ensures refused { IfErr result (RefusesPayload ids.old (token_payload edition text.now)) }
+    ensures refused { IfErr result (RefusesPayload ids.old (payload_of entry edition text.now)) }
     ensures kept { IfErr result (λ _. ids.new ≡ ids.old) }
 {
-    let leaf = match entry {
-        PayloadEntry::Token => only_leaf(edition, text)?,
-    };
-    let green = token(alloc, leaf.kind, leaf.text)?;
-    let token = SyntaxToken::detached(alloc, green, ids)?;
-    Ok(SyntaxElement::Token(token))
+    match entry {
+        PayloadEntry::Top(top) => {
+            let root = whole_tree(alloc, top, edition, text)?;
+            let node = SyntaxNode::new_root(alloc, root, ids)?;
+            Ok(SyntaxElement::Node(node))
+        }
+        PayloadEntry::Token => {
+            let leaf = only_leaf(alloc, edition, text)?;
+            let green = token(alloc, leaf.kind, leaf.text)?;
+            let token = SyntaxToken::detached(alloc, green, ids)?;
+            Ok(SyntaxElement::Token(token))
+        }
+    }
+}
+
+/// The tree of a text that an entry reads without a message.
+fn whole_tree(
+    alloc: Global,
+    top: TopEntryPoint,
+    edition: Edition,
+    text: &str,
+) -> Result<GreenNode, PayloadError>
+    ensures given { IfOk result (λ t. entry_payload (production_of top) edition text.now ≡ Whole t) }
+    ensures refused { IfErr result (λ e. (number : ℕ) → RefusesPayload number (entry_payload (production_of top) edition text.now) e) }
+{
+    if text.len() > MAX_TEXT {
+        return Err(PayloadError::TooLong);
+    }
+    let reading = read(alloc, top, edition, text)?;
+    if reading.errors.len() > 0 {
+        return Err(PayloadError::Message);
+    }
+    Ok(reading.root)
+}
+
+/// Whether the lexer has a message about a text. No shebang and no frontmatter is read.
+fn has_messages(alloc: Global, edition: Edition, text: &str) -> Result<bool, AllocError>
+    ensures { IfOk result (λ b. b ≡ nat_lt 0 (length (lexer_messages edition (chars text.now)))) }
+{
+    // What follows a `;` is no first line.
+    let content = format!(in alloc; ";{text}")?;
+    let lexed = LexedStr::new(alloc, edition, content.as_str())?;
+    Ok(lexed.errors().next().is_some())
 }
 
 /// The leaf that a text is.
-fn only_leaf<'a>(edition: Edition, text: &'a str) -> Result<Leaf<'a>, PayloadError>
+fn only_leaf<'a>(alloc: Global, edition: Edition, text: &'a str) -> Result<Leaf<'a>, PayloadError>
     ensures given { IfOk result (λ l. token_payload edition text.now ≡ One (seen l)) }
     ensures fits { IfOk result (λ l. length l.text.now < 2 ^ 32) }
     ensures refused { IfErr result (λ e. (number : ℕ) → RefusesPayload number (token_payload edition text.now) e) }
@@ -54,11 +97,14 @@ fn only_leaf<'a>(edition: Edition, text: &'a str) -> Result<Leaf<'a>, PayloadErr
     if text.len() > MAX_TEXT {
         return Err(PayloadError::TooLong);
     }
-    if !is_thin(edition, text) {
-        return Err(PayloadError::Later);
-    }
     match LexedStr::single_token(edition, text) {
-        Some((kind, _)) => Ok(Leaf { kind, text }),
-        None => Err(PayloadError::NotOneToken),
+        Some((kind, None)) => Ok(Leaf { kind, text }),
+        Some((_, Some(_))) => Err(PayloadError::Message),
+        None => {
+            if has_messages(alloc, edition, text)? {
+                return Err(PayloadError::Message);
+            }
+            Err(PayloadError::NotOneToken)
+        }
     }
 }

@@ -3,19 +3,18 @@ ghost use Rattle.std.specs.Prelude.{◌≡◌, ◌<◌, ◌≤◌, ◌++◌, len
 ghost use Rattle.parser_input.specs.Lexed.{leaves_of};
 ghost use Rattle.parser_events.specs.Dress.{joined};
 ghost use Rattle.parser_events.specs.Steps.{steps};
-ghost use Rattle.ra_parser.specs.Laws.{file_of};
-ghost use Rattle.rust_document.specs.IsReading.{IsReadingIfThin};
-ghost use Rattle.rust_document.specs.Reading.{of_leaf_at, of_leaves};
+ghost use Rattle.ra_parser.specs.Entries.{production_of};
+ghost use Rattle.rust_document.specs.IsReading.{IsReadingBy};
+ghost use Rattle.rust_document.specs.Reading.{forest_by, of_leaf_at, of_leaves};
 ghost use Rattle.rust_document.specs.Seen.{told};
 ghost use Rattle.rust_document.specs.TreeBuilt.{IsBuilt};
 
 use crate::syntax_error::{SyntaxError, SyntaxMessage};
-use crate::thin::is_thin;
 use crate::tokens::{LexedToken, lexed_tokens};
 use crate::tree_sink::{Built, build};
 use parser_input::edition::Edition;
 use parser_input::lexed_str::LexedStr;
-use ra_parser::parse;
+use ra_parser::{ParseError, TopEntryPoint};
 use rowan_green::GreenNode;
 use std::alloc::{AllocError, Global};
 
@@ -27,16 +26,20 @@ pub struct Reading {
     pub errors: Vec<SyntaxError>,
 }
 
-/// The tree and the messages of a text whose leaves are known.
-fn parsed(alloc: Global, lexed: &LexedStr<'_>) -> Result<Built, AllocError>
+/// The tree and the messages that an entry reads of a text whose leaves are known.
+fn parsed(alloc: Global, entry: TopEntryPoint, lexed: &LexedStr<'_>) -> Result<Built, AllocError>
     requires bytes { length (encode_utf8_all (joined (leaves_of lexed.now.leaves))) ≤ 16777216 }
     requires count { length lexed.now.leaves ≤ 16777216 }
     ensures { IfOk result (λ b. IsBuilt
-        (steps (file_of lexed.now.edition (leaves_of lexed.now.leaves)))
+        (steps (forest_by (production_of entry) lexed.now.edition (leaves_of lexed.now.leaves)))
         (leaves_of lexed.now.leaves) b.root b.errors.items) }
 {
     let input = lexed.to_input(alloc)?;
-    let output = parse::source_file(alloc, &input)?;
+    let output = match entry.parse(alloc, &input) {
+        Ok(output) => output,
+        Err(ParseError::NoMemory) => return Err(AllocError),
+        Err(ParseError::TooLong) => unreachable!(),
+    };
     let built = build(alloc, lexed, &output)?;
     Ok(built)
 }
@@ -70,22 +73,25 @@ fn append_faults(lexed: &LexedStr<'_>, errors: &mut Vec<SyntaxError>) -> Result<
     Ok(())
 }
 
-/// Reads a text of at most 16,777,216 bytes; None where a token of it is not thin.
-pub fn read(alloc: Global, edition: Edition, text: &str) -> Result<Option<Reading>, AllocError>
+/// Reads a text of at most 16,777,216 bytes by an entry.
+pub fn read(
+    alloc: Global,
+    entry: TopEntryPoint,
+    edition: Edition,
+    text: &str,
+) -> Result<Reading, AllocError>
     requires { length text.now ≤ 16777216 }
-    ensures { IfOk result (λ o. IsReadingIfThin edition (chars text.now) o) }
+    ensures { IfOk result (λ r. IsReadingBy (production_of entry) edition (chars text.now)
+        r.tokens.items r.root r.errors.items) }
 {
-    if !is_thin(edition, text) {
-        return Ok(None);
-    }
     let lexed = LexedStr::new(alloc, edition, text)?;
-    let built = parsed(alloc, &lexed)?;
+    let built = parsed(alloc, entry, &lexed)?;
     let Built { root, mut errors } = built;
     append_faults(&lexed, &mut errors)?;
     let tokens = lexed_tokens(alloc, &lexed)?;
-    Ok(Some(Reading {
+    Ok(Reading {
         tokens,
         root,
         errors,
-    }))
+    })
 }

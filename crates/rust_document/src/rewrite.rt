@@ -9,6 +9,7 @@ use crate::error::CommitError;
 use crate::read::{Reading, read};
 use crate::syntax_editor::SyntaxEditor;
 use parser_input::edition::Edition;
+use ra_parser::TopEntryPoint;
 use rowan_green::{GreenError, GreenNode};
 use std::alloc::Global;
 
@@ -28,9 +29,7 @@ fn read_back(alloc: Global, edition: Edition, tree: &GreenNode) -> Result<Rewrit
         return Err(CommitError::TooLong);
     }
     let text = format!(in alloc; "{tree}")?;
-    let Some(reading) = read(alloc, edition, text.as_str())? else {
-        return Err(CommitError::Later);
-    };
+    let reading = read(alloc, TopEntryPoint::SourceFile, edition, text.as_str())?;
     if same_bare(tree, &reading.root) {
         return Ok(Rewritten { text, reading });
     }

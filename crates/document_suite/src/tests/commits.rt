@@ -98,7 +98,13 @@ fn tokens_for_a_name(rt: HostRuntime) -> Result<(), Fail> {
             "struct S;",
             1,
         ),
-        row(new, (old, "async"), Err(CommitError::Later), "struct S;", 1),
+        row(
+            new,
+            (old, "async"),
+            Err(CommitError::Unfaithful),
+            "struct S;",
+            1,
+        ),
     ] {
         assert!(rt; is_answered(rt.alloc(), row)?, "{}", row.token.1);
     }

@@ -133,6 +133,84 @@ const MISSING: Row = Row {
     ],
 };
 
+const NO_ITEMS: Row = Row {
+    text: "@error@",
+    tree: &[
+        ((SyntaxKind::SOURCE_FILE, 0, 7), &[]),
+        ((SyntaxKind::ERROR, 0, 1), &[0]),
+        ((SyntaxKind::AT, 0, 1), &[0, 0]),
+        ((SyntaxKind::ERROR, 1, 6), &[1]),
+        ((SyntaxKind::PATH, 1, 6), &[1, 0]),
+        ((SyntaxKind::PATH_SEGMENT, 1, 6), &[1, 0, 0]),
+        ((SyntaxKind::NAME_REF, 1, 6), &[1, 0, 0, 0]),
+        ((SyntaxKind::IDENT, 1, 6), &[1, 0, 0, 0, 0]),
+        ((SyntaxKind::ERROR, 6, 7), &[2]),
+        ((SyntaxKind::AT, 6, 7), &[2, 0]),
+    ],
+    tokens: &[
+        (SyntaxKind::AT, 0, 1),
+        (SyntaxKind::IDENT, 1, 6),
+        (SyntaxKind::AT, 6, 7),
+    ],
+    errors: &[
+        (0, "expected an item"),
+        (6, "expected an item"),
+        (6, "expected an item"),
+    ],
+};
+
+const OPEN_PARAMS: Row = Row {
+    text: "fn f( {}",
+    tree: &[
+        ((SyntaxKind::FN, 0, 8), &[0]),
+        ((SyntaxKind::PARAM_LIST, 4, 5), &[0, 3]),
+        ((SyntaxKind::L_PAREN, 4, 5), &[0, 3, 0]),
+        ((SyntaxKind::BLOCK_EXPR, 6, 8), &[0, 5]),
+        ((SyntaxKind::STMT_LIST, 6, 8), &[0, 5, 0]),
+    ],
+    tokens: &[
+        (SyntaxKind::FN_KW, 0, 2),
+        (SyntaxKind::WHITESPACE, 2, 3),
+        (SyntaxKind::IDENT, 3, 4),
+        (SyntaxKind::L_PAREN, 4, 5),
+        (SyntaxKind::WHITESPACE, 5, 6),
+        (SyntaxKind::L_CURLY, 6, 7),
+        (SyntaxKind::R_CURLY, 7, 8),
+    ],
+    errors: &[(5, "expected R_PAREN")],
+};
+
+const FIELDS: Row = Row {
+    text: "struct S { a b: c }",
+    tree: &[
+        ((SyntaxKind::STRUCT, 0, 19), &[0]),
+        ((SyntaxKind::RECORD_FIELD_LIST, 9, 19), &[0, 4]),
+    ],
+    tokens: &[
+        (SyntaxKind::STRUCT_KW, 0, 6),
+        (SyntaxKind::WHITESPACE, 6, 7),
+        (SyntaxKind::IDENT, 7, 8),
+        (SyntaxKind::WHITESPACE, 8, 9),
+        (SyntaxKind::L_CURLY, 9, 10),
+        (SyntaxKind::WHITESPACE, 10, 11),
+        (SyntaxKind::IDENT, 11, 12),
+        (SyntaxKind::WHITESPACE, 12, 13),
+        (SyntaxKind::IDENT, 13, 14),
+        (SyntaxKind::COLON, 14, 15),
+        (SyntaxKind::WHITESPACE, 15, 16),
+        (SyntaxKind::IDENT, 16, 17),
+        (SyntaxKind::WHITESPACE, 17, 18),
+        (SyntaxKind::R_CURLY, 18, 19),
+    ],
+    errors: &[
+        (12, "expected COLON"),
+        (14, "expected COMMA"),
+        (14, "unexpected token in RECORD_FIELD_LIST"),
+        (17, "expected COLON"),
+        (17, "expected a type"),
+    ],
+};
+
 /// Whether a text is read as its row says.
 pub(super) fn is_read(alloc: Global, row: Row) -> Result<bool, Fail> {
     let document = open(alloc, row.text)?;
@@ -145,7 +223,15 @@ pub(super) fn is_read(alloc: Global, row: Row) -> Result<bool, Fail> {
 
 #[test]
 fn texts_are_read(rt: HostRuntime) -> Result<(), Fail> {
-    for row in [EMPTY, STRUCT, NO_ITEM, MISSING] {
+    for row in [
+        EMPTY,
+        STRUCT,
+        NO_ITEM,
+        MISSING,
+        NO_ITEMS,
+        OPEN_PARAMS,
+        FIELDS,
+    ] {
         assert!(rt; is_read(rt.alloc(), row)?, "{}", row.text);
     }
     Ok(())
@@ -169,12 +255,19 @@ fn refusal(alloc: Global, text: &str, ids: &mut TreeIds) -> Option<OpenError> {
 }
 
 #[test]
-fn other_texts(rt: HostRuntime) {
+fn every_text_opens(rt: HostRuntime) {
     let mut ids = TreeIds::new();
-    for text in ["struct S {}", "struct _;", "fn", "struct S; /* s"] {
-        assert!(rt; refusal(rt.alloc(), text, &mut ids) == Some(OpenError::Later));
+    for text in [
+        "fn f() {}",
+        "struct _;",
+        "}",
+        "struct S; /* s",
+        "'",
+        "#![a] \u{0}",
+    ] {
+        assert!(rt; refusal(rt.alloc(), text, &mut ids).is_none());
     }
-    assert!(rt; ids.next() == Ok(1));
+    assert!(rt; ids.next() == Ok(7));
 }
 
 #[test]

@@ -2,6 +2,7 @@
 use super::{range, spaces};
 use parser_input::edition::Edition;
 use parser_input::syntax_kind::SyntaxKind;
+use ra_parser::TopEntryPoint;
 use rowan_green::TextRange;
 use rust_document::{MAX_TEXT, PayloadEntry, PayloadError, payload};
 use std::alloc::{AllocError, Global};
@@ -30,14 +31,87 @@ fn a_word(rt: HostRuntime) {
     assert!(rt; word == Ok(Some((SyntaxKind::STRUCT_KW, 1, range(0, 6)))));
 }
 
+/// What an entry reads, as a payload: its kind, the number of its tree, and its range, where it is the root of that.
+fn read_as(
+    alloc: Global,
+    top: TopEntryPoint,
+    text: &str,
+    ids: &mut TreeIds,
+) -> Result<Option<(SyntaxKind, u32, TextRange)>, PayloadError> {
+    let entry = PayloadEntry::Top(top);
+    let element = payload(alloc, entry, Edition::Edition2021, text, ids)?;
+    let first = element.path() == [].as_slice();
+    let seen = (element.kind(), element.tree(), element.text_range());
+    Ok(first.then_some(seen))
+}
+
+#[test]
+fn trees(rt: HostRuntime) {
+    let mut ids = TreeIds::new();
+    for (top, text, kind) in [
+        (TopEntryPoint::Expr, "2 + 2 == 5", SyntaxKind::BIN_EXPR),
+        (TopEntryPoint::Ty, "&mut [u8]", SyntaxKind::REF_TYPE),
+        (TopEntryPoint::Pattern, "Some(_) | None", SyntaxKind::OR_PAT),
+        (
+            TopEntryPoint::SourceFile,
+            "fn f() {}",
+            SyntaxKind::SOURCE_FILE,
+        ),
+        (
+            TopEntryPoint::MacroItems,
+            "fn f() {}",
+            SyntaxKind::MACRO_ITEMS,
+        ),
+        (
+            TopEntryPoint::MacroStmts,
+            "let x = 1;",
+            SyntaxKind::MACRO_STMTS,
+        ),
+        (TopEntryPoint::MetaItem, "derive(Debug)", SyntaxKind::META),
+    ] {
+        let read = read_as(rt.alloc(), top, text, &mut ids).ok().flatten();
+        assert!(rt; read.is_some_and(|element| element.0 == kind), "{text}");
+    }
+    assert!(rt; ids.next() == Ok(8));
+}
+
+#[test]
+fn texts_with_messages(rt: HostRuntime) {
+    let mut ids = TreeIds::new();
+    for (top, text) in [
+        (TopEntryPoint::Ty, ";"),
+        (TopEntryPoint::Expr, "1 2"),
+        (TopEntryPoint::Expr, ".. + 1"),
+        (TopEntryPoint::Pattern, ""),
+        (TopEntryPoint::Expr, "\"a"),
+    ] {
+        assert!(rt;
+            read_as(rt.alloc(), top, text, &mut ids) == Err(PayloadError::Message),
+            "{text}"
+        );
+    }
+    assert!(rt; ids.next() == Ok(1));
+}
+
+#[test]
+fn other_tokens(rt: HostRuntime) {
+    let literal = seen(rt.alloc(), "1.5e3", &mut TreeIds::new());
+    assert!(rt; literal == Ok(Some((SyntaxKind::FLOAT_NUMBER, 1, range(0, 5)))));
+    let mark = seen(rt.alloc(), "_", &mut TreeIds::new());
+    assert!(rt; mark == Ok(Some((SyntaxKind::UNDERSCORE, 1, range(0, 1)))));
+}
+
 #[test]
 fn other_texts(rt: HostRuntime) {
     let mut ids = TreeIds::new();
     for (text, expected) in [
         ("a b", PayloadError::NotOneToken),
         ("", PayloadError::NotOneToken),
-        ("a {", PayloadError::Later),
-        ("_", PayloadError::Later),
+        ("a {", PayloadError::NotOneToken),
+        ("#!/bin/sh", PayloadError::NotOneToken),
+        ("\"a", PayloadError::Message),
+        ("a 'b \"c", PayloadError::Message),
+        ("#!/bin/sh \"", PayloadError::Message),
     ] {
         assert!(rt; seen(rt.alloc(), text, &mut ids) == Err(expected));
     }

@@ -12,7 +12,20 @@ fn is_put(
     token: &str,
     expected: &str,
 ) -> Result<bool, Fail> {
-    let change = format!(in alloc; r#"{{"op":"replace","at":{at},"with":["token","{token}"]}}"#)?;
+    is_put_as(alloc, "token", edition, text, at, token, expected)
+}
+
+/// The same of a commit of what an entry reads.
+fn is_put_as(
+    alloc: Global,
+    entry: &str,
+    edition: &str,
+    text: &str,
+    at: &str,
+    new: &str,
+    expected: &str,
+) -> Result<bool, Fail> {
+    let change = format!(in alloc; r#"{{"op":"replace","at":{at},"with":["{entry}","{new}"]}}"#)?;
     let command = format!(in alloc; r#"{{"do":"commit","changes":[{change}]}}"#)?;
     let request = format!(in alloc;
         r#"{{"edition":"{edition}","text":"{text}","commands":[{command}]}}"#
@@ -50,15 +63,15 @@ fn a_keyword_is_unfaithful(rt: HostRuntime) -> Result<(), Fail> {
     Ok(())
 }
 
-/// The word `async` is a name in 2015 alone, and a keyword that is not read yet from 2018 on.
+/// The word `async` is a name in 2015 alone, and a keyword from 2018 on.
 #[test]
 fn async_by_edition(rt: HostRuntime) -> Result<(), Fail> {
     let name = "{\"changed\":[[7,12]],\"ok\":\"commit\"}\nstruct async;";
-    let later = "{\"err\":\"Later\"}\nstruct S;";
+    let unfaithful = "{\"err\":\"Unfaithful\"}\nstruct S;";
     let target = r#"["IDENT",7,8]"#;
     let alloc = rt.alloc();
     assert!(rt; is_put(alloc, "2015", "struct S;", target, "async", name)?);
-    assert!(rt; is_put(alloc, "2018", "struct S;", target, "async", later)?);
+    assert!(rt; is_put(alloc, "2018", "struct S;", target, "async", unfaithful)?);
     Ok(())
 }
 
@@ -76,12 +89,78 @@ fn refused_commands(rt: HostRuntime) -> Result<(), Fail> {
         (r#"["IDENT",7,8]"#, "", "Payload"),
         (r#"["SOURCE_FILE",0,9]"#, "a b", "Payload"),
         (r#"["SOURCE_FILE",0,9]"#, "T", "BadTarget"),
-        (r#"["IDENT",7,8]"#, "+", "Later"),
+        (r#"["IDENT",7,8]"#, "+", "Unfaithful"),
+        (r#"["IDENT",7,8]"#, "'b", "Unfaithful"),
     ];
     for (target, token, name) in &cases {
         let expected = format!(in alloc; "{{\"err\":\"{name}\"}}\nstruct S;")?;
         let put = is_put(alloc, "2021", "struct S;", target, token, &expected)?;
         assert!(rt; put);
+    }
+    Ok(())
+}
+
+/// An operand that takes its operator apart is refused, one in brackets is put in; so it is with types and patterns.
+#[test]
+fn operands_are_put(rt: HostRuntime) -> Result<(), Fail> {
+    let product = "fn f() { let x = a * 2; }";
+    let place = r#"["PATH_EXPR",17,18]"#;
+    let name = r#"["IDENT_PAT",13,14]"#;
+    let cases = [
+        (
+            "expr",
+            product,
+            place,
+            "1 + 2",
+            "{\"err\":\"Unfaithful\"}\nfn f() { let x = a * 2; }",
+        ),
+        (
+            "expr",
+            product,
+            place,
+            "(1 + 2)",
+            "{\"changed\":[[17,24]],\"ok\":\"commit\"}\nfn f() { let x = (1 + 2) * 2; }",
+        ),
+        (
+            "expr",
+            "fn f() { a&b; }",
+            r#"["PATH_EXPR",11,12]"#,
+            "&b",
+            "{\"err\":\"Unfaithful\"}\nfn f() { a&b; }",
+        ),
+        (
+            "pattern",
+            product,
+            name,
+            "(y, _)",
+            "{\"changed\":[[13,19]],\"ok\":\"commit\"}\nfn f() { let (y, _) = a * 2; }",
+        ),
+        (
+            "type",
+            product,
+            name,
+            ";",
+            "{\"err\":\"Payload\"}\nfn f() { let x = a * 2; }",
+        ),
+        (
+            "expr",
+            product,
+            place,
+            "1 2",
+            "{\"err\":\"Payload\"}\nfn f() { let x = a * 2; }",
+        ),
+        (
+            "type",
+            "struct S(u8);",
+            r#"["PATH_TYPE",9,11]"#,
+            "&'a [u8]",
+            "{\"changed\":[[9,17]],\"ok\":\"commit\"}\nstruct S(&'a [u8]);",
+        ),
+    ];
+    let alloc = rt.alloc();
+    for (entry, text, at, new, expected) in &cases {
+        let put = is_put_as(alloc, entry, "2021", text, at, new, expected)?;
+        assert!(rt; put, "{new}");
     }
     Ok(())
 }

@@ -1,6 +1,6 @@
 -- Only the open nodes change.
 use Rattle.ra_parser.proofs.Looking.{same-left, same-spent}
-use Rattle.ra_parser.proofs.Moves.{leaves}
+use Rattle.grammar_reader.proofs.Moves.{leaves}
 use Rattle.ra_parser.proofs.grammar.abandon.Goals as goal
 
 pub returns-clause-leaves : goal.returns-clause-leaves

@@ -1,7 +1,7 @@
 -- The look is at the tokens left.
 use Rattle.std.proofs.Common.{◌∙◌}
 use Rattle.ra_parser.proofs.Looking.{saw-kind, some-ahead, same-tokens, one-look}
-use Rattle.ra_parser.proofs.Moves.{does-look}
+use Rattle.grammar_reader.proofs.Moves.{does-look}
 use Rattle.ra_parser.proofs.grammar.at_third.Goals as goal
 
 pub returns-clause-sees : goal.returns-clause-sees

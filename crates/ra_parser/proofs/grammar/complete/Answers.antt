@@ -1,6 +1,6 @@
 -- Only the open nodes change.
 use Rattle.ra_parser.proofs.Looking.{same-left, same-spent}
-use Rattle.ra_parser.proofs.Moves.{closes}
+use Rattle.grammar_reader.proofs.Moves.{closes}
 use Rattle.ra_parser.proofs.grammar.complete.Goals as goal
 
 pub returns-clause-closes : goal.returns-clause-closes

@@ -1,7 +1,7 @@
 -- The look is at the tokens left.
 use Rattle.std.proofs.Common.{ℕ, nat_eq, ap}
 use Rattle.ra_parser.proofs.Looking.{saw-next, saw-some, left-next, same-tokens, one-look}
-use Rattle.ra_parser.proofs.Moves.{does-look}
+use Rattle.grammar_reader.proofs.Moves.{does-look}
 use Rattle.ra_parser.proofs.grammar.current.Goals as goal
 
 pub returns-clause-sees : goal.returns-clause-sees

@@ -1,6 +1,6 @@
 -- Only the open nodes change.
 use Rattle.ra_parser.proofs.Looking.{same-left, same-spent}
-use Rattle.ra_parser.proofs.Moves.{does-say}
+use Rattle.grammar_reader.proofs.Moves.{does-say}
 use Rattle.ra_parser.proofs.ByHand.{reads-say}
 use Rattle.ra_parser.proofs.grammar.error.Goals as goal
 

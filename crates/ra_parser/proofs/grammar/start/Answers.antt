@@ -1,6 +1,6 @@
 -- Only the open nodes change.
 use Rattle.ra_parser.proofs.Looking.{same-left, same-spent}
-use Rattle.ra_parser.proofs.Moves.{opens}
+use Rattle.grammar_reader.proofs.Moves.{opens}
 use Rattle.ra_parser.proofs.grammar.start.Goals as goal
 
 pub returns-clause-opens : goal.returns-clause-opens

@@ -2,7 +2,7 @@
 use Rattle.std.proofs.Common.{arith}
 use Rattle.ra_parser.proofs.ByHand.{reads-leaf}
 use Rattle.ra_parser.proofs.Looking.{enough-left, fewer-tokens, paid-looks}
-use Rattle.ra_parser.proofs.Moves.{does-token}
+use Rattle.grammar_reader.proofs.Moves.{does-token}
 use Rattle.ra_parser.proofs.grammar.take.Goals as goal
 
 pub token-requires-clause-left : goal.token-requires-clause-left

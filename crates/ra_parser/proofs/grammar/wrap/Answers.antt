@@ -1,7 +1,7 @@
 -- The node is closed, and one is opened around it.
 use Rattle.std.proofs.Common.{◌∙◌}
 use Rattle.ra_parser.proofs.Looking.{same-left, same-spent}
-use Rattle.ra_parser.proofs.Moves.{does-wrap, child}
+use Rattle.grammar_reader.proofs.Moves.{does-wrap, child}
 use Rattle.ra_parser.proofs.grammar.wrap.Goals as goal
 
 pub precede-requires : goal.precede-requires

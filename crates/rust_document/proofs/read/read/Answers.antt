@@ -5,8 +5,8 @@ use Rattle.parser_input.specs.Lexed.{leaves_of}
 use Rattle.parser_input.specs.Stored.{Whole}
 use Rattle.parser_events.specs.Dress.{joined}
 use Rattle.parser_events.specs.Steps.{steps}
-use Rattle.ra_parser.specs.Laws.{file_of}
-use Rattle.rust_document.specs.Reading.{of_leaves}
+use Rattle.ra_parser.specs.Entries.{production_of}
+use Rattle.rust_document.specs.Reading.{forest_by, of_leaves}
 use Rattle.rust_document.specs.Seen.{in_bytes, told}
 use Rattle.rust_document.specs.Tokens.{spans_from}
 use Rattle.rust_document.specs.TreeBuilt.{IsBuilt}
@@ -20,7 +20,7 @@ parsed-requires-clause-bytes c =
 
 pub parsed-requires-clause-count : goal.parsed-requires-clause-count
 parsed-requires-clause-count c =
-    omega (arith, ap (λ (w : Whole). length w.leaves) c.in_ok-lexed.ensures, count-all c.args.edition c.args.text.now c.utf8.text (sym c.if-not-is_thin.ensures), c.requires)
+    omega (arith, ap (λ (w : Whole). length w.leaves) c.in_ok-lexed.ensures, count-all c.args.edition c.args.text.now c.utf8.text, c.requires)
 
 pub lexed_tokens-requires : goal.lexed_tokens-requires
 lexed_tokens-requires c =
@@ -28,7 +28,7 @@ lexed_tokens-requires c =
 
 pub returns : goal.returns
 returns c =
-    whole c.args.edition (chars c.args.text.now) _ _ _ _ (sym c.if-not-is_thin.ensures)
-    (subst (λ (w : Whole). IsBuilt (steps (file_of w.edition (leaves_of w.leaves))) (leaves_of w.leaves) c.in_ok-built.built.root c.in_ok-built.built.errors.items) c.in_ok-lexed.ensures c.in_ok-built.ensures)
+    whole c.args.entry c.args.edition (chars c.args.text.now) _ _ _ _
+    (subst (λ (w : Whole). IsBuilt (steps (forest_by (production_of c.args.entry) w.edition (leaves_of w.leaves))) (leaves_of w.leaves) c.in_ok-built.built.root c.in_ok-built.built.errors.items) c.in_ok-lexed.ensures c.in_ok-built.ensures)
     (c.in_ok-append_faults.ensures ∙ ap (λ (w : Whole). map told c.in_ok-built.built.errors.items ++ of_leaves 0 w.leaves) c.in_ok-lexed.ensures)
     (c.in_ok-tokens.ensures ∙ ap (λ (w : Whole). spans_from 0 (map in_bytes (leaves_of w.leaves))) c.in_ok-lexed.ensures)
