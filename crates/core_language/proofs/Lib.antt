@@ -1,0 +1,17 @@
+pub mod Rules
+pub mod Paths
+pub mod Types
+pub mod Places
+pub mod Starts
+pub mod Operators
+pub mod Layers
+pub mod Tails
+pub mod Atoms
+pub mod Postfix
+pub mod Expressions
+pub mod Patterns
+pub mod Statements
+pub mod Lists
+pub mod Items
+pub mod Clean
+pub mod Read
