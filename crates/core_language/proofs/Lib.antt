@@ -15,3 +15,7 @@ pub mod Lists
 pub mod Items
 pub mod Clean
 pub mod Read
+pub mod Apart
+pub mod Spaced
+pub mod Same
+pub mod Respaced

@@ -1,6 +1,6 @@
 //! Laws of the core language. Each is the contract of a function that makes no call.
 
-ghost use Rattle.core_language.specs.Laws.{CoreExpressionsAreClean, CoreExpressionsAreRead, CoreExpressionsHaveOneTree, CoreFilesAreClean, CoreFilesAreRead, CoreFilesHaveOneTree, CoreTypesAreClean, CoreTypesAreRead, CoreTypesHaveOneTree};
+ghost use Rattle.core_language.specs.Laws.{CoreExpressionsAreClean, CoreExpressionsAreRead, CoreExpressionsHaveOneTree, CoreFilesAreClean, CoreFilesAreRead, CoreFilesHaveOneTree, CoreTypesAreClean, CoreTypesAreRead, CoreTypesHaveOneTree, SpacedCoreExpressionsAreCore, SpacedCoreFilesAreCore, SpacedCoreTypesAreCore};
 
 /// Where the input is a core file, type or expression, the grammar gives its tree.
 pub fn core_lists_are_read()
@@ -21,4 +21,11 @@ pub fn core_trees_are_clean()
     ensures files { CoreFilesAreClean }
     ensures types { CoreTypesAreClean }
     ensures expressions { CoreExpressionsAreClean }
+{}
+
+/// The leaves of a core tree, parted by white space, are a core list of that tree, whatever its floats are.
+pub fn spaced_core_trees_are_core()
+    ensures files { SpacedCoreFilesAreCore }
+    ensures types { SpacedCoreTypesAreCore }
+    ensures expressions { SpacedCoreExpressionsAreCore }
 {}
