@@ -19,3 +19,6 @@ pub mod Apart
 pub mod Spaced
 pub mod Same
 pub mod Respaced
+pub mod Otherwise
+pub mod Cases
+pub mod Touching

@@ -266,17 +266,72 @@ class Derivation:
 
 
 def lemmas(number, case):
+    """what is computed of a case"""
     row, tree = case["input"], forest([case["tree"]])
     floats = [bit(joint) for kind, _, joint in row if kind == "FLOAT_NUMBER"]
+    out = f"abbrev tokens{number} : List Token\ntokens{number} = {tokens(row)}\n\nabbrev tree{number} : Forest\ntree{number} = {tree}\n\n"
     if case["core"]:
         items, proof = Derivation(row).items(case["tree"][1])
         fields = f"items = {items}; well_formed = {proof}; has_tokens = refl; has_tree = refl"
-        out = f"core{number} : IsCoreFile ({tokens(row)}) {tree}\ncore{number} = record {{ {fields} }}\n\n"
+        out += f"core{number} : IsCoreFile tokens{number} tree{number}\ncore{number} = record {{ {fields} }}\n\n"
     else:
-        out = f"other{number} : IsCoreFile ({tokens(row)}) {tree} → ⊥\nunfolding entry look_of meaning table\n"
-        out += f"other{number} = read-otherwise _ _ refl\n\n"
-    out += f"spaced{number} : spaced {tree} ({' ∷ '.join([*floats, '[]'])}) ≡ {tokens(row)}\n"
+        out += f"other{number} : IsCoreFile tokens{number} tree{number} → ⊥\nunfolding {COMPUTING}\n"
+        out += f"other{number} = read-otherwise tokens{number} tree{number} refl\n\n"
+    out += f"spaced{number} : spaced tree{number} ({' ∷ '.join([*floats, '[]'])}) ≡ tokens{number}\n"
     return out + f"unfolding spaced_before\nspaced{number} = refl\n"
+
+
+COMPUTING = (
+    "meaning by_length by_rank follow look_of begins_below read turns leaf say skip split fresh node wrapped behind sees ahead is_end begins passes"
+    " is_silent width shift in_mode there_at rule rank whole expected wanted row any_of one_of is_longer no_longer op paths types patterns"
+    " expressions statements items leaves is_used_up takes_all entry"
+)
+IMPORTS = """use Rattle.rust_grammar.specs.Rule.{begins, passes, is_silent, width, shift, in_mode, there_at}
+use Rattle.rust_grammar.specs.Notation.{expected, wanted, row, any_of, one_of, is_longer, no_longer, op}
+use Rattle.rust_grammar.specs.Meaning.{meaning, by_length, by_rank, follow, look_of, begins_below, read, turns, leaf, say, skip, split, fresh, node, wrapped, behind, sees, ahead, is_end}
+use Rattle.rust_grammar.specs.Paths.{paths}
+use Rattle.rust_grammar.specs.Types.{types}
+use Rattle.rust_grammar.specs.Patterns.{patterns}
+use Rattle.rust_grammar.specs.Expressions.{expressions}
+use Rattle.rust_grammar.specs.Statements.{statements}
+use Rattle.rust_grammar.specs.Items.{items}
+use Rattle.rust_grammar.specs.Entry.{leaves, is_used_up, takes_all, entry}
+use Rattle.rust_grammar.specs.Whole.{rule, rank, whole}"""
+DEFINED = {
+    "specs.Tokens": "of_kind name_token",
+    "specs.Types": "Immutable Mutable Name Below PathType ReferenceType SliceType",
+    "specs.Operators": " ".join(
+        [*LITERALS.values(), *PREFIXES.values(), *(it for it, _ in OPERATORS.values()), *ASSIGNERS.values()]
+    ),
+    "specs.Expressions": "Literal Named Parenthesized FunctionCall MethodCall FieldAccess Prefixed Borrow Binary Assignment"
+    " NoArgument LastArgument ArgumentComma",
+    "specs.Statements": "NamePattern NoAnnotation AnnotatedBy NoInitializer InitializedBy Let Run NoStatement LastExpression StatementThen Braces",
+    "specs.Items": "Private Public NoElement LastElement ElementComma NamedField TypedPattern NoReturnType Returns UnitStruct RecordStruct"
+    " OuterModule InnerModule Function NoItem ItemThen",
+    "specs.Language": "IsCoreFile",
+    "specs.Spaced": "spaced spaced_before",
+    "proofs.Otherwise": "read-otherwise",
+}
+
+
+def heading(body):
+    """returns the file's comment and its imports, of what the lemmas name"""
+    named = set(re.findall(r"[A-Za-z_][\w-]*", body))
+    kinds = sorted(it for it in named if re.fullmatch(r"[A-Z][A-Z0-9_]+", it))
+    lines = [
+        "-- Files of an independent reader, with its inputs and trees: core files, and others of which the tree is no core tree.",
+        "use Rattle.std.proofs.Common.{◌≡◌, true, false, List, [], ◌∷◌, refl, arith, if◌then◌else◌}",
+        f"use Rattle.parser_input.specs.Kinds.{{{', '.join(kinds)}}}",
+        "use Rattle.parser_input.specs.Input.{Token}",
+        "use Rattle.parser_events.specs.Forest.{Forest, End, Leaf, Node}",
+    ]
+    if "read-otherwise" in named:
+        lines.append(IMPORTS)
+    for module, names in DEFINED.items():
+        used = [it for it in names.split() if it in named]
+        if used:
+            lines.append(f"use Rattle.core_language.{module}.{{{', '.join(used)}}}")
+    return "\n".join(lines)
 
 
 def main():
@@ -284,7 +339,7 @@ def main():
         cases = [json.loads(line) for line in file]
     chosen = [int(it) for it in sys.argv[2].split(",")] if len(sys.argv) > 2 else range(1, len(cases) + 1)
     body = "\n".join(lemmas(it, cases[it - 1]) for it in chosen)
-    print(body)
+    print(f"{heading(body)}\n\n{body}", end="")
 
 
 main()
