@@ -22,3 +22,7 @@ pub mod Respaced
 pub mod Otherwise
 pub mod Cases
 pub mod Touching
+pub mod Told
+pub mod OneExpression
+pub mod OneStatement
+pub mod OneItem

@@ -39,6 +39,20 @@ abbrev pub CoreExpressionsHaveOneTree : Type 0
 CoreExpressionsHaveOneTree =
     (tokens : List Token) (tree other : Forest) → IsCoreExpression tokens tree → IsCoreExpression tokens other → tree ≡ other
 
+-- An input is a core file by one derivation at most.
+abbrev pub CoreFilesHaveOneDerivation : Type 0
+CoreFilesHaveOneDerivation =
+    (tokens : List Token) (tree other : Forest) (one : IsCoreFile tokens tree) (two : IsCoreFile tokens other) → one.items ≡ two.items
+
+abbrev pub CoreTypesHaveOneDerivation : Type 0
+CoreTypesHaveOneDerivation =
+    (tokens : List Token) (tree other : Forest) (one : IsCoreType tokens tree) (two : IsCoreType tokens other) → one.type ≡ two.type
+
+abbrev pub CoreExpressionsHaveOneDerivation : Type 0
+CoreExpressionsHaveOneDerivation =
+    (tokens : List Token) (tree other : Forest) (one : IsCoreExpression tokens tree) (two : IsCoreExpression tokens other)
+    → one.expression ≡ two.expression
+
 -- A core tree says nothing: it has no message, no error and no mark of a float.
 abbrev pub CoreFilesAreClean : Type 0
 CoreFilesAreClean = (tokens : List Token) (tree : Forest) → IsCoreFile tokens tree → is_clean tree ≡ true

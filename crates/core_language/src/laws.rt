@@ -1,6 +1,6 @@
 //! Laws of the core language. Each is the contract of a function that makes no call.
 
-ghost use Rattle.core_language.specs.Laws.{CoreExpressionsAreClean, CoreExpressionsAreRead, CoreExpressionsHaveOneTree, CoreFilesAreClean, CoreFilesAreRead, CoreFilesHaveOneTree, CoreTypesAreClean, CoreTypesAreRead, CoreTypesHaveOneTree, SpacedCoreExpressionsAreCore, SpacedCoreFilesAreCore, SpacedCoreTypesAreCore};
+ghost use Rattle.core_language.specs.Laws.{CoreExpressionsAreClean, CoreExpressionsAreRead, CoreExpressionsHaveOneDerivation, CoreExpressionsHaveOneTree, CoreFilesAreClean, CoreFilesAreRead, CoreFilesHaveOneDerivation, CoreFilesHaveOneTree, CoreTypesAreClean, CoreTypesAreRead, CoreTypesHaveOneDerivation, CoreTypesHaveOneTree, SpacedCoreExpressionsAreCore, SpacedCoreFilesAreCore, SpacedCoreTypesAreCore};
 
 /// Where the input is a core file, type or expression, the grammar gives its tree.
 pub fn core_lists_are_read()
@@ -14,6 +14,13 @@ pub fn core_lists_have_one_tree()
     ensures files { CoreFilesHaveOneTree }
     ensures types { CoreTypesHaveOneTree }
     ensures expressions { CoreExpressionsHaveOneTree }
+{}
+
+/// An input is a core file, type or expression by one derivation at most.
+pub fn core_lists_have_one_derivation()
+    ensures files { CoreFilesHaveOneDerivation }
+    ensures types { CoreTypesHaveOneDerivation }
+    ensures expressions { CoreExpressionsHaveOneDerivation }
 {}
 
 /// A core tree has no message, no error and no mark of a float.
