@@ -7,7 +7,7 @@ use Rattle.core_language.specs.Statements.{Pattern, NamePattern, Annotation, NoA
 use Rattle.core_language.specs.Items.{Visibility, Private, Public, Listed, NoElement, LastElement, ElementComma, Field, NamedField, Parameter, TypedPattern, ReturnType, NoReturnType, Returns, Item, UnitStruct, RecordStruct, OuterModule, InnerModule, Function, Items, NoItem, ItemThen}
 use Rattle.core_language.specs.Spaced.{first_float, other_floats}
 
--- the floats that are left behind a part
+-- the floats that are left behind a literal
 abbrev pub after_literal : LiteralForm → List Bool → List Bool
 after_literal FloatNumber floats = other_floats floats
 after_literal l floats = floats
@@ -30,19 +30,23 @@ abbrev mutual
   after_arguments (LastArgument e) floats = after e floats
   after_arguments (ArgumentComma e j es) floats = after_arguments es (after e floats)
 
+-- behind an initializer
 abbrev pub after_initializer : Initializer → List Bool → List Bool
 after_initializer NoInitializer floats = floats
 after_initializer (InitializedBy j e) floats = after e floats
 
+-- behind a statement
 abbrev pub after_statement : Statement → List Bool → List Bool
 after_statement (Let j p a v k) floats = after_initializer v floats
 after_statement (Run e k) floats = after e floats
 
+-- behind statements
 abbrev pub after_statements : Statements → List Bool → List Bool
 after_statements NoStatement floats = floats
 after_statements (LastExpression e) floats = after e floats
 after_statements (StatementThen s ss) floats = after_statements ss (after_statement s floats)
 
+-- behind a block
 abbrev pub after_block : Block → List Bool → List Bool
 after_block (Braces j ss k) floats = after_statements ss floats
 
@@ -58,20 +62,23 @@ abbrev mutual
   after_items NoItem floats = floats
   after_items (ItemThen i is) floats = after_items is (after_item i floats)
 
--- the parts apart
+-- `mut` apart
 abbrev pub apart_mut : Mutability → Mutability
 apart_mut Immutable = Immutable
 apart_mut (Mutable j) = Mutable false
 
+-- a path apart
 abbrev pub apart_path : Path → Path
 apart_path (Name j) = Name false
 apart_path (Below p c j) = Below (apart_path p) false false
 
+-- a type apart
 abbrev pub apart_type : CoreType → CoreType
 apart_type (PathType p) = PathType (apart_path p)
 apart_type (ReferenceType j m t) = ReferenceType false (apart_mut m) (apart_type t)
 apart_type (SliceType j t k) = SliceType false (apart_type t) false
 
+-- whether the token of a literal touches the next, where it is apart
 abbrev pub literal_joint : LiteralForm → List Bool → Bool
 literal_joint FloatNumber floats = first_float floats
 literal_joint l floats = false
@@ -94,44 +101,55 @@ abbrev mutual
   apart_arguments (LastArgument e) floats = LastArgument (apart e floats)
   apart_arguments (ArgumentComma e j es) floats = ArgumentComma (apart e floats) false (apart_arguments es (after e floats))
 
+-- a pattern apart
 abbrev pub apart_pattern : Pattern → Pattern
 apart_pattern (NamePattern m n) = NamePattern (apart_mut m) false
 
+-- an annotation apart
 abbrev pub apart_annotation : Annotation → Annotation
 apart_annotation NoAnnotation = NoAnnotation
 apart_annotation (AnnotatedBy c t) = AnnotatedBy false (apart_type t)
 
+-- an initializer apart
 abbrev pub apart_initializer : Initializer → List Bool → Initializer
 apart_initializer NoInitializer floats = NoInitializer
 apart_initializer (InitializedBy j e) floats = InitializedBy false (apart e floats)
 
+-- a statement apart
 abbrev pub apart_statement : Statement → List Bool → Statement
 apart_statement (Let j p a v k) floats = Let false (apart_pattern p) (apart_annotation a) (apart_initializer v floats) false
 apart_statement (Run e k) floats = Run (apart e floats) false
 
+-- statements apart
 abbrev pub apart_statements : Statements → List Bool → Statements
 apart_statements NoStatement floats = NoStatement
 apart_statements (LastExpression e) floats = LastExpression (apart e floats)
 apart_statements (StatementThen s ss) floats = StatementThen (apart_statement s floats) (apart_statements ss (after_statement s floats))
 
+-- a block apart
 abbrev pub apart_block : Block → List Bool → Block
 apart_block (Braces j ss k) floats = Braces false (apart_statements ss floats) false
 
+-- a visibility apart
 abbrev pub apart_visibility : Visibility → Visibility
 apart_visibility Private = Private
 apart_visibility (Public j) = Public false
 
+-- elements apart, each by this function
 abbrev pub apart_listed : {A : Type 0} → (A → A) → Listed A → Listed A
 apart_listed f NoElement = NoElement
 apart_listed f (LastElement a) = LastElement (f a)
 apart_listed f (ElementComma a j l) = ElementComma (f a) false (apart_listed f l)
 
+-- a field apart
 abbrev pub apart_field : Field → Field
 apart_field (NamedField v n c t) = NamedField (apart_visibility v) false false (apart_type t)
 
+-- a parameter apart
 abbrev pub apart_parameter : Parameter → Parameter
 apart_parameter (TypedPattern p c t) = TypedPattern (apart_pattern p) false (apart_type t)
 
+-- a return type apart
 abbrev pub apart_return_type : ReturnType → ReturnType
 apart_return_type NoReturnType = NoReturnType
 apart_return_type (Returns a t) = Returns false (apart_type t)

@@ -16,7 +16,7 @@ use Rattle.core_language.specs.Types.{Below, Immutable, Mutability, Mutable, Nam
 use Rattle.core_language.proofs.Operators.{Between, NotBoth, between}
 use Rattle.core_language.proofs.Places.{Base, Calm, Stops, layer_of, ops, turn, under, tree}
 use Rattle.core_language.proofs.Rules.{StarReads, Stop, Turn, at, begins_at, call-reads, forms, gives, reads, star-reads, table, then-reads}
-use Rattle.core_language.proofs.Starts.{expression-begins, layer-is-there, start-amp, start-free, token_of}
+use Rattle.core_language.proofs.Starts.{expression-begins, layer-is-there, start-ampersand, start-free, token_of}
 
 -- Expressions have tokens.
 path-longer : (p : Path) (more : List Token) → length more < length (path_tokens p more)
@@ -121,6 +121,7 @@ turn-reads d k i kind count before after l r more taken there e = rw (taken (Nod
 abbrev pub ReadsAt : ℕ → Expression → Type 0
 ReadsAt d e = (more : List Token) → Calm more → Stops d more → gives (layer_of d) (at End (expression_tokens e more)) ≡ at (tree e) more
 
+-- An expression as the left operand of the layer d + 1: where its turns end, the layer ends.
 abbrev pub LoopAt : ℕ → Expression → Type 0
 LoopAt d e = (more : List Token) (t : Reading) → Calm more → Stops d more → StarReads (turn d) (at (tree e) more) t → gives (layer_of (suc d)) (at End (expression_tokens e more)) ≡ t
 
@@ -142,7 +143,7 @@ third false b c h p q = absurd cc
 pub binary-loop : (l : Expression) (o : Operator) (j : Bool) (r : Expression) → under o ≤ 8 → (is_bit_and o && j && begins_with_ampersand r) ≡ false → LoopAt (under o) l → ReadsAt (under o) r → LoopAt (under o) (Binary l o j r)
 binary-loop l o j r h apart left right more t calm stops stars =
     let b = expression-begins r more in
-    let not_both : NotBoth o j (token_of b.start) = λ p q. start-amp b.start (sym b.amp ∙ third _ _ _ apart p q) in
+    let not_both : NotBoth o j (token_of b.start) = λ p q. start-ampersand b.start (sym b.amp ∙ third _ _ _ apart p q) in
     let m = between o j (token_of b.start) b.rest (start-free b.start) not_both in
     let w : Between o j (token_of b.start) b.rest = m in
     let there : (g : Forest) → begins_at (turn (under o)) (at g (operator_tokens o j (expression_tokens r more))) ≡ true = λ g. rw b.are (m.there g) in
@@ -173,6 +174,7 @@ no-cast : (g : Forest) (more : List Token) → Base more → begins_at (Wrap CAS
 unfolding forms
 no-cast g more b = b.cast
 
+-- An expression as the operand of a prefix.
 abbrev pub ReadsPrefixed : Expression → Type 0
 ReadsPrefixed e = (more : List Token) → Calm more → Base more → gives prefixed (at End (expression_tokens e more)) ≡ at (tree e) more
 

@@ -12,6 +12,7 @@ pub mod Expressions
 pub mod Patterns
 pub mod Statements
 pub mod Lists
+pub mod Fields
 pub mod Items
 pub mod Clean
 pub mod Read

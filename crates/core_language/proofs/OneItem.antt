@@ -109,7 +109,7 @@ item_inside (InnerModule v j n l is k) = Leaf MOD_KW 1 (name_tree (Node ITEM_LIS
 item_inside (Function v j n l ps k r b) =
     Leaf FN_KW 1 (name_tree (Node PARAM_LIST (Leaf L_PAREN 1 (listed_tree parameter_tree ps (Leaf R_PAREN 1 End))) (return_type_tree r (block_tree b End))))
 
--- its visibility, and the token behind it and those behind that
+-- its visibility
 abbrev visibility_of : Item → Visibility
 visibility_of (UnitStruct v j n k) = v
 visibility_of (RecordStruct v j n l fs k) = v
@@ -117,6 +117,7 @@ visibility_of (OuterModule v j n k) = v
 visibility_of (InnerModule v j n l is k) = v
 visibility_of (Function v j n l ps k r b) = v
 
+-- the token of its keyword
 abbrev word_of : Item → Token
 word_of (UnitStruct v j n k) = of_kind STRUCT_KW j
 word_of (RecordStruct v j n l fs k) = of_kind STRUCT_KW j
@@ -124,6 +125,7 @@ word_of (OuterModule v j n k) = of_kind MOD_KW j
 word_of (InnerModule v j n l is k) = of_kind MOD_KW j
 word_of (Function v j n l ps k r b) = of_kind FN_KW j
 
+-- the tokens behind that
 abbrev behind_word : Item → List Token → List Token
 behind_word (UnitStruct v j n k) more = name_token n ∷ of_kind SEMICOLON k ∷ more
 behind_word (RecordStruct v j n l fs k) more = name_token n ∷ of_kind L_CURLY l ∷ listed_tokens field_tokens fs (of_kind R_CURLY k ∷ more)

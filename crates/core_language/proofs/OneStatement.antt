@@ -11,15 +11,17 @@ use Rattle.core_language.specs.Types.{CoreType, Immutable, Mutable, inside_type,
 use Rattle.core_language.proofs.OneExpression.{expression-one, mark-one, name-one, type-one}
 use Rattle.core_language.proofs.Told.{head-one}
 
--- the kind of the first leaf, where a leaf is first; and whether a node is first
+-- the kind of the first leaf, where a leaf is first
 abbrev pub first_leaf : Forest → ℕ
 first_leaf (Leaf k n f) = k
 first_leaf f = 0
 
+-- whether a node is first
 abbrev pub is_node : Forest → Bool
 is_node (Node k c f) = true
 is_node f = false
 
+-- the kind of the first node, where a node is first
 abbrev pub first_node : Forest → ℕ
 first_node (Node k c f) = k
 first_node f = 0

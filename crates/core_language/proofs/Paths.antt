@@ -15,10 +15,11 @@ use Rattle.core_language.specs.Tokens.{name_token, of_kind}
 use Rattle.core_language.specs.Types.{Below, Name, Path, path_tokens, path_tree}
 use Rattle.core_language.proofs.Rules.{StarReads, Stop, Turn, at, begins_at, forms, gives, reads, rows, star-reads, table, then-reads}
 
--- the first segment, and one more, with arguments where `l` looks
+-- the first segment, with arguments where `l` looks
 abbrev pub first_part : Look → Rule
 first_part l = rules.Node PATH (rules.Node PATH_SEGMENT (Then (Opt '::') (Then (Want Ref (Expected NAME_REF)) (Opt (When l GenericArgs)))))
 
+-- one more segment, with arguments where `l` looks
 abbrev pub next_part : Look → Rule
 next_part l = Unless colons_before_more (rules.Wrap PATH (Then '::' (Want (rules.Node PATH_SEGMENT (Then Ref (Opt (When l GenericArgs)))) (Expected PATH_SEGMENT))))
 
@@ -64,9 +65,11 @@ pub no-next : (l : Look) (g : Forest) (more : List Token) → NoColon more → b
 unfolding forms
 no-next l g more h = rw h refl
 
+-- where arguments begin in a type
 abbrev pub type_arguments : Look
 type_arguments = Either ('::' before '<') ('<' not_before ('=' ∷ []))
 
+-- where they begin in an expression
 abbrev pub expression_arguments : Look
 expression_arguments = '::' before '<'
 

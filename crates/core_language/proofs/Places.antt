@@ -12,6 +12,7 @@ use Rattle.core_language.specs.Expressions.{Expression, expression_tree}
 use Rattle.core_language.specs.Tokens.{name_token}
 use Rattle.core_language.proofs.Rules.{at, begins_at}
 
+-- the production of a layer
 abbrev pub layer_of : ℕ → Production
 layer_of zero = cast
 layer_of (suc zero) = product
@@ -81,6 +82,7 @@ under-power Times = refl
 under-power Divide = refl
 under-power Remainder = refl
 
+-- The next token is not of this kind.
 abbrev pub IsNotNext : ℕ → List Token → Type 0
 IsNotNext k more = ((ahead 0 more).kind == k) ≡ false
 
@@ -112,11 +114,13 @@ is_calm j g more =
     let bang = sees false (at g more) (Both (Not (next '!=')) (Kind 0 BANG)) in
     not (kind == COLON) && not (kind == L_CURLY) && not block && not bang
 
+-- nothing here goes on with an atom or a cast
 abbrev pub is_base : List Token → Bool
 is_base more =
     let kind = (ahead 0 more).kind in
     not (kind == AS_KW) && not (kind == L_PAREN) && not (kind == L_BRACK) && not (kind == QUESTION) && not (kind == DOT)
 
+-- no operator of the lowest d layers stands here
 abbrev pub stops_at : ℕ → Forest → List Token → Bool
 stops_at zero g more = is_base more
 stops_at (suc d) g more = not (begins_at (turn d) (at g more)) && stops_at d g more

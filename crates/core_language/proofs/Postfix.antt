@@ -18,7 +18,7 @@ use Rattle.core_language.specs.Types.{Immutable, Mutability, Mutable, name_ref_t
 use Rattle.core_language.proofs.Layers.{ReadsPrefixed, arguments-longer, expression-longer}
 use Rattle.core_language.proofs.Places.{Base, Calm, IsNotNext, is_paren, tree}
 use Rattle.core_language.proofs.Rules.{StarReads, Stop, Turn, at, begins_at, call-reads, forms, gives, reads, star-reads, table, then-reads}
-use Rattle.core_language.proofs.Starts.{Start, WithAmp, WithLiteral, WithName, WithParen, WithSign, expression-begins, expression-is-there, is_high, prefixed-is-there, start-free, token_of}
+use Rattle.core_language.proofs.Starts.{Start, WithAmpersand, WithLiteral, WithName, WithParen, WithSign, expression-begins, expression-is-there, is_high, prefixed-is-there, start-free, token_of}
 use Rattle.core_language.proofs.Tails.{closed-of, Closed}
 
 pub then-end : (f : Forest) → f then End ≡ f
@@ -86,6 +86,7 @@ closed-comma k more = closed-of _ (λ i g. refl) (λ g. refl) (λ g. refl)
 abbrev pub ArgumentsRead : Arguments → Type 0
 ArgumentsRead es = (g : Forest) (k : Bool) (more : List Token) → StarReads element (at g (arguments_tokens es (of_kind R_PAREN k ∷ more))) (at (g then arguments_tree es End) (of_kind R_PAREN k ∷ more))
 
+-- An expression is read where nothing behind it goes on with it.
 abbrev pub ReadsExpression : Expression → Type 0
 ReadsExpression e = (more : List Token) → Closed more → gives expression (at End (expression_tokens e more)) ≡ at (tree e) more
 
@@ -127,6 +128,7 @@ arguments-read j k es more r =
 abbrev pub high : Rule
 high = Then (Call atom) (Star (Continue postfix))
 
+-- Where the turns behind an atom end, its reading ends; a field access has no bracket behind it.
 abbrev pub ReadsHigh : Expression → Type 0
 ReadsHigh e = (more : List Token) (t : Reading) → Calm more → (is_field_access e && is_paren more) ≡ false → StarReads (Continue postfix) (at (tree e) more) t → reads high (at End (expression_tokens e more)) ≡ t
 
@@ -203,7 +205,7 @@ high-picks (WithLiteral TrueWord j) h ts = refl
 high-picks (WithLiteral FalseWord j) h ts = refl
 high-picks (WithParen j) h ts = refl
 high-picks (WithSign s j) h ts = absurd cc
-high-picks (WithAmp j) h ts = absurd cc
+high-picks (WithAmpersand j) h ts = absurd cc
 
 no-postfix : (g : Forest) (more : List Token) → Base more → begins_at (Continue postfix) (at g more) ≡ false
 unfolding table
@@ -219,6 +221,7 @@ prefixed-high e i h r more calm base =
     let pick : reads (rule prefixed) (at End (expression_tokens e more)) ≡ reads high (at End (expression_tokens e more)) = rw b.are (high-picks b.start (b.high i h) b.rest) in
     whole-means prefixed false _ ∙ pick ∙ r more _ calm (rw base.paren (and-false _)) (Stop (no-postfix _ more base))
 
+-- a prefix with its operand
 abbrev signed : Rule
 signed = rules.Node PREFIX_EXPR (Then (Or '-' (Or '!' '*')) (Want (Call prefixed) ExpectedExpression))
 
@@ -238,6 +241,7 @@ sign-reads Dereference j ts f more there e = rw (there (Leaf (prefix_kind Derefe
 pub prefixed-sign : (s : PrefixOperator) (j : Bool) (e : Expression) → ReadsPrefixed e → ReadsPrefixed (Prefixed s j e)
 prefixed-sign s j e r more calm base = whole-means prefixed false _ ∙ sign-picks s j _ ∙ sign-reads s j (expression_tokens e more) (tree e) more (prefixed-is-there e more) (r more calm base)
 
+-- a borrow with its operand
 abbrev borrowed : Rule
 borrowed = rules.Node REF_EXPR (Then '&' (Then (Opt 'mut') (Want (Call prefixed) ExpectedExpression)))
 

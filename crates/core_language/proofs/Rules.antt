@@ -43,6 +43,7 @@ stars-turns test turn (suc n) (Stop e) le = rw e refl
 stars-turns test turn zero (Turn {s = s} {u = u} e f lt more) le = absurd (omega arith)
 stars-turns test turn (suc n) (Turn {s = s} {u = u} e f lt more) le = rw (e, f, lt-ltb _ _ lt) (stars-turns test turn n more (omega arith))
 
+-- a repetition of this rule goes from one reading to another
 abbrev pub StarReads : Rule → Reading → Reading → Type 0
 StarReads a s t = Stars (begins_at a) (reads a) s t
 

@@ -13,34 +13,39 @@ use Rattle.core_language.proofs.Places.{layer_of}
 use Rattle.core_language.proofs.Rules.{at, begins_at, table}
 use Rattle.core_language.proofs.Types.{path-begins}
 
+-- how an expression begins
 pub data Start : Type 0 where
   WithName : (j : Bool) → Start
   WithLiteral : LiteralForm → (j : Bool) → Start
   WithParen : (j : Bool) → Start
   WithSign : PrefixOperator → (j : Bool) → Start
-  WithAmp : (j : Bool) → Start
+  WithAmpersand : (j : Bool) → Start
 
+-- the first token
 abbrev pub token_of : Start → Token
 token_of (WithName j) = name_token j
 token_of (WithLiteral l j) = of_kind (literal_kind l) j
 token_of (WithParen j) = of_kind L_PAREN j
 token_of (WithSign s j) = of_kind (prefix_kind s) j
-token_of (WithAmp j) = of_kind AMP j
+token_of (WithAmpersand j) = of_kind AMP j
 
-abbrev pub is_amp : Start → Bool
-is_amp (WithAmp j) = true
-is_amp s = false
+-- whether that is an `&`
+abbrev pub is_ampersand : Start → Bool
+is_ampersand (WithAmpersand j) = true
+is_ampersand s = false
 
+-- whether that is no prefix
 abbrev pub is_high : Start → Bool
 is_high (WithSign s j) = false
-is_high (WithAmp j) = false
+is_high (WithAmpersand j) = false
 is_high s = true
 
+-- The first token of an expression, and what is known of it.
 pub record Begins (e : Expression) (ts : List Token) : Type 0 where
   pub start : Start
   pub rest : List Token
   pub are : ts ≡ token_of start ∷ rest
-  pub amp : begins_with_ampersand e ≡ is_amp start
+  pub amp : begins_with_ampersand e ≡ is_ampersand start
   pub high : IsWellFormed e → 14 ≤ level e → is_high start ≡ true
 
 pub expression-begins : (e : Expression) (more : List Token) → Begins e (expression_tokens e more)
@@ -51,7 +56,7 @@ expression-begins (FunctionCall e j es k) more = let b = expression-begins e _ i
 expression-begins (MethodCall e d n j es k) more = let b = expression-begins e _ in record { start = b.start; rest = b.rest; are = b.are; amp = b.amp; high = λ i h. b.high i.0 i.1 }
 expression-begins (FieldAccess e d n) more = let b = expression-begins e _ in record { start = b.start; rest = b.rest; are = b.are; amp = b.amp; high = λ i h. b.high i.0 i.1 }
 expression-begins (Prefixed s j e) more = record { start = WithSign s j; rest = _; are = refl; amp = refl; high = λ i h. absurd (omega arith) }
-expression-begins (Borrow j m e) more = record { start = WithAmp j; rest = _; are = refl; amp = refl; high = λ i h. absurd (omega arith) }
+expression-begins (Borrow j m e) more = record { start = WithAmpersand j; rest = _; are = refl; amp = refl; high = λ i h. absurd (omega arith) }
 expression-begins (Binary l o j r) more = let b = expression-begins l _ in record { start = b.start; rest = b.rest; are = b.are; amp = b.amp; high = λ i h. b.high i.0 (le_trans' h i.2) }
   where
     le_trans' : 14 ≤ power o → power o ≤ level l → 14 ≤ level l
@@ -86,24 +91,24 @@ start-free (WithParen j) = record { eq = refl; lt = refl; gt = refl; pipe = refl
 start-free (WithSign Negate j) = record { eq = refl; lt = refl; gt = refl; pipe = refl; dot = refl; paren = refl; mut = refl }
 start-free (WithSign Invert j) = record { eq = refl; lt = refl; gt = refl; pipe = refl; dot = refl; paren = refl; mut = refl }
 start-free (WithSign Dereference j) = record { eq = refl; lt = refl; gt = refl; pipe = refl; dot = refl; paren = refl; mut = refl }
-start-free (WithAmp j) = record { eq = refl; lt = refl; gt = refl; pipe = refl; dot = refl; paren = refl; mut = refl }
+start-free (WithAmpersand j) = record { eq = refl; lt = refl; gt = refl; pipe = refl; dot = refl; paren = refl; mut = refl }
 
-pub start-amp : (s : Start) → is_amp s ≡ false → ((token_of s).kind == AMP) ≡ false
-start-amp (WithName j) e = refl
-start-amp (WithLiteral Integer j) e = refl
-start-amp (WithLiteral FloatNumber j) e = refl
-start-amp (WithLiteral Character j) e = refl
-start-amp (WithLiteral Byte j) e = refl
-start-amp (WithLiteral Text j) e = refl
-start-amp (WithLiteral ByteText j) e = refl
-start-amp (WithLiteral CText j) e = refl
-start-amp (WithLiteral TrueWord j) e = refl
-start-amp (WithLiteral FalseWord j) e = refl
-start-amp (WithParen j) e = refl
-start-amp (WithSign Negate j) e = refl
-start-amp (WithSign Invert j) e = refl
-start-amp (WithSign Dereference j) e = refl
-start-amp (WithAmp j) e = absurd cc
+pub start-ampersand : (s : Start) → is_ampersand s ≡ false → ((token_of s).kind == AMP) ≡ false
+start-ampersand (WithName j) e = refl
+start-ampersand (WithLiteral Integer j) e = refl
+start-ampersand (WithLiteral FloatNumber j) e = refl
+start-ampersand (WithLiteral Character j) e = refl
+start-ampersand (WithLiteral Byte j) e = refl
+start-ampersand (WithLiteral Text j) e = refl
+start-ampersand (WithLiteral ByteText j) e = refl
+start-ampersand (WithLiteral CText j) e = refl
+start-ampersand (WithLiteral TrueWord j) e = refl
+start-ampersand (WithLiteral FalseWord j) e = refl
+start-ampersand (WithParen j) e = refl
+start-ampersand (WithSign Negate j) e = refl
+start-ampersand (WithSign Invert j) e = refl
+start-ampersand (WithSign Dereference j) e = refl
+start-ampersand (WithAmpersand j) e = absurd cc
 
 pub either : (b : Bool) → (if b then true else true) ≡ true
 either true = refl
@@ -126,7 +131,7 @@ begins-prefixed (WithParen j) g ts = refl
 begins-prefixed (WithSign Negate j) g ts = refl
 begins-prefixed (WithSign Invert j) g ts = refl
 begins-prefixed (WithSign Dereference j) g ts = refl
-begins-prefixed (WithAmp j) g ts = refl
+begins-prefixed (WithAmpersand j) g ts = refl
 
 -- all layers begin alike
 layer-begins : (d : ℕ) → d ≤ 9 → look_of whole (layer_of d) ≡ look_of whole prefixed
@@ -167,7 +172,7 @@ begins-operation (WithParen j) g ts = refl
 begins-operation (WithSign Negate j) g ts = refl
 begins-operation (WithSign Invert j) g ts = refl
 begins-operation (WithSign Dereference j) g ts = refl
-begins-operation (WithAmp j) g ts = refl
+begins-operation (WithAmpersand j) g ts = refl
 
 pub operation-is-there : (e : Expression) (more : List Token) (g : Forest) → begins_at (Call operation) (at g (expression_tokens e more)) ≡ true
 unfolding begins

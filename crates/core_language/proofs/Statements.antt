@@ -21,7 +21,7 @@ use Rattle.core_language.proofs.Layers.{expression-longer}
 use Rattle.core_language.proofs.Patterns.{BeforeEnd, BeforeValue, pattern-is-there, pattern-reads, type-there, typed}
 use Rattle.core_language.proofs.Postfix.{some-left, then-assoc, then-end}
 use Rattle.core_language.proofs.Rules.{StarReads, Stop, Turn, at, begins_at, call-reads, forms, gives, reads, star-reads, table, then-reads}
-use Rattle.core_language.proofs.Starts.{Start, WithAmp, WithLiteral, WithName, WithParen, WithSign, expression-begins, expression-is-there, token_of}
+use Rattle.core_language.proofs.Starts.{Start, WithAmpersand, WithLiteral, WithName, WithParen, WithSign, expression-begins, expression-is-there, token_of}
 use Rattle.core_language.proofs.Tails.{closed-of, Closed, continue-reads}
 use Rattle.core_language.proofs.Types.{type-longer, type-reads}
 use Rattle.core_language.proofs.Places.{tree}
@@ -85,6 +85,7 @@ block-literal CText j g ts = refl
 block-literal TrueWord j g ts = refl
 block-literal FalseWord j g ts = refl
 
+-- An expression begins with no name.
 abbrev IsNoName : Start → Type 0
 IsNoName (WithName j) = ⊥
 IsNoName k = Unit {0}
@@ -97,7 +98,7 @@ block-token (WithParen j) g ts n = refl
 block-token (WithSign Negate j) g ts n = refl
 block-token (WithSign Invert j) g ts n = refl
 block-token (WithSign Dereference j) g ts n = refl
-block-token (WithAmp j) g ts n = refl
+block-token (WithAmpersand j) g ts n = refl
 
 no-block : (e : Expression) (more : List Token) → NotBlock more → (g : Forest) → begins_at (Call block_like) (at g (expression_tokens e more)) ≡ false
 no-block (Literal l j) more h g = block-literal l j g more
@@ -107,7 +108,7 @@ no-block (FunctionCall e j es k) more h g = no-block e _ (not-block-paren j _) g
 no-block (MethodCall e d n j es k) more h g = no-block e _ (not-block-dot d _) g
 no-block (FieldAccess e d n) more h g = no-block e _ (not-block-dot d _) g
 no-block (Prefixed s j e) more h g = block-token (WithSign s j) g _ tt
-no-block (Borrow j m e) more h g = block-token (WithAmp j) g _ tt
+no-block (Borrow j m e) more h g = block-token (WithAmpersand j) g _ tt
 no-block (Binary l o j r) more h g = no-block l _ (not-block-op o j _) g
 no-block (Assignment l o j r) more h g = no-block l _ (not-block-set o j _) g
 
@@ -129,7 +130,7 @@ run-picks (WithParen j) ts n = refl
 run-picks (WithSign Negate j) ts n = refl
 run-picks (WithSign Invert j) ts n = refl
 run-picks (WithSign Dereference j) ts n = refl
-run-picks (WithAmp j) ts n = refl
+run-picks (WithAmpersand j) ts n = refl
 
 either-same : {A : Type 0} (b : Bool) (x y : A) → (if (if not b then true else true) then x else y) ≡ x
 either-same true x y = refl
@@ -162,6 +163,7 @@ run-reads e more t i c h =
 abbrev value_part : Rule
 value_part = Opt (Then '=' (Want (Call expression) ExpectedExpression))
 
+-- the rule of a `let`
 abbrev let_rule : Rule
 let_rule =
     rules.Node LET_STMT
@@ -250,7 +252,7 @@ turn-start (WithParen j) g ts = rw (some-left ts) refl
 turn-start (WithSign Negate j) g ts = rw (some-left ts) refl
 turn-start (WithSign Invert j) g ts = rw (some-left ts) refl
 turn-start (WithSign Dereference j) g ts = rw (some-left ts) refl
-turn-start (WithAmp j) g ts = rw (some-left ts) refl
+turn-start (WithAmpersand j) g ts = rw (some-left ts) refl
 
 turn-run : (e : Expression) (more : List Token) (g : Forest) → begins_at turn_statement (at g (expression_tokens e more)) ≡ true
 turn-run e more g = let b = expression-begins e more in rw b.are (turn-start b.start g b.rest)

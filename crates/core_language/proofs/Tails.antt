@@ -16,9 +16,11 @@ use Rattle.core_language.proofs.Places.{Base, Calm, IsNotNext, Stops, is_calm, s
 use Rattle.core_language.proofs.Rules.{at, begins_at, call-reads, forms, gives, or-first, or-second, reads, table, then-reads}
 use Rattle.core_language.proofs.Starts.{Free, expression-begins, operation-is-there, start-free, token_of}
 
+-- the spellings of assignments
 abbrev pub assignment : Rule
 assignment = Or (op '=') (Or (op '+=') (Or (op '-=') (Or (op '*=') (Or (op '/=') (Or (op '%=') (Or (op '&=') (Or (op '|=') (Or (op '^=') (Or (op '<<=') (op '>>='))))))))))
 
+-- an assignment with its right operand
 abbrev pub setting : Rule
 setting = Wrap BIN_EXPR (Then assignment (Want (Call operation) ExpectedExpression))
 
@@ -99,6 +101,7 @@ setting-reads : (k : ℕ) (i : Forest) (kind count : ℕ) (before after : List T
 unfolding forms
 setting-reads k i kind count before after l r more taken there e = rw (taken (Node k i End)) (rw (there (Node k i (Leaf kind count End))) (rw e refl))
 
+-- An expression is read as a whole where nothing behind it goes on with it.
 abbrev pub ReadsWhole : Expression → Type 0
 ReadsWhole e = (more : List Token) → Closed more → gives operation (at End (expression_tokens e more)) ≡ at (tree e) more
 

@@ -10,13 +10,15 @@ use Rattle.core_language.specs.Expressions.{Literal, Named, Prefixed, Borrow, Bi
 use Rattle.core_language.specs.Language.{IsCoreType, IsCoreExpression}
 use Rattle.core_language.proofs.Read.{expressions-one}
 
--- a name as a segment, as a path and as an expression
+-- a name as a segment
 abbrev a_segment : Forest
 a_segment = Node PATH_SEGMENT (Node NAME_REF (Leaf IDENT 1 End) End) End
 
+-- the name as a path
 abbrev a_path : Forest
 a_path = Node PATH a_segment End
 
+-- the name as an expression
 abbrev a_name : Forest → Forest
 a_name f = Node PATH_EXPR a_path f
 

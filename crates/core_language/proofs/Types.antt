@@ -18,6 +18,7 @@ data TypeStart : Type 0 where
   TypeWithAmpersand : (j : Bool) → TypeStart
   TypeWithBracket : (j : Bool) → TypeStart
 
+-- the first token
 abbrev type_start_token : TypeStart → Token
 type_start_token (TypeWithName j) = name_token j
 type_start_token (TypeWithAmpersand j) = of_kind AMP j
@@ -33,6 +34,7 @@ pub path-begins : (p : Path) (more : List Token) → PathBegins (path_tokens p m
 path-begins (Name j) more = record { j = j; rest = more; are = refl }
 path-begins (Below p c j) more = path-begins p (of_kind COLON true ∷ of_kind COLON c ∷ name_token j ∷ more)
 
+-- The first token of a type, and the others.
 record Begins (ts : List Token) : Type 0 where
   pub start : TypeStart
   pub rest : List Token

@@ -137,7 +137,7 @@ abbrev mutual
 abbrev pub file_tree : Items → Forest
 file_tree is = Node SOURCE_FILE (items_tree is End) End
 
--- The conditions: those of each expression.
+-- The conditions on an item: those on each of its expressions.
 abbrev mutual
   pub IsWellFormedItem : Item → Type 0
   IsWellFormedItem (UnitStruct v struct_word name semicolon) = Unit {0}

@@ -21,10 +21,11 @@ is_clean (Float ends_in_dot receiver f) = false
 abbrev pub CoreFilesAreRead : Type 0
 CoreFilesAreRead = (tokens : List Token) (tree : Forest) → IsCoreFile tokens tree → entry whole source_file tokens ≡ tree
 
--- The same of a text that is asked to be a type, and of one that is asked to be an expression.
+-- The same of a text that is asked to be a type.
 abbrev pub CoreTypesAreRead : Type 0
 CoreTypesAreRead = (tokens : List Token) (tree : Forest) → IsCoreType tokens tree → entry whole any_type tokens ≡ tree
 
+-- The same of a text that is asked to be an expression.
 abbrev pub CoreExpressionsAreRead : Type 0
 CoreExpressionsAreRead = (tokens : List Token) (tree : Forest) → IsCoreExpression tokens tree → entry whole expression tokens ≡ tree
 
@@ -32,9 +33,11 @@ CoreExpressionsAreRead = (tokens : List Token) (tree : Forest) → IsCoreExpress
 abbrev pub CoreFilesHaveOneTree : Type 0
 CoreFilesHaveOneTree = (tokens : List Token) (tree other : Forest) → IsCoreFile tokens tree → IsCoreFile tokens other → tree ≡ other
 
+-- It is a core type with one tree at most.
 abbrev pub CoreTypesHaveOneTree : Type 0
 CoreTypesHaveOneTree = (tokens : List Token) (tree other : Forest) → IsCoreType tokens tree → IsCoreType tokens other → tree ≡ other
 
+-- It is a core expression with one tree at most.
 abbrev pub CoreExpressionsHaveOneTree : Type 0
 CoreExpressionsHaveOneTree =
     (tokens : List Token) (tree other : Forest) → IsCoreExpression tokens tree → IsCoreExpression tokens other → tree ≡ other
@@ -44,10 +47,12 @@ abbrev pub CoreFilesHaveOneDerivation : Type 0
 CoreFilesHaveOneDerivation =
     (tokens : List Token) (tree other : Forest) (one : IsCoreFile tokens tree) (two : IsCoreFile tokens other) → one.items ≡ two.items
 
+-- It is a core type by one derivation at most.
 abbrev pub CoreTypesHaveOneDerivation : Type 0
 CoreTypesHaveOneDerivation =
     (tokens : List Token) (tree other : Forest) (one : IsCoreType tokens tree) (two : IsCoreType tokens other) → one.type ≡ two.type
 
+-- It is a core expression by one derivation at most.
 abbrev pub CoreExpressionsHaveOneDerivation : Type 0
 CoreExpressionsHaveOneDerivation =
     (tokens : List Token) (tree other : Forest) (one : IsCoreExpression tokens tree) (two : IsCoreExpression tokens other)
@@ -57,9 +62,11 @@ CoreExpressionsHaveOneDerivation =
 abbrev pub CoreFilesAreClean : Type 0
 CoreFilesAreClean = (tokens : List Token) (tree : Forest) → IsCoreFile tokens tree → is_clean tree ≡ true
 
+-- So is the tree of a core type.
 abbrev pub CoreTypesAreClean : Type 0
 CoreTypesAreClean = (tokens : List Token) (tree : Forest) → IsCoreType tokens tree → is_clean tree ≡ true
 
+-- So is the tree of a core expression.
 abbrev pub CoreExpressionsAreClean : Type 0
 CoreExpressionsAreClean = (tokens : List Token) (tree : Forest) → IsCoreExpression tokens tree → is_clean tree ≡ true
 
@@ -67,9 +74,11 @@ CoreExpressionsAreClean = (tokens : List Token) (tree : Forest) → IsCoreExpres
 abbrev pub SpacedCoreFilesAreCore : Type 0
 SpacedCoreFilesAreCore = (tokens : List Token) (tree : Forest) (floats : List Bool) → IsCoreFile tokens tree → IsCoreFile (spaced tree floats) tree
 
+-- The same of a core type's tree.
 abbrev pub SpacedCoreTypesAreCore : Type 0
 SpacedCoreTypesAreCore = (tokens : List Token) (tree : Forest) (floats : List Bool) → IsCoreType tokens tree → IsCoreType (spaced tree floats) tree
 
+-- The same of a core expression's tree.
 abbrev pub SpacedCoreExpressionsAreCore : Type 0
 SpacedCoreExpressionsAreCore =
     (tokens : List Token) (tree : Forest) (floats : List Bool)

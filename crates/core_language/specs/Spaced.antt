@@ -49,6 +49,7 @@ abbrev pub first_float : List Bool → Bool
 first_float [] = false
 first_float (float ∷ floats) = float
 
+-- those behind the first
 abbrev pub other_floats : List Bool → List Bool
 other_floats [] = []
 other_floats (float ∷ floats) = floats

@@ -100,19 +100,22 @@ block_tokens (Braces opening ss closing) more = of_kind L_CURLY opening ∷ stat
 abbrev pub block_tree : Block → Forest → Forest
 block_tree (Braces opening ss closing) f = Node BLOCK_EXPR (Node STMT_LIST (Leaf L_CURLY 1 (statements_tree ss (Leaf R_CURLY 1 End))) End) f
 
--- The conditions: those of each expression.
+-- The conditions on an initializer: those on each of its expressions.
 abbrev pub IsWellFormedInitializer : Initializer → Type 0
 IsWellFormedInitializer NoInitializer = Unit {0}
 IsWellFormedInitializer (InitializedBy equals e) = IsWellFormed e
 
+-- the conditions on a statement
 abbrev pub IsWellFormedStatement : Statement → Type 0
 IsWellFormedStatement (Let let_word p a i semicolon) = IsWellFormedInitializer i
 IsWellFormedStatement (Run e semicolon) = IsWellFormed e
 
+-- those on statements
 abbrev pub AreWellFormedStatements : Statements → Type 0
 AreWellFormedStatements NoStatement = Unit {0}
 AreWellFormedStatements (LastExpression e) = IsWellFormed e
 AreWellFormedStatements (StatementThen s ss) = IsWellFormedStatement s × AreWellFormedStatements ss
 
+-- those on a block
 abbrev pub IsWellFormedBlock : Block → Type 0
 IsWellFormedBlock (Braces opening ss closing) = AreWellFormedStatements ss
