@@ -1,6 +1,6 @@
 -- Files of an independent reader, with its inputs and trees: core files, and others of which the tree is no core tree.
-use Rattle.std.proofs.Common.{◌≡◌, true, false, List, [], ◌∷◌, refl, arith}
-use Rattle.parser_input.specs.Kinds.{AMP, AMP2, AMPEQ, ARG_LIST, BANG, BIN_EXPR, BLOCK_EXPR, BYTE_STRING, CALL_EXPR, CARET, CARETEQ, CHAR, COLON, COLON2, COMMA, DOT, EQ, EQ2, EXPR_STMT, FIELD_EXPR, FLOAT_NUMBER, FN, FN_KW, GTEQ, IDENT, IDENT_PAT, INT_NUMBER, ITEM_LIST, LET_KW, LET_STMT, LITERAL, LTEQ, L_ANGLE, L_BRACK, L_CURLY, L_PAREN, METHOD_CALL_EXPR, MINUS, MINUSEQ, MODULE, MOD_KW, MUT_KW, NAME, NAME_REF, NEQ, PARAM, PARAM_LIST, PAREN_EXPR, PATH, PATH_EXPR, PATH_SEGMENT, PATH_TYPE, PERCENT, PERCENTEQ, PIPE, PIPE2, PIPEEQ, PLUS, PLUSEQ, PREFIX_EXPR, PUB_KW, RECORD_FIELD, RECORD_FIELD_LIST, REF_EXPR, REF_TYPE, RET_TYPE, R_ANGLE, R_BRACK, R_CURLY, R_PAREN, SEMICOLON, SHL, SHLEQ, SHR, SHREQ, SLASH, SLASHEQ, SLICE_TYPE, SOURCE_FILE, STAR, STAREQ, STMT_LIST, STRING, STRUCT, STRUCT_KW, THIN_ARROW, TRUE_KW, VISIBILITY}
+use Rattle.std.proofs.Common.{◌≡◌, ℕ, Bool, true, false, List, [], ◌∷◌, refl, arith}
+use Rattle.parser_input.specs.Kinds.{AMP, AMP2, AMPEQ, ARG_LIST, BANG, BIN_EXPR, BLOCK_EXPR, BYTE_STRING, CALL_EXPR, CARET, CARETEQ, CHAR, COLON, COLON2, COMMA, DOT, EOF, EQ, EQ2, EXPR_STMT, FIELD_EXPR, FLOAT_NUMBER, FN, FN_KW, GTEQ, IDENT, IDENT_PAT, INT_NUMBER, ITEM_LIST, LET_KW, LET_STMT, LITERAL, LTEQ, L_ANGLE, L_BRACK, L_CURLY, L_PAREN, METHOD_CALL_EXPR, MINUS, MINUSEQ, MODULE, MOD_KW, MUT_KW, NAME, NAME_REF, NEQ, PARAM, PARAM_LIST, PAREN_EXPR, PATH, PATH_EXPR, PATH_SEGMENT, PATH_TYPE, PERCENT, PERCENTEQ, PIPE, PIPE2, PIPEEQ, PLUS, PLUSEQ, PREFIX_EXPR, PUB_KW, RECORD_FIELD, RECORD_FIELD_LIST, REF_EXPR, REF_TYPE, RET_TYPE, R_ANGLE, R_BRACK, R_CURLY, R_PAREN, SEMICOLON, SHL, SHLEQ, SHR, SHREQ, SLASH, SLASHEQ, SLICE_TYPE, SOURCE_FILE, STAR, STAREQ, STMT_LIST, STRING, STRUCT, STRUCT_KW, THIN_ARROW, TRUE_KW, VISIBILITY}
 use Rattle.parser_input.specs.Input.{Token}
 use Rattle.parser_events.specs.Forest.{Forest, End, Leaf, Node}
 use Rattle.rust_grammar.specs.Rule.{begins, passes, is_silent, width, shift, in_mode, there_at}
@@ -14,7 +14,6 @@ use Rattle.rust_grammar.specs.Statements.{statements}
 use Rattle.rust_grammar.specs.Items.{items}
 use Rattle.rust_grammar.specs.Entry.{leaves, is_used_up, takes_all, entry}
 use Rattle.rust_grammar.specs.Whole.{rule, rank, whole}
-use Rattle.core_language.specs.Tokens.{of_kind, name_token}
 use Rattle.core_language.specs.Types.{Immutable, Mutable, Name, Below, PathType, ReferenceType, SliceType}
 use Rattle.core_language.specs.Operators.{Integer, FloatNumber, Character, Text, ByteText, TrueWord, Negate, Invert, Dereference, LogicalOr, LogicalAnd, Equal, NotEqual, Less, Greater, LessOrEqual, GreaterOrEqual, BitOr, BitXor, BitAnd, ShiftLeft, ShiftRight, Plus, Minus, Times, Remainder, Assign, AssignPlus, AssignMinus, AssignTimes, AssignDivide, AssignRemainder, AssignBitAnd, AssignBitOr, AssignBitXor, AssignShiftLeft, AssignShiftRight}
 use Rattle.core_language.specs.Expressions.{Literal, Named, Parenthesized, FunctionCall, MethodCall, FieldAccess, Prefixed, Borrow, Binary, Assignment, NoArgument, LastArgument, ArgumentComma}
@@ -24,8 +23,12 @@ use Rattle.core_language.specs.Language.{IsCoreFile}
 use Rattle.core_language.specs.Spaced.{spaced, spaced_before}
 use Rattle.core_language.proofs.Otherwise.{read-otherwise}
 
+-- a token, in the reader's words
+abbrev token : (kind contextual : ℕ) → Bool → Token
+token kind contextual joint = record { kind = kind; contextual = contextual; joint = joint }
+
 abbrev tokens3 : List Token
-tokens3 = of_kind STRUCT_KW false ∷ name_token false ∷ of_kind SEMICOLON false ∷ []
+tokens3 = token STRUCT_KW EOF false ∷ token IDENT IDENT false ∷ token SEMICOLON EOF false ∷ []
 
 abbrev tree3 : Forest
 tree3 = (Node SOURCE_FILE (Node STRUCT (Leaf STRUCT_KW 1 (Node NAME (Leaf IDENT 1 End) (Leaf SEMICOLON 1 End))) End) End)
@@ -38,7 +41,7 @@ unfolding spaced_before
 spaced3 = refl
 
 abbrev tokens14 : List Token
-tokens14 = of_kind FN_KW false ∷ name_token false ∷ of_kind L_PAREN false ∷ of_kind R_PAREN false ∷ of_kind MINUS true ∷ of_kind R_ANGLE false ∷ name_token false ∷ of_kind L_CURLY false ∷ name_token false ∷ of_kind SEMICOLON false ∷ name_token false ∷ of_kind AMP false ∷ name_token false ∷ name_token false ∷ of_kind SEMICOLON false ∷ name_token false ∷ of_kind R_CURLY false ∷ []
+tokens14 = token FN_KW EOF false ∷ token IDENT IDENT false ∷ token L_PAREN EOF false ∷ token R_PAREN EOF false ∷ token MINUS EOF true ∷ token R_ANGLE EOF false ∷ token IDENT IDENT false ∷ token L_CURLY EOF false ∷ token IDENT IDENT false ∷ token SEMICOLON EOF false ∷ token IDENT IDENT false ∷ token AMP EOF false ∷ token IDENT IDENT false ∷ token IDENT IDENT false ∷ token SEMICOLON EOF false ∷ token IDENT IDENT false ∷ token R_CURLY EOF false ∷ []
 
 abbrev tree14 : Forest
 tree14 = (Node SOURCE_FILE (Node FN (Leaf FN_KW 1 (Node NAME (Leaf IDENT 1 End) (Node PARAM_LIST (Leaf L_PAREN 1 (Leaf R_PAREN 1 End)) (Node RET_TYPE (Leaf THIN_ARROW 2 (Node PATH_TYPE (Node PATH (Node PATH_SEGMENT (Node NAME_REF (Leaf IDENT 1 End) End) End) End) End)) (Node BLOCK_EXPR (Node STMT_LIST (Leaf L_CURLY 1 (Node EXPR_STMT (Node PATH_EXPR (Node PATH (Node PATH_SEGMENT (Node NAME_REF (Leaf IDENT 1 End) End) End) End) (Leaf SEMICOLON 1 End)) (Node EXPR_STMT (Node BIN_EXPR (Node PATH_EXPR (Node PATH (Node PATH_SEGMENT (Node NAME_REF (Leaf IDENT 1 End) End) End) End) (Leaf AMP 1 (Node PATH_EXPR (Node PATH (Node PATH (Node PATH_SEGMENT (Node NAME_REF (Leaf IDENT 1 End) End) End) (Node PATH_SEGMENT (Node NAME_REF (Leaf IDENT 1 End) End) End)) End) End))) (Leaf SEMICOLON 1 End)) (Node PATH_EXPR (Node PATH (Node PATH_SEGMENT (Node NAME_REF (Leaf IDENT 1 End) End) End) End) (Leaf R_CURLY 1 End))))) End) End))))) End) End)
@@ -52,7 +55,7 @@ unfolding spaced_before
 spaced14 = refl
 
 abbrev tokens24 : List Token
-tokens24 = of_kind FN_KW false ∷ name_token false ∷ of_kind L_PAREN false ∷ name_token false ∷ of_kind COLON false ∷ name_token false ∷ of_kind R_PAREN false ∷ of_kind MINUS true ∷ of_kind R_ANGLE false ∷ of_kind AMP false ∷ of_kind MUT_KW false ∷ name_token false ∷ of_kind L_CURLY false ∷ of_kind STRING false ∷ of_kind EQ false ∷ of_kind STRING false ∷ of_kind SEMICOLON false ∷ of_kind R_CURLY false ∷ []
+tokens24 = token FN_KW EOF false ∷ token IDENT IDENT false ∷ token L_PAREN EOF false ∷ token IDENT IDENT false ∷ token COLON EOF false ∷ token IDENT IDENT false ∷ token R_PAREN EOF false ∷ token MINUS EOF true ∷ token R_ANGLE EOF false ∷ token AMP EOF false ∷ token MUT_KW EOF false ∷ token IDENT IDENT false ∷ token L_CURLY EOF false ∷ token STRING EOF false ∷ token EQ EOF false ∷ token STRING EOF false ∷ token SEMICOLON EOF false ∷ token R_CURLY EOF false ∷ []
 
 abbrev tree24 : Forest
 tree24 = (Node SOURCE_FILE (Node FN (Leaf FN_KW 1 (Node NAME (Leaf IDENT 1 End) (Node PARAM_LIST (Leaf L_PAREN 1 (Node PARAM (Node IDENT_PAT (Node NAME (Leaf IDENT 1 End) End) (Leaf COLON 1 (Node PATH_TYPE (Node PATH (Node PATH_SEGMENT (Node NAME_REF (Leaf IDENT 1 End) End) End) End) End))) (Leaf R_PAREN 1 End))) (Node RET_TYPE (Leaf THIN_ARROW 2 (Node REF_TYPE (Leaf AMP 1 (Leaf MUT_KW 1 (Node PATH_TYPE (Node PATH (Node PATH_SEGMENT (Node NAME_REF (Leaf IDENT 1 End) End) End) End) End))) End)) (Node BLOCK_EXPR (Node STMT_LIST (Leaf L_CURLY 1 (Node EXPR_STMT (Node BIN_EXPR (Node LITERAL (Leaf STRING 1 End) (Leaf EQ 1 (Node LITERAL (Leaf STRING 1 End) End))) (Leaf SEMICOLON 1 End)) (Leaf R_CURLY 1 End))) End) End))))) End) End)
@@ -65,7 +68,7 @@ unfolding spaced_before
 spaced24 = refl
 
 abbrev tokens42 : List Token
-tokens42 = of_kind FN_KW false ∷ name_token false ∷ of_kind L_PAREN false ∷ of_kind R_PAREN false ∷ of_kind L_CURLY false ∷ of_kind FLOAT_NUMBER false ∷ of_kind L_ANGLE true ∷ of_kind L_ANGLE true ∷ of_kind EQ false ∷ name_token false ∷ of_kind COLON true ∷ of_kind COLON false ∷ name_token false ∷ of_kind SEMICOLON false ∷ of_kind R_CURLY false ∷ []
+tokens42 = token FN_KW EOF false ∷ token IDENT IDENT false ∷ token L_PAREN EOF false ∷ token R_PAREN EOF false ∷ token L_CURLY EOF false ∷ token FLOAT_NUMBER EOF false ∷ token L_ANGLE EOF true ∷ token L_ANGLE EOF true ∷ token EQ EOF false ∷ token IDENT IDENT false ∷ token COLON EOF true ∷ token COLON EOF false ∷ token IDENT IDENT false ∷ token SEMICOLON EOF false ∷ token R_CURLY EOF false ∷ []
 
 abbrev tree42 : Forest
 tree42 = (Node SOURCE_FILE (Node FN (Leaf FN_KW 1 (Node NAME (Leaf IDENT 1 End) (Node PARAM_LIST (Leaf L_PAREN 1 (Leaf R_PAREN 1 End)) (Node BLOCK_EXPR (Node STMT_LIST (Leaf L_CURLY 1 (Node EXPR_STMT (Node BIN_EXPR (Node LITERAL (Leaf FLOAT_NUMBER 1 End) (Leaf SHLEQ 3 (Node PATH_EXPR (Node PATH (Node PATH (Node PATH_SEGMENT (Node NAME_REF (Leaf IDENT 1 End) End) End) (Leaf COLON2 2 (Node PATH_SEGMENT (Node NAME_REF (Leaf IDENT 1 End) End) End))) End) End))) (Leaf SEMICOLON 1 End)) (Leaf R_CURLY 1 End))) End) End)))) End) End)
@@ -78,7 +81,7 @@ unfolding spaced_before
 spaced42 = refl
 
 abbrev tokens49 : List Token
-tokens49 = of_kind FN_KW false ∷ name_token false ∷ of_kind L_PAREN false ∷ of_kind MUT_KW false ∷ name_token false ∷ name_token false ∷ of_kind COMMA false ∷ of_kind R_PAREN false ∷ of_kind L_CURLY false ∷ of_kind STRING false ∷ of_kind SEMICOLON false ∷ of_kind STRING false ∷ of_kind DOT false ∷ name_token false ∷ of_kind R_CURLY false ∷ []
+tokens49 = token FN_KW EOF false ∷ token IDENT IDENT false ∷ token L_PAREN EOF false ∷ token MUT_KW EOF false ∷ token IDENT IDENT false ∷ token IDENT IDENT false ∷ token COMMA EOF false ∷ token R_PAREN EOF false ∷ token L_CURLY EOF false ∷ token STRING EOF false ∷ token SEMICOLON EOF false ∷ token STRING EOF false ∷ token DOT EOF false ∷ token IDENT IDENT false ∷ token R_CURLY EOF false ∷ []
 
 abbrev tree49 : Forest
 tree49 = (Node SOURCE_FILE (Node FN (Leaf FN_KW 1 (Node NAME (Leaf IDENT 1 End) (Node PARAM_LIST (Leaf L_PAREN 1 (Node PARAM (Node IDENT_PAT (Leaf MUT_KW 1 (Node NAME (Leaf IDENT 1 End) End)) (Node PATH_TYPE (Node PATH (Node PATH_SEGMENT (Node NAME_REF (Leaf IDENT 1 End) End) End) End) End)) (Leaf COMMA 1 (Leaf R_PAREN 1 End)))) (Node BLOCK_EXPR (Node STMT_LIST (Leaf L_CURLY 1 (Node EXPR_STMT (Node LITERAL (Leaf STRING 1 End) (Leaf SEMICOLON 1 End)) (Node FIELD_EXPR (Node LITERAL (Leaf STRING 1 End) (Leaf DOT 1 (Node NAME_REF (Leaf IDENT 1 End) End))) (Leaf R_CURLY 1 End)))) End) End)))) End) End)
@@ -92,7 +95,7 @@ unfolding spaced_before
 spaced49 = refl
 
 abbrev tokens72 : List Token
-tokens72 = of_kind MOD_KW false ∷ name_token false ∷ of_kind SEMICOLON false ∷ []
+tokens72 = token MOD_KW EOF false ∷ token IDENT IDENT false ∷ token SEMICOLON EOF false ∷ []
 
 abbrev tree72 : Forest
 tree72 = (Node SOURCE_FILE (Node MODULE (Leaf MOD_KW 1 (Node NAME (Leaf IDENT 1 End) (Leaf SEMICOLON 1 End))) End) End)
@@ -105,7 +108,7 @@ unfolding spaced_before
 spaced72 = refl
 
 abbrev tokens93 : List Token
-tokens93 = of_kind FN_KW false ∷ name_token false ∷ of_kind L_PAREN false ∷ of_kind MUT_KW false ∷ name_token false ∷ of_kind COLON false ∷ name_token false ∷ of_kind COMMA false ∷ name_token false ∷ of_kind COLON false ∷ name_token false ∷ of_kind R_PAREN false ∷ of_kind L_CURLY false ∷ name_token false ∷ of_kind COLON true ∷ of_kind COLON false ∷ name_token false ∷ of_kind SEMICOLON false ∷ of_kind L_PAREN false ∷ name_token false ∷ of_kind COLON true ∷ of_kind COLON false ∷ name_token false ∷ of_kind DOT false ∷ name_token false ∷ of_kind L_PAREN false ∷ name_token false ∷ of_kind COLON true ∷ of_kind COLON false ∷ name_token false ∷ of_kind R_PAREN false ∷ of_kind R_PAREN false ∷ of_kind L_ANGLE false ∷ of_kind FLOAT_NUMBER true ∷ of_kind EQ false ∷ of_kind FLOAT_NUMBER false ∷ of_kind SEMICOLON false ∷ of_kind STRING false ∷ of_kind R_CURLY false ∷ []
+tokens93 = token FN_KW EOF false ∷ token IDENT IDENT false ∷ token L_PAREN EOF false ∷ token MUT_KW EOF false ∷ token IDENT IDENT false ∷ token COLON EOF false ∷ token IDENT IDENT false ∷ token COMMA EOF false ∷ token IDENT IDENT false ∷ token COLON EOF false ∷ token IDENT IDENT false ∷ token R_PAREN EOF false ∷ token L_CURLY EOF false ∷ token IDENT IDENT false ∷ token COLON EOF true ∷ token COLON EOF false ∷ token IDENT IDENT false ∷ token SEMICOLON EOF false ∷ token L_PAREN EOF false ∷ token IDENT IDENT false ∷ token COLON EOF true ∷ token COLON EOF false ∷ token IDENT IDENT false ∷ token DOT EOF false ∷ token IDENT IDENT false ∷ token L_PAREN EOF false ∷ token IDENT IDENT false ∷ token COLON EOF true ∷ token COLON EOF false ∷ token IDENT IDENT false ∷ token R_PAREN EOF false ∷ token R_PAREN EOF false ∷ token L_ANGLE EOF false ∷ token FLOAT_NUMBER EOF true ∷ token EQ EOF false ∷ token FLOAT_NUMBER EOF false ∷ token SEMICOLON EOF false ∷ token STRING EOF false ∷ token R_CURLY EOF false ∷ []
 
 abbrev tree93 : Forest
 tree93 = (Node SOURCE_FILE (Node FN (Leaf FN_KW 1 (Node NAME (Leaf IDENT 1 End) (Node PARAM_LIST (Leaf L_PAREN 1 (Node PARAM (Node IDENT_PAT (Leaf MUT_KW 1 (Node NAME (Leaf IDENT 1 End) End)) (Leaf COLON 1 (Node PATH_TYPE (Node PATH (Node PATH_SEGMENT (Node NAME_REF (Leaf IDENT 1 End) End) End) End) End))) (Leaf COMMA 1 (Node PARAM (Node IDENT_PAT (Node NAME (Leaf IDENT 1 End) End) (Leaf COLON 1 (Node PATH_TYPE (Node PATH (Node PATH_SEGMENT (Node NAME_REF (Leaf IDENT 1 End) End) End) End) End))) (Leaf R_PAREN 1 End))))) (Node BLOCK_EXPR (Node STMT_LIST (Leaf L_CURLY 1 (Node EXPR_STMT (Node PATH_EXPR (Node PATH (Node PATH (Node PATH_SEGMENT (Node NAME_REF (Leaf IDENT 1 End) End) End) (Leaf COLON2 2 (Node PATH_SEGMENT (Node NAME_REF (Leaf IDENT 1 End) End) End))) End) (Leaf SEMICOLON 1 End)) (Node EXPR_STMT (Node BIN_EXPR (Node PAREN_EXPR (Leaf L_PAREN 1 (Node METHOD_CALL_EXPR (Node PATH_EXPR (Node PATH (Node PATH (Node PATH_SEGMENT (Node NAME_REF (Leaf IDENT 1 End) End) End) (Leaf COLON2 2 (Node PATH_SEGMENT (Node NAME_REF (Leaf IDENT 1 End) End) End))) End) (Leaf DOT 1 (Node NAME_REF (Leaf IDENT 1 End) (Node ARG_LIST (Leaf L_PAREN 1 (Node PATH_EXPR (Node PATH (Node PATH (Node PATH_SEGMENT (Node NAME_REF (Leaf IDENT 1 End) End) End) (Leaf COLON2 2 (Node PATH_SEGMENT (Node NAME_REF (Leaf IDENT 1 End) End) End))) End) (Leaf R_PAREN 1 End))) End)))) (Leaf R_PAREN 1 End))) (Leaf L_ANGLE 1 (Node BIN_EXPR (Node LITERAL (Leaf FLOAT_NUMBER 1 End) (Leaf EQ 1 (Node LITERAL (Leaf FLOAT_NUMBER 1 End) End))) End))) (Leaf SEMICOLON 1 End)) (Node LITERAL (Leaf STRING 1 End) (Leaf R_CURLY 1 End))))) End) End)))) End) End)
@@ -119,7 +122,7 @@ unfolding spaced_before
 spaced93 = refl
 
 abbrev tokens106 : List Token
-tokens106 = of_kind FN_KW false ∷ name_token false ∷ of_kind L_PAREN false ∷ name_token false ∷ of_kind COLON false ∷ name_token false ∷ of_kind COMMA false ∷ of_kind R_PAREN false ∷ of_kind L_CURLY false ∷ of_kind MINUS false ∷ name_token false ∷ of_kind COLON true ∷ of_kind COLON false ∷ name_token false ∷ of_kind CARET true ∷ of_kind EQ false ∷ name_token false ∷ of_kind STAR false ∷ name_token false ∷ of_kind SEMICOLON false ∷ of_kind FLOAT_NUMBER true ∷ of_kind R_CURLY false ∷ []
+tokens106 = token FN_KW EOF false ∷ token IDENT IDENT false ∷ token L_PAREN EOF false ∷ token IDENT IDENT false ∷ token COLON EOF false ∷ token IDENT IDENT false ∷ token COMMA EOF false ∷ token R_PAREN EOF false ∷ token L_CURLY EOF false ∷ token MINUS EOF false ∷ token IDENT IDENT false ∷ token COLON EOF true ∷ token COLON EOF false ∷ token IDENT IDENT false ∷ token CARET EOF true ∷ token EQ EOF false ∷ token IDENT IDENT false ∷ token STAR EOF false ∷ token IDENT IDENT false ∷ token SEMICOLON EOF false ∷ token FLOAT_NUMBER EOF true ∷ token R_CURLY EOF false ∷ []
 
 abbrev tree106 : Forest
 tree106 = (Node SOURCE_FILE (Node FN (Leaf FN_KW 1 (Node NAME (Leaf IDENT 1 End) (Node PARAM_LIST (Leaf L_PAREN 1 (Node PARAM (Node IDENT_PAT (Node NAME (Leaf IDENT 1 End) End) (Leaf COLON 1 (Node PATH_TYPE (Node PATH (Node PATH_SEGMENT (Node NAME_REF (Leaf IDENT 1 End) End) End) End) End))) (Leaf COMMA 1 (Leaf R_PAREN 1 End)))) (Node BLOCK_EXPR (Node STMT_LIST (Leaf L_CURLY 1 (Node EXPR_STMT (Node BIN_EXPR (Node PREFIX_EXPR (Leaf MINUS 1 (Node PATH_EXPR (Node PATH (Node PATH (Node PATH_SEGMENT (Node NAME_REF (Leaf IDENT 1 End) End) End) (Leaf COLON2 2 (Node PATH_SEGMENT (Node NAME_REF (Leaf IDENT 1 End) End) End))) End) End)) (Leaf CARETEQ 2 (Node BIN_EXPR (Node PATH_EXPR (Node PATH (Node PATH_SEGMENT (Node NAME_REF (Leaf IDENT 1 End) End) End) End) (Leaf STAR 1 (Node PATH_EXPR (Node PATH (Node PATH_SEGMENT (Node NAME_REF (Leaf IDENT 1 End) End) End) End) End))) End))) (Leaf SEMICOLON 1 End)) (Node LITERAL (Leaf FLOAT_NUMBER 1 End) (Leaf R_CURLY 1 End)))) End) End)))) End) End)
@@ -132,7 +135,7 @@ unfolding spaced_before
 spaced106 = refl
 
 abbrev tokens131 : List Token
-tokens131 = of_kind FN_KW false ∷ name_token false ∷ of_kind L_PAREN false ∷ of_kind R_PAREN false ∷ of_kind L_CURLY false ∷ name_token false ∷ of_kind COLON true ∷ of_kind COLON false ∷ name_token false ∷ of_kind SEMICOLON false ∷ of_kind CHAR false ∷ of_kind BANG true ∷ of_kind EQ false ∷ of_kind INT_NUMBER false ∷ of_kind SEMICOLON false ∷ of_kind R_CURLY false ∷ []
+tokens131 = token FN_KW EOF false ∷ token IDENT IDENT false ∷ token L_PAREN EOF false ∷ token R_PAREN EOF false ∷ token L_CURLY EOF false ∷ token IDENT IDENT false ∷ token COLON EOF true ∷ token COLON EOF false ∷ token IDENT IDENT false ∷ token SEMICOLON EOF false ∷ token CHAR EOF false ∷ token BANG EOF true ∷ token EQ EOF false ∷ token INT_NUMBER EOF false ∷ token SEMICOLON EOF false ∷ token R_CURLY EOF false ∷ []
 
 abbrev tree131 : Forest
 tree131 = (Node SOURCE_FILE (Node FN (Leaf FN_KW 1 (Node NAME (Leaf IDENT 1 End) (Node PARAM_LIST (Leaf L_PAREN 1 (Leaf R_PAREN 1 End)) (Node BLOCK_EXPR (Node STMT_LIST (Leaf L_CURLY 1 (Node EXPR_STMT (Node PATH_EXPR (Node PATH (Node PATH (Node PATH_SEGMENT (Node NAME_REF (Leaf IDENT 1 End) End) End) (Leaf COLON2 2 (Node PATH_SEGMENT (Node NAME_REF (Leaf IDENT 1 End) End) End))) End) (Leaf SEMICOLON 1 End)) (Node EXPR_STMT (Node BIN_EXPR (Node LITERAL (Leaf CHAR 1 End) (Leaf NEQ 2 (Node LITERAL (Leaf INT_NUMBER 1 End) End))) (Leaf SEMICOLON 1 End)) (Leaf R_CURLY 1 End)))) End) End)))) End) End)
@@ -145,7 +148,7 @@ unfolding spaced_before
 spaced131 = refl
 
 abbrev tokens132 : List Token
-tokens132 = of_kind FN_KW false ∷ name_token false ∷ of_kind L_PAREN false ∷ of_kind R_PAREN false ∷ of_kind MINUS true ∷ of_kind R_ANGLE false ∷ of_kind AMP false ∷ name_token false ∷ of_kind L_CURLY false ∷ of_kind LET_KW false ∷ name_token false ∷ of_kind EQ false ∷ name_token false ∷ of_kind COLON true ∷ of_kind COLON false ∷ name_token false ∷ of_kind R_ANGLE false ∷ name_token false ∷ of_kind DOT false ∷ name_token false ∷ of_kind DOT false ∷ name_token false ∷ of_kind SEMICOLON false ∷ of_kind R_CURLY false ∷ []
+tokens132 = token FN_KW EOF false ∷ token IDENT IDENT false ∷ token L_PAREN EOF false ∷ token R_PAREN EOF false ∷ token MINUS EOF true ∷ token R_ANGLE EOF false ∷ token AMP EOF false ∷ token IDENT IDENT false ∷ token L_CURLY EOF false ∷ token LET_KW EOF false ∷ token IDENT IDENT false ∷ token EQ EOF false ∷ token IDENT IDENT false ∷ token COLON EOF true ∷ token COLON EOF false ∷ token IDENT IDENT false ∷ token R_ANGLE EOF false ∷ token IDENT IDENT false ∷ token DOT EOF false ∷ token IDENT IDENT false ∷ token DOT EOF false ∷ token IDENT IDENT false ∷ token SEMICOLON EOF false ∷ token R_CURLY EOF false ∷ []
 
 abbrev tree132 : Forest
 tree132 = (Node SOURCE_FILE (Node FN (Leaf FN_KW 1 (Node NAME (Leaf IDENT 1 End) (Node PARAM_LIST (Leaf L_PAREN 1 (Leaf R_PAREN 1 End)) (Node RET_TYPE (Leaf THIN_ARROW 2 (Node REF_TYPE (Leaf AMP 1 (Node PATH_TYPE (Node PATH (Node PATH_SEGMENT (Node NAME_REF (Leaf IDENT 1 End) End) End) End) End)) End)) (Node BLOCK_EXPR (Node STMT_LIST (Leaf L_CURLY 1 (Node LET_STMT (Leaf LET_KW 1 (Node IDENT_PAT (Node NAME (Leaf IDENT 1 End) End) (Leaf EQ 1 (Node BIN_EXPR (Node PATH_EXPR (Node PATH (Node PATH (Node PATH_SEGMENT (Node NAME_REF (Leaf IDENT 1 End) End) End) (Leaf COLON2 2 (Node PATH_SEGMENT (Node NAME_REF (Leaf IDENT 1 End) End) End))) End) (Leaf R_ANGLE 1 (Node FIELD_EXPR (Node FIELD_EXPR (Node PATH_EXPR (Node PATH (Node PATH_SEGMENT (Node NAME_REF (Leaf IDENT 1 End) End) End) End) (Leaf DOT 1 (Node NAME_REF (Leaf IDENT 1 End) End))) (Leaf DOT 1 (Node NAME_REF (Leaf IDENT 1 End) End))) End))) (Leaf SEMICOLON 1 End))))) (Leaf R_CURLY 1 End))) End) End))))) End) End)
@@ -158,7 +161,7 @@ unfolding spaced_before
 spaced132 = refl
 
 abbrev tokens140 : List Token
-tokens140 = of_kind STRUCT_KW false ∷ name_token false ∷ of_kind L_CURLY false ∷ name_token false ∷ of_kind COLON false ∷ of_kind AMP false ∷ name_token false ∷ of_kind R_CURLY false ∷ of_kind FN_KW false ∷ name_token false ∷ of_kind L_PAREN false ∷ of_kind R_PAREN false ∷ of_kind L_CURLY false ∷ name_token false ∷ of_kind STAR true ∷ of_kind EQ false ∷ name_token false ∷ of_kind DOT false ∷ name_token false ∷ of_kind L_PAREN false ∷ of_kind R_PAREN false ∷ of_kind SEMICOLON false ∷ of_kind R_CURLY false ∷ []
+tokens140 = token STRUCT_KW EOF false ∷ token IDENT IDENT false ∷ token L_CURLY EOF false ∷ token IDENT IDENT false ∷ token COLON EOF false ∷ token AMP EOF false ∷ token IDENT IDENT false ∷ token R_CURLY EOF false ∷ token FN_KW EOF false ∷ token IDENT IDENT false ∷ token L_PAREN EOF false ∷ token R_PAREN EOF false ∷ token L_CURLY EOF false ∷ token IDENT IDENT false ∷ token STAR EOF true ∷ token EQ EOF false ∷ token IDENT IDENT false ∷ token DOT EOF false ∷ token IDENT IDENT false ∷ token L_PAREN EOF false ∷ token R_PAREN EOF false ∷ token SEMICOLON EOF false ∷ token R_CURLY EOF false ∷ []
 
 abbrev tree140 : Forest
 tree140 = (Node SOURCE_FILE (Node STRUCT (Leaf STRUCT_KW 1 (Node NAME (Leaf IDENT 1 End) (Node RECORD_FIELD_LIST (Leaf L_CURLY 1 (Node RECORD_FIELD (Node NAME (Leaf IDENT 1 End) (Leaf COLON 1 (Node REF_TYPE (Leaf AMP 1 (Node PATH_TYPE (Node PATH (Node PATH_SEGMENT (Node NAME_REF (Leaf IDENT 1 End) End) End) End) End)) End))) (Leaf R_CURLY 1 End))) End))) (Node FN (Leaf FN_KW 1 (Node NAME (Leaf IDENT 1 End) (Node PARAM_LIST (Leaf L_PAREN 1 (Leaf R_PAREN 1 End)) (Node BLOCK_EXPR (Node STMT_LIST (Leaf L_CURLY 1 (Node EXPR_STMT (Node BIN_EXPR (Node PATH_EXPR (Node PATH (Node PATH_SEGMENT (Node NAME_REF (Leaf IDENT 1 End) End) End) End) (Leaf STAREQ 2 (Node METHOD_CALL_EXPR (Node PATH_EXPR (Node PATH (Node PATH_SEGMENT (Node NAME_REF (Leaf IDENT 1 End) End) End) End) (Leaf DOT 1 (Node NAME_REF (Leaf IDENT 1 End) (Node ARG_LIST (Leaf L_PAREN 1 (Leaf R_PAREN 1 End)) End)))) End))) (Leaf SEMICOLON 1 End)) (Leaf R_CURLY 1 End))) End) End)))) End)) End)
@@ -171,7 +174,7 @@ unfolding spaced_before
 spaced140 = refl
 
 abbrev tokens160 : List Token
-tokens160 = of_kind PUB_KW false ∷ of_kind FN_KW false ∷ name_token false ∷ of_kind L_PAREN false ∷ of_kind MUT_KW false ∷ name_token false ∷ of_kind COLON false ∷ of_kind AMP false ∷ of_kind MUT_KW false ∷ name_token false ∷ of_kind R_PAREN false ∷ of_kind L_CURLY false ∷ of_kind LET_KW false ∷ name_token false ∷ of_kind EQ false ∷ of_kind AMP false ∷ name_token false ∷ of_kind SEMICOLON false ∷ of_kind FLOAT_NUMBER true ∷ of_kind PERCENT false ∷ name_token false ∷ of_kind COLON true ∷ of_kind COLON false ∷ name_token false ∷ of_kind SEMICOLON false ∷ of_kind R_CURLY false ∷ of_kind PUB_KW false ∷ of_kind STRUCT_KW false ∷ name_token false ∷ of_kind SEMICOLON false ∷ []
+tokens160 = token PUB_KW EOF false ∷ token FN_KW EOF false ∷ token IDENT IDENT false ∷ token L_PAREN EOF false ∷ token MUT_KW EOF false ∷ token IDENT IDENT false ∷ token COLON EOF false ∷ token AMP EOF false ∷ token MUT_KW EOF false ∷ token IDENT IDENT false ∷ token R_PAREN EOF false ∷ token L_CURLY EOF false ∷ token LET_KW EOF false ∷ token IDENT IDENT false ∷ token EQ EOF false ∷ token AMP EOF false ∷ token IDENT IDENT false ∷ token SEMICOLON EOF false ∷ token FLOAT_NUMBER EOF true ∷ token PERCENT EOF false ∷ token IDENT IDENT false ∷ token COLON EOF true ∷ token COLON EOF false ∷ token IDENT IDENT false ∷ token SEMICOLON EOF false ∷ token R_CURLY EOF false ∷ token PUB_KW EOF false ∷ token STRUCT_KW EOF false ∷ token IDENT IDENT false ∷ token SEMICOLON EOF false ∷ []
 
 abbrev tree160 : Forest
 tree160 = (Node SOURCE_FILE (Node FN (Node VISIBILITY (Leaf PUB_KW 1 End) (Leaf FN_KW 1 (Node NAME (Leaf IDENT 1 End) (Node PARAM_LIST (Leaf L_PAREN 1 (Node PARAM (Node IDENT_PAT (Leaf MUT_KW 1 (Node NAME (Leaf IDENT 1 End) End)) (Leaf COLON 1 (Node REF_TYPE (Leaf AMP 1 (Leaf MUT_KW 1 (Node PATH_TYPE (Node PATH (Node PATH_SEGMENT (Node NAME_REF (Leaf IDENT 1 End) End) End) End) End))) End))) (Leaf R_PAREN 1 End))) (Node BLOCK_EXPR (Node STMT_LIST (Leaf L_CURLY 1 (Node LET_STMT (Leaf LET_KW 1 (Node IDENT_PAT (Node NAME (Leaf IDENT 1 End) End) (Leaf EQ 1 (Node REF_EXPR (Leaf AMP 1 (Node PATH_EXPR (Node PATH (Node PATH_SEGMENT (Node NAME_REF (Leaf IDENT 1 End) End) End) End) End)) (Leaf SEMICOLON 1 End))))) (Node EXPR_STMT (Node BIN_EXPR (Node LITERAL (Leaf FLOAT_NUMBER 1 End) (Leaf PERCENT 1 (Node PATH_EXPR (Node PATH (Node PATH (Node PATH_SEGMENT (Node NAME_REF (Leaf IDENT 1 End) End) End) (Leaf COLON2 2 (Node PATH_SEGMENT (Node NAME_REF (Leaf IDENT 1 End) End) End))) End) End))) (Leaf SEMICOLON 1 End)) (Leaf R_CURLY 1 End)))) End) End))))) (Node STRUCT (Node VISIBILITY (Leaf PUB_KW 1 End) (Leaf STRUCT_KW 1 (Node NAME (Leaf IDENT 1 End) (Leaf SEMICOLON 1 End)))) End)) End)
@@ -184,7 +187,7 @@ unfolding spaced_before
 spaced160 = refl
 
 abbrev tokens196 : List Token
-tokens196 = of_kind FN_KW false ∷ name_token false ∷ of_kind L_PAREN false ∷ of_kind R_PAREN false ∷ of_kind L_CURLY false ∷ of_kind STRING false ∷ of_kind PLUS false ∷ name_token false ∷ of_kind COLON true ∷ of_kind COLON false ∷ name_token false ∷ of_kind COLON true ∷ of_kind COLON false ∷ name_token false ∷ of_kind SEMICOLON false ∷ of_kind AMP false ∷ of_kind MUT_KW false ∷ name_token false ∷ of_kind R_CURLY false ∷ of_kind FN_KW false ∷ name_token false ∷ of_kind L_PAREN false ∷ of_kind R_PAREN false ∷ of_kind L_CURLY false ∷ of_kind LET_KW false ∷ of_kind MUT_KW false ∷ name_token false ∷ of_kind SEMICOLON false ∷ name_token false ∷ of_kind R_CURLY false ∷ []
+tokens196 = token FN_KW EOF false ∷ token IDENT IDENT false ∷ token L_PAREN EOF false ∷ token R_PAREN EOF false ∷ token L_CURLY EOF false ∷ token STRING EOF false ∷ token PLUS EOF false ∷ token IDENT IDENT false ∷ token COLON EOF true ∷ token COLON EOF false ∷ token IDENT IDENT false ∷ token COLON EOF true ∷ token COLON EOF false ∷ token IDENT IDENT false ∷ token SEMICOLON EOF false ∷ token AMP EOF false ∷ token MUT_KW EOF false ∷ token IDENT IDENT false ∷ token R_CURLY EOF false ∷ token FN_KW EOF false ∷ token IDENT IDENT false ∷ token L_PAREN EOF false ∷ token R_PAREN EOF false ∷ token L_CURLY EOF false ∷ token LET_KW EOF false ∷ token MUT_KW EOF false ∷ token IDENT IDENT false ∷ token SEMICOLON EOF false ∷ token IDENT IDENT false ∷ token R_CURLY EOF false ∷ []
 
 abbrev tree196 : Forest
 tree196 = (Node SOURCE_FILE (Node FN (Leaf FN_KW 1 (Node NAME (Leaf IDENT 1 End) (Node PARAM_LIST (Leaf L_PAREN 1 (Leaf R_PAREN 1 End)) (Node BLOCK_EXPR (Node STMT_LIST (Leaf L_CURLY 1 (Node EXPR_STMT (Node BIN_EXPR (Node LITERAL (Leaf STRING 1 End) (Leaf PLUS 1 (Node PATH_EXPR (Node PATH (Node PATH (Node PATH (Node PATH_SEGMENT (Node NAME_REF (Leaf IDENT 1 End) End) End) (Leaf COLON2 2 (Node PATH_SEGMENT (Node NAME_REF (Leaf IDENT 1 End) End) End))) (Leaf COLON2 2 (Node PATH_SEGMENT (Node NAME_REF (Leaf IDENT 1 End) End) End))) End) End))) (Leaf SEMICOLON 1 End)) (Node REF_EXPR (Leaf AMP 1 (Leaf MUT_KW 1 (Node PATH_EXPR (Node PATH (Node PATH_SEGMENT (Node NAME_REF (Leaf IDENT 1 End) End) End) End) End))) (Leaf R_CURLY 1 End)))) End) End)))) (Node FN (Leaf FN_KW 1 (Node NAME (Leaf IDENT 1 End) (Node PARAM_LIST (Leaf L_PAREN 1 (Leaf R_PAREN 1 End)) (Node BLOCK_EXPR (Node STMT_LIST (Leaf L_CURLY 1 (Node LET_STMT (Leaf LET_KW 1 (Node IDENT_PAT (Leaf MUT_KW 1 (Node NAME (Leaf IDENT 1 End) End)) (Leaf SEMICOLON 1 End))) (Node PATH_EXPR (Node PATH (Node PATH_SEGMENT (Node NAME_REF (Leaf IDENT 1 End) End) End) End) (Leaf R_CURLY 1 End)))) End) End)))) End)) End)
@@ -197,7 +200,7 @@ unfolding spaced_before
 spaced196 = refl
 
 abbrev tokens302 : List Token
-tokens302 = of_kind FN_KW false ∷ name_token false ∷ of_kind L_PAREN false ∷ of_kind R_PAREN false ∷ of_kind MINUS true ∷ of_kind R_ANGLE false ∷ of_kind AMP false ∷ of_kind MUT_KW false ∷ name_token false ∷ of_kind L_CURLY false ∷ of_kind AMP false ∷ of_kind MUT_KW false ∷ of_kind L_PAREN false ∷ name_token false ∷ of_kind COLON true ∷ of_kind COLON false ∷ name_token false ∷ of_kind R_PAREN false ∷ of_kind AMP false ∷ of_kind BANG false ∷ name_token false ∷ of_kind DOT false ∷ name_token false ∷ of_kind L_PAREN false ∷ name_token false ∷ of_kind R_PAREN false ∷ of_kind SEMICOLON false ∷ of_kind FLOAT_NUMBER true ∷ of_kind DOT false ∷ name_token false ∷ of_kind L_PAREN false ∷ name_token false ∷ of_kind R_PAREN false ∷ of_kind DOT false ∷ name_token false ∷ of_kind L_PAREN false ∷ of_kind R_PAREN false ∷ of_kind DOT false ∷ name_token false ∷ of_kind L_PAREN false ∷ of_kind R_PAREN false ∷ of_kind SEMICOLON false ∷ of_kind L_PAREN false ∷ name_token false ∷ of_kind R_PAREN false ∷ of_kind BANG true ∷ of_kind EQ false ∷ name_token false ∷ of_kind DOT false ∷ name_token false ∷ of_kind L_PAREN false ∷ of_kind FLOAT_NUMBER false ∷ of_kind COMMA false ∷ of_kind FLOAT_NUMBER true ∷ of_kind R_PAREN false ∷ of_kind SLASH true ∷ of_kind EQ false ∷ name_token false ∷ of_kind COLON true ∷ of_kind COLON false ∷ name_token false ∷ of_kind PIPE true ∷ of_kind PIPE false ∷ of_kind STRING false ∷ of_kind R_ANGLE true ∷ of_kind R_ANGLE true ∷ of_kind EQ false ∷ of_kind AMP false ∷ of_kind MUT_KW false ∷ of_kind INT_NUMBER false ∷ of_kind R_CURLY false ∷ []
+tokens302 = token FN_KW EOF false ∷ token IDENT IDENT false ∷ token L_PAREN EOF false ∷ token R_PAREN EOF false ∷ token MINUS EOF true ∷ token R_ANGLE EOF false ∷ token AMP EOF false ∷ token MUT_KW EOF false ∷ token IDENT IDENT false ∷ token L_CURLY EOF false ∷ token AMP EOF false ∷ token MUT_KW EOF false ∷ token L_PAREN EOF false ∷ token IDENT IDENT false ∷ token COLON EOF true ∷ token COLON EOF false ∷ token IDENT IDENT false ∷ token R_PAREN EOF false ∷ token AMP EOF false ∷ token BANG EOF false ∷ token IDENT IDENT false ∷ token DOT EOF false ∷ token IDENT IDENT false ∷ token L_PAREN EOF false ∷ token IDENT IDENT false ∷ token R_PAREN EOF false ∷ token SEMICOLON EOF false ∷ token FLOAT_NUMBER EOF true ∷ token DOT EOF false ∷ token IDENT IDENT false ∷ token L_PAREN EOF false ∷ token IDENT IDENT false ∷ token R_PAREN EOF false ∷ token DOT EOF false ∷ token IDENT IDENT false ∷ token L_PAREN EOF false ∷ token R_PAREN EOF false ∷ token DOT EOF false ∷ token IDENT IDENT false ∷ token L_PAREN EOF false ∷ token R_PAREN EOF false ∷ token SEMICOLON EOF false ∷ token L_PAREN EOF false ∷ token IDENT IDENT false ∷ token R_PAREN EOF false ∷ token BANG EOF true ∷ token EQ EOF false ∷ token IDENT IDENT false ∷ token DOT EOF false ∷ token IDENT IDENT false ∷ token L_PAREN EOF false ∷ token FLOAT_NUMBER EOF false ∷ token COMMA EOF false ∷ token FLOAT_NUMBER EOF true ∷ token R_PAREN EOF false ∷ token SLASH EOF true ∷ token EQ EOF false ∷ token IDENT IDENT false ∷ token COLON EOF true ∷ token COLON EOF false ∷ token IDENT IDENT false ∷ token PIPE EOF true ∷ token PIPE EOF false ∷ token STRING EOF false ∷ token R_ANGLE EOF true ∷ token R_ANGLE EOF true ∷ token EQ EOF false ∷ token AMP EOF false ∷ token MUT_KW EOF false ∷ token INT_NUMBER EOF false ∷ token R_CURLY EOF false ∷ []
 
 abbrev tree302 : Forest
 tree302 = (Node SOURCE_FILE (Node FN (Leaf FN_KW 1 (Node NAME (Leaf IDENT 1 End) (Node PARAM_LIST (Leaf L_PAREN 1 (Leaf R_PAREN 1 End)) (Node RET_TYPE (Leaf THIN_ARROW 2 (Node REF_TYPE (Leaf AMP 1 (Leaf MUT_KW 1 (Node PATH_TYPE (Node PATH (Node PATH_SEGMENT (Node NAME_REF (Leaf IDENT 1 End) End) End) End) End))) End)) (Node BLOCK_EXPR (Node STMT_LIST (Leaf L_CURLY 1 (Node EXPR_STMT (Node BIN_EXPR (Node REF_EXPR (Leaf AMP 1 (Leaf MUT_KW 1 (Node PAREN_EXPR (Leaf L_PAREN 1 (Node PATH_EXPR (Node PATH (Node PATH (Node PATH_SEGMENT (Node NAME_REF (Leaf IDENT 1 End) End) End) (Leaf COLON2 2 (Node PATH_SEGMENT (Node NAME_REF (Leaf IDENT 1 End) End) End))) End) (Leaf R_PAREN 1 End))) End))) (Leaf AMP 1 (Node PREFIX_EXPR (Leaf BANG 1 (Node METHOD_CALL_EXPR (Node PATH_EXPR (Node PATH (Node PATH_SEGMENT (Node NAME_REF (Leaf IDENT 1 End) End) End) End) (Leaf DOT 1 (Node NAME_REF (Leaf IDENT 1 End) (Node ARG_LIST (Leaf L_PAREN 1 (Node PATH_EXPR (Node PATH (Node PATH_SEGMENT (Node NAME_REF (Leaf IDENT 1 End) End) End) End) (Leaf R_PAREN 1 End))) End)))) End)) End))) (Leaf SEMICOLON 1 End)) (Node EXPR_STMT (Node METHOD_CALL_EXPR (Node METHOD_CALL_EXPR (Node METHOD_CALL_EXPR (Node LITERAL (Leaf FLOAT_NUMBER 1 End) (Leaf DOT 1 (Node NAME_REF (Leaf IDENT 1 End) (Node ARG_LIST (Leaf L_PAREN 1 (Node PATH_EXPR (Node PATH (Node PATH_SEGMENT (Node NAME_REF (Leaf IDENT 1 End) End) End) End) (Leaf R_PAREN 1 End))) End)))) (Leaf DOT 1 (Node NAME_REF (Leaf IDENT 1 End) (Node ARG_LIST (Leaf L_PAREN 1 (Leaf R_PAREN 1 End)) End)))) (Leaf DOT 1 (Node NAME_REF (Leaf IDENT 1 End) (Node ARG_LIST (Leaf L_PAREN 1 (Leaf R_PAREN 1 End)) End)))) (Leaf SEMICOLON 1 End)) (Node BIN_EXPR (Node BIN_EXPR (Node PAREN_EXPR (Leaf L_PAREN 1 (Node PATH_EXPR (Node PATH (Node PATH_SEGMENT (Node NAME_REF (Leaf IDENT 1 End) End) End) End) (Leaf R_PAREN 1 End))) (Leaf NEQ 2 (Node METHOD_CALL_EXPR (Node PATH_EXPR (Node PATH (Node PATH_SEGMENT (Node NAME_REF (Leaf IDENT 1 End) End) End) End) (Leaf DOT 1 (Node NAME_REF (Leaf IDENT 1 End) (Node ARG_LIST (Leaf L_PAREN 1 (Node LITERAL (Leaf FLOAT_NUMBER 1 End) (Leaf COMMA 1 (Node LITERAL (Leaf FLOAT_NUMBER 1 End) (Leaf R_PAREN 1 End))))) End)))) End))) (Leaf SLASHEQ 2 (Node BIN_EXPR (Node BIN_EXPR (Node PATH_EXPR (Node PATH (Node PATH (Node PATH_SEGMENT (Node NAME_REF (Leaf IDENT 1 End) End) End) (Leaf COLON2 2 (Node PATH_SEGMENT (Node NAME_REF (Leaf IDENT 1 End) End) End))) End) (Leaf PIPE2 2 (Node LITERAL (Leaf STRING 1 End) End))) (Leaf SHREQ 3 (Node REF_EXPR (Leaf AMP 1 (Leaf MUT_KW 1 (Node LITERAL (Leaf INT_NUMBER 1 End) End))) End))) End))) (Leaf R_CURLY 1 End))))) End) End))))) End) End)
@@ -210,7 +213,7 @@ unfolding spaced_before
 spaced302 = refl
 
 abbrev tokens306 : List Token
-tokens306 = of_kind FN_KW false ∷ name_token false ∷ of_kind L_PAREN false ∷ of_kind R_PAREN false ∷ of_kind L_CURLY false ∷ of_kind AMP false ∷ of_kind MUT_KW false ∷ name_token false ∷ of_kind MINUS true ∷ of_kind EQ false ∷ of_kind MINUS false ∷ of_kind R_CURLY false ∷ []
+tokens306 = token FN_KW EOF false ∷ token IDENT IDENT false ∷ token L_PAREN EOF false ∷ token R_PAREN EOF false ∷ token L_CURLY EOF false ∷ token AMP EOF false ∷ token MUT_KW EOF false ∷ token IDENT IDENT false ∷ token MINUS EOF true ∷ token EQ EOF false ∷ token MINUS EOF false ∷ token R_CURLY EOF false ∷ []
 
 abbrev tree306 : Forest
 tree306 = (Node SOURCE_FILE (Node FN (Leaf FN_KW 1 (Node NAME (Leaf IDENT 1 End) (Node PARAM_LIST (Leaf L_PAREN 1 (Leaf R_PAREN 1 End)) (Node BLOCK_EXPR (Node STMT_LIST (Leaf L_CURLY 1 (Node BIN_EXPR (Node REF_EXPR (Leaf AMP 1 (Leaf MUT_KW 1 (Node PATH_EXPR (Node PATH (Node PATH_SEGMENT (Node NAME_REF (Leaf IDENT 1 End) End) End) End) End))) (Leaf MINUSEQ 2 (Node PREFIX_EXPR (Leaf MINUS 1 (Node PATH_EXPR (Node PATH End End) End)) End))) (Leaf R_CURLY 1 End))) End) End)))) End) End)
@@ -224,7 +227,7 @@ unfolding spaced_before
 spaced306 = refl
 
 abbrev tokens316 : List Token
-tokens316 = of_kind MOD_KW false ∷ name_token false ∷ of_kind L_CURLY false ∷ of_kind R_CURLY false ∷ []
+tokens316 = token MOD_KW EOF false ∷ token IDENT IDENT false ∷ token L_CURLY EOF false ∷ token R_CURLY EOF false ∷ []
 
 abbrev tree316 : Forest
 tree316 = (Node SOURCE_FILE (Node MODULE (Leaf MOD_KW 1 (Node NAME (Leaf IDENT 1 End) (Node ITEM_LIST (Leaf L_CURLY 1 (Leaf R_CURLY 1 End)) End))) End) End)
@@ -237,7 +240,7 @@ unfolding spaced_before
 spaced316 = refl
 
 abbrev tokens324 : List Token
-tokens324 = of_kind FN_KW false ∷ name_token false ∷ of_kind L_PAREN false ∷ of_kind R_PAREN false ∷ of_kind MINUS true ∷ of_kind R_ANGLE false ∷ of_kind AMP false ∷ name_token false ∷ of_kind L_CURLY false ∷ name_token false ∷ of_kind DOT false ∷ name_token false ∷ of_kind L_PAREN false ∷ name_token false ∷ of_kind DOT false ∷ name_token false ∷ of_kind L_PAREN false ∷ of_kind INT_NUMBER false ∷ of_kind R_PAREN false ∷ of_kind COMMA false ∷ name_token false ∷ of_kind COLON true ∷ of_kind COLON false ∷ name_token false ∷ of_kind R_PAREN false ∷ of_kind EQ true ∷ of_kind EQ false ∷ of_kind AMP false ∷ of_kind FLOAT_NUMBER false ∷ of_kind DOT false ∷ name_token false ∷ of_kind SEMICOLON false ∷ of_kind BYTE_STRING false ∷ of_kind DOT false ∷ name_token false ∷ of_kind DOT false ∷ name_token false ∷ of_kind L_PAREN false ∷ of_kind R_PAREN false ∷ of_kind AMP true ∷ of_kind EQ false ∷ name_token false ∷ of_kind COLON true ∷ of_kind COLON false ∷ name_token false ∷ of_kind DOT false ∷ name_token false ∷ of_kind BANG true ∷ of_kind EQ false ∷ of_kind FLOAT_NUMBER true ∷ of_kind R_CURLY false ∷ []
+tokens324 = token FN_KW EOF false ∷ token IDENT IDENT false ∷ token L_PAREN EOF false ∷ token R_PAREN EOF false ∷ token MINUS EOF true ∷ token R_ANGLE EOF false ∷ token AMP EOF false ∷ token IDENT IDENT false ∷ token L_CURLY EOF false ∷ token IDENT IDENT false ∷ token DOT EOF false ∷ token IDENT IDENT false ∷ token L_PAREN EOF false ∷ token IDENT IDENT false ∷ token DOT EOF false ∷ token IDENT IDENT false ∷ token L_PAREN EOF false ∷ token INT_NUMBER EOF false ∷ token R_PAREN EOF false ∷ token COMMA EOF false ∷ token IDENT IDENT false ∷ token COLON EOF true ∷ token COLON EOF false ∷ token IDENT IDENT false ∷ token R_PAREN EOF false ∷ token EQ EOF true ∷ token EQ EOF false ∷ token AMP EOF false ∷ token FLOAT_NUMBER EOF false ∷ token DOT EOF false ∷ token IDENT IDENT false ∷ token SEMICOLON EOF false ∷ token BYTE_STRING EOF false ∷ token DOT EOF false ∷ token IDENT IDENT false ∷ token DOT EOF false ∷ token IDENT IDENT false ∷ token L_PAREN EOF false ∷ token R_PAREN EOF false ∷ token AMP EOF true ∷ token EQ EOF false ∷ token IDENT IDENT false ∷ token COLON EOF true ∷ token COLON EOF false ∷ token IDENT IDENT false ∷ token DOT EOF false ∷ token IDENT IDENT false ∷ token BANG EOF true ∷ token EQ EOF false ∷ token FLOAT_NUMBER EOF true ∷ token R_CURLY EOF false ∷ []
 
 abbrev tree324 : Forest
 tree324 = (Node SOURCE_FILE (Node FN (Leaf FN_KW 1 (Node NAME (Leaf IDENT 1 End) (Node PARAM_LIST (Leaf L_PAREN 1 (Leaf R_PAREN 1 End)) (Node RET_TYPE (Leaf THIN_ARROW 2 (Node REF_TYPE (Leaf AMP 1 (Node PATH_TYPE (Node PATH (Node PATH_SEGMENT (Node NAME_REF (Leaf IDENT 1 End) End) End) End) End)) End)) (Node BLOCK_EXPR (Node STMT_LIST (Leaf L_CURLY 1 (Node EXPR_STMT (Node BIN_EXPR (Node METHOD_CALL_EXPR (Node PATH_EXPR (Node PATH (Node PATH_SEGMENT (Node NAME_REF (Leaf IDENT 1 End) End) End) End) (Leaf DOT 1 (Node NAME_REF (Leaf IDENT 1 End) (Node ARG_LIST (Leaf L_PAREN 1 (Node METHOD_CALL_EXPR (Node PATH_EXPR (Node PATH (Node PATH_SEGMENT (Node NAME_REF (Leaf IDENT 1 End) End) End) End) (Leaf DOT 1 (Node NAME_REF (Leaf IDENT 1 End) (Node ARG_LIST (Leaf L_PAREN 1 (Node LITERAL (Leaf INT_NUMBER 1 End) (Leaf R_PAREN 1 End))) End)))) (Leaf COMMA 1 (Node PATH_EXPR (Node PATH (Node PATH (Node PATH_SEGMENT (Node NAME_REF (Leaf IDENT 1 End) End) End) (Leaf COLON2 2 (Node PATH_SEGMENT (Node NAME_REF (Leaf IDENT 1 End) End) End))) End) (Leaf R_PAREN 1 End))))) End)))) (Leaf EQ2 2 (Node REF_EXPR (Leaf AMP 1 (Node FIELD_EXPR (Node LITERAL (Leaf FLOAT_NUMBER 1 End) (Leaf DOT 1 (Node NAME_REF (Leaf IDENT 1 End) End))) End)) End))) (Leaf SEMICOLON 1 End)) (Node BIN_EXPR (Node METHOD_CALL_EXPR (Node FIELD_EXPR (Node LITERAL (Leaf BYTE_STRING 1 End) (Leaf DOT 1 (Node NAME_REF (Leaf IDENT 1 End) End))) (Leaf DOT 1 (Node NAME_REF (Leaf IDENT 1 End) (Node ARG_LIST (Leaf L_PAREN 1 (Leaf R_PAREN 1 End)) End)))) (Leaf AMPEQ 2 (Node BIN_EXPR (Node FIELD_EXPR (Node PATH_EXPR (Node PATH (Node PATH (Node PATH_SEGMENT (Node NAME_REF (Leaf IDENT 1 End) End) End) (Leaf COLON2 2 (Node PATH_SEGMENT (Node NAME_REF (Leaf IDENT 1 End) End) End))) End) (Leaf DOT 1 (Node NAME_REF (Leaf IDENT 1 End) End))) (Leaf NEQ 2 (Node LITERAL (Leaf FLOAT_NUMBER 1 End) End))) End))) (Leaf R_CURLY 1 End)))) End) End))))) End) End)
@@ -250,7 +253,7 @@ unfolding spaced_before
 spaced324 = refl
 
 abbrev tokens360 : List Token
-tokens360 = of_kind STRUCT_KW false ∷ name_token false ∷ of_kind SEMICOLON false ∷ of_kind FN_KW false ∷ name_token false ∷ of_kind L_PAREN false ∷ of_kind MUT_KW false ∷ name_token false ∷ of_kind COLON false ∷ of_kind AMP false ∷ of_kind MUT_KW false ∷ name_token false ∷ of_kind R_PAREN false ∷ of_kind MINUS true ∷ of_kind R_ANGLE false ∷ name_token false ∷ of_kind L_CURLY false ∷ of_kind LET_KW false ∷ of_kind MUT_KW false ∷ name_token false ∷ of_kind COLON false ∷ name_token false ∷ of_kind EQ false ∷ of_kind STAR false ∷ of_kind BANG false ∷ name_token false ∷ of_kind SLASH true ∷ of_kind EQ false ∷ name_token false ∷ of_kind SEMICOLON false ∷ of_kind STRING false ∷ of_kind L_PAREN false ∷ of_kind INT_NUMBER false ∷ of_kind L_PAREN false ∷ of_kind FLOAT_NUMBER true ∷ of_kind R_PAREN false ∷ of_kind COMMA false ∷ of_kind INT_NUMBER false ∷ of_kind R_ANGLE true ∷ of_kind R_ANGLE false ∷ name_token false ∷ of_kind COLON true ∷ of_kind COLON false ∷ name_token false ∷ of_kind COMMA false ∷ of_kind STRING false ∷ of_kind DOT false ∷ name_token false ∷ of_kind R_PAREN false ∷ of_kind DOT false ∷ name_token false ∷ of_kind L_PAREN false ∷ of_kind L_PAREN false ∷ name_token false ∷ of_kind R_PAREN false ∷ of_kind DOT false ∷ name_token false ∷ of_kind R_PAREN false ∷ of_kind SEMICOLON false ∷ of_kind R_CURLY false ∷ []
+tokens360 = token STRUCT_KW EOF false ∷ token IDENT IDENT false ∷ token SEMICOLON EOF false ∷ token FN_KW EOF false ∷ token IDENT IDENT false ∷ token L_PAREN EOF false ∷ token MUT_KW EOF false ∷ token IDENT IDENT false ∷ token COLON EOF false ∷ token AMP EOF false ∷ token MUT_KW EOF false ∷ token IDENT IDENT false ∷ token R_PAREN EOF false ∷ token MINUS EOF true ∷ token R_ANGLE EOF false ∷ token IDENT IDENT false ∷ token L_CURLY EOF false ∷ token LET_KW EOF false ∷ token MUT_KW EOF false ∷ token IDENT IDENT false ∷ token COLON EOF false ∷ token IDENT IDENT false ∷ token EQ EOF false ∷ token STAR EOF false ∷ token BANG EOF false ∷ token IDENT IDENT false ∷ token SLASH EOF true ∷ token EQ EOF false ∷ token IDENT IDENT false ∷ token SEMICOLON EOF false ∷ token STRING EOF false ∷ token L_PAREN EOF false ∷ token INT_NUMBER EOF false ∷ token L_PAREN EOF false ∷ token FLOAT_NUMBER EOF true ∷ token R_PAREN EOF false ∷ token COMMA EOF false ∷ token INT_NUMBER EOF false ∷ token R_ANGLE EOF true ∷ token R_ANGLE EOF false ∷ token IDENT IDENT false ∷ token COLON EOF true ∷ token COLON EOF false ∷ token IDENT IDENT false ∷ token COMMA EOF false ∷ token STRING EOF false ∷ token DOT EOF false ∷ token IDENT IDENT false ∷ token R_PAREN EOF false ∷ token DOT EOF false ∷ token IDENT IDENT false ∷ token L_PAREN EOF false ∷ token L_PAREN EOF false ∷ token IDENT IDENT false ∷ token R_PAREN EOF false ∷ token DOT EOF false ∷ token IDENT IDENT false ∷ token R_PAREN EOF false ∷ token SEMICOLON EOF false ∷ token R_CURLY EOF false ∷ []
 
 abbrev tree360 : Forest
 tree360 = (Node SOURCE_FILE (Node STRUCT (Leaf STRUCT_KW 1 (Node NAME (Leaf IDENT 1 End) (Leaf SEMICOLON 1 End))) (Node FN (Leaf FN_KW 1 (Node NAME (Leaf IDENT 1 End) (Node PARAM_LIST (Leaf L_PAREN 1 (Node PARAM (Node IDENT_PAT (Leaf MUT_KW 1 (Node NAME (Leaf IDENT 1 End) End)) (Leaf COLON 1 (Node REF_TYPE (Leaf AMP 1 (Leaf MUT_KW 1 (Node PATH_TYPE (Node PATH (Node PATH_SEGMENT (Node NAME_REF (Leaf IDENT 1 End) End) End) End) End))) End))) (Leaf R_PAREN 1 End))) (Node RET_TYPE (Leaf THIN_ARROW 2 (Node PATH_TYPE (Node PATH (Node PATH_SEGMENT (Node NAME_REF (Leaf IDENT 1 End) End) End) End) End)) (Node BLOCK_EXPR (Node STMT_LIST (Leaf L_CURLY 1 (Node LET_STMT (Leaf LET_KW 1 (Node IDENT_PAT (Leaf MUT_KW 1 (Node NAME (Leaf IDENT 1 End) End)) (Leaf COLON 1 (Node PATH_TYPE (Node PATH (Node PATH_SEGMENT (Node NAME_REF (Leaf IDENT 1 End) End) End) End) (Leaf EQ 1 (Node BIN_EXPR (Node PREFIX_EXPR (Leaf STAR 1 (Node PREFIX_EXPR (Leaf BANG 1 (Node PATH_EXPR (Node PATH (Node PATH_SEGMENT (Node NAME_REF (Leaf IDENT 1 End) End) End) End) End)) End)) (Leaf SLASHEQ 2 (Node PATH_EXPR (Node PATH (Node PATH_SEGMENT (Node NAME_REF (Leaf IDENT 1 End) End) End) End) End))) (Leaf SEMICOLON 1 End))))))) (Node EXPR_STMT (Node METHOD_CALL_EXPR (Node CALL_EXPR (Node LITERAL (Leaf STRING 1 End) (Node ARG_LIST (Leaf L_PAREN 1 (Node CALL_EXPR (Node LITERAL (Leaf INT_NUMBER 1 End) (Node ARG_LIST (Leaf L_PAREN 1 (Node LITERAL (Leaf FLOAT_NUMBER 1 End) (Leaf R_PAREN 1 End))) End)) (Leaf COMMA 1 (Node BIN_EXPR (Node LITERAL (Leaf INT_NUMBER 1 End) (Leaf SHR 2 (Node PATH_EXPR (Node PATH (Node PATH (Node PATH_SEGMENT (Node NAME_REF (Leaf IDENT 1 End) End) End) (Leaf COLON2 2 (Node PATH_SEGMENT (Node NAME_REF (Leaf IDENT 1 End) End) End))) End) End))) (Leaf COMMA 1 (Node FIELD_EXPR (Node LITERAL (Leaf STRING 1 End) (Leaf DOT 1 (Node NAME_REF (Leaf IDENT 1 End) End))) (Leaf R_PAREN 1 End))))))) End)) (Leaf DOT 1 (Node NAME_REF (Leaf IDENT 1 End) (Node ARG_LIST (Leaf L_PAREN 1 (Node FIELD_EXPR (Node PAREN_EXPR (Leaf L_PAREN 1 (Node PATH_EXPR (Node PATH (Node PATH_SEGMENT (Node NAME_REF (Leaf IDENT 1 End) End) End) End) (Leaf R_PAREN 1 End))) (Leaf DOT 1 (Node NAME_REF (Leaf IDENT 1 End) End))) (Leaf R_PAREN 1 End))) End)))) (Leaf SEMICOLON 1 End)) (Leaf R_CURLY 1 End)))) End) End))))) End)) End)
@@ -263,7 +266,7 @@ unfolding spaced_before
 spaced360 = refl
 
 abbrev tokens361 : List Token
-tokens361 = of_kind PUB_KW false ∷ of_kind FN_KW false ∷ name_token false ∷ of_kind L_PAREN false ∷ name_token false ∷ of_kind COLON false ∷ of_kind AMP false ∷ of_kind MUT_KW false ∷ of_kind L_BRACK false ∷ name_token false ∷ of_kind R_BRACK false ∷ of_kind COMMA false ∷ of_kind L_CURLY false ∷ of_kind CHAR false ∷ of_kind DOT false ∷ name_token false ∷ of_kind L_PAREN false ∷ of_kind INT_NUMBER false ∷ of_kind COMMA false ∷ of_kind R_PAREN false ∷ of_kind R_CURLY false ∷ []
+tokens361 = token PUB_KW EOF false ∷ token FN_KW EOF false ∷ token IDENT IDENT false ∷ token L_PAREN EOF false ∷ token IDENT IDENT false ∷ token COLON EOF false ∷ token AMP EOF false ∷ token MUT_KW EOF false ∷ token L_BRACK EOF false ∷ token IDENT IDENT false ∷ token R_BRACK EOF false ∷ token COMMA EOF false ∷ token L_CURLY EOF false ∷ token CHAR EOF false ∷ token DOT EOF false ∷ token IDENT IDENT false ∷ token L_PAREN EOF false ∷ token INT_NUMBER EOF false ∷ token COMMA EOF false ∷ token R_PAREN EOF false ∷ token R_CURLY EOF false ∷ []
 
 abbrev tree361 : Forest
 tree361 = (Node SOURCE_FILE (Node FN (Node VISIBILITY (Leaf PUB_KW 1 End) (Leaf FN_KW 1 (Node NAME (Leaf IDENT 1 End) (Node PARAM_LIST (Leaf L_PAREN 1 (Node PARAM (Node IDENT_PAT (Node NAME (Leaf IDENT 1 End) End) (Leaf COLON 1 (Node REF_TYPE (Leaf AMP 1 (Leaf MUT_KW 1 (Node SLICE_TYPE (Leaf L_BRACK 1 (Node PATH_TYPE (Node PATH (Node PATH_SEGMENT (Node NAME_REF (Leaf IDENT 1 End) End) End) End) (Leaf R_BRACK 1 End))) End))) End))) (Leaf COMMA 1 End))) (Node BLOCK_EXPR (Node STMT_LIST (Leaf L_CURLY 1 (Node METHOD_CALL_EXPR (Node LITERAL (Leaf CHAR 1 End) (Leaf DOT 1 (Node NAME_REF (Leaf IDENT 1 End) (Node ARG_LIST (Leaf L_PAREN 1 (Node LITERAL (Leaf INT_NUMBER 1 End) (Leaf COMMA 1 (Leaf R_PAREN 1 End)))) End)))) (Leaf R_CURLY 1 End))) End) End))))) End) End)
@@ -277,7 +280,7 @@ unfolding spaced_before
 spaced361 = refl
 
 abbrev tokens384 : List Token
-tokens384 = of_kind STRUCT_KW false ∷ name_token false ∷ of_kind SEMICOLON false ∷ of_kind FN_KW false ∷ name_token false ∷ of_kind L_PAREN false ∷ name_token false ∷ of_kind COLON false ∷ name_token false ∷ of_kind R_PAREN false ∷ of_kind L_CURLY false ∷ of_kind AMP false ∷ of_kind MUT_KW false ∷ name_token false ∷ of_kind DOT false ∷ name_token false ∷ of_kind L_PAREN false ∷ of_kind INT_NUMBER false ∷ of_kind R_PAREN false ∷ of_kind CARET false ∷ name_token false ∷ of_kind EQ false ∷ of_kind L_PAREN false ∷ of_kind INT_NUMBER false ∷ of_kind R_PAREN false ∷ of_kind SEMICOLON false ∷ of_kind R_CURLY false ∷ []
+tokens384 = token STRUCT_KW EOF false ∷ token IDENT IDENT false ∷ token SEMICOLON EOF false ∷ token FN_KW EOF false ∷ token IDENT IDENT false ∷ token L_PAREN EOF false ∷ token IDENT IDENT false ∷ token COLON EOF false ∷ token IDENT IDENT false ∷ token R_PAREN EOF false ∷ token L_CURLY EOF false ∷ token AMP EOF false ∷ token MUT_KW EOF false ∷ token IDENT IDENT false ∷ token DOT EOF false ∷ token IDENT IDENT false ∷ token L_PAREN EOF false ∷ token INT_NUMBER EOF false ∷ token R_PAREN EOF false ∷ token CARET EOF false ∷ token IDENT IDENT false ∷ token EQ EOF false ∷ token L_PAREN EOF false ∷ token INT_NUMBER EOF false ∷ token R_PAREN EOF false ∷ token SEMICOLON EOF false ∷ token R_CURLY EOF false ∷ []
 
 abbrev tree384 : Forest
 tree384 = (Node SOURCE_FILE (Node STRUCT (Leaf STRUCT_KW 1 (Node NAME (Leaf IDENT 1 End) (Leaf SEMICOLON 1 End))) (Node FN (Leaf FN_KW 1 (Node NAME (Leaf IDENT 1 End) (Node PARAM_LIST (Leaf L_PAREN 1 (Node PARAM (Node IDENT_PAT (Node NAME (Leaf IDENT 1 End) End) (Leaf COLON 1 (Node PATH_TYPE (Node PATH (Node PATH_SEGMENT (Node NAME_REF (Leaf IDENT 1 End) End) End) End) End))) (Leaf R_PAREN 1 End))) (Node BLOCK_EXPR (Node STMT_LIST (Leaf L_CURLY 1 (Node EXPR_STMT (Node BIN_EXPR (Node REF_EXPR (Leaf AMP 1 (Leaf MUT_KW 1 (Node METHOD_CALL_EXPR (Node PATH_EXPR (Node PATH (Node PATH_SEGMENT (Node NAME_REF (Leaf IDENT 1 End) End) End) End) (Leaf DOT 1 (Node NAME_REF (Leaf IDENT 1 End) (Node ARG_LIST (Leaf L_PAREN 1 (Node LITERAL (Leaf INT_NUMBER 1 End) (Leaf R_PAREN 1 End))) End)))) End))) (Leaf CARET 1 (Node BIN_EXPR (Node PATH_EXPR (Node PATH (Node PATH_SEGMENT (Node NAME_REF (Leaf IDENT 1 End) End) End) End) (Leaf EQ 1 (Node PAREN_EXPR (Leaf L_PAREN 1 (Node LITERAL (Leaf INT_NUMBER 1 End) (Leaf R_PAREN 1 End))) End))) End))) (Leaf SEMICOLON 1 End)) (Leaf R_CURLY 1 End))) End) End)))) End)) End)
@@ -291,7 +294,7 @@ unfolding spaced_before
 spaced384 = refl
 
 abbrev tokens404 : List Token
-tokens404 = of_kind FN_KW false ∷ name_token false ∷ of_kind L_PAREN false ∷ of_kind MUT_KW false ∷ name_token false ∷ of_kind COLON false ∷ of_kind AMP false ∷ of_kind MUT_KW false ∷ of_kind AMP false ∷ name_token false ∷ of_kind R_PAREN false ∷ of_kind MINUS true ∷ of_kind R_ANGLE false ∷ of_kind AMP false ∷ name_token false ∷ of_kind COLON true ∷ of_kind COLON false ∷ name_token false ∷ of_kind L_CURLY false ∷ name_token false ∷ of_kind L_PAREN false ∷ name_token false ∷ of_kind R_PAREN false ∷ of_kind SEMICOLON false ∷ of_kind STAR false ∷ of_kind CHAR false ∷ of_kind SEMICOLON false ∷ of_kind R_CURLY false ∷ of_kind PUB_KW false ∷ of_kind MOD_KW false ∷ name_token false ∷ of_kind L_CURLY false ∷ of_kind FN_KW false ∷ name_token false ∷ of_kind L_PAREN false ∷ name_token false ∷ of_kind COLON false ∷ name_token false ∷ of_kind COLON true ∷ of_kind COLON false ∷ name_token false ∷ of_kind COLON true ∷ of_kind COLON false ∷ name_token false ∷ of_kind COMMA false ∷ of_kind R_PAREN false ∷ of_kind MINUS true ∷ of_kind R_ANGLE false ∷ name_token false ∷ of_kind L_CURLY false ∷ name_token false ∷ of_kind PIPE true ∷ of_kind EQ false ∷ name_token false ∷ of_kind COLON true ∷ of_kind COLON false ∷ name_token false ∷ of_kind DOT false ∷ name_token false ∷ of_kind DOT false ∷ name_token false ∷ of_kind SEMICOLON false ∷ of_kind R_CURLY false ∷ of_kind PUB_KW false ∷ of_kind FN_KW false ∷ name_token false ∷ of_kind L_PAREN false ∷ of_kind R_PAREN false ∷ of_kind MINUS true ∷ of_kind R_ANGLE false ∷ name_token false ∷ of_kind COLON true ∷ of_kind COLON false ∷ name_token false ∷ of_kind L_CURLY false ∷ of_kind CHAR false ∷ of_kind R_CURLY false ∷ of_kind R_CURLY false ∷ []
+tokens404 = token FN_KW EOF false ∷ token IDENT IDENT false ∷ token L_PAREN EOF false ∷ token MUT_KW EOF false ∷ token IDENT IDENT false ∷ token COLON EOF false ∷ token AMP EOF false ∷ token MUT_KW EOF false ∷ token AMP EOF false ∷ token IDENT IDENT false ∷ token R_PAREN EOF false ∷ token MINUS EOF true ∷ token R_ANGLE EOF false ∷ token AMP EOF false ∷ token IDENT IDENT false ∷ token COLON EOF true ∷ token COLON EOF false ∷ token IDENT IDENT false ∷ token L_CURLY EOF false ∷ token IDENT IDENT false ∷ token L_PAREN EOF false ∷ token IDENT IDENT false ∷ token R_PAREN EOF false ∷ token SEMICOLON EOF false ∷ token STAR EOF false ∷ token CHAR EOF false ∷ token SEMICOLON EOF false ∷ token R_CURLY EOF false ∷ token PUB_KW EOF false ∷ token MOD_KW EOF false ∷ token IDENT IDENT false ∷ token L_CURLY EOF false ∷ token FN_KW EOF false ∷ token IDENT IDENT false ∷ token L_PAREN EOF false ∷ token IDENT IDENT false ∷ token COLON EOF false ∷ token IDENT IDENT false ∷ token COLON EOF true ∷ token COLON EOF false ∷ token IDENT IDENT false ∷ token COLON EOF true ∷ token COLON EOF false ∷ token IDENT IDENT false ∷ token COMMA EOF false ∷ token R_PAREN EOF false ∷ token MINUS EOF true ∷ token R_ANGLE EOF false ∷ token IDENT IDENT false ∷ token L_CURLY EOF false ∷ token IDENT IDENT false ∷ token PIPE EOF true ∷ token EQ EOF false ∷ token IDENT IDENT false ∷ token COLON EOF true ∷ token COLON EOF false ∷ token IDENT IDENT false ∷ token DOT EOF false ∷ token IDENT IDENT false ∷ token DOT EOF false ∷ token IDENT IDENT false ∷ token SEMICOLON EOF false ∷ token R_CURLY EOF false ∷ token PUB_KW EOF false ∷ token FN_KW EOF false ∷ token IDENT IDENT false ∷ token L_PAREN EOF false ∷ token R_PAREN EOF false ∷ token MINUS EOF true ∷ token R_ANGLE EOF false ∷ token IDENT IDENT false ∷ token COLON EOF true ∷ token COLON EOF false ∷ token IDENT IDENT false ∷ token L_CURLY EOF false ∷ token CHAR EOF false ∷ token R_CURLY EOF false ∷ token R_CURLY EOF false ∷ []
 
 abbrev tree404 : Forest
 tree404 = (Node SOURCE_FILE (Node FN (Leaf FN_KW 1 (Node NAME (Leaf IDENT 1 End) (Node PARAM_LIST (Leaf L_PAREN 1 (Node PARAM (Node IDENT_PAT (Leaf MUT_KW 1 (Node NAME (Leaf IDENT 1 End) End)) (Leaf COLON 1 (Node REF_TYPE (Leaf AMP 1 (Leaf MUT_KW 1 (Node REF_TYPE (Leaf AMP 1 (Node PATH_TYPE (Node PATH (Node PATH_SEGMENT (Node NAME_REF (Leaf IDENT 1 End) End) End) End) End)) End))) End))) (Leaf R_PAREN 1 End))) (Node RET_TYPE (Leaf THIN_ARROW 2 (Node REF_TYPE (Leaf AMP 1 (Node PATH_TYPE (Node PATH (Node PATH (Node PATH_SEGMENT (Node NAME_REF (Leaf IDENT 1 End) End) End) (Leaf COLON2 2 (Node PATH_SEGMENT (Node NAME_REF (Leaf IDENT 1 End) End) End))) End) End)) End)) (Node BLOCK_EXPR (Node STMT_LIST (Leaf L_CURLY 1 (Node EXPR_STMT (Node CALL_EXPR (Node PATH_EXPR (Node PATH (Node PATH_SEGMENT (Node NAME_REF (Leaf IDENT 1 End) End) End) End) (Node ARG_LIST (Leaf L_PAREN 1 (Node PATH_EXPR (Node PATH (Node PATH_SEGMENT (Node NAME_REF (Leaf IDENT 1 End) End) End) End) (Leaf R_PAREN 1 End))) End)) (Leaf SEMICOLON 1 End)) (Node EXPR_STMT (Node PREFIX_EXPR (Leaf STAR 1 (Node LITERAL (Leaf CHAR 1 End) End)) (Leaf SEMICOLON 1 End)) (Leaf R_CURLY 1 End)))) End) End))))) (Node MODULE (Node VISIBILITY (Leaf PUB_KW 1 End) (Leaf MOD_KW 1 (Node NAME (Leaf IDENT 1 End) (Node ITEM_LIST (Leaf L_CURLY 1 (Node FN (Leaf FN_KW 1 (Node NAME (Leaf IDENT 1 End) (Node PARAM_LIST (Leaf L_PAREN 1 (Node PARAM (Node IDENT_PAT (Node NAME (Leaf IDENT 1 End) End) (Leaf COLON 1 (Node PATH_TYPE (Node PATH (Node PATH (Node PATH (Node PATH_SEGMENT (Node NAME_REF (Leaf IDENT 1 End) End) End) (Leaf COLON2 2 (Node PATH_SEGMENT (Node NAME_REF (Leaf IDENT 1 End) End) End))) (Leaf COLON2 2 (Node PATH_SEGMENT (Node NAME_REF (Leaf IDENT 1 End) End) End))) End) End))) (Leaf COMMA 1 (Leaf R_PAREN 1 End)))) (Node RET_TYPE (Leaf THIN_ARROW 2 (Node PATH_TYPE (Node PATH (Node PATH_SEGMENT (Node NAME_REF (Leaf IDENT 1 End) End) End) End) End)) (Node BLOCK_EXPR (Node STMT_LIST (Leaf L_CURLY 1 (Node EXPR_STMT (Node BIN_EXPR (Node PATH_EXPR (Node PATH (Node PATH_SEGMENT (Node NAME_REF (Leaf IDENT 1 End) End) End) End) (Leaf PIPEEQ 2 (Node FIELD_EXPR (Node FIELD_EXPR (Node PATH_EXPR (Node PATH (Node PATH (Node PATH_SEGMENT (Node NAME_REF (Leaf IDENT 1 End) End) End) (Leaf COLON2 2 (Node PATH_SEGMENT (Node NAME_REF (Leaf IDENT 1 End) End) End))) End) (Leaf DOT 1 (Node NAME_REF (Leaf IDENT 1 End) End))) (Leaf DOT 1 (Node NAME_REF (Leaf IDENT 1 End) End))) End))) (Leaf SEMICOLON 1 End)) (Leaf R_CURLY 1 End))) End) End))))) (Node FN (Node VISIBILITY (Leaf PUB_KW 1 End) (Leaf FN_KW 1 (Node NAME (Leaf IDENT 1 End) (Node PARAM_LIST (Leaf L_PAREN 1 (Leaf R_PAREN 1 End)) (Node RET_TYPE (Leaf THIN_ARROW 2 (Node PATH_TYPE (Node PATH (Node PATH (Node PATH_SEGMENT (Node NAME_REF (Leaf IDENT 1 End) End) End) (Leaf COLON2 2 (Node PATH_SEGMENT (Node NAME_REF (Leaf IDENT 1 End) End) End))) End) End)) (Node BLOCK_EXPR (Node STMT_LIST (Leaf L_CURLY 1 (Node LITERAL (Leaf CHAR 1 End) (Leaf R_CURLY 1 End))) End) End)))))) (Leaf R_CURLY 1 End)))) End)))) End)) End)
@@ -304,7 +307,7 @@ unfolding spaced_before
 spaced404 = refl
 
 abbrev tokens413 : List Token
-tokens413 = of_kind PUB_KW false ∷ of_kind STRUCT_KW false ∷ name_token false ∷ of_kind L_CURLY false ∷ name_token false ∷ of_kind COLON false ∷ of_kind AMP false ∷ of_kind L_BRACK false ∷ name_token false ∷ of_kind COLON true ∷ of_kind COLON false ∷ name_token false ∷ of_kind COLON true ∷ of_kind COLON false ∷ name_token false ∷ of_kind R_BRACK false ∷ of_kind COMMA false ∷ of_kind PUB_KW false ∷ name_token false ∷ of_kind COLON false ∷ of_kind L_BRACK false ∷ of_kind L_BRACK false ∷ name_token false ∷ of_kind R_BRACK false ∷ of_kind R_BRACK false ∷ of_kind COMMA false ∷ of_kind PUB_KW false ∷ name_token false ∷ of_kind COLON false ∷ name_token false ∷ of_kind R_CURLY false ∷ of_kind PUB_KW false ∷ of_kind FN_KW false ∷ name_token false ∷ of_kind L_PAREN false ∷ name_token false ∷ of_kind COLON false ∷ name_token false ∷ of_kind COMMA false ∷ of_kind MUT_KW false ∷ name_token false ∷ of_kind COLON false ∷ name_token false ∷ of_kind COMMA false ∷ of_kind MUT_KW false ∷ name_token false ∷ of_kind COLON false ∷ name_token false ∷ of_kind COLON true ∷ of_kind COLON false ∷ name_token false ∷ of_kind COMMA false ∷ of_kind R_PAREN false ∷ of_kind MINUS true ∷ of_kind R_ANGLE false ∷ name_token false ∷ of_kind L_CURLY false ∷ name_token false ∷ of_kind COLON true ∷ of_kind COLON false ∷ name_token false ∷ of_kind PERCENT true ∷ of_kind EQ false ∷ name_token false ∷ of_kind L_ANGLE false ∷ name_token false ∷ of_kind SEMICOLON false ∷ of_kind R_CURLY false ∷ []
+tokens413 = token PUB_KW EOF false ∷ token STRUCT_KW EOF false ∷ token IDENT IDENT false ∷ token L_CURLY EOF false ∷ token IDENT IDENT false ∷ token COLON EOF false ∷ token AMP EOF false ∷ token L_BRACK EOF false ∷ token IDENT IDENT false ∷ token COLON EOF true ∷ token COLON EOF false ∷ token IDENT IDENT false ∷ token COLON EOF true ∷ token COLON EOF false ∷ token IDENT IDENT false ∷ token R_BRACK EOF false ∷ token COMMA EOF false ∷ token PUB_KW EOF false ∷ token IDENT IDENT false ∷ token COLON EOF false ∷ token L_BRACK EOF false ∷ token L_BRACK EOF false ∷ token IDENT IDENT false ∷ token R_BRACK EOF false ∷ token R_BRACK EOF false ∷ token COMMA EOF false ∷ token PUB_KW EOF false ∷ token IDENT IDENT false ∷ token COLON EOF false ∷ token IDENT IDENT false ∷ token R_CURLY EOF false ∷ token PUB_KW EOF false ∷ token FN_KW EOF false ∷ token IDENT IDENT false ∷ token L_PAREN EOF false ∷ token IDENT IDENT false ∷ token COLON EOF false ∷ token IDENT IDENT false ∷ token COMMA EOF false ∷ token MUT_KW EOF false ∷ token IDENT IDENT false ∷ token COLON EOF false ∷ token IDENT IDENT false ∷ token COMMA EOF false ∷ token MUT_KW EOF false ∷ token IDENT IDENT false ∷ token COLON EOF false ∷ token IDENT IDENT false ∷ token COLON EOF true ∷ token COLON EOF false ∷ token IDENT IDENT false ∷ token COMMA EOF false ∷ token R_PAREN EOF false ∷ token MINUS EOF true ∷ token R_ANGLE EOF false ∷ token IDENT IDENT false ∷ token L_CURLY EOF false ∷ token IDENT IDENT false ∷ token COLON EOF true ∷ token COLON EOF false ∷ token IDENT IDENT false ∷ token PERCENT EOF true ∷ token EQ EOF false ∷ token IDENT IDENT false ∷ token L_ANGLE EOF false ∷ token IDENT IDENT false ∷ token SEMICOLON EOF false ∷ token R_CURLY EOF false ∷ []
 
 abbrev tree413 : Forest
 tree413 = (Node SOURCE_FILE (Node STRUCT (Node VISIBILITY (Leaf PUB_KW 1 End) (Leaf STRUCT_KW 1 (Node NAME (Leaf IDENT 1 End) (Node RECORD_FIELD_LIST (Leaf L_CURLY 1 (Node RECORD_FIELD (Node NAME (Leaf IDENT 1 End) (Leaf COLON 1 (Node REF_TYPE (Leaf AMP 1 (Node SLICE_TYPE (Leaf L_BRACK 1 (Node PATH_TYPE (Node PATH (Node PATH (Node PATH (Node PATH_SEGMENT (Node NAME_REF (Leaf IDENT 1 End) End) End) (Leaf COLON2 2 (Node PATH_SEGMENT (Node NAME_REF (Leaf IDENT 1 End) End) End))) (Leaf COLON2 2 (Node PATH_SEGMENT (Node NAME_REF (Leaf IDENT 1 End) End) End))) End) (Leaf R_BRACK 1 End))) End)) End))) (Leaf COMMA 1 (Node RECORD_FIELD (Node VISIBILITY (Leaf PUB_KW 1 End) (Node NAME (Leaf IDENT 1 End) (Leaf COLON 1 (Node SLICE_TYPE (Leaf L_BRACK 1 (Node SLICE_TYPE (Leaf L_BRACK 1 (Node PATH_TYPE (Node PATH (Node PATH_SEGMENT (Node NAME_REF (Leaf IDENT 1 End) End) End) End) (Leaf R_BRACK 1 End))) (Leaf R_BRACK 1 End))) End)))) (Leaf COMMA 1 (Node RECORD_FIELD (Node VISIBILITY (Leaf PUB_KW 1 End) (Node NAME (Leaf IDENT 1 End) (Leaf COLON 1 (Node PATH_TYPE (Node PATH (Node PATH_SEGMENT (Node NAME_REF (Leaf IDENT 1 End) End) End) End) End)))) (Leaf R_CURLY 1 End))))))) End)))) (Node FN (Node VISIBILITY (Leaf PUB_KW 1 End) (Leaf FN_KW 1 (Node NAME (Leaf IDENT 1 End) (Node PARAM_LIST (Leaf L_PAREN 1 (Node PARAM (Node IDENT_PAT (Node NAME (Leaf IDENT 1 End) End) (Leaf COLON 1 (Node PATH_TYPE (Node PATH (Node PATH_SEGMENT (Node NAME_REF (Leaf IDENT 1 End) End) End) End) End))) (Leaf COMMA 1 (Node PARAM (Node IDENT_PAT (Leaf MUT_KW 1 (Node NAME (Leaf IDENT 1 End) End)) (Leaf COLON 1 (Node PATH_TYPE (Node PATH (Node PATH_SEGMENT (Node NAME_REF (Leaf IDENT 1 End) End) End) End) End))) (Leaf COMMA 1 (Node PARAM (Node IDENT_PAT (Leaf MUT_KW 1 (Node NAME (Leaf IDENT 1 End) End)) (Leaf COLON 1 (Node PATH_TYPE (Node PATH (Node PATH (Node PATH_SEGMENT (Node NAME_REF (Leaf IDENT 1 End) End) End) (Leaf COLON2 2 (Node PATH_SEGMENT (Node NAME_REF (Leaf IDENT 1 End) End) End))) End) End))) (Leaf COMMA 1 (Leaf R_PAREN 1 End)))))))) (Node RET_TYPE (Leaf THIN_ARROW 2 (Node PATH_TYPE (Node PATH (Node PATH_SEGMENT (Node NAME_REF (Leaf IDENT 1 End) End) End) End) End)) (Node BLOCK_EXPR (Node STMT_LIST (Leaf L_CURLY 1 (Node EXPR_STMT (Node BIN_EXPR (Node PATH_EXPR (Node PATH (Node PATH (Node PATH_SEGMENT (Node NAME_REF (Leaf IDENT 1 End) End) End) (Leaf COLON2 2 (Node PATH_SEGMENT (Node NAME_REF (Leaf IDENT 1 End) End) End))) End) (Leaf PERCENTEQ 2 (Node BIN_EXPR (Node PATH_EXPR (Node PATH (Node PATH_SEGMENT (Node NAME_REF (Leaf IDENT 1 End) End) End) End) (Leaf L_ANGLE 1 (Node PATH_EXPR (Node PATH (Node PATH_SEGMENT (Node NAME_REF (Leaf IDENT 1 End) End) End) End) End))) End))) (Leaf SEMICOLON 1 End)) (Leaf R_CURLY 1 End))) End) End)))))) End)) End)
@@ -317,7 +320,7 @@ unfolding spaced_before
 spaced413 = refl
 
 abbrev tokens440 : List Token
-tokens440 = of_kind FN_KW false ∷ name_token false ∷ of_kind L_PAREN false ∷ name_token false ∷ of_kind COLON false ∷ name_token false ∷ of_kind R_PAREN false ∷ of_kind L_CURLY false ∷ name_token false ∷ of_kind SEMICOLON false ∷ of_kind MINUS false ∷ of_kind EQ false ∷ of_kind BANG false ∷ of_kind TRUE_KW false ∷ of_kind STAR false ∷ of_kind AMP false ∷ of_kind FLOAT_NUMBER false ∷ of_kind SEMICOLON false ∷ of_kind R_CURLY false ∷ []
+tokens440 = token FN_KW EOF false ∷ token IDENT IDENT false ∷ token L_PAREN EOF false ∷ token IDENT IDENT false ∷ token COLON EOF false ∷ token IDENT IDENT false ∷ token R_PAREN EOF false ∷ token L_CURLY EOF false ∷ token IDENT IDENT false ∷ token SEMICOLON EOF false ∷ token MINUS EOF false ∷ token EQ EOF false ∷ token BANG EOF false ∷ token TRUE_KW EOF false ∷ token STAR EOF false ∷ token AMP EOF false ∷ token FLOAT_NUMBER EOF false ∷ token SEMICOLON EOF false ∷ token R_CURLY EOF false ∷ []
 
 abbrev tree440 : Forest
 tree440 = (Node SOURCE_FILE (Node FN (Leaf FN_KW 1 (Node NAME (Leaf IDENT 1 End) (Node PARAM_LIST (Leaf L_PAREN 1 (Node PARAM (Node IDENT_PAT (Node NAME (Leaf IDENT 1 End) End) (Leaf COLON 1 (Node PATH_TYPE (Node PATH (Node PATH_SEGMENT (Node NAME_REF (Leaf IDENT 1 End) End) End) End) End))) (Leaf R_PAREN 1 End))) (Node BLOCK_EXPR (Node STMT_LIST (Leaf L_CURLY 1 (Node EXPR_STMT (Node PATH_EXPR (Node PATH (Node PATH_SEGMENT (Node NAME_REF (Leaf IDENT 1 End) End) End) End) (Leaf SEMICOLON 1 End)) (Node EXPR_STMT (Node BIN_EXPR (Node PREFIX_EXPR (Leaf MINUS 1 (Node PATH_EXPR (Node PATH (Node PATH_SEGMENT End End) End) End)) (Leaf EQ 1 (Node BIN_EXPR (Node PREFIX_EXPR (Leaf BANG 1 (Node LITERAL (Leaf TRUE_KW 1 End) End)) (Leaf STAR 1 (Node REF_EXPR (Leaf AMP 1 (Node LITERAL (Leaf FLOAT_NUMBER 1 End) End)) End))) End))) (Leaf SEMICOLON 1 End)) (Leaf R_CURLY 1 End)))) End) End)))) End) End)
@@ -331,7 +334,7 @@ unfolding spaced_before
 spaced440 = refl
 
 abbrev tokens445 : List Token
-tokens445 = of_kind PUB_KW false ∷ of_kind FN_KW false ∷ name_token false ∷ of_kind L_PAREN false ∷ of_kind R_PAREN false ∷ of_kind MINUS true ∷ of_kind R_ANGLE false ∷ of_kind L_BRACK false ∷ name_token false ∷ of_kind R_BRACK false ∷ of_kind L_CURLY false ∷ of_kind LET_KW false ∷ name_token false ∷ of_kind EQ false ∷ of_kind MINUS false ∷ name_token false ∷ of_kind CARET false ∷ of_kind STAR false ∷ of_kind FLOAT_NUMBER true ∷ of_kind SEMICOLON false ∷ of_kind LET_KW false ∷ name_token false ∷ of_kind COLON false ∷ name_token false ∷ of_kind EQ false ∷ name_token false ∷ of_kind COLON true ∷ of_kind COLON false ∷ name_token false ∷ of_kind MINUS false ∷ of_kind AMP false ∷ of_kind MUT_KW false ∷ of_kind BYTE_STRING false ∷ of_kind SEMICOLON false ∷ of_kind R_CURLY false ∷ []
+tokens445 = token PUB_KW EOF false ∷ token FN_KW EOF false ∷ token IDENT IDENT false ∷ token L_PAREN EOF false ∷ token R_PAREN EOF false ∷ token MINUS EOF true ∷ token R_ANGLE EOF false ∷ token L_BRACK EOF false ∷ token IDENT IDENT false ∷ token R_BRACK EOF false ∷ token L_CURLY EOF false ∷ token LET_KW EOF false ∷ token IDENT IDENT false ∷ token EQ EOF false ∷ token MINUS EOF false ∷ token IDENT IDENT false ∷ token CARET EOF false ∷ token STAR EOF false ∷ token FLOAT_NUMBER EOF true ∷ token SEMICOLON EOF false ∷ token LET_KW EOF false ∷ token IDENT IDENT false ∷ token COLON EOF false ∷ token IDENT IDENT false ∷ token EQ EOF false ∷ token IDENT IDENT false ∷ token COLON EOF true ∷ token COLON EOF false ∷ token IDENT IDENT false ∷ token MINUS EOF false ∷ token AMP EOF false ∷ token MUT_KW EOF false ∷ token BYTE_STRING EOF false ∷ token SEMICOLON EOF false ∷ token R_CURLY EOF false ∷ []
 
 abbrev tree445 : Forest
 tree445 = (Node SOURCE_FILE (Node FN (Node VISIBILITY (Leaf PUB_KW 1 End) (Leaf FN_KW 1 (Node NAME (Leaf IDENT 1 End) (Node PARAM_LIST (Leaf L_PAREN 1 (Leaf R_PAREN 1 End)) (Node RET_TYPE (Leaf THIN_ARROW 2 (Node SLICE_TYPE (Leaf L_BRACK 1 (Node PATH_TYPE (Node PATH (Node PATH_SEGMENT (Node NAME_REF (Leaf IDENT 1 End) End) End) End) (Leaf R_BRACK 1 End))) End)) (Node BLOCK_EXPR (Node STMT_LIST (Leaf L_CURLY 1 (Node LET_STMT (Leaf LET_KW 1 (Node IDENT_PAT (Node NAME (Leaf IDENT 1 End) End) (Leaf EQ 1 (Node BIN_EXPR (Node PREFIX_EXPR (Leaf MINUS 1 (Node PATH_EXPR (Node PATH (Node PATH_SEGMENT (Node NAME_REF (Leaf IDENT 1 End) End) End) End) End)) (Leaf CARET 1 (Node PREFIX_EXPR (Leaf STAR 1 (Node LITERAL (Leaf FLOAT_NUMBER 1 End) End)) End))) (Leaf SEMICOLON 1 End))))) (Node LET_STMT (Leaf LET_KW 1 (Node IDENT_PAT (Node NAME (Leaf IDENT 1 End) End) (Leaf COLON 1 (Node PATH_TYPE (Node PATH (Node PATH_SEGMENT (Node NAME_REF (Leaf IDENT 1 End) End) End) End) (Leaf EQ 1 (Node BIN_EXPR (Node PATH_EXPR (Node PATH (Node PATH (Node PATH_SEGMENT (Node NAME_REF (Leaf IDENT 1 End) End) End) (Leaf COLON2 2 (Node PATH_SEGMENT (Node NAME_REF (Leaf IDENT 1 End) End) End))) End) (Leaf MINUS 1 (Node REF_EXPR (Leaf AMP 1 (Leaf MUT_KW 1 (Node LITERAL (Leaf BYTE_STRING 1 End) End))) End))) (Leaf SEMICOLON 1 End))))))) (Leaf R_CURLY 1 End)))) End) End)))))) End) End)
@@ -344,7 +347,7 @@ unfolding spaced_before
 spaced445 = refl
 
 abbrev tokens454 : List Token
-tokens454 = of_kind PUB_KW false ∷ of_kind FN_KW false ∷ name_token false ∷ of_kind L_PAREN false ∷ of_kind MUT_KW false ∷ name_token false ∷ of_kind COLON false ∷ name_token false ∷ of_kind COMMA false ∷ of_kind MUT_KW false ∷ name_token false ∷ of_kind COLON false ∷ name_token false ∷ of_kind R_PAREN false ∷ of_kind MINUS true ∷ of_kind R_ANGLE false ∷ name_token false ∷ of_kind L_CURLY false ∷ of_kind LET_KW false ∷ name_token false ∷ of_kind EQ false ∷ name_token false ∷ of_kind DOT false ∷ name_token false ∷ of_kind L_PAREN false ∷ of_kind FLOAT_NUMBER false ∷ of_kind COMMA false ∷ of_kind R_PAREN false ∷ of_kind PIPE false ∷ of_kind FLOAT_NUMBER true ∷ of_kind DOT false ∷ name_token false ∷ of_kind L_PAREN false ∷ of_kind R_PAREN false ∷ of_kind L_ANGLE true ∷ of_kind EQ false ∷ of_kind TRUE_KW false ∷ of_kind L_PAREN false ∷ name_token false ∷ of_kind DOT false ∷ name_token false ∷ of_kind L_PAREN false ∷ name_token false ∷ of_kind COMMA false ∷ name_token false ∷ of_kind COMMA false ∷ name_token false ∷ of_kind COLON true ∷ of_kind COLON false ∷ name_token false ∷ of_kind COLON true ∷ of_kind COLON false ∷ name_token false ∷ of_kind R_PAREN false ∷ of_kind R_PAREN false ∷ of_kind SEMICOLON false ∷ of_kind STAR false ∷ name_token false ∷ of_kind R_CURLY false ∷ []
+tokens454 = token PUB_KW EOF false ∷ token FN_KW EOF false ∷ token IDENT IDENT false ∷ token L_PAREN EOF false ∷ token MUT_KW EOF false ∷ token IDENT IDENT false ∷ token COLON EOF false ∷ token IDENT IDENT false ∷ token COMMA EOF false ∷ token MUT_KW EOF false ∷ token IDENT IDENT false ∷ token COLON EOF false ∷ token IDENT IDENT false ∷ token R_PAREN EOF false ∷ token MINUS EOF true ∷ token R_ANGLE EOF false ∷ token IDENT IDENT false ∷ token L_CURLY EOF false ∷ token LET_KW EOF false ∷ token IDENT IDENT false ∷ token EQ EOF false ∷ token IDENT IDENT false ∷ token DOT EOF false ∷ token IDENT IDENT false ∷ token L_PAREN EOF false ∷ token FLOAT_NUMBER EOF false ∷ token COMMA EOF false ∷ token R_PAREN EOF false ∷ token PIPE EOF false ∷ token FLOAT_NUMBER EOF true ∷ token DOT EOF false ∷ token IDENT IDENT false ∷ token L_PAREN EOF false ∷ token R_PAREN EOF false ∷ token L_ANGLE EOF true ∷ token EQ EOF false ∷ token TRUE_KW EOF false ∷ token L_PAREN EOF false ∷ token IDENT IDENT false ∷ token DOT EOF false ∷ token IDENT IDENT false ∷ token L_PAREN EOF false ∷ token IDENT IDENT false ∷ token COMMA EOF false ∷ token IDENT IDENT false ∷ token COMMA EOF false ∷ token IDENT IDENT false ∷ token COLON EOF true ∷ token COLON EOF false ∷ token IDENT IDENT false ∷ token COLON EOF true ∷ token COLON EOF false ∷ token IDENT IDENT false ∷ token R_PAREN EOF false ∷ token R_PAREN EOF false ∷ token SEMICOLON EOF false ∷ token STAR EOF false ∷ token IDENT IDENT false ∷ token R_CURLY EOF false ∷ []
 
 abbrev tree454 : Forest
 tree454 = (Node SOURCE_FILE (Node FN (Node VISIBILITY (Leaf PUB_KW 1 End) (Leaf FN_KW 1 (Node NAME (Leaf IDENT 1 End) (Node PARAM_LIST (Leaf L_PAREN 1 (Node PARAM (Node IDENT_PAT (Leaf MUT_KW 1 (Node NAME (Leaf IDENT 1 End) End)) (Leaf COLON 1 (Node PATH_TYPE (Node PATH (Node PATH_SEGMENT (Node NAME_REF (Leaf IDENT 1 End) End) End) End) End))) (Leaf COMMA 1 (Node PARAM (Node IDENT_PAT (Leaf MUT_KW 1 (Node NAME (Leaf IDENT 1 End) End)) (Leaf COLON 1 (Node PATH_TYPE (Node PATH (Node PATH_SEGMENT (Node NAME_REF (Leaf IDENT 1 End) End) End) End) End))) (Leaf R_PAREN 1 End))))) (Node RET_TYPE (Leaf THIN_ARROW 2 (Node PATH_TYPE (Node PATH (Node PATH_SEGMENT (Node NAME_REF (Leaf IDENT 1 End) End) End) End) End)) (Node BLOCK_EXPR (Node STMT_LIST (Leaf L_CURLY 1 (Node LET_STMT (Leaf LET_KW 1 (Node IDENT_PAT (Node NAME (Leaf IDENT 1 End) End) (Leaf EQ 1 (Node BIN_EXPR (Node BIN_EXPR (Node METHOD_CALL_EXPR (Node PATH_EXPR (Node PATH (Node PATH_SEGMENT (Node NAME_REF (Leaf IDENT 1 End) End) End) End) (Leaf DOT 1 (Node NAME_REF (Leaf IDENT 1 End) (Node ARG_LIST (Leaf L_PAREN 1 (Node LITERAL (Leaf FLOAT_NUMBER 1 End) (Leaf COMMA 1 (Leaf R_PAREN 1 End)))) End)))) (Leaf PIPE 1 (Node METHOD_CALL_EXPR (Node LITERAL (Leaf FLOAT_NUMBER 1 End) (Leaf DOT 1 (Node NAME_REF (Leaf IDENT 1 End) (Node ARG_LIST (Leaf L_PAREN 1 (Leaf R_PAREN 1 End)) End)))) End))) (Leaf LTEQ 2 (Node CALL_EXPR (Node LITERAL (Leaf TRUE_KW 1 End) (Node ARG_LIST (Leaf L_PAREN 1 (Node METHOD_CALL_EXPR (Node PATH_EXPR (Node PATH (Node PATH_SEGMENT (Node NAME_REF (Leaf IDENT 1 End) End) End) End) (Leaf DOT 1 (Node NAME_REF (Leaf IDENT 1 End) (Node ARG_LIST (Leaf L_PAREN 1 (Node PATH_EXPR (Node PATH (Node PATH_SEGMENT (Node NAME_REF (Leaf IDENT 1 End) End) End) End) (Leaf COMMA 1 (Node PATH_EXPR (Node PATH (Node PATH_SEGMENT (Node NAME_REF (Leaf IDENT 1 End) End) End) End) (Leaf COMMA 1 (Node PATH_EXPR (Node PATH (Node PATH (Node PATH (Node PATH_SEGMENT (Node NAME_REF (Leaf IDENT 1 End) End) End) (Leaf COLON2 2 (Node PATH_SEGMENT (Node NAME_REF (Leaf IDENT 1 End) End) End))) (Leaf COLON2 2 (Node PATH_SEGMENT (Node NAME_REF (Leaf IDENT 1 End) End) End))) End) (Leaf R_PAREN 1 End))))))) End)))) (Leaf R_PAREN 1 End))) End)) End))) (Leaf SEMICOLON 1 End))))) (Node PREFIX_EXPR (Leaf STAR 1 (Node PATH_EXPR (Node PATH (Node PATH_SEGMENT (Node NAME_REF (Leaf IDENT 1 End) End) End) End) End)) (Leaf R_CURLY 1 End)))) End) End)))))) End) End)
@@ -357,7 +360,7 @@ unfolding spaced_before
 spaced454 = refl
 
 abbrev tokens485 : List Token
-tokens485 = of_kind PUB_KW false ∷ of_kind FN_KW false ∷ name_token false ∷ of_kind L_PAREN false ∷ of_kind R_PAREN false ∷ of_kind L_CURLY false ∷ of_kind STRING false ∷ of_kind L_ANGLE true ∷ of_kind L_ANGLE false ∷ of_kind TRUE_KW false ∷ of_kind AMP true ∷ of_kind AMP false ∷ name_token false ∷ of_kind COLON true ∷ of_kind COLON false ∷ name_token false ∷ of_kind R_ANGLE true ∷ of_kind EQ false ∷ name_token false ∷ of_kind SEMICOLON false ∷ of_kind L_PAREN false ∷ of_kind STRING false ∷ of_kind L_PAREN false ∷ of_kind TRUE_KW false ∷ of_kind COMMA false ∷ name_token false ∷ of_kind COLON true ∷ of_kind COLON false ∷ name_token false ∷ of_kind R_PAREN false ∷ of_kind R_PAREN false ∷ of_kind R_CURLY false ∷ []
+tokens485 = token PUB_KW EOF false ∷ token FN_KW EOF false ∷ token IDENT IDENT false ∷ token L_PAREN EOF false ∷ token R_PAREN EOF false ∷ token L_CURLY EOF false ∷ token STRING EOF false ∷ token L_ANGLE EOF true ∷ token L_ANGLE EOF false ∷ token TRUE_KW EOF false ∷ token AMP EOF true ∷ token AMP EOF false ∷ token IDENT IDENT false ∷ token COLON EOF true ∷ token COLON EOF false ∷ token IDENT IDENT false ∷ token R_ANGLE EOF true ∷ token EQ EOF false ∷ token IDENT IDENT false ∷ token SEMICOLON EOF false ∷ token L_PAREN EOF false ∷ token STRING EOF false ∷ token L_PAREN EOF false ∷ token TRUE_KW EOF false ∷ token COMMA EOF false ∷ token IDENT IDENT false ∷ token COLON EOF true ∷ token COLON EOF false ∷ token IDENT IDENT false ∷ token R_PAREN EOF false ∷ token R_PAREN EOF false ∷ token R_CURLY EOF false ∷ []
 
 abbrev tree485 : Forest
 tree485 = (Node SOURCE_FILE (Node FN (Node VISIBILITY (Leaf PUB_KW 1 End) (Leaf FN_KW 1 (Node NAME (Leaf IDENT 1 End) (Node PARAM_LIST (Leaf L_PAREN 1 (Leaf R_PAREN 1 End)) (Node BLOCK_EXPR (Node STMT_LIST (Leaf L_CURLY 1 (Node EXPR_STMT (Node BIN_EXPR (Node BIN_EXPR (Node LITERAL (Leaf STRING 1 End) (Leaf SHL 2 (Node LITERAL (Leaf TRUE_KW 1 End) End))) (Leaf AMP2 2 (Node BIN_EXPR (Node PATH_EXPR (Node PATH (Node PATH (Node PATH_SEGMENT (Node NAME_REF (Leaf IDENT 1 End) End) End) (Leaf COLON2 2 (Node PATH_SEGMENT (Node NAME_REF (Leaf IDENT 1 End) End) End))) End) (Leaf GTEQ 2 (Node PATH_EXPR (Node PATH (Node PATH_SEGMENT (Node NAME_REF (Leaf IDENT 1 End) End) End) End) End))) End))) (Leaf SEMICOLON 1 End)) (Node PAREN_EXPR (Leaf L_PAREN 1 (Node CALL_EXPR (Node LITERAL (Leaf STRING 1 End) (Node ARG_LIST (Leaf L_PAREN 1 (Node LITERAL (Leaf TRUE_KW 1 End) (Leaf COMMA 1 (Node PATH_EXPR (Node PATH (Node PATH (Node PATH_SEGMENT (Node NAME_REF (Leaf IDENT 1 End) End) End) (Leaf COLON2 2 (Node PATH_SEGMENT (Node NAME_REF (Leaf IDENT 1 End) End) End))) End) (Leaf R_PAREN 1 End))))) End)) (Leaf R_PAREN 1 End))) (Leaf R_CURLY 1 End)))) End) End))))) End) End)
@@ -370,7 +373,7 @@ unfolding spaced_before
 spaced485 = refl
 
 abbrev tokens504 : List Token
-tokens504 = of_kind FN_KW false ∷ of_kind L_PAREN false ∷ of_kind R_PAREN false ∷ of_kind L_CURLY false ∷ name_token false ∷ of_kind PERCENT true ∷ of_kind EQ false ∷ name_token false ∷ of_kind R_CURLY false ∷ []
+tokens504 = token FN_KW EOF false ∷ token L_PAREN EOF false ∷ token R_PAREN EOF false ∷ token L_CURLY EOF false ∷ token IDENT IDENT false ∷ token PERCENT EOF true ∷ token EQ EOF false ∷ token IDENT IDENT false ∷ token R_CURLY EOF false ∷ []
 
 abbrev tree504 : Forest
 tree504 = (Node SOURCE_FILE (Node FN (Leaf FN_KW 1 (Node NAME End (Node PARAM_LIST (Leaf L_PAREN 1 (Leaf R_PAREN 1 End)) (Node BLOCK_EXPR (Node STMT_LIST (Leaf L_CURLY 1 (Node BIN_EXPR (Node PATH_EXPR (Node PATH (Node PATH_SEGMENT (Node NAME_REF (Leaf IDENT 1 End) End) End) End) (Leaf PERCENTEQ 2 (Node PATH_EXPR (Node PATH (Node PATH_SEGMENT (Node NAME_REF (Leaf IDENT 1 End) End) End) End) End))) (Leaf R_CURLY 1 End))) End) End)))) End) End)
@@ -384,7 +387,7 @@ unfolding spaced_before
 spaced504 = refl
 
 abbrev tokens546 : List Token
-tokens546 = of_kind FN_KW false ∷ name_token false ∷ of_kind L_PAREN false ∷ of_kind R_PAREN false ∷ of_kind MINUS true ∷ of_kind R_ANGLE false ∷ name_token false ∷ of_kind L_CURLY false ∷ of_kind BANG false ∷ of_kind INT_NUMBER false ∷ of_kind MINUS true ∷ of_kind EQ false ∷ of_kind INT_NUMBER false ∷ of_kind L_PAREN false ∷ name_token false ∷ of_kind COLON true ∷ of_kind COLON false ∷ name_token false ∷ of_kind COMMA false ∷ name_token false ∷ of_kind COMMA false ∷ of_kind TRUE_KW false ∷ of_kind R_PAREN false ∷ of_kind R_CURLY false ∷ of_kind PUB_KW false ∷ of_kind STRUCT_KW false ∷ name_token false ∷ of_kind L_CURLY false ∷ of_kind PUB_KW false ∷ name_token false ∷ of_kind COLON false ∷ of_kind AMP false ∷ of_kind MUT_KW false ∷ name_token false ∷ of_kind R_CURLY false ∷ []
+tokens546 = token FN_KW EOF false ∷ token IDENT IDENT false ∷ token L_PAREN EOF false ∷ token R_PAREN EOF false ∷ token MINUS EOF true ∷ token R_ANGLE EOF false ∷ token IDENT IDENT false ∷ token L_CURLY EOF false ∷ token BANG EOF false ∷ token INT_NUMBER EOF false ∷ token MINUS EOF true ∷ token EQ EOF false ∷ token INT_NUMBER EOF false ∷ token L_PAREN EOF false ∷ token IDENT IDENT false ∷ token COLON EOF true ∷ token COLON EOF false ∷ token IDENT IDENT false ∷ token COMMA EOF false ∷ token IDENT IDENT false ∷ token COMMA EOF false ∷ token TRUE_KW EOF false ∷ token R_PAREN EOF false ∷ token R_CURLY EOF false ∷ token PUB_KW EOF false ∷ token STRUCT_KW EOF false ∷ token IDENT IDENT false ∷ token L_CURLY EOF false ∷ token PUB_KW EOF false ∷ token IDENT IDENT false ∷ token COLON EOF false ∷ token AMP EOF false ∷ token MUT_KW EOF false ∷ token IDENT IDENT false ∷ token R_CURLY EOF false ∷ []
 
 abbrev tree546 : Forest
 tree546 = (Node SOURCE_FILE (Node FN (Leaf FN_KW 1 (Node NAME (Leaf IDENT 1 End) (Node PARAM_LIST (Leaf L_PAREN 1 (Leaf R_PAREN 1 End)) (Node RET_TYPE (Leaf THIN_ARROW 2 (Node PATH_TYPE (Node PATH (Node PATH_SEGMENT (Node NAME_REF (Leaf IDENT 1 End) End) End) End) End)) (Node BLOCK_EXPR (Node STMT_LIST (Leaf L_CURLY 1 (Node BIN_EXPR (Node PREFIX_EXPR (Leaf BANG 1 (Node LITERAL (Leaf INT_NUMBER 1 End) End)) (Leaf MINUSEQ 2 (Node CALL_EXPR (Node LITERAL (Leaf INT_NUMBER 1 End) (Node ARG_LIST (Leaf L_PAREN 1 (Node PATH_EXPR (Node PATH (Node PATH (Node PATH_SEGMENT (Node NAME_REF (Leaf IDENT 1 End) End) End) (Leaf COLON2 2 (Node PATH_SEGMENT (Node NAME_REF (Leaf IDENT 1 End) End) End))) End) (Leaf COMMA 1 (Node PATH_EXPR (Node PATH (Node PATH_SEGMENT (Node NAME_REF (Leaf IDENT 1 End) End) End) End) (Leaf COMMA 1 (Node LITERAL (Leaf TRUE_KW 1 End) (Leaf R_PAREN 1 End))))))) End)) End))) (Leaf R_CURLY 1 End))) End) End))))) (Node STRUCT (Node VISIBILITY (Leaf PUB_KW 1 End) (Leaf STRUCT_KW 1 (Node NAME (Leaf IDENT 1 End) (Node RECORD_FIELD_LIST (Leaf L_CURLY 1 (Node RECORD_FIELD (Node VISIBILITY (Leaf PUB_KW 1 End) (Node NAME (Leaf IDENT 1 End) (Leaf COLON 1 (Node REF_TYPE (Leaf AMP 1 (Leaf MUT_KW 1 (Node PATH_TYPE (Node PATH (Node PATH_SEGMENT (Node NAME_REF (Leaf IDENT 1 End) End) End) End) End))) End)))) (Leaf R_CURLY 1 End))) End)))) End)) End)
@@ -397,7 +400,7 @@ unfolding spaced_before
 spaced546 = refl
 
 abbrev tokens562 : List Token
-tokens562 = of_kind PUB_KW false ∷ of_kind FN_KW false ∷ name_token false ∷ of_kind L_PAREN false ∷ of_kind MUT_KW false ∷ name_token false ∷ of_kind COLON false ∷ name_token false ∷ of_kind R_PAREN false ∷ of_kind MINUS true ∷ of_kind R_ANGLE false ∷ name_token false ∷ of_kind L_CURLY false ∷ of_kind LET_KW false ∷ name_token false ∷ of_kind EQ false ∷ of_kind AMP false ∷ name_token false ∷ of_kind L_PAREN false ∷ of_kind TRUE_KW false ∷ of_kind COMMA false ∷ of_kind R_PAREN false ∷ of_kind SEMICOLON false ∷ of_kind R_CURLY false ∷ of_kind PUB_KW false ∷ of_kind FN_KW false ∷ name_token false ∷ of_kind L_PAREN false ∷ of_kind MUT_KW false ∷ name_token false ∷ of_kind COLON false ∷ name_token false ∷ of_kind COLON true ∷ of_kind COLON false ∷ name_token false ∷ of_kind R_PAREN false ∷ of_kind MINUS true ∷ of_kind R_ANGLE false ∷ of_kind L_BRACK false ∷ name_token false ∷ of_kind R_BRACK false ∷ of_kind L_CURLY false ∷ of_kind L_PAREN false ∷ name_token false ∷ of_kind COLON true ∷ of_kind COLON false ∷ name_token false ∷ of_kind COLON true ∷ of_kind COLON false ∷ name_token false ∷ of_kind R_PAREN false ∷ of_kind SEMICOLON false ∷ of_kind LET_KW false ∷ name_token false ∷ of_kind EQ false ∷ name_token false ∷ of_kind COLON true ∷ of_kind COLON false ∷ name_token false ∷ of_kind PLUS true ∷ of_kind EQ false ∷ name_token false ∷ of_kind SEMICOLON false ∷ of_kind R_CURLY false ∷ []
+tokens562 = token PUB_KW EOF false ∷ token FN_KW EOF false ∷ token IDENT IDENT false ∷ token L_PAREN EOF false ∷ token MUT_KW EOF false ∷ token IDENT IDENT false ∷ token COLON EOF false ∷ token IDENT IDENT false ∷ token R_PAREN EOF false ∷ token MINUS EOF true ∷ token R_ANGLE EOF false ∷ token IDENT IDENT false ∷ token L_CURLY EOF false ∷ token LET_KW EOF false ∷ token IDENT IDENT false ∷ token EQ EOF false ∷ token AMP EOF false ∷ token IDENT IDENT false ∷ token L_PAREN EOF false ∷ token TRUE_KW EOF false ∷ token COMMA EOF false ∷ token R_PAREN EOF false ∷ token SEMICOLON EOF false ∷ token R_CURLY EOF false ∷ token PUB_KW EOF false ∷ token FN_KW EOF false ∷ token IDENT IDENT false ∷ token L_PAREN EOF false ∷ token MUT_KW EOF false ∷ token IDENT IDENT false ∷ token COLON EOF false ∷ token IDENT IDENT false ∷ token COLON EOF true ∷ token COLON EOF false ∷ token IDENT IDENT false ∷ token R_PAREN EOF false ∷ token MINUS EOF true ∷ token R_ANGLE EOF false ∷ token L_BRACK EOF false ∷ token IDENT IDENT false ∷ token R_BRACK EOF false ∷ token L_CURLY EOF false ∷ token L_PAREN EOF false ∷ token IDENT IDENT false ∷ token COLON EOF true ∷ token COLON EOF false ∷ token IDENT IDENT false ∷ token COLON EOF true ∷ token COLON EOF false ∷ token IDENT IDENT false ∷ token R_PAREN EOF false ∷ token SEMICOLON EOF false ∷ token LET_KW EOF false ∷ token IDENT IDENT false ∷ token EQ EOF false ∷ token IDENT IDENT false ∷ token COLON EOF true ∷ token COLON EOF false ∷ token IDENT IDENT false ∷ token PLUS EOF true ∷ token EQ EOF false ∷ token IDENT IDENT false ∷ token SEMICOLON EOF false ∷ token R_CURLY EOF false ∷ []
 
 abbrev tree562 : Forest
 tree562 = (Node SOURCE_FILE (Node FN (Node VISIBILITY (Leaf PUB_KW 1 End) (Leaf FN_KW 1 (Node NAME (Leaf IDENT 1 End) (Node PARAM_LIST (Leaf L_PAREN 1 (Node PARAM (Node IDENT_PAT (Leaf MUT_KW 1 (Node NAME (Leaf IDENT 1 End) End)) (Leaf COLON 1 (Node PATH_TYPE (Node PATH (Node PATH_SEGMENT (Node NAME_REF (Leaf IDENT 1 End) End) End) End) End))) (Leaf R_PAREN 1 End))) (Node RET_TYPE (Leaf THIN_ARROW 2 (Node PATH_TYPE (Node PATH (Node PATH_SEGMENT (Node NAME_REF (Leaf IDENT 1 End) End) End) End) End)) (Node BLOCK_EXPR (Node STMT_LIST (Leaf L_CURLY 1 (Node LET_STMT (Leaf LET_KW 1 (Node IDENT_PAT (Node NAME (Leaf IDENT 1 End) End) (Leaf EQ 1 (Node REF_EXPR (Leaf AMP 1 (Node CALL_EXPR (Node PATH_EXPR (Node PATH (Node PATH_SEGMENT (Node NAME_REF (Leaf IDENT 1 End) End) End) End) (Node ARG_LIST (Leaf L_PAREN 1 (Node LITERAL (Leaf TRUE_KW 1 End) (Leaf COMMA 1 (Leaf R_PAREN 1 End)))) End)) End)) (Leaf SEMICOLON 1 End))))) (Leaf R_CURLY 1 End))) End) End)))))) (Node FN (Node VISIBILITY (Leaf PUB_KW 1 End) (Leaf FN_KW 1 (Node NAME (Leaf IDENT 1 End) (Node PARAM_LIST (Leaf L_PAREN 1 (Node PARAM (Node IDENT_PAT (Leaf MUT_KW 1 (Node NAME (Leaf IDENT 1 End) End)) (Leaf COLON 1 (Node PATH_TYPE (Node PATH (Node PATH (Node PATH_SEGMENT (Node NAME_REF (Leaf IDENT 1 End) End) End) (Leaf COLON2 2 (Node PATH_SEGMENT (Node NAME_REF (Leaf IDENT 1 End) End) End))) End) End))) (Leaf R_PAREN 1 End))) (Node RET_TYPE (Leaf THIN_ARROW 2 (Node SLICE_TYPE (Leaf L_BRACK 1 (Node PATH_TYPE (Node PATH (Node PATH_SEGMENT (Node NAME_REF (Leaf IDENT 1 End) End) End) End) (Leaf R_BRACK 1 End))) End)) (Node BLOCK_EXPR (Node STMT_LIST (Leaf L_CURLY 1 (Node EXPR_STMT (Node PAREN_EXPR (Leaf L_PAREN 1 (Node PATH_EXPR (Node PATH (Node PATH (Node PATH (Node PATH_SEGMENT (Node NAME_REF (Leaf IDENT 1 End) End) End) (Leaf COLON2 2 (Node PATH_SEGMENT (Node NAME_REF (Leaf IDENT 1 End) End) End))) (Leaf COLON2 2 (Node PATH_SEGMENT (Node NAME_REF (Leaf IDENT 1 End) End) End))) End) (Leaf R_PAREN 1 End))) (Leaf SEMICOLON 1 End)) (Node LET_STMT (Leaf LET_KW 1 (Node IDENT_PAT (Node NAME (Leaf IDENT 1 End) End) (Leaf EQ 1 (Node BIN_EXPR (Node PATH_EXPR (Node PATH (Node PATH (Node PATH_SEGMENT (Node NAME_REF (Leaf IDENT 1 End) End) End) (Leaf COLON2 2 (Node PATH_SEGMENT (Node NAME_REF (Leaf IDENT 1 End) End) End))) End) (Leaf PLUSEQ 2 (Node PATH_EXPR (Node PATH (Node PATH_SEGMENT (Node NAME_REF (Leaf IDENT 1 End) End) End) End) End))) (Leaf SEMICOLON 1 End))))) (Leaf R_CURLY 1 End)))) End) End)))))) End)) End)
@@ -410,7 +413,7 @@ unfolding spaced_before
 spaced562 = refl
 
 abbrev tokens581 : List Token
-tokens581 = of_kind FN_KW false ∷ name_token false ∷ of_kind L_PAREN false ∷ of_kind R_PAREN false ∷ of_kind L_CURLY false ∷ name_token false ∷ of_kind DOT false ∷ name_token false ∷ of_kind L_PAREN false ∷ of_kind R_PAREN false ∷ of_kind SEMICOLON false ∷ of_kind FLOAT_NUMBER true ∷ of_kind L_PAREN false ∷ of_kind R_PAREN false ∷ of_kind DOT false ∷ name_token false ∷ of_kind R_CURLY false ∷ []
+tokens581 = token FN_KW EOF false ∷ token IDENT IDENT false ∷ token L_PAREN EOF false ∷ token R_PAREN EOF false ∷ token L_CURLY EOF false ∷ token IDENT IDENT false ∷ token DOT EOF false ∷ token IDENT IDENT false ∷ token L_PAREN EOF false ∷ token R_PAREN EOF false ∷ token SEMICOLON EOF false ∷ token FLOAT_NUMBER EOF true ∷ token L_PAREN EOF false ∷ token R_PAREN EOF false ∷ token DOT EOF false ∷ token IDENT IDENT false ∷ token R_CURLY EOF false ∷ []
 
 abbrev tree581 : Forest
 tree581 = (Node SOURCE_FILE (Node FN (Leaf FN_KW 1 (Node NAME (Leaf IDENT 1 End) (Node PARAM_LIST (Leaf L_PAREN 1 (Leaf R_PAREN 1 End)) (Node BLOCK_EXPR (Node STMT_LIST (Leaf L_CURLY 1 (Node EXPR_STMT (Node METHOD_CALL_EXPR (Node PATH_EXPR (Node PATH (Node PATH_SEGMENT (Node NAME_REF (Leaf IDENT 1 End) End) End) End) (Leaf DOT 1 (Node NAME_REF (Leaf IDENT 1 End) (Node ARG_LIST (Leaf L_PAREN 1 (Leaf R_PAREN 1 End)) End)))) (Leaf SEMICOLON 1 End)) (Node FIELD_EXPR (Node CALL_EXPR (Node LITERAL (Leaf FLOAT_NUMBER 1 End) (Node ARG_LIST (Leaf L_PAREN 1 (Leaf R_PAREN 1 End)) End)) (Leaf DOT 1 (Node NAME_REF (Leaf IDENT 1 End) End))) (Leaf R_CURLY 1 End)))) End) End)))) End) End)
@@ -423,7 +426,7 @@ unfolding spaced_before
 spaced581 = refl
 
 abbrev tokens597 : List Token
-tokens597 = of_kind FN_KW false ∷ name_token false ∷ of_kind L_PAREN false ∷ name_token false ∷ of_kind COLON false ∷ name_token false ∷ of_kind MINUS true ∷ of_kind R_ANGLE false ∷ name_token false ∷ of_kind L_CURLY false ∷ of_kind LET_KW false ∷ name_token false ∷ of_kind SEMICOLON false ∷ of_kind STRING false ∷ of_kind DOT false ∷ name_token false ∷ of_kind R_CURLY false ∷ []
+tokens597 = token FN_KW EOF false ∷ token IDENT IDENT false ∷ token L_PAREN EOF false ∷ token IDENT IDENT false ∷ token COLON EOF false ∷ token IDENT IDENT false ∷ token MINUS EOF true ∷ token R_ANGLE EOF false ∷ token IDENT IDENT false ∷ token L_CURLY EOF false ∷ token LET_KW EOF false ∷ token IDENT IDENT false ∷ token SEMICOLON EOF false ∷ token STRING EOF false ∷ token DOT EOF false ∷ token IDENT IDENT false ∷ token R_CURLY EOF false ∷ []
 
 abbrev tree597 : Forest
 tree597 = (Node SOURCE_FILE (Node FN (Leaf FN_KW 1 (Node NAME (Leaf IDENT 1 End) (Node PARAM_LIST (Leaf L_PAREN 1 (Node PARAM (Node IDENT_PAT (Node NAME (Leaf IDENT 1 End) End) (Leaf COLON 1 (Node PATH_TYPE (Node PATH (Node PATH_SEGMENT (Node NAME_REF (Leaf IDENT 1 End) End) End) End) End))) End)) (Node RET_TYPE (Leaf THIN_ARROW 2 (Node PATH_TYPE (Node PATH (Node PATH_SEGMENT (Node NAME_REF (Leaf IDENT 1 End) End) End) End) End)) (Node BLOCK_EXPR (Node STMT_LIST (Leaf L_CURLY 1 (Node LET_STMT (Leaf LET_KW 1 (Node IDENT_PAT (Node NAME (Leaf IDENT 1 End) End) (Leaf SEMICOLON 1 End))) (Node FIELD_EXPR (Node LITERAL (Leaf STRING 1 End) (Leaf DOT 1 (Node NAME_REF (Leaf IDENT 1 End) End))) (Leaf R_CURLY 1 End)))) End) End))))) End) End)

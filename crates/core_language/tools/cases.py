@@ -12,17 +12,15 @@ import json
 import re
 import sys
 
-WORDS = {"IDENT"}
 PUNCTUATION = {
     "COLON2": 2, "EQ2": 2, "NEQ": 2, "LTEQ": 2, "GTEQ": 2, "AMP2": 2, "PIPE2": 2, "SHL": 2, "SHR": 2, "THIN_ARROW": 2,
     "PLUSEQ": 2, "MINUSEQ": 2, "STAREQ": 2, "SLASHEQ": 2, "PERCENTEQ": 2, "AMPEQ": 2, "PIPEEQ": 2, "CARETEQ": 2,
     "SHLEQ": 3, "SHREQ": 3, "DOT2": 2, "DOT2EQ": 3, "FAT_ARROW": 2,
 }
 OPERATORS = {
-    "PIPE2": ("LogicalOr", 3), "AMP2": ("LogicalAnd", 4), "EQ2": ("Equal", 5), "NEQ": ("NotEqual", 5), "L_ANGLE": ("Less", 5),
-    "R_ANGLE": ("Greater", 5), "LTEQ": ("LessOrEqual", 5), "GTEQ": ("GreaterOrEqual", 5), "PIPE": ("BitOr", 6),
-    "CARET": ("BitXor", 7), "AMP": ("BitAnd", 8), "SHL": ("ShiftLeft", 9), "SHR": ("ShiftRight", 9), "PLUS": ("Plus", 10),
-    "MINUS": ("Minus", 10), "STAR": ("Times", 11), "SLASH": ("Divide", 11), "PERCENT": ("Remainder", 11),
+    "PIPE2": "LogicalOr", "AMP2": "LogicalAnd", "EQ2": "Equal", "NEQ": "NotEqual", "L_ANGLE": "Less", "R_ANGLE": "Greater",
+    "LTEQ": "LessOrEqual", "GTEQ": "GreaterOrEqual", "PIPE": "BitOr", "CARET": "BitXor", "AMP": "BitAnd", "SHL": "ShiftLeft",
+    "SHR": "ShiftRight", "PLUS": "Plus", "MINUS": "Minus", "STAR": "Times", "SLASH": "Divide", "PERCENT": "Remainder",
 }
 ASSIGNERS = {
     "EQ": "Assign", "PLUSEQ": "AssignPlus", "MINUSEQ": "AssignMinus", "STAREQ": "AssignTimes", "SLASHEQ": "AssignDivide",
@@ -37,14 +35,17 @@ PREFIXES = {"MINUS": "Negate", "BANG": "Invert", "STAR": "Dereference"}
 
 
 def is_leaf(tree):
+    """whether a tree is a leaf"""
     return isinstance(tree[1], str)
 
 
 def bit(value):
+    """the writing of a bit"""
     return "true" if value else "false"
 
 
 def forest(trees):
+    """the writing of trees"""
     if not trees:
         return "End"
     kind, rest = trees[0][0], forest(trees[1:])
@@ -54,15 +55,8 @@ def forest(trees):
 
 
 def tokens(row):
-    out = []
-    for kind, contextual, joint in row:
-        if kind == "IDENT" and contextual == "IDENT":
-            out.append(f"name_token {bit(joint)}")
-        elif contextual == "EOF":
-            out.append(f"of_kind {kind} {bit(joint)}")
-        else:
-            out.append(f"record {{ kind = {kind}; contextual = {contextual}; joint = {bit(joint)} }}")
-    return " ∷ ".join([*out, "[]"])
+    """the writing of tokens"""
+    return " ∷ ".join([*(f"token {kind} {contextual} {bit(joint)}" for kind, contextual, joint in row), "[]"])
 
 
 class Derivation:
@@ -165,7 +159,7 @@ class Derivation:
         right, behind = self.expression(children[2])
         if operator in ASSIGNERS:
             return f"(Assignment {left} {ASSIGNERS[operator]} {last} {right})", f"({before}, {behind}, omega arith)"
-        return f"(Binary {left} {OPERATORS[operator][0]} {last} {right})", f"({before}, {behind}, omega arith, omega arith, refl)"
+        return f"(Binary {left} {OPERATORS[operator]} {last} {right})", f"({before}, {behind}, omega arith, omega arith, refl)"
 
     def pattern(self, tree):
         assert tree[0] == "IDENT_PAT"
@@ -298,10 +292,9 @@ use Rattle.rust_grammar.specs.Items.{items}
 use Rattle.rust_grammar.specs.Entry.{leaves, is_used_up, takes_all, entry}
 use Rattle.rust_grammar.specs.Whole.{rule, rank, whole}"""
 DEFINED = {
-    "specs.Tokens": "of_kind name_token",
     "specs.Types": "Immutable Mutable Name Below PathType ReferenceType SliceType",
     "specs.Operators": " ".join(
-        [*LITERALS.values(), *PREFIXES.values(), *(it for it, _ in OPERATORS.values()), *ASSIGNERS.values()]
+        [*LITERALS.values(), *PREFIXES.values(), *OPERATORS.values(), *ASSIGNERS.values()]
     ),
     "specs.Expressions": "Literal Named Parenthesized FunctionCall MethodCall FieldAccess Prefixed Borrow Binary Assignment"
     " NoArgument LastArgument ArgumentComma",
@@ -315,12 +308,12 @@ DEFINED = {
 
 
 def heading(body):
-    """returns the file's comment and its imports, of what the lemmas name"""
+    """the file's comment and its imports, of what the lemmas name"""
     named = set(re.findall(r"[A-Za-z_][\w-]*", body))
     kinds = sorted(it for it in named if re.fullmatch(r"[A-Z][A-Z0-9_]+", it))
     lines = [
         "-- Files of an independent reader, with its inputs and trees: core files, and others of which the tree is no core tree.",
-        "use Rattle.std.proofs.Common.{◌≡◌, true, false, List, [], ◌∷◌, refl, arith, if◌then◌else◌}",
+        "use Rattle.std.proofs.Common.{◌≡◌, ℕ, Bool, true, false, List, [], ◌∷◌, refl, arith, if◌then◌else◌}",
         f"use Rattle.parser_input.specs.Kinds.{{{', '.join(kinds)}}}",
         "use Rattle.parser_input.specs.Input.{Token}",
         "use Rattle.parser_events.specs.Forest.{Forest, End, Leaf, Node}",
@@ -331,6 +324,8 @@ def heading(body):
         used = [it for it in names.split() if it in named]
         if used:
             lines.append(f"use Rattle.core_language.{module}.{{{', '.join(used)}}}")
+    lines += ["", "-- a token, in the reader's words", "abbrev token : (kind contextual : ℕ) → Bool → Token"]
+    lines.append("token kind contextual joint = record { kind = kind; contextual = contextual; joint = joint }")
     return "\n".join(lines)
 
 
