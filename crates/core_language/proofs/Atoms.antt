@@ -19,7 +19,8 @@ use Rattle.core_language.proofs.Rules.{at, begins_at, call-reads, forms, gives, 
 use Rattle.core_language.proofs.Starts.{expression-begins, expression-is-there, start-free}
 use Rattle.core_language.proofs.Types.{path-begins}
 
-literal-reads : (l : LiteralForm) (j : Bool) (more : List Token) → gives literal (at End (of_kind (literal_kind l) j ∷ more)) ≡ at (Node LITERAL (Leaf (literal_kind l) 1 End) End) more
+literal-reads : (l : LiteralForm) (j : Bool) (more : List Token)
+    → gives literal (at End (of_kind (literal_kind l) j ∷ more)) ≡ at (Node LITERAL (Leaf (literal_kind l) 1 End) End) more
 unfolding table
 literal-reads Integer j more = whole-means literal false _ ∙ refl
 literal-reads FloatNumber j more = whole-means literal false _ ∙ refl
@@ -31,7 +32,8 @@ literal-reads CText j more = whole-means literal false _ ∙ refl
 literal-reads TrueWord j more = whole-means literal false _ ∙ refl
 literal-reads FalseWord j more = whole-means literal false _ ∙ refl
 
-pub literal-atom : (l : LiteralForm) (j : Bool) (more : List Token) → gives atom (at End (of_kind (literal_kind l) j ∷ more)) ≡ at (tree (Literal l j)) more
+pub literal-atom : (l : LiteralForm) (j : Bool) (more : List Token)
+    → gives atom (at End (of_kind (literal_kind l) j ∷ more)) ≡ at (tree (Literal l j)) more
 unfolding table
 literal-atom Integer j more = whole-means atom false _ ∙ rw (literal-reads Integer j more) refl
 literal-atom FloatNumber j more = whole-means atom false _ ∙ rw (literal-reads FloatNumber j more) refl
@@ -53,11 +55,14 @@ behind-reads : (g : Forest) (more : List Token) → Calm more → reads behind_p
 unfolding table
 behind-reads g more c = rw (c.bang g) (rw (c.curly) refl)
 
-block-colon : (i c j : Bool) (more : List Token) (g : Forest) → begins_at (Call block_like) (at g (name_token i ∷ of_kind COLON true ∷ of_kind COLON c ∷ name_token j ∷ more)) ≡ false
+block-colon : (i c j : Bool) (more : List Token) (g : Forest)
+    → begins_at (Call block_like) (at g (name_token i ∷ of_kind COLON true ∷ of_kind COLON c ∷ name_token j ∷ more)) ≡ false
 unfolding table
 block-colon i c j more g = refl
 
-pub block-path : (p : Path) (more : List Token) → ((j : Bool) (g : Forest) → begins_at (Call block_like) (at g (name_token j ∷ more)) ≡ false) → (g : Forest) → begins_at (Call block_like) (at g (path_tokens p more)) ≡ false
+pub block-path : (p : Path) (more : List Token)
+    → ((j : Bool) (g : Forest) → begins_at (Call block_like) (at g (name_token j ∷ more)) ≡ false) → (g : Forest)
+    → begins_at (Call block_like) (at g (path_tokens p more)) ≡ false
 block-path (Name j) more h g = h j g
 block-path (Below p c j) more h g = block-path p (of_kind COLON true ∷ of_kind COLON c ∷ name_token j ∷ more) (λ i k. block-colon i c j more k) g
 
@@ -81,7 +86,8 @@ in_brackets =
     (Then (Mode false (Want (Call expression) ExpectedExpression))
     (Or (Wrap TUPLE_EXPR (Then 'comma' (rest_listed TUPLE_EXPR (Call expression) 'r_paren'))) (Wrap PAREN_EXPR (Want 'r_paren' (Expected R_PAREN))))))
 
-paren-picks : (j : Bool) (ts : List Token) → reads (rule atom) (at End (of_kind L_PAREN j ∷ ts)) ≡ reads in_brackets (at End (of_kind L_PAREN j ∷ ts))
+paren-picks : (j : Bool) (ts : List Token)
+    → reads (rule atom) (at End (of_kind L_PAREN j ∷ ts)) ≡ reads in_brackets (at End (of_kind L_PAREN j ∷ ts))
 unfolding table
 paren-picks j ts = refl
 
@@ -89,12 +95,17 @@ not-closed : (e : Expression) (more : List Token) → IsNotNext R_PAREN (express
 unfolding ahead
 not-closed e more = let b = expression-begins e more in rw b.are ((start-free b.start).paren)
 
-paren-reads : (j k : Bool) (ts : List Token) (l : ℕ) (r : Forest) (more : List Token) → IsNotNext R_PAREN ts → ((g : Forest) → begins_at (Call expression) (at g ts) ≡ true) →
+paren-reads : (j k : Bool) (ts : List Token) (l : ℕ) (r : Forest) (more : List Token) → IsNotNext R_PAREN ts
+    → ((g : Forest) → begins_at (Call expression) (at g ts) ≡ true) →
     gives expression (at End ts) ≡ at (Node l r End) (of_kind R_PAREN k ∷ more) →
     reads in_brackets (at End (of_kind L_PAREN j ∷ ts)) ≡ at (Node PAREN_EXPR (Leaf L_PAREN 1 (Node l r (Leaf R_PAREN 1 End))) End) more
 unfolding forms
 paren-reads j k ts l r more n there e = rw n (rw (there (Leaf L_PAREN 1 End)) (rw e refl))
 
-pub paren-atom : (j : Bool) (e : Expression) (k : Bool) (more : List Token) → gives expression (at End (expression_tokens e (of_kind R_PAREN k ∷ more))) ≡ at (tree e) (of_kind R_PAREN k ∷ more) →
+pub paren-atom : (j : Bool) (e : Expression) (k : Bool) (more : List Token)
+    → gives expression (at End (expression_tokens e (of_kind R_PAREN k ∷ more))) ≡ at (tree e) (of_kind R_PAREN k ∷ more) →
     gives atom (at End (expression_tokens (Parenthesized j e k) more)) ≡ at (tree (Parenthesized j e k)) more
-paren-atom j e k more h = whole-means atom false _ ∙ paren-picks j _ ∙ paren-reads j k (expression_tokens e (of_kind R_PAREN k ∷ more)) (expression_kind e) (inside_expression e) more (not-closed e _) (expression-is-there e _) h
+paren-atom j e k more h =
+    whole-means atom false _
+    ∙ paren-picks j _
+    ∙ paren-reads j k (expression_tokens e (of_kind R_PAREN k ∷ more)) (expression_kind e) (inside_expression e) more (not-closed e _) (expression-is-there e _) h

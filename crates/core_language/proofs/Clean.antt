@@ -86,7 +86,8 @@ unfolding is_clean
 visibility-clean Private f h = h
 visibility-clean (Public j) f h = h
 
-listed-clean : {A : Type 0} (put : A → Forest → Forest) → ((a : A) (f : Forest) → is_clean f ≡ true → is_clean (put a f) ≡ true) → (l : Listed A) (f : Forest) → is_clean f ≡ true → is_clean (listed_tree put l f) ≡ true
+listed-clean : {A : Type 0} (put : A → Forest → Forest) → ((a : A) (f : Forest) → is_clean f ≡ true → is_clean (put a f) ≡ true)
+    → (l : Listed A) (f : Forest) → is_clean f ≡ true → is_clean (listed_tree put l f) ≡ true
 unfolding is_clean
 listed-clean put each NoElement f h = h
 listed-clean put each (LastElement a) f h = each a f h
@@ -113,7 +114,8 @@ mutual
   item-clean (RecordStruct v j n l fs k) f h = both _ _ (visibility-clean v _ (both _ _ (listed-clean field_tree field-clean fs _ refl) refl)) h
   item-clean (OuterModule v j n k) f h = both _ _ (visibility-clean v _ refl) h
   item-clean (InnerModule v j n l is k) f h = both _ _ (visibility-clean v _ (both _ _ (items-clean is _ refl) refl)) h
-  item-clean (Function v j n l ps k r b) f h = both _ _ (visibility-clean v _ (both _ _ (listed-clean parameter_tree parameter-clean ps _ refl) (return_type-clean r _ (block-clean b _ refl)))) h
+  item-clean (Function v j n l ps k r b) f h =
+      both _ _ (visibility-clean v _ (both _ _ (listed-clean parameter_tree parameter-clean ps _ refl) (return_type-clean r _ (block-clean b _ refl)))) h
 
   items-clean : (is : Items) (f : Forest) → is_clean f ≡ true → is_clean (items_tree is f) ≡ true
   items-clean NoItem f h = h

@@ -114,7 +114,8 @@ mutual
       let low = at-most-8 (under o) (power o) same (power-3 o) in
       from-binary (Binary l o j r) (under o) low same
       (binary-loop l o j r low i.4 ((known l i.0).loop (under o) low (reach-left l o same i.2)) ((known r i.1).layer (under o) (reach-low o low) (reach-right r o same i.3)))
-  known (Assignment l o j r) i = from-assign (Assignment l o j r) refl (whole-assign l o j r ((known l i.0).layer 9 (omega arith) (reach-top l i.2)) ((known r i.1).whole))
+  known (Assignment l o j r) i =
+      from-assign (Assignment l o j r) refl (whole-assign l o j r ((known l i.0).layer 9 (omega arith) (reach-top l i.2)) ((known r i.1).whole))
 
   pub all-known : (es : Arguments) → AreWellFormed es → ArgumentsRead es
   all-known NoArgument i = no-argument-read

@@ -20,7 +20,8 @@ use Rattle.core_language.proofs.Rules.{at, begins_at, forms, gives, reads, star-
 use Rattle.core_language.proofs.Statements.{braces-read, pattern-longer}
 use Rattle.core_language.proofs.Types.{type-longer}
 
-pub visibility-reads : (j : Bool) (t : Token) (ts : List Token) → (t.kind == L_PAREN) ≡ false → gives visibility (at End (of_kind PUB_KW j ∷ t ∷ ts)) ≡ at (Node VISIBILITY (Leaf PUB_KW 1 End) End) (t ∷ ts)
+pub visibility-reads : (j : Bool) (t : Token) (ts : List Token) → (t.kind == L_PAREN) ≡ false
+    → gives visibility (at End (of_kind PUB_KW j ∷ t ∷ ts)) ≡ at (Node VISIBILITY (Leaf PUB_KW 1 End) End) (t ∷ ts)
 unfolding table
 visibility-reads j t ts h = whole-means visibility false _ ∙ rw h refl
 
@@ -28,26 +29,31 @@ visibility-reads j t ts h = whole-means visibility false _ ∙ rw h refl
 abbrev field_rule : Rule → Rule
 field_rule a = rules.Node RECORD_FIELD (Then (Star (Call attribute)) (Then (Opt (Call visibility)) (Then (Want (Call name) (Expected NAME)) a)))
 
-no-attributes : (v : Visibility) (n : Bool) (ts : List Token) → reads (Star (Call attribute)) (at End (visibility_tokens v (name_token n ∷ ts))) ≡ at End (visibility_tokens v (name_token n ∷ ts))
+no-attributes : (v : Visibility) (n : Bool) (ts : List Token)
+    → reads (Star (Call attribute)) (at End (visibility_tokens v (name_token n ∷ ts))) ≡ at End (visibility_tokens v (name_token n ∷ ts))
 unfolding table turns
 no-attributes Private n ts = refl
 no-attributes (Public j) n ts = refl
 
-visibility-opt-reads : (v : Visibility) (n : Bool) (ts : List Token) → reads (Opt (Call visibility)) (at End (visibility_tokens v (name_token n ∷ ts))) ≡ at (visibility_tree v End) (name_token n ∷ ts)
+visibility-opt-reads : (v : Visibility) (n : Bool) (ts : List Token)
+    → reads (Opt (Call visibility)) (at End (visibility_tokens v (name_token n ∷ ts))) ≡ at (visibility_tree v End) (name_token n ∷ ts)
 unfolding table
 visibility-opt-reads Private n ts = refl
 visibility-opt-reads (Public j) n ts = rw (visibility-reads j (name_token n) ts refl) refl
 
-named : (v : Visibility) (n : Bool) (ts : List Token) → reads (Want (Call name) (Expected NAME)) (at (visibility_tree v End) (name_token n ∷ ts)) ≡ at (visibility_tree v (name_tree End)) ts
+named : (v : Visibility) (n : Bool) (ts : List Token)
+    → reads (Want (Call name) (Expected NAME)) (at (visibility_tree v End) (name_token n ∷ ts)) ≡ at (visibility_tree v (name_tree End)) ts
 unfolding table
 named Private n ts = rw (name-reads n ts) refl
 named (Public j) n ts = rw (name-reads n ts) refl
 
-pub node-reads : (kind : ℕ) (a : Rule) (g : Forest) (ts : List Token) (f : Forest) (more : List Token) → reads a (at End ts) ≡ at f more → reads (rules.Node kind a) (at g ts) ≡ at (g then Node kind f End) more
+pub node-reads : (kind : ℕ) (a : Rule) (g : Forest) (ts : List Token) (f : Forest) (more : List Token) → reads a (at End ts) ≡ at f more
+    → reads (rules.Node kind a) (at g ts) ≡ at (g then Node kind f End) more
 unfolding forms
 node-reads kind a g ts f more e = rw e refl
 
-field-head : (a : Rule) (g : Forest) (v : Visibility) (n : Bool) (ts : List Token) (f : Forest) (more : List Token) → reads a (at (visibility_tree v (name_tree End)) ts) ≡ at f more →
+field-head : (a : Rule) (g : Forest) (v : Visibility) (n : Bool) (ts : List Token) (f : Forest) (more : List Token)
+    → reads a (at (visibility_tree v (name_tree End)) ts) ≡ at f more →
     reads (field_rule a) (at g (visibility_tokens v (name_token n ∷ ts))) ≡ at (g then Node RECORD_FIELD f End) more
 field-head a g v n ts f more e =
     node-reads RECORD_FIELD (Then (Star (Call attribute)) (Then (Opt (Call visibility)) (Then (Want (Call name) (Expected NAME)) a))) g _ f more
@@ -55,10 +61,12 @@ field-head a g v n ts f more e =
     (then-reads (Opt (Call visibility)) (Then (Want (Call name) (Expected NAME)) a) _ (visibility-opt-reads v n ts)
     (then-reads (Want (Call name) (Expected NAME)) a _ (named v n ts) e)))
 
-field-reads : (x : Field) (g : Forest) (c : Bool) (k : ℕ) (more : List Token) → (k == COLON) ≡ false → (k == L_ANGLE) ≡ false → reads (field_rule of_type) (at g (field_tokens x (of_kind k c ∷ more))) ≡ at (g then field_tree x End) (of_kind k c ∷ more)
+field-reads : (x : Field) (g : Forest) (c : Bool) (k : ℕ) (more : List Token) → (k == COLON) ≡ false → (k == L_ANGLE) ≡ false
+    → reads (field_rule of_type) (at g (field_tokens x (of_kind k c ∷ more))) ≡ at (g then field_tree x End) (of_kind k c ∷ more)
 unfolding ahead
 field-reads (NamedField Private n d t) g c k more p q = field-head of_type g Private n _ _ _ (of_type-reads (name_tree End) d t (of_kind k c ∷ more) p q)
-field-reads (NamedField (Public j) n d t) g c k more p q = field-head of_type g (Public j) n _ _ _ (of_type-reads (visibility_tree (Public j) (name_tree End)) d t (of_kind k c ∷ more) p q)
+field-reads (NamedField (Public j) n d t) g c k more p q =
+    field-head of_type g (Public j) n _ _ _ (of_type-reads (visibility_tree (Public j) (name_tree End)) d t (of_kind k c ∷ more) p q)
 
 field-there : (x : Field) (more : List Token) (g : Forest) → begins_at (field_rule of_type) (at g (field_tokens x more)) ≡ true
 unfolding table
@@ -92,12 +100,14 @@ fields = record {
   joins = field-joins;
 }
 
-fields-rule : rule record_fields ≡ rules.Node RECORD_FIELD_LIST (Then 'l_curly' (Then (Mode false (Star (item_of RECORD_FIELD_LIST R_CURLY (field_rule of_type)))) (Want 'r_curly' (Expected R_CURLY))))
+fields-rule : rule record_fields
+    ≡ rules.Node RECORD_FIELD_LIST (Then 'l_curly' (Then (Mode false (Star (item_of RECORD_FIELD_LIST R_CURLY (field_rule of_type)))) (Want 'r_curly' (Expected R_CURLY))))
 unfolding table
 fields-rule = refl
 
 pub fields-read : (j k : Bool) (l : Listed Field) (more : List Token) →
-    gives record_fields (at End (of_kind L_CURLY j ∷ listed_tokens field_tokens l (of_kind R_CURLY k ∷ more))) ≡ at (Node RECORD_FIELD_LIST (Leaf L_CURLY 1 (listed_tree field_tree l (Leaf R_CURLY 1 End))) End) more
+    gives record_fields (at End (of_kind L_CURLY j ∷ listed_tokens field_tokens l (of_kind R_CURLY k ∷ more)))
+    ≡ at (Node RECORD_FIELD_LIST (Leaf L_CURLY 1 (listed_tree field_tree l (Leaf R_CURLY 1 End))) End) more
 fields-read j k l more =
     whole-means record_fields false _
     ∙ ap (λ (a : Rule). reads a (at End (of_kind L_CURLY j ∷ listed_tokens field_tokens l (of_kind R_CURLY k ∷ more)))) fields-rule
@@ -106,7 +116,9 @@ fields-read j k l more =
     ∙ ap (λ (f : Forest). at (Node RECORD_FIELD_LIST (Leaf L_CURLY 1 f) End) more) (listed-then field_tree field-joins l (Leaf R_CURLY 1 End))
 
 -- A parameter of a function.
-parameter-picks : (p : Pattern) {more : List Token} → Behind more → reads (rule param) (at End (pattern_tokens p more)) ≡ reads (rules.Node PARAM (Then (Call pattern) of_type)) (at End (pattern_tokens p more))
+parameter-picks : (p : Pattern) {more : List Token} → Behind more
+    → reads (rule param) (at End (pattern_tokens p more))
+    ≡ reads (rules.Node PARAM (Then (Call pattern) of_type)) (at End (pattern_tokens p more))
 unfolding table
 parameter-picks (NamePattern Immutable n) (BeforeType c t ts h) = refl
 parameter-picks (NamePattern Immutable n) (BeforeValue j ts) = refl
@@ -115,11 +127,13 @@ parameter-picks (NamePattern (Mutable i) n) (BeforeType c t ts h) = refl
 parameter-picks (NamePattern (Mutable i) n) (BeforeValue j ts) = refl
 parameter-picks (NamePattern (Mutable i) n) (BeforeEnd k ts) = refl
 
-pub call-behind : (x : Production) (g : Forest) (ts : List Token) (f : Forest) (more : List Token) → gives x (at End ts) ≡ at f more → reads (Call x) (at g ts) ≡ at (g then f) more
+pub call-behind : (x : Production) (g : Forest) (ts : List Token) (f : Forest) (more : List Token) → gives x (at End ts) ≡ at f more
+    → reads (Call x) (at g ts) ≡ at (g then f) more
 unfolding forms
 call-behind x g ts f more e = rw e refl
 
-parameter-reads : (x : Parameter) (g : Forest) (c : Bool) (k : ℕ) (more : List Token) → (k == COLON) ≡ false → (k == L_ANGLE) ≡ false → reads (Call param) (at g (parameter_tokens x (of_kind k c ∷ more))) ≡ at (g then parameter_tree x End) (of_kind k c ∷ more)
+parameter-reads : (x : Parameter) (g : Forest) (c : Bool) (k : ℕ) (more : List Token) → (k == COLON) ≡ false → (k == L_ANGLE) ≡ false
+    → reads (Call param) (at g (parameter_tokens x (of_kind k c ∷ more))) ≡ at (g then parameter_tree x End) (of_kind k c ∷ more)
 unfolding ahead
 parameter-reads (TypedPattern (NamePattern m n) d t) g c k more p q =
     call-behind param g _ _ _
@@ -128,7 +142,8 @@ parameter-reads (TypedPattern (NamePattern m n) d t) g c k more p q =
     ∙ node-reads PARAM (Then (Call pattern) of_type) End _ _ _
     (then-reads (Call pattern) of_type _ (call-behind pattern End _ _ _ (pattern-reads (NamePattern m n) (typed d t _))) (of_type-reads (pattern_tree (NamePattern m n) End) d t (of_kind k c ∷ more) p q)))
 
-parameter-begins : (p : Pattern) {more : List Token} → Behind more → (g : Forest) → begins_at (Call param) (at g (pattern_tokens p more)) ≡ true
+parameter-begins : (p : Pattern) {more : List Token} → Behind more → (g : Forest)
+    → begins_at (Call param) (at g (pattern_tokens p more)) ≡ true
 unfolding table
 parameter-begins (NamePattern Immutable n) (BeforeType true t ts h) g = rw h refl
 parameter-begins (NamePattern Immutable n) (BeforeType false t ts h) g = refl
@@ -144,7 +159,8 @@ parameter-first (TypedPattern (NamePattern Immutable n) c t) more = refl
 parameter-first (TypedPattern (NamePattern (Mutable i) n) c t) more = refl
 
 pub parameter-longer : (x : Parameter) (more : List Token) → length more < length (parameter_tokens x more)
-parameter-longer (TypedPattern p c t) more = let h = type-longer t more in let i = pattern-longer p (of_kind COLON c ∷ type_tokens t more) in omega (arith, h, i)
+parameter-longer (TypedPattern p c t) more =
+    let h = type-longer t more in let i = pattern-longer p (of_kind COLON c ∷ type_tokens t more) in omega (arith, h, i)
 
 parameter-joins : (x : Parameter) (f : Forest) → parameter_tree x End then f ≡ parameter_tree x f
 parameter-joins (TypedPattern p c t) f = refl
@@ -167,12 +183,14 @@ parameters = record {
   joins = parameter-joins;
 }
 
-parameters-rule : rule params ≡ rules.Node PARAM_LIST (Then 'l_paren' (Then (Mode false (Star (item_of PARAM_LIST R_PAREN (Call param)))) (Want 'r_paren' (Expected R_PAREN))))
+parameters-rule : rule params
+    ≡ rules.Node PARAM_LIST (Then 'l_paren' (Then (Mode false (Star (item_of PARAM_LIST R_PAREN (Call param)))) (Want 'r_paren' (Expected R_PAREN))))
 unfolding table
 parameters-rule = refl
 
 pub parameters-read : (j k : Bool) (l : Listed Parameter) (more : List Token) →
-    gives params (at End (of_kind L_PAREN j ∷ listed_tokens parameter_tokens l (of_kind R_PAREN k ∷ more))) ≡ at (Node PARAM_LIST (Leaf L_PAREN 1 (listed_tree parameter_tree l (Leaf R_PAREN 1 End))) End) more
+    gives params (at End (of_kind L_PAREN j ∷ listed_tokens parameter_tokens l (of_kind R_PAREN k ∷ more)))
+    ≡ at (Node PARAM_LIST (Leaf L_PAREN 1 (listed_tree parameter_tree l (Leaf R_PAREN 1 End))) End) more
 parameters-read j k l more =
     whole-means params false _
     ∙ ap (λ (a : Rule). reads a (at End (of_kind L_PAREN j ∷ listed_tokens parameter_tokens l (of_kind R_PAREN k ∷ more)))) parameters-rule

@@ -35,7 +35,9 @@ item_word_kind OfStruct = STRUCT_KW
 item_word_kind OfMod = MOD_KW
 item_word_kind OfFn = FN_KW
 
-item-head : (w : ItemWord) (v : Visibility) (j : Bool) (ts : List Token) → reads (rule item) (at End (visibility_tokens v (of_kind (item_word_kind w) j ∷ ts))) ≡ gives body (at (visibility_tree v End) (of_kind (item_word_kind w) j ∷ ts))
+item-head : (w : ItemWord) (v : Visibility) (j : Bool) (ts : List Token)
+    → reads (rule item) (at End (visibility_tokens v (of_kind (item_word_kind w) j ∷ ts)))
+    ≡ gives body (at (visibility_tree v End) (of_kind (item_word_kind w) j ∷ ts))
 unfolding table turns
 item-head OfStruct Private j ts = refl
 item-head OfMod Private j ts = refl
@@ -44,18 +46,24 @@ item-head OfStruct (Public i) j ts = rw (visibility-reads i (of_kind STRUCT_KW j
 item-head OfMod (Public i) j ts = rw (visibility-reads i (of_kind MOD_KW j) ts refl) refl
 item-head OfFn (Public i) j ts = rw (visibility-reads i (of_kind FN_KW j) ts refl) refl
 
-struct-semi : (v : Visibility) (j n k : Bool) (more : List Token) → gives body (at (visibility_tree v End) (of_kind STRUCT_KW j ∷ name_token n ∷ of_kind SEMICOLON k ∷ more)) ≡ at (item_tree (UnitStruct v j n k) End) more
+struct-semi : (v : Visibility) (j n k : Bool) (more : List Token)
+    → gives body (at (visibility_tree v End) (of_kind STRUCT_KW j ∷ name_token n ∷ of_kind SEMICOLON k ∷ more))
+    ≡ at (item_tree (UnitStruct v j n k) End) more
 unfolding table
 struct-semi Private j n k more = whole-means body false _ ∙ rw (name-reads n (of_kind SEMICOLON k ∷ more)) refl
 struct-semi (Public i) j n k more = whole-means body false _ ∙ rw (name-reads n (of_kind SEMICOLON k ∷ more)) refl
 
-struct-fields : (v : Visibility) (j n l : Bool) (ts : List Token) (f : Forest) (more : List Token) → gives record_fields (at End (of_kind L_CURLY l ∷ ts)) ≡ at f more →
-    gives body (at (visibility_tree v End) (of_kind STRUCT_KW j ∷ name_token n ∷ of_kind L_CURLY l ∷ ts)) ≡ at (Node STRUCT (visibility_tree v (Leaf STRUCT_KW 1 (name_tree f))) End) more
+struct-fields : (v : Visibility) (j n l : Bool) (ts : List Token) (f : Forest) (more : List Token)
+    → gives record_fields (at End (of_kind L_CURLY l ∷ ts)) ≡ at f more →
+    gives body (at (visibility_tree v End) (of_kind STRUCT_KW j ∷ name_token n ∷ of_kind L_CURLY l ∷ ts))
+    ≡ at (Node STRUCT (visibility_tree v (Leaf STRUCT_KW 1 (name_tree f))) End) more
 unfolding table
 struct-fields Private j n l ts f more e = whole-means body false _ ∙ rw (name-reads n (of_kind L_CURLY l ∷ ts)) (rw e refl)
 struct-fields (Public i) j n l ts f more e = whole-means body false _ ∙ rw (name-reads n (of_kind L_CURLY l ∷ ts)) (rw e refl)
 
-mod-semi : (v : Visibility) (j n k : Bool) (more : List Token) → gives body (at (visibility_tree v End) (of_kind MOD_KW j ∷ name_token n ∷ of_kind SEMICOLON k ∷ more)) ≡ at (item_tree (OuterModule v j n k) End) more
+mod-semi : (v : Visibility) (j n k : Bool) (more : List Token)
+    → gives body (at (visibility_tree v End) (of_kind MOD_KW j ∷ name_token n ∷ of_kind SEMICOLON k ∷ more))
+    ≡ at (item_tree (OuterModule v j n k) End) more
 unfolding table
 mod-semi Private j n k more = whole-means body false _ ∙ rw (name-reads n (of_kind SEMICOLON k ∷ more)) refl
 mod-semi (Public i) j n k more = whole-means body false _ ∙ rw (name-reads n (of_kind SEMICOLON k ∷ more)) refl
@@ -72,7 +80,8 @@ items_node = rules.Node ITEM_LIST (Then 'l_curly' (Then (Mode false (Star (one_i
 abbrev mod_rule : Rule → Rule
 mod_rule a = Wrap MODULE (Then 'mod' (Then (Want (Call name) (Expected NAME)) (Or a (Want 'semi' (Expected SEMICOLON)))))
 
-mod-picks : (g : Forest) (j : Bool) (ts : List Token) → reads (rule body) (at g (of_kind MOD_KW j ∷ ts)) ≡ reads (mod_rule items_node) (at g (of_kind MOD_KW j ∷ ts))
+mod-picks : (g : Forest) (j : Bool) (ts : List Token)
+    → reads (rule body) (at g (of_kind MOD_KW j ∷ ts)) ≡ reads (mod_rule items_node) (at g (of_kind MOD_KW j ∷ ts))
 unfolding table
 mod-picks g j ts = refl
 
@@ -84,26 +93,33 @@ braces-there : (g : Forest) (l : Bool) (ts : List Token) → begins_at items_nod
 unfolding forms
 braces-there g l ts = refl
 
-mod-word : (v : Visibility) (j : Bool) (ts : List Token) → reads 'mod' (at (visibility_tree v End) (of_kind MOD_KW j ∷ ts)) ≡ at (visibility_tree v (Leaf MOD_KW 1 End)) ts
+mod-word : (v : Visibility) (j : Bool) (ts : List Token)
+    → reads 'mod' (at (visibility_tree v End) (of_kind MOD_KW j ∷ ts)) ≡ at (visibility_tree v (Leaf MOD_KW 1 End)) ts
 unfolding forms
 mod-word Private j ts = refl
 mod-word (Public i) j ts = refl
 
-mod-name : (v : Visibility) (n : Bool) (ts : List Token) → reads (Want (Call name) (Expected NAME)) (at (visibility_tree v (Leaf MOD_KW 1 End)) (name_token n ∷ ts)) ≡ at (visibility_tree v (Leaf MOD_KW 1 (name_tree End))) ts
+mod-name : (v : Visibility) (n : Bool) (ts : List Token)
+    → reads (Want (Call name) (Expected NAME)) (at (visibility_tree v (Leaf MOD_KW 1 End)) (name_token n ∷ ts))
+    ≡ at (visibility_tree v (Leaf MOD_KW 1 (name_tree End))) ts
 unfolding table
 mod-name Private n ts = rw (name-reads n ts) refl
 mod-name (Public i) n ts = rw (name-reads n ts) refl
 
-wrap-reads : (kind : ℕ) (a : Rule) (s : Reading) (f : Forest) (more : List Token) → reads a s ≡ at f more → reads (Wrap kind a) s ≡ at (Node kind f End) more
+wrap-reads : (kind : ℕ) (a : Rule) (s : Reading) (f : Forest) (more : List Token) → reads a s ≡ at f more
+    → reads (Wrap kind a) s ≡ at (Node kind f End) more
 unfolding forms
 wrap-reads kind a s f more e = rw e refl
 
-visibility-then : (v : Visibility) (g f : Forest) → visibility_tree v (Leaf MOD_KW 1 (name_tree End)) then f ≡ visibility_tree v (Leaf MOD_KW 1 (name_tree f))
+visibility-then : (v : Visibility) (g f : Forest)
+    → visibility_tree v (Leaf MOD_KW 1 (name_tree End)) then f ≡ visibility_tree v (Leaf MOD_KW 1 (name_tree f))
 visibility-then Private g f = refl
 visibility-then (Public i) g f = refl
 
-mod-items : (v : Visibility) (j n l : Bool) (ts : List Token) (f : Forest) (more : List Token) → ((g : Forest) → reads items_node (at g (of_kind L_CURLY l ∷ ts)) ≡ at (g then f) more) →
-    gives body (at (visibility_tree v End) (of_kind MOD_KW j ∷ name_token n ∷ of_kind L_CURLY l ∷ ts)) ≡ at (Node MODULE (visibility_tree v (Leaf MOD_KW 1 (name_tree f))) End) more
+mod-items : (v : Visibility) (j n l : Bool) (ts : List Token) (f : Forest) (more : List Token)
+    → ((g : Forest) → reads items_node (at g (of_kind L_CURLY l ∷ ts)) ≡ at (g then f) more) →
+    gives body (at (visibility_tree v End) (of_kind MOD_KW j ∷ name_token n ∷ of_kind L_CURLY l ∷ ts))
+    ≡ at (Node MODULE (visibility_tree v (Leaf MOD_KW 1 (name_tree f))) End) more
 mod-items v j n l ts f more e =
     whole-means body false _
     ∙ mod-picks (visibility_tree v End) j _
@@ -112,7 +128,8 @@ mod-items v j n l ts f more e =
     (then-reads (Want (Call name) (Expected NAME)) (Or items_node (Want 'semi' (Expected SEMICOLON))) _ (mod-name v n _)
     (or-first items_node (Want 'semi' (Expected SEMICOLON)) _ (braces-there _ l ts) ∙ e _ ∙ ap (λ (x : Forest). at x more) (visibility-then v End f))))
 
-ret-reads : (a : Bool) (t : CoreType) (more : List Token) → ((g : Forest) → begins_at (Call any_type) (at g (type_tokens t more)) ≡ true) → gives any_type (at End (type_tokens t more)) ≡ at (type_tree t End) more →
+ret-reads : (a : Bool) (t : CoreType) (more : List Token) → ((g : Forest) → begins_at (Call any_type) (at g (type_tokens t more)) ≡ true)
+    → gives any_type (at End (type_tokens t more)) ≡ at (type_tree t End) more →
     reads (rules.Node RET_TYPE (Then '->' (Want (Call any_type) ExpectedType))) (at End (of_kind MINUS true ∷ of_kind R_ANGLE a ∷ type_tokens t more)) ≡ at (Node RET_TYPE (Leaf THIN_ARROW 2 (type_tree t End)) End) more
 unfolding forms
 ret-reads a t more there e = rw (there (Leaf THIN_ARROW 2 End)) (rw e refl)
@@ -121,7 +138,9 @@ ret-rule : rule ret_type ≡ rules.Node RET_TYPE (Then '->' (Want (Call any_type
 unfolding table
 ret-rule = refl
 
-ret_type-reads : (a : Bool) (t : CoreType) (j : Bool) (more : List Token) → gives ret_type (at End (of_kind MINUS true ∷ of_kind R_ANGLE a ∷ type_tokens t (of_kind L_CURLY j ∷ more))) ≡ at (Node RET_TYPE (Leaf THIN_ARROW 2 (type_tree t End)) End) (of_kind L_CURLY j ∷ more)
+ret_type-reads : (a : Bool) (t : CoreType) (j : Bool) (more : List Token)
+    → gives ret_type (at End (of_kind MINUS true ∷ of_kind R_ANGLE a ∷ type_tokens t (of_kind L_CURLY j ∷ more)))
+    ≡ at (Node RET_TYPE (Leaf THIN_ARROW 2 (type_tree t End)) End) (of_kind L_CURLY j ∷ more)
 unfolding ahead
 ret_type-reads a t j more =
     whole-means ret_type false _
@@ -129,8 +148,10 @@ ret_type-reads a t j more =
     ∙ ret-reads a t (of_kind L_CURLY j ∷ more) (type-there t _) (type-reads t _ refl refl)
 
 function-plain : (v : Visibility) (j n l : Bool) (ts : List Token) (f : Forest) (c : Bool) (us : List Token) (h : Forest) (more : List Token) →
-    gives params (at End (of_kind L_PAREN l ∷ ts)) ≡ at (Node PARAM_LIST f End) (of_kind L_CURLY c ∷ us) → gives block (at End (of_kind L_CURLY c ∷ us)) ≡ at h more →
-    gives body (at (visibility_tree v End) (of_kind FN_KW j ∷ name_token n ∷ of_kind L_PAREN l ∷ ts)) ≡ at (Node FN (visibility_tree v (Leaf FN_KW 1 (name_tree (Node PARAM_LIST f h)))) End) more
+    gives params (at End (of_kind L_PAREN l ∷ ts)) ≡ at (Node PARAM_LIST f End) (of_kind L_CURLY c ∷ us)
+    → gives block (at End (of_kind L_CURLY c ∷ us)) ≡ at h more →
+    gives body (at (visibility_tree v End) (of_kind FN_KW j ∷ name_token n ∷ of_kind L_PAREN l ∷ ts))
+    ≡ at (Node FN (visibility_tree v (Leaf FN_KW 1 (name_tree (Node PARAM_LIST f h)))) End) more
 unfolding table
 function-plain Private j n l ts f c us h more e e' = whole-means body false _ ∙ rw (name-reads n (of_kind L_PAREN l ∷ ts)) (rw e (rw e' refl))
 function-plain (Public i) j n l ts f c us h more e e' = whole-means body false _ ∙ rw (name-reads n (of_kind L_PAREN l ∷ ts)) (rw e (rw e' refl))
@@ -139,13 +160,19 @@ function-returns : (v : Visibility) (j n l : Bool) (ts : List Token) (f : Forest
     gives params (at End (of_kind L_PAREN l ∷ ts)) ≡ at (Node PARAM_LIST f End) (of_kind MINUS true ∷ of_kind R_ANGLE a ∷ us) →
     gives ret_type (at End (of_kind MINUS true ∷ of_kind R_ANGLE a ∷ us)) ≡ at (Node RET_TYPE r End) (of_kind L_CURLY c ∷ vs) →
     gives block (at End (of_kind L_CURLY c ∷ vs)) ≡ at h more →
-    gives body (at (visibility_tree v End) (of_kind FN_KW j ∷ name_token n ∷ of_kind L_PAREN l ∷ ts)) ≡ at (Node FN (visibility_tree v (Leaf FN_KW 1 (name_tree (Node PARAM_LIST f (Node RET_TYPE r h))))) End) more
+    gives body (at (visibility_tree v End) (of_kind FN_KW j ∷ name_token n ∷ of_kind L_PAREN l ∷ ts))
+    ≡ at (Node FN (visibility_tree v (Leaf FN_KW 1 (name_tree (Node PARAM_LIST f (Node RET_TYPE r h))))) End) more
 unfolding table
-function-returns Private j n l ts f a us r c vs h more e e' e'' = whole-means body false _ ∙ rw (name-reads n (of_kind L_PAREN l ∷ ts)) (rw e (rw e' (rw e'' refl)))
-function-returns (Public i) j n l ts f a us r c vs h more e e' e'' = whole-means body false _ ∙ rw (name-reads n (of_kind L_PAREN l ∷ ts)) (rw e (rw e' (rw e'' refl)))
+function-returns Private j n l ts f a us r c vs h more e e' e'' =
+    whole-means body false _
+    ∙ rw (name-reads n (of_kind L_PAREN l ∷ ts)) (rw e (rw e' (rw e'' refl)))
+function-returns (Public i) j n l ts f a us r c vs h more e e' e'' =
+    whole-means body false _
+    ∙ rw (name-reads n (of_kind L_PAREN l ∷ ts)) (rw e (rw e' (rw e'' refl)))
 
 -- the turns of a list of items
-item-turn : (w : ItemWord) (l : Look) (v : Visibility) (j : Bool) (ts : List Token) (g f : Forest) (more : List Token) → gives item (at End (visibility_tokens v (of_kind (item_word_kind w) j ∷ ts))) ≡ at f more →
+item-turn : (w : ItemWord) (l : Look) (v : Visibility) (j : Bool) (ts : List Token) (g f : Forest) (more : List Token)
+    → gives item (at End (visibility_tokens v (of_kind (item_word_kind w) j ∷ ts))) ≡ at f more →
     reads (one_item l) (at g (visibility_tokens v (of_kind (item_word_kind w) j ∷ ts))) ≡ at (g then f) more
 unfolding forms
 item-turn OfStruct l Private j ts g f more e = rw e refl
@@ -155,7 +182,8 @@ item-turn OfStruct l (Public i) j ts g f more e = rw e refl
 item-turn OfMod l (Public i) j ts g f more e = rw e refl
 item-turn OfFn l (Public i) j ts g f more e = rw e refl
 
-there-braces : (w : ItemWord) (v : Visibility) (j : Bool) (ts : List Token) (g : Forest) → begins_at (one_item (until 'r_curly')) (at g (visibility_tokens v (of_kind (item_word_kind w) j ∷ ts))) ≡ true
+there-braces : (w : ItemWord) (v : Visibility) (j : Bool) (ts : List Token) (g : Forest)
+    → begins_at (one_item (until 'r_curly')) (at g (visibility_tokens v (of_kind (item_word_kind w) j ∷ ts))) ≡ true
 unfolding table
 there-braces OfStruct Private j ts g = rw (some-left ts) refl
 there-braces OfMod Private j ts g = rw (some-left ts) refl
@@ -164,7 +192,8 @@ there-braces OfStruct (Public i) j ts g = rw (some-left (of_kind STRUCT_KW j ∷
 there-braces OfMod (Public i) j ts g = rw (some-left (of_kind MOD_KW j ∷ ts)) refl
 there-braces OfFn (Public i) j ts g = rw (some-left (of_kind FN_KW j ∷ ts)) refl
 
-there-end : (w : ItemWord) (v : Visibility) (j : Bool) (ts : List Token) (g : Forest) → begins_at (one_item (Not Left)) (at g (visibility_tokens v (of_kind (item_word_kind w) j ∷ ts))) ≡ true
+there-end : (w : ItemWord) (v : Visibility) (j : Bool) (ts : List Token) (g : Forest)
+    → begins_at (one_item (Not Left)) (at g (visibility_tokens v (of_kind (item_word_kind w) j ∷ ts))) ≡ true
 unfolding table
 there-end OfStruct Private j ts g = rw (some-left ts) refl
 there-end OfMod Private j ts g = rw (some-left ts) refl
@@ -173,7 +202,8 @@ there-end OfStruct (Public i) j ts g = rw (some-left (of_kind STRUCT_KW j ∷ ts
 there-end OfMod (Public i) j ts g = rw (some-left (of_kind MOD_KW j ∷ ts)) refl
 there-end OfFn (Public i) j ts g = rw (some-left (of_kind FN_KW j ∷ ts)) refl
 
-closed-braces : (k : Bool) (more : List Token) (g : Forest) → begins_at (one_item (until 'r_curly')) (at g (of_kind R_CURLY k ∷ more)) ≡ false
+closed-braces : (k : Bool) (more : List Token) (g : Forest)
+    → begins_at (one_item (until 'r_curly')) (at g (of_kind R_CURLY k ∷ more)) ≡ false
 unfolding table
 closed-braces k more g = rw (some-left more) refl
 
@@ -201,10 +231,12 @@ visibility-longer : (v : Visibility) (more : List Token) → length more ≤ len
 visibility-longer Private more = omega arith
 visibility-longer (Public j) more = omega arith
 
-listed-longer : {A : Type 0} (put : A → List Token → List Token) → ((a : A) (more : List Token) → length more < length (put a more)) → (l : Listed A) (more : List Token) → length more ≤ length (listed_tokens put l more)
+listed-longer : {A : Type 0} (put : A → List Token → List Token) → ((a : A) (more : List Token) → length more < length (put a more))
+    → (l : Listed A) (more : List Token) → length more ≤ length (listed_tokens put l more)
 listed-longer put h NoElement more = omega arith
 listed-longer put h (LastElement a) more = let n = h a more in omega (arith, n)
-listed-longer put h (ElementComma a j l) more = let n = h a (of_kind COMMA j ∷ listed_tokens put l more) in let m = listed-longer put h l more in omega (arith, n, m)
+listed-longer put h (ElementComma a j l) more =
+    let n = h a (of_kind COMMA j ∷ listed_tokens put l more) in let m = listed-longer put h l more in omega (arith, n, m)
 
 statements-longer : (ss : Statements) (more : List Token) → length more ≤ length (statements_tokens ss more)
 statements-longer NoStatement more = omega arith
@@ -256,13 +288,15 @@ items-join (ItemThen i is) f =
     ∙ item-joins i (items_tree is End then f)
     ∙ ap (λ (x : Forest). item_tree i x) (items-join is f)
 
-item-turns : (i : Item) (l : Look) (more : List Token) (g : Forest) → gives item (at End (item_tokens i more)) ≡ at (item_tree i End) more → reads (one_item l) (at g (item_tokens i more)) ≡ at (g then item_tree i End) more
+item-turns : (i : Item) (l : Look) (more : List Token) (g : Forest) → gives item (at End (item_tokens i more)) ≡ at (item_tree i End) more
+    → reads (one_item l) (at g (item_tokens i more)) ≡ at (g then item_tree i End) more
 item-turns i l more g e =
     let b = item-begins i more in
     rw b.are (item-turn b.keyword l b.visibility b.j b.rest g (item_tree i End) more (rw b.are at e))
 
 -- the next turn of a list of items, and the turns behind it
-add-item : (i : Item) (is : Items) (l : Look) (end more : List Token) (g : Forest) → gives item (at End (item_tokens i (items_tokens is end))) ≡ at (item_tree i End) (items_tokens is end) →
+add-item : (i : Item) (is : Items) (l : Look) (end more : List Token) (g : Forest)
+    → gives item (at End (item_tokens i (items_tokens is end))) ≡ at (item_tree i End) (items_tokens is end) →
     begins_at (one_item l) (at g (item_tokens i (items_tokens is end))) ≡ true →
     StarReads (one_item l) (at (g then item_tree i End) (items_tokens is end)) (at ((g then item_tree i End) then items_tree is End) more) →
     StarReads (one_item l) (at g (items_tokens (ItemThen i is) end)) (at (g then items_tree (ItemThen i is) End) more)
@@ -278,10 +312,13 @@ item-in-braces i more g = let b = item-begins i more in rw b.are (there-braces b
 item-in-file : (i : Item) (more : List Token) (g : Forest) → begins_at (one_item (Not Left)) (at g (item_tokens i more)) ≡ true
 item-in-file i more g = let b = item-begins i more in rw b.are (there-end b.keyword b.visibility b.j b.rest g)
 
-from-body : (w : ItemWord) (v : Visibility) (j : Bool) (ts : List Token) (t : Reading) → gives body (at (visibility_tree v End) (of_kind (item_word_kind w) j ∷ ts)) ≡ t → gives item (at End (visibility_tokens v (of_kind (item_word_kind w) j ∷ ts))) ≡ t
+from-body : (w : ItemWord) (v : Visibility) (j : Bool) (ts : List Token) (t : Reading)
+    → gives body (at (visibility_tree v End) (of_kind (item_word_kind w) j ∷ ts)) ≡ t
+    → gives item (at End (visibility_tokens v (of_kind (item_word_kind w) j ∷ ts))) ≡ t
 from-body w v j ts t e = whole-means item false _ ∙ item-head w v j ts ∙ e
 
-function-reads : (v : Visibility) (j n l : Bool) (ps : Listed Parameter) (k : Bool) (r : ReturnType) (b : Block) (more : List Token) → IsWellFormedBlock b →
+function-reads : (v : Visibility) (j n l : Bool) (ps : Listed Parameter) (k : Bool) (r : ReturnType) (b : Block) (more : List Token)
+    → IsWellFormedBlock b →
     gives body (at (visibility_tree v End) (of_kind FN_KW j ∷ name_token n ∷ of_kind L_PAREN l ∷ listed_tokens parameter_tokens ps (of_kind R_PAREN k ∷ return_type_tokens r (block_tokens b more)))) ≡ at (item_tree (Function v j n l ps k r b) End) more
 function-reads v j n l ps k NoReturnType (Braces c ss d) more i =
     function-plain v j n l _ _ c _ (block_tree (Braces c ss d) End) more (parameters-read l k ps (block_tokens (Braces c ss d) more)) (block-reads (Braces c ss d) more i)
@@ -291,7 +328,8 @@ function-reads v j n l ps k (Returns a t) (Braces c ss d) more i =
     (ret_type-reads a t c _)
     (block-reads (Braces c ss d) more i)
 
-items-node-reads : (g : Forest) (l k : Bool) (ts : List Token) (f : Forest) (more : List Token) → StarReads (one_item (until 'r_curly')) (at (Leaf L_CURLY 1 End) ts) (at (Leaf L_CURLY 1 f) (of_kind R_CURLY k ∷ more)) →
+items-node-reads : (g : Forest) (l k : Bool) (ts : List Token) (f : Forest) (more : List Token)
+    → StarReads (one_item (until 'r_curly')) (at (Leaf L_CURLY 1 End) ts) (at (Leaf L_CURLY 1 f) (of_kind R_CURLY k ∷ more)) →
     reads items_node (at g (of_kind L_CURLY l ∷ ts)) ≡ at (g then Node ITEM_LIST (Leaf L_CURLY 1 (f then Leaf R_CURLY 1 End)) End) more
 items-node-reads g l k ts f more stars =
     braces-read-in ITEM_LIST (one_item (until 'r_curly')) g l k ts f more (star-reads (one_item (until 'r_curly')) stars)
@@ -314,7 +352,8 @@ mutual
   items-in-braces (ItemThen i is) h g k more =
       add-item i is (until 'r_curly') (of_kind R_CURLY k ∷ more) (of_kind R_CURLY k ∷ more) g (item-reads i _ h.0) (item-in-braces i _ g) (items-in-braces is h.1 (g then item_tree i End) k more)
 
-items-in-file : (is : Items) → AreWellFormedItems is → (g : Forest) → StarReads (one_item (Not Left)) (at g (items_tokens is [])) (at (g then items_tree is End) [])
+items-in-file : (is : Items) → AreWellFormedItems is → (g : Forest)
+    → StarReads (one_item (Not Left)) (at g (items_tokens is [])) (at (g then items_tree is End) [])
 items-in-file NoItem h g = rw then-end (Stop (closed-end g))
 items-in-file (ItemThen i is) h g = add-item i is (Not Left) [] [] g (item-reads i _ h.0) (item-in-file i _ g) (items-in-file is h.1 (g then item_tree i End))
 
@@ -324,7 +363,8 @@ unfolding ahead
 first-skips NoItem = (refl, refl)
 first-skips (ItemThen i is) = let b = item-begins i (items_tokens is []) in rw b.are (word-skips b.keyword b.visibility b.j b.rest)
   where
-    word-skips : (w : ItemWord) (v : Visibility) (j : Bool) (ts : List Token) → (IsNotNext SHEBANG (visibility_tokens v (of_kind (item_word_kind w) j ∷ ts))) × (IsNotNext FRONTMATTER (visibility_tokens v (of_kind (item_word_kind w) j ∷ ts)))
+    word-skips : (w : ItemWord) (v : Visibility) (j : Bool) (ts : List Token)
+        → (IsNotNext SHEBANG (visibility_tokens v (of_kind (item_word_kind w) j ∷ ts))) × (IsNotNext FRONTMATTER (visibility_tokens v (of_kind (item_word_kind w) j ∷ ts)))
     word-skips OfStruct Private j ts = (refl, refl)
     word-skips OfMod Private j ts = (refl, refl)
     word-skips OfFn Private j ts = (refl, refl)

@@ -123,7 +123,8 @@ ReadsAt d e = (more : List Token) → Calm more → Stops d more → gives (laye
 
 -- An expression as the left operand of the layer d + 1: where its turns end, the layer ends.
 abbrev pub LoopAt : ℕ → Expression → Type 0
-LoopAt d e = (more : List Token) (t : Reading) → Calm more → Stops d more → StarReads (turn d) (at (tree e) more) t → gives (layer_of (suc d)) (at End (expression_tokens e more)) ≡ t
+LoopAt d e =
+    (more : List Token) (t : Reading) → Calm more → Stops d more → StarReads (turn d) (at (tree e) more) t → gives (layer_of (suc d)) (at End (expression_tokens e more)) ≡ t
 
 pub loop-of : (d : ℕ) → d ≤ 8 → (e : Expression) → ReadsAt d e → LoopAt d e
 loop-of d h e r more t calm stops stars =
@@ -140,7 +141,8 @@ third true false c h p q = absurd cc
 third false b c h p q = absurd cc
 
 -- A binary expression, from its operands.
-pub binary-loop : (l : Expression) (o : Operator) (j : Bool) (r : Expression) → under o ≤ 8 → (is_bit_and o && j && begins_with_ampersand r) ≡ false → LoopAt (under o) l → ReadsAt (under o) r → LoopAt (under o) (Binary l o j r)
+pub binary-loop : (l : Expression) (o : Operator) (j : Bool) (r : Expression) → under o ≤ 8
+    → (is_bit_and o && j && begins_with_ampersand r) ≡ false → LoopAt (under o) l → ReadsAt (under o) r → LoopAt (under o) (Binary l o j r)
 binary-loop l o j r h apart left right more t calm stops stars =
     let b = expression-begins r more in
     let not_both : NotBoth o j (token_of b.start) = λ p q. start-ampersand b.start (sym b.amp ∙ third _ _ _ apart p q) in
@@ -170,7 +172,8 @@ cast-rule : rule cast ≡ Then (Call prefixed) (Star (Wrap CAST_EXPR (Then 'as' 
 unfolding table
 cast-rule = refl
 
-no-cast : (g : Forest) (more : List Token) → Base more → begins_at (Wrap CAST_EXPR (Then 'as' (Want (Call any_type) ExpectedType))) (at g more) ≡ false
+no-cast : (g : Forest) (more : List Token) → Base more
+    → begins_at (Wrap CAST_EXPR (Then 'as' (Want (Call any_type) ExpectedType))) (at g more) ≡ false
 unfolding forms
 no-cast g more b = b.cast
 

@@ -16,7 +16,8 @@ name-one j k more other e = let t : name_token j ≡ name_token k = cc in (ap (�
 pub mark-one : (x : ℕ) (j k : Bool) (more other : List Token) → of_kind x j ∷ more ≡ of_kind x k ∷ other → (j ≡ k) × (more ≡ other)
 mark-one x j k more other e = let t : of_kind x j ≡ of_kind x k = cc in (ap (λ (y : Token). y.joint) t, cc)
 
-pub path-one : (p q : Path) (more other : List Token) → inside_path p ≡ inside_path q → path_tokens p more ≡ path_tokens q other → (p ≡ q) × (more ≡ other)
+pub path-one : (p q : Path) (more other : List Token) → inside_path p ≡ inside_path q → path_tokens p more ≡ path_tokens q other
+    → (p ≡ q) × (more ≡ other)
 path-one (Name j) (Name k) more other e h = let w = name-one j k more other h in (ap Name w.0, w.1)
 path-one (Name j) (Below q d k) more other e h = let n : PATH_SEGMENT ≡ PATH = cc in absurd (omega arith)
 path-one (Below p c j) (Name k) more other e h = let n : PATH ≡ PATH_SEGMENT = cc in absurd (omega arith)
@@ -31,8 +32,10 @@ path-one (Below p c j) (Below q d k) more other e h =
     three : p ≡ q → c ≡ d → j ≡ k → Below p c j ≡ Below q d k
     three x y z = cc
 
-pub type-one : (t u : CoreType) (more other : List Token) → type_kind t ≡ type_kind u → inside_type t ≡ inside_type u → type_tokens t more ≡ type_tokens u other → (t ≡ u) × (more ≡ other)
-type-one (PathType p) (PathType q) more other n e h = let i : inside_path p ≡ inside_path q = cc in let r = path-one p q more other i h in (ap PathType r.0, r.1)
+pub type-one : (t u : CoreType) (more other : List Token) → type_kind t ≡ type_kind u → inside_type t ≡ inside_type u
+    → type_tokens t more ≡ type_tokens u other → (t ≡ u) × (more ≡ other)
+type-one (PathType p) (PathType q) more other n e h =
+    let i : inside_path p ≡ inside_path q = cc in let r = path-one p q more other i h in (ap PathType r.0, r.1)
 type-one (ReferenceType j Immutable t) (ReferenceType k Immutable u) more other n e h =
     let a : type_kind t ≡ type_kind u = cc in
     let b : inside_type t ≡ inside_type u = cc in
@@ -67,13 +70,15 @@ type-one (ReferenceType j (Mutable i) t) (ReferenceType k Immutable u) more othe
 type-one _ _ more other n e h = absurd (omega (arith, n))
 
 mutual
-  pub expression-one : (e h : Expression) (more other : List Token) → expression_kind e ≡ expression_kind h → inside_expression e ≡ inside_expression h → expression_tokens e more ≡ expression_tokens h other → (e ≡ h) × (more ≡ other)
+  pub expression-one : (e h : Expression) (more other : List Token) → expression_kind e ≡ expression_kind h
+      → inside_expression e ≡ inside_expression h → expression_tokens e more ≡ expression_tokens h other → (e ≡ h) × (more ≡ other)
   expression-one (Literal l j) (Literal m k) more other n i s =
       let a : l ≡ m = literal-same l m cc in
       let r = head-one _ _ more other s in
       let b : j ≡ k = r.0 in
       (cc, r.1)
-  expression-one (Named p) (Named q) more other n i s = let a : inside_path p ≡ inside_path q = cc in let r = path-one p q more other a s in let b = r.0 in (ap Named b, r.1)
+  expression-one (Named p) (Named q) more other n i s = let a : inside_path p
+      ≡ inside_path q = cc in let r = path-one p q more other a s in let b = r.0 in (ap Named b, r.1)
   expression-one (Parenthesized j e k) (Parenthesized l h m) more other n i s =
       let a : expression_kind e ≡ expression_kind h = cc in
       let b : inside_expression e ≡ inside_expression h = cc in
@@ -160,7 +165,8 @@ mutual
       let b' : inside_expression r ≡ inside_expression t = cc in
       let c : o ≡ p = operator-same o p cc in
       let q = expression-one l m _ _ a b s in
-      let u : operator_tokens p j (expression_tokens r more) ≡ operator_tokens p k (expression_tokens t other) = ap (λ (y : Operator). operator_tokens y j (expression_tokens r more)) (sym c) ∙ q.1 in
+      let u : operator_tokens p j (expression_tokens r more)
+      ≡ operator_tokens p k (expression_tokens t other) = ap (λ (y : Operator). operator_tokens y j (expression_tokens r more)) (sym c) ∙ q.1 in
       let z = operator-one p j k _ _ u in
       let v = expression-one r t more other a' b' z.1 in
       let c1 : l ≡ m = q.0 in
@@ -174,7 +180,8 @@ mutual
       let b' : inside_expression r ≡ inside_expression t = cc in
       let c : o ≡ p = assigner-same o p cc in
       let q = expression-one l m _ _ a b s in
-      let u : assigner_tokens p j (expression_tokens r more) ≡ assigner_tokens p k (expression_tokens t other) = ap (λ (y : Assigner). assigner_tokens y j (expression_tokens r more)) (sym c) ∙ q.1 in
+      let u : assigner_tokens p j (expression_tokens r more)
+      ≡ assigner_tokens p k (expression_tokens t other) = ap (λ (y : Assigner). assigner_tokens y j (expression_tokens r more)) (sym c) ∙ q.1 in
       let z = assigner-one p j k _ _ u in
       let v = expression-one r t more other a' b' z.1 in
       let c1 : l ≡ m = q.0 in
@@ -185,7 +192,9 @@ mutual
   expression-one (Assignment l o j r) (Binary m p k t) more other n i s = absurd (not-assigner p o cc)
   expression-one _ _ more other n i s = absurd (omega (arith, n))
 
-  arguments-one : (es hs : Arguments) (j k : Bool) (more other : List Token) → arguments_tree es (Leaf R_PAREN 1 End) ≡ arguments_tree hs (Leaf R_PAREN 1 End) → arguments_tokens es (of_kind R_PAREN j ∷ more) ≡ arguments_tokens hs (of_kind R_PAREN k ∷ other) →
+  arguments-one : (es hs : Arguments) (j k : Bool) (more other : List Token)
+      → arguments_tree es (Leaf R_PAREN 1 End) ≡ arguments_tree hs (Leaf R_PAREN 1 End)
+      → arguments_tokens es (of_kind R_PAREN j ∷ more) ≡ arguments_tokens hs (of_kind R_PAREN k ∷ other) →
       (es ≡ hs) × (of_kind R_PAREN j ∷ more ≡ of_kind R_PAREN k ∷ other)
   arguments-one NoArgument NoArgument j k more other t s = (refl, s)
   arguments-one (LastArgument e) (LastArgument h) j k more other t s =
@@ -204,6 +213,8 @@ mutual
       let c2 : x ≡ y = r.0 in
       let c3 : es ≡ hs = w.0 in
       (cc, w.1)
-  arguments-one (LastArgument e) (ArgumentComma h y hs) j k more other t s = let c : Leaf R_PAREN 1 End ≡ Leaf COMMA 1 (arguments_tree hs (Leaf R_PAREN 1 End)) = cc in let z : R_PAREN ≡ COMMA = cc in absurd (omega (arith, z))
-  arguments-one (ArgumentComma e x es) (LastArgument h) j k more other t s = let c : Leaf COMMA 1 (arguments_tree es (Leaf R_PAREN 1 End)) ≡ Leaf R_PAREN 1 End = cc in let z : COMMA ≡ R_PAREN = cc in absurd (omega (arith, z))
+  arguments-one (LastArgument e) (ArgumentComma h y hs) j k more other t s = let c : Leaf R_PAREN 1 End
+      ≡ Leaf COMMA 1 (arguments_tree hs (Leaf R_PAREN 1 End)) = cc in let z : R_PAREN ≡ COMMA = cc in absurd (omega (arith, z))
+  arguments-one (ArgumentComma e x es) (LastArgument h) j k more other t s = let c : Leaf COMMA 1 (arguments_tree es (Leaf R_PAREN 1 End))
+      ≡ Leaf R_PAREN 1 End = cc in let z : COMMA ≡ R_PAREN = cc in absurd (omega (arith, z))
   arguments-one _ _ j k more other t s = absurd cc

@@ -18,7 +18,8 @@ record Element {A : Type 0} (tree : A → Forest → Forest) (put : A → List T
   pub one : (a b : A) (f g : Forest) (more other : List Token) → tree a f ≡ tree b g → put a more ≡ put b other → Same a b f g more other
   pub node : (a : A) (f : Forest) → is_node (tree a f) ≡ true
 
-listed-one : {A : Type 0} (tree : A → Forest → Forest) (put : A → List Token → List Token) → Element tree put → (l m : Listed A) (f g : Forest) (more other : List Token)
+listed-one : {A : Type 0} (tree : A → Forest → Forest) (put : A → List Token → List Token) → Element tree put
+    → (l m : Listed A) (f g : Forest) (more other : List Token)
     → is_node f ≡ false → is_node g ≡ false → (first_leaf f == COMMA) ≡ false → (first_leaf g == COMMA) ≡ false
     → listed_tree tree l f ≡ listed_tree tree m g → listed_tokens put l more ≡ listed_tokens put m other → Same l m f g more other
 listed-one tree put x NoElement NoElement f g more other p q c d e h = record { part = refl; trees = e; tokens = h }
@@ -45,7 +46,8 @@ listed-one tree put x NoElement (ElementComma b k m) f g more other p q c d e h 
 listed-one tree put x (LastElement a) NoElement f g more other p q c d e h = absurd (differ (is_node g) (ap is_node (sym e) ∙ x.node a _) q)
 listed-one tree put x (ElementComma a j l) NoElement f g more other p q c d e h = absurd (differ (is_node g) (ap is_node (sym e) ∙ x.node a _) q)
 
-field-one : (a b : Field) (f g : Forest) (more other : List Token) → field_tree a f ≡ field_tree b g → field_tokens a more ≡ field_tokens b other → Same a b f g more other
+field-one : (a b : Field) (f g : Forest) (more other : List Token) → field_tree a f ≡ field_tree b g
+    → field_tokens a more ≡ field_tokens b other → Same a b f g more other
 field-one (NamedField v j k t) (NamedField w l m u) f g more other e h =
     let same : f ≡ g = cc in
     let inner : visibility_tree v (name_tree (Leaf COLON 1 (type_tree t End))) ≡ visibility_tree w (name_tree (Leaf COLON 1 (type_tree u End))) = cc in
@@ -63,7 +65,8 @@ field-one (NamedField v j k t) (NamedField w l m u) f g more other e h =
 field-node : (a : Field) (f : Forest) → is_node (field_tree a f) ≡ true
 field-node (NamedField v j k t) f = refl
 
-parameter-one : (a b : Parameter) (f g : Forest) (more other : List Token) → parameter_tree a f ≡ parameter_tree b g → parameter_tokens a more ≡ parameter_tokens b other → Same a b f g more other
+parameter-one : (a b : Parameter) (f g : Forest) (more other : List Token) → parameter_tree a f ≡ parameter_tree b g
+    → parameter_tokens a more ≡ parameter_tokens b other → Same a b f g more other
 parameter-one (TypedPattern p k t) (TypedPattern q m u) f g more other e h =
     let same : f ≡ g = cc in
     let inner : pattern_tree p (Leaf COLON 1 (type_tree t End)) ≡ pattern_tree q (Leaf COLON 1 (type_tree u End)) = cc in
@@ -79,7 +82,8 @@ parameter-one (TypedPattern p k t) (TypedPattern q m u) f g more other e h =
 parameter-node : (a : Parameter) (f : Forest) → is_node (parameter_tree a f) ≡ true
 parameter-node (TypedPattern p k t) f = refl
 
-return_type-one : (r s : ReturnType) (b c : Block) (more other : List Token) → return_type_tree r (block_tree b End) ≡ return_type_tree s (block_tree c End)
+return_type-one : (r s : ReturnType) (b c : Block) (more other : List Token)
+    → return_type_tree r (block_tree b End) ≡ return_type_tree s (block_tree c End)
     → return_type_tokens r more ≡ return_type_tokens s other → Same r s (block_tree b End) (block_tree c End) more other
 return_type-one NoReturnType NoReturnType b c more other e h = record { part = refl; trees = e; tokens = h }
 return_type-one (Returns j t) (Returns k u) b c more other e h =
@@ -103,7 +107,8 @@ parameters = record { one = parameter-one; node = parameter-node }
 -- what an item's node holds behind its visibility
 abbrev item_inside : Item → Forest
 item_inside (UnitStruct v j n k) = Leaf STRUCT_KW 1 (name_tree (Leaf SEMICOLON 1 End))
-item_inside (RecordStruct v j n l fs k) = Leaf STRUCT_KW 1 (name_tree (Node RECORD_FIELD_LIST (Leaf L_CURLY 1 (listed_tree field_tree fs (Leaf R_CURLY 1 End))) End))
+item_inside (RecordStruct v j n l fs k) =
+    Leaf STRUCT_KW 1 (name_tree (Node RECORD_FIELD_LIST (Leaf L_CURLY 1 (listed_tree field_tree fs (Leaf R_CURLY 1 End))) End))
 item_inside (OuterModule v j n k) = Leaf MOD_KW 1 (name_tree (Leaf SEMICOLON 1 End))
 item_inside (InnerModule v j n l is k) = Leaf MOD_KW 1 (name_tree (Node ITEM_LIST (Leaf L_CURLY 1 (items_tree is (Leaf R_CURLY 1 End))) End))
 item_inside (Function v j n l ps k r b) =
@@ -156,7 +161,8 @@ item-tokens-of (InnerModule v j n l is k) more = refl
 item-tokens-of (Function v j n l ps k r b) more = refl
 
 -- what is first the same of two items: the visibility and what stands behind it
-item-head-one : (i j : Item) (f g : Forest) (more other : List Token) → item_tree i f ≡ item_tree j g → item_tokens i more ≡ item_tokens j other
+item-head-one : (i j : Item) (f g : Forest) (more other : List Token) → item_tree i f ≡ item_tree j g
+    → item_tokens i more ≡ item_tokens j other
     → Same (visibility_of i) (visibility_of j) (item_inside i) (item_inside j) (word_of i ∷ behind_word i more) (word_of j ∷ behind_word j other) × (f ≡ g)
 item-head-one i j f g more other e h =
     let x = item-tree-of i f in
@@ -175,7 +181,8 @@ item-node (InnerModule v j n l is k) f = refl
 item-node (Function v j n l ps k r b) f = refl
 
 mutual
-  item-one : (i j : Item) (f g : Forest) (more other : List Token) → item_tree i f ≡ item_tree j g → item_tokens i more ≡ item_tokens j other → Same i j f g more other
+  item-one : (i j : Item) (f g : Forest) (more other : List Token) → item_tree i f ≡ item_tree j g
+      → item_tokens i more ≡ item_tokens j other → Same i j f g more other
   item-one (UnitStruct v a n b) (UnitStruct w c m d) f g more other e h =
       let x = item-head-one (UnitStruct v a n b) (UnitStruct w c m d) f g more other e h in
       let word = mark-one STRUCT_KW a c _ _ x.0.tokens in
@@ -191,7 +198,8 @@ mutual
       let word = mark-one STRUCT_KW a c _ _ x.0.tokens in
       let name = name-one n m _ _ word.1 in
       let first = mark-one L_CURLY l k _ _ name.1 in
-      let inner : listed_tree field_tree fs (Leaf R_CURLY 1 End) ≡ listed_tree field_tree gs (Leaf R_CURLY 1 End) = let t = x.0.trees in cc in
+      let inner : listed_tree field_tree fs (Leaf R_CURLY 1 End)
+      ≡ listed_tree field_tree gs (Leaf R_CURLY 1 End) = let t = x.0.trees in cc in
       let y = listed-one field_tree field_tokens fields fs gs _ _ _ _ refl refl refl refl inner first.1 in
       let last = mark-one R_CURLY b d more other y.tokens in
       let e1 : v ≡ w = x.0.part in
@@ -231,7 +239,8 @@ mutual
       let word = mark-one FN_KW a c _ _ u.0.tokens in
       let name = name-one n m _ _ word.1 in
       let first = mark-one L_PAREN l k _ _ name.1 in
-      let inner : listed_tree parameter_tree ps (Leaf R_PAREN 1 End) ≡ listed_tree parameter_tree qs (Leaf R_PAREN 1 End) = let t = u.0.trees in cc in
+      let inner : listed_tree parameter_tree ps (Leaf R_PAREN 1 End)
+      ≡ listed_tree parameter_tree qs (Leaf R_PAREN 1 End) = let t = u.0.trees in cc in
       let types : return_type_tree r (block_tree x End) ≡ return_type_tree s (block_tree y End) = let t = u.0.trees in cc in
       let z = listed-one parameter_tree parameter_tokens parameters ps qs _ _ _ _ refl refl refl refl inner first.1 in
       let last = mark-one R_PAREN b d _ _ z.tokens in
@@ -246,26 +255,46 @@ mutual
       let e7 : r ≡ s = result.part in
       let e8 : x ≡ y = body.part in
       record { part = cc; trees = u.1; tokens = body.tokens }
-  item-one (UnitStruct v a n b) (RecordStruct w c m k gs d) f g more other e h = let t = (item-head-one (UnitStruct v a n b) (RecordStruct w c m k gs d) f g more other e h).0.trees in absurd cc
-  item-one (UnitStruct v a n b) (OuterModule w c m d) f g more other e h = let kinds : STRUCT ≡ MODULE = ap first_node e in absurd (omega (arith, kinds))
-  item-one (UnitStruct v a n b) (InnerModule w c m k js d) f g more other e h = let kinds : STRUCT ≡ MODULE = ap first_node e in absurd (omega (arith, kinds))
-  item-one (UnitStruct v a n b) (Function w c m k qs d s y) f g more other e h = let kinds : STRUCT ≡ FN = ap first_node e in absurd (omega (arith, kinds))
-  item-one (RecordStruct v a n l fs b) (UnitStruct w c m d) f g more other e h = let t = (item-head-one (RecordStruct v a n l fs b) (UnitStruct w c m d) f g more other e h).0.trees in absurd cc
-  item-one (RecordStruct v a n l fs b) (OuterModule w c m d) f g more other e h = let kinds : STRUCT ≡ MODULE = ap first_node e in absurd (omega (arith, kinds))
-  item-one (RecordStruct v a n l fs b) (InnerModule w c m k js d) f g more other e h = let kinds : STRUCT ≡ MODULE = ap first_node e in absurd (omega (arith, kinds))
-  item-one (RecordStruct v a n l fs b) (Function w c m k qs d s y) f g more other e h = let kinds : STRUCT ≡ FN = ap first_node e in absurd (omega (arith, kinds))
-  item-one (OuterModule v a n b) (UnitStruct w c m d) f g more other e h = let kinds : MODULE ≡ STRUCT = ap first_node e in absurd (omega (arith, kinds))
-  item-one (OuterModule v a n b) (RecordStruct w c m k gs d) f g more other e h = let kinds : MODULE ≡ STRUCT = ap first_node e in absurd (omega (arith, kinds))
-  item-one (OuterModule v a n b) (InnerModule w c m k js d) f g more other e h = let t = (item-head-one (OuterModule v a n b) (InnerModule w c m k js d) f g more other e h).0.trees in absurd cc
-  item-one (OuterModule v a n b) (Function w c m k qs d s y) f g more other e h = let kinds : MODULE ≡ FN = ap first_node e in absurd (omega (arith, kinds))
-  item-one (InnerModule v a n l is b) (UnitStruct w c m d) f g more other e h = let kinds : MODULE ≡ STRUCT = ap first_node e in absurd (omega (arith, kinds))
-  item-one (InnerModule v a n l is b) (RecordStruct w c m k gs d) f g more other e h = let kinds : MODULE ≡ STRUCT = ap first_node e in absurd (omega (arith, kinds))
-  item-one (InnerModule v a n l is b) (OuterModule w c m d) f g more other e h = let t = (item-head-one (InnerModule v a n l is b) (OuterModule w c m d) f g more other e h).0.trees in absurd cc
-  item-one (InnerModule v a n l is b) (Function w c m k qs d s y) f g more other e h = let kinds : MODULE ≡ FN = ap first_node e in absurd (omega (arith, kinds))
-  item-one (Function v a n l ps b r x) (UnitStruct w c m d) f g more other e h = let kinds : FN ≡ STRUCT = ap first_node e in absurd (omega (arith, kinds))
-  item-one (Function v a n l ps b r x) (RecordStruct w c m k gs d) f g more other e h = let kinds : FN ≡ STRUCT = ap first_node e in absurd (omega (arith, kinds))
-  item-one (Function v a n l ps b r x) (OuterModule w c m d) f g more other e h = let kinds : FN ≡ MODULE = ap first_node e in absurd (omega (arith, kinds))
-  item-one (Function v a n l ps b r x) (InnerModule w c m k js d) f g more other e h = let kinds : FN ≡ MODULE = ap first_node e in absurd (omega (arith, kinds))
+  item-one (UnitStruct v a n b) (RecordStruct w c m k gs d) f g more other e h =
+      let t = (item-head-one (UnitStruct v a n b) (RecordStruct w c m k gs d) f g more other e h).0.trees in absurd cc
+  item-one (UnitStruct v a n b) (OuterModule w c m d) f g more other e h = let kinds : STRUCT
+      ≡ MODULE = ap first_node e in absurd (omega (arith, kinds))
+  item-one (UnitStruct v a n b) (InnerModule w c m k js d) f g more other e h = let kinds : STRUCT
+      ≡ MODULE = ap first_node e in absurd (omega (arith, kinds))
+  item-one (UnitStruct v a n b) (Function w c m k qs d s y) f g more other e h = let kinds : STRUCT
+      ≡ FN = ap first_node e in absurd (omega (arith, kinds))
+  item-one (RecordStruct v a n l fs b) (UnitStruct w c m d) f g more other e h =
+      let t = (item-head-one (RecordStruct v a n l fs b) (UnitStruct w c m d) f g more other e h).0.trees in absurd cc
+  item-one (RecordStruct v a n l fs b) (OuterModule w c m d) f g more other e h = let kinds : STRUCT
+      ≡ MODULE = ap first_node e in absurd (omega (arith, kinds))
+  item-one (RecordStruct v a n l fs b) (InnerModule w c m k js d) f g more other e h = let kinds : STRUCT
+      ≡ MODULE = ap first_node e in absurd (omega (arith, kinds))
+  item-one (RecordStruct v a n l fs b) (Function w c m k qs d s y) f g more other e h = let kinds : STRUCT
+      ≡ FN = ap first_node e in absurd (omega (arith, kinds))
+  item-one (OuterModule v a n b) (UnitStruct w c m d) f g more other e h = let kinds : MODULE
+      ≡ STRUCT = ap first_node e in absurd (omega (arith, kinds))
+  item-one (OuterModule v a n b) (RecordStruct w c m k gs d) f g more other e h = let kinds : MODULE
+      ≡ STRUCT = ap first_node e in absurd (omega (arith, kinds))
+  item-one (OuterModule v a n b) (InnerModule w c m k js d) f g more other e h =
+      let t = (item-head-one (OuterModule v a n b) (InnerModule w c m k js d) f g more other e h).0.trees in absurd cc
+  item-one (OuterModule v a n b) (Function w c m k qs d s y) f g more other e h = let kinds : MODULE
+      ≡ FN = ap first_node e in absurd (omega (arith, kinds))
+  item-one (InnerModule v a n l is b) (UnitStruct w c m d) f g more other e h = let kinds : MODULE
+      ≡ STRUCT = ap first_node e in absurd (omega (arith, kinds))
+  item-one (InnerModule v a n l is b) (RecordStruct w c m k gs d) f g more other e h = let kinds : MODULE
+      ≡ STRUCT = ap first_node e in absurd (omega (arith, kinds))
+  item-one (InnerModule v a n l is b) (OuterModule w c m d) f g more other e h =
+      let t = (item-head-one (InnerModule v a n l is b) (OuterModule w c m d) f g more other e h).0.trees in absurd cc
+  item-one (InnerModule v a n l is b) (Function w c m k qs d s y) f g more other e h = let kinds : MODULE
+      ≡ FN = ap first_node e in absurd (omega (arith, kinds))
+  item-one (Function v a n l ps b r x) (UnitStruct w c m d) f g more other e h = let kinds : FN
+      ≡ STRUCT = ap first_node e in absurd (omega (arith, kinds))
+  item-one (Function v a n l ps b r x) (RecordStruct w c m k gs d) f g more other e h = let kinds : FN
+      ≡ STRUCT = ap first_node e in absurd (omega (arith, kinds))
+  item-one (Function v a n l ps b r x) (OuterModule w c m d) f g more other e h = let kinds : FN
+      ≡ MODULE = ap first_node e in absurd (omega (arith, kinds))
+  item-one (Function v a n l ps b r x) (InnerModule w c m k js d) f g more other e h = let kinds : FN
+      ≡ MODULE = ap first_node e in absurd (omega (arith, kinds))
 
   items-one : (is js : Items) (f g : Forest) (more other : List Token) → is_node f ≡ false → is_node g ≡ false
       → items_tree is f ≡ items_tree js g → items_tokens is more ≡ items_tokens js other → Same is js f g more other

@@ -36,8 +36,10 @@ pub differ : (b : Bool) → b ≡ true → b ≡ false → ⊥
 differ true p q = absurd cc
 differ false p q = absurd cc
 
-pub visibility-one : (v w : Visibility) (f g : Forest) (t u : Token) (ts us : List Token) → (t.kind == PUB_KW) ≡ false → (u.kind == PUB_KW) ≡ false
-    → visibility_tree v f ≡ visibility_tree w g → visibility_tokens v (t ∷ ts) ≡ visibility_tokens w (u ∷ us) → Same v w f g (t ∷ ts) (u ∷ us)
+pub visibility-one : (v w : Visibility) (f g : Forest) (t u : Token) (ts us : List Token) → (t.kind == PUB_KW) ≡ false
+    → (u.kind == PUB_KW) ≡ false
+    → visibility_tree v f ≡ visibility_tree w g → visibility_tokens v (t ∷ ts) ≡ visibility_tokens w (u ∷ us)
+    → Same v w f g (t ∷ ts) (u ∷ us)
 visibility-one Private Private f g t u ts us p q e h = record { part = refl; trees = e; tokens = h }
 visibility-one (Public j) (Public k) f g t u ts us p q e h =
     let r = head-one _ _ (t ∷ ts) (u ∷ us) h in
@@ -51,7 +53,8 @@ visibility-one (Public j) Private f g t u ts us p q e h =
     absurd (differ (u.kind == PUB_KW) (ap (λ (x : Token). x.kind == PUB_KW) same) q)
 
 -- A type in its tree.
-pub type-in : (t u : CoreType) (f g : Forest) (more other : List Token) → type_tree t f ≡ type_tree u g → type_tokens t more ≡ type_tokens u other → Same t u f g more other
+pub type-in : (t u : CoreType) (f g : Forest) (more other : List Token) → type_tree t f ≡ type_tree u g
+    → type_tokens t more ≡ type_tokens u other → Same t u f g more other
 type-in t u f g more other e h =
     let kind : type_kind t ≡ type_kind u = cc in
     let inside : inside_type t ≡ inside_type u = cc in
@@ -60,7 +63,8 @@ type-in t u f g more other e h =
     record { part = r.0; trees = same; tokens = r.1 }
 
 -- An expression in its tree.
-pub expression-in : (a b : Expression) (f g : Forest) (more other : List Token) → expression_tree a f ≡ expression_tree b g → expression_tokens a more ≡ expression_tokens b other → Same a b f g more other
+pub expression-in : (a b : Expression) (f g : Forest) (more other : List Token) → expression_tree a f ≡ expression_tree b g
+    → expression_tokens a more ≡ expression_tokens b other → Same a b f g more other
 expression-in a b f g more other e h =
     let kind : expression_kind a ≡ expression_kind b = cc in
     let inside : inside_expression a ≡ inside_expression b = cc in
@@ -68,7 +72,8 @@ expression-in a b f g more other e h =
     let r = expression-one a b more other kind inside h in
     record { part = r.0; trees = same; tokens = r.1 }
 
-pub pattern-one : (p q : Pattern) (f g : Forest) (more other : List Token) → pattern_tree p f ≡ pattern_tree q g → pattern_tokens p more ≡ pattern_tokens q other → Same p q f g more other
+pub pattern-one : (p q : Pattern) (f g : Forest) (more other : List Token) → pattern_tree p f ≡ pattern_tree q g
+    → pattern_tokens p more ≡ pattern_tokens q other → Same p q f g more other
 pattern-one (NamePattern Immutable j) (NamePattern Immutable k) f g more other e h =
     let r = name-one j k more other h in
     let same : f ≡ g = cc in
@@ -83,7 +88,8 @@ pattern-one (NamePattern (Mutable i) j) (NamePattern (Mutable l) k) f g more oth
 pattern-one (NamePattern Immutable j) (NamePattern (Mutable l) k) f g more other e h = absurd cc
 pattern-one (NamePattern (Mutable i) j) (NamePattern Immutable k) f g more other e h = absurd cc
 
-annotation-one : (a b : Annotation) (f g : Forest) (more other : List Token) → (first_leaf f == COLON) ≡ false → (first_leaf g == COLON) ≡ false
+annotation-one : (a b : Annotation) (f g : Forest) (more other : List Token) → (first_leaf f == COLON) ≡ false
+    → (first_leaf g == COLON) ≡ false
     → annotation_tree a f ≡ annotation_tree b g → annotation_tokens a more ≡ annotation_tokens b other → Same a b f g more other
 annotation-one NoAnnotation NoAnnotation f g more other p q e h = record { part = refl; trees = e; tokens = h }
 annotation-one (AnnotatedBy j t) (AnnotatedBy k u) f g more other p q e h =
@@ -94,9 +100,11 @@ annotation-one (AnnotatedBy j t) (AnnotatedBy k u) f g more other p q e h =
     let type : t ≡ u = r.part in
     record { part = cc; trees = r.trees; tokens = r.tokens }
 annotation-one NoAnnotation (AnnotatedBy k u) f g more other p q e h = absurd (differ (first_leaf f == COLON) (ap (λ (x : Forest). first_leaf x == COLON) e) p)
-annotation-one (AnnotatedBy j t) NoAnnotation f g more other p q e h = absurd (differ (first_leaf g == COLON) (ap (λ (x : Forest). first_leaf x == COLON) (sym e)) q)
+annotation-one (AnnotatedBy j t) NoAnnotation f g more other p q e h =
+    absurd (differ (first_leaf g == COLON) (ap (λ (x : Forest). first_leaf x == COLON) (sym e)) q)
 
-initializer-one : (v w : Initializer) (more other : List Token) → initializer_tree v (Leaf SEMICOLON 1 End) ≡ initializer_tree w (Leaf SEMICOLON 1 End)
+initializer-one : (v w : Initializer) (more other : List Token)
+    → initializer_tree v (Leaf SEMICOLON 1 End) ≡ initializer_tree w (Leaf SEMICOLON 1 End)
     → initializer_tokens v more ≡ initializer_tokens w other → (v ≡ w) × (more ≡ other)
 initializer-one NoInitializer NoInitializer more other e h = (refl, h)
 initializer-one (InitializedBy j a) (InitializedBy k b) more other e h =
@@ -113,7 +121,8 @@ no-colon : (v : Initializer) → (first_leaf (initializer_tree v (Leaf SEMICOLON
 no-colon NoInitializer = refl
 no-colon (InitializedBy j e) = refl
 
-statement-one : (s t : Statement) (f g : Forest) (more other : List Token) → statement_tree s f ≡ statement_tree t g → statement_tokens s more ≡ statement_tokens t other → Same s t f g more other
+statement-one : (s t : Statement) (f g : Forest) (more other : List Token) → statement_tree s f ≡ statement_tree t g
+    → statement_tokens s more ≡ statement_tokens t other → Same s t f g more other
 statement-one (Let j p a v k) (Let l q b w m) f g more other e h =
     let same : f ≡ g = cc in
     let pattern_trees : pattern_tree p (annotation_tree a (initializer_tree v (Leaf SEMICOLON 1 End))) ≡ pattern_tree q (annotation_tree b (initializer_tree w (Leaf SEMICOLON 1 End))) = cc in
@@ -189,7 +198,8 @@ statements-one (LastExpression b) NoStatement f g more other p q e h = absurd (d
 statements-one (StatementThen (Let j x a v k) us) NoStatement f g more other p q e h = absurd (differ (is_node g) (ap is_node (sym e)) q)
 statements-one (StatementThen (Run b k) us) NoStatement f g more other p q e h = absurd (differ (is_node g) (ap is_node (sym e)) q)
 
-pub block-one : (b c : Block) (f g : Forest) (more other : List Token) → block_tree b f ≡ block_tree c g → block_tokens b more ≡ block_tokens c other → Same b c f g more other
+pub block-one : (b c : Block) (f g : Forest) (more other : List Token) → block_tree b f ≡ block_tree c g
+    → block_tokens b more ≡ block_tokens c other → Same b c f g more other
 block-one (Braces j ss k) (Braces l us m) f g more other e h =
     let same : f ≡ g = cc in
     let inner : statements_tree ss (Leaf R_CURLY 1 End) ≡ statements_tree us (Leaf R_CURLY 1 End) = cc in

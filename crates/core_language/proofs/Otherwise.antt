@@ -30,7 +30,8 @@ same-self (ErrorLeaf m k f) = same-self f
 same-self (Node k c f) = rw (equal-self k, same-self c, same-self f) refl
 same-self (Float e c f) = rw (same-self c, same-self f) refl
 
-pub read-otherwise : (tokens : List Token) (tree : Forest) → is_same (entry whole source_file tokens) tree ≡ false → IsCoreFile tokens tree → ⊥
+pub read-otherwise : (tokens : List Token) (tree : Forest) → is_same (entry whole source_file tokens) tree ≡ false → IsCoreFile tokens tree
+    → ⊥
 read-otherwise tokens tree e c =
     let same : is_same (entry whole source_file tokens) tree ≡ true = ap (λ (f : Forest). is_same f tree) (files-read tokens tree c) ∙ same-self tree in
     absurd cc

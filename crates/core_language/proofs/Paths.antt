@@ -21,9 +21,11 @@ first_part l = rules.Node PATH (rules.Node PATH_SEGMENT (Then (Opt '::') (Then (
 
 -- one more segment, with arguments where `l` looks
 abbrev pub next_part : Look → Rule
-next_part l = Unless colons_before_more (rules.Wrap PATH (Then '::' (Want (rules.Node PATH_SEGMENT (Then Ref (Opt (When l GenericArgs)))) (Expected PATH_SEGMENT))))
+next_part l =
+    Unless colons_before_more (rules.Wrap PATH (Then '::' (Want (rules.Node PATH_SEGMENT (Then Ref (Opt (When l GenericArgs)))) (Expected PATH_SEGMENT))))
 
-pub name_ref-reads : (j : Bool) (more : List Token) → gives name_ref (at End (name_token j ∷ more)) ≡ at (Node NAME_REF (Leaf IDENT 1 End) End) more
+pub name_ref-reads : (j : Bool) (more : List Token)
+    → gives name_ref (at End (name_token j ∷ more)) ≡ at (Node NAME_REF (Leaf IDENT 1 End) End) more
 unfolding table
 name_ref-reads j more = whole-means name_ref false _ ∙ refl
 
@@ -31,16 +33,19 @@ name_ref-reads j more = whole-means name_ref false _ ∙ refl
 abbrev pub NoArgs : Look → List Token → Type 0
 NoArgs l more = (g : Forest) → sees false (at g more) l ≡ false
 
-first-reads : (l : Look) (j : Bool) (more : List Token) → NoArgs l more → reads (first_part l) (at End (name_token j ∷ more)) ≡ at (path_tree (Name j) End) more
+first-reads : (l : Look) (j : Bool) (more : List Token) → NoArgs l more
+    → reads (first_part l) (at End (name_token j ∷ more)) ≡ at (path_tree (Name j) End) more
 unfolding table
 first-reads l j more none = rw (name_ref-reads j more) (rw (none _) refl)
 
-next-begins : (l : Look) (c j : Bool) (g : Forest) (more : List Token) → begins_at (next_part l) (at g (of_kind COLON true ∷ of_kind COLON c ∷ name_token j ∷ more)) ≡ true
+next-begins : (l : Look) (c j : Bool) (g : Forest) (more : List Token)
+    → begins_at (next_part l) (at g (of_kind COLON true ∷ of_kind COLON c ∷ name_token j ∷ more)) ≡ true
 unfolding forms
 next-begins l c j g more = refl
 
 next-reads : (l : Look) (p : Path) (c j : Bool) (more : List Token) → NoArgs l more →
-    reads (next_part l) (at (path_tree p End) (of_kind COLON true ∷ of_kind COLON c ∷ name_token j ∷ more)) ≡ at (path_tree (Below p c j) End) more
+    reads (next_part l) (at (path_tree p End) (of_kind COLON true ∷ of_kind COLON c ∷ name_token j ∷ more))
+    ≡ at (path_tree (Below p c j) End) more
 unfolding table
 next-reads l p c j more none = rw (name_ref-reads j more) (rw (none _) refl)
 
@@ -51,7 +56,8 @@ three-fewer a b c more = omega arith
 abbrev pub Apart : Look → Type 0
 Apart l = (c j : Bool) (more : List Token) → NoArgs l (of_kind COLON true ∷ of_kind COLON c ∷ name_token j ∷ more)
 
-pub path-goes-on : (l : Look) → Apart l → (p : Path) (more : List Token) (t : Reading) → NoArgs l more → StarReads (next_part l) (at (path_tree p End) more) t →
+pub path-goes-on : (l : Look) → Apart l → (p : Path) (more : List Token) (t : Reading) → NoArgs l more
+    → StarReads (next_part l) (at (path_tree p End) more) t →
     reads (Then (first_part l) (Star (next_part l))) (at End (path_tokens p more)) ≡ t
 path-goes-on l apart (Name j) more t none stars = then-reads (first_part l) (Star (next_part l)) _ (first-reads l j more none) (star-reads (next_part l) stars)
 path-goes-on l apart (Below p c j) more t none stars =
@@ -85,9 +91,12 @@ no-args-expr : (more : List Token) → NoColon more → NoArgs expression_argume
 unfolding sees ahead there_at row one_of any_of
 no-args-expr more h g = rw h refl
 
-pub expression_path-reads : (p : Path) (more : List Token) → NoColon more → gives expr_path (at End (path_tokens p more)) ≡ at (path_tree p End) more
+pub expression_path-reads : (p : Path) (more : List Token) → NoColon more
+    → gives expr_path (at End (path_tokens p more)) ≡ at (path_tree p End) more
 unfolding rows
-expression_path-reads p more h = whole-means expr_path false _ ∙ path-goes-on expression_arguments apart-expr p more _ (no-args-expr more h) (Stop (no-next expression_arguments _ more h))
+expression_path-reads p more h =
+    whole-means expr_path false _
+    ∙ path-goes-on expression_arguments apart-expr p more _ (no-args-expr more h) (Stop (no-next expression_arguments _ more h))
 
 -- what ends a path in a type: no colon, no `<`
 abbrev pub NoAngle : List Token → Type 0
@@ -97,6 +106,9 @@ no-args-type : (more : List Token) → NoColon more → NoAngle more → NoArgs 
 unfolding sees ahead there_at row one_of any_of
 no-args-type more h k g = rw (h, k) refl
 
-pub type_path-reads : (p : Path) (more : List Token) → NoColon more → NoAngle more → gives type_path (at End (path_tokens p more)) ≡ at (path_tree p End) more
+pub type_path-reads : (p : Path) (more : List Token) → NoColon more → NoAngle more
+    → gives type_path (at End (path_tokens p more)) ≡ at (path_tree p End) more
 unfolding rows
-type_path-reads p more h k = whole-means type_path false _ ∙ path-goes-on type_arguments apart-type p more _ (no-args-type more h k) (Stop (no-next type_arguments _ more h))
+type_path-reads p more h k =
+    whole-means type_path false _
+    ∙ path-goes-on type_arguments apart-type p more _ (no-args-type more h k) (Stop (no-next type_arguments _ more h))

@@ -23,9 +23,12 @@ pub data Behind : List Token → Type 0 where
   BeforeValue : (j : Bool) (ts : List Token) → Behind (of_kind EQ j ∷ ts)
   BeforeEnd : (k : Bool) (ts : List Token) → Behind (of_kind SEMICOLON k ∷ ts)
 
-single-reads : (p : Pattern) {more : List Token} → Behind more → gives single_pattern (at End (pattern_tokens p more)) ≡ at (pattern_tree p End) more
+single-reads : (p : Pattern) {more : List Token} → Behind more
+    → gives single_pattern (at End (pattern_tokens p more)) ≡ at (pattern_tree p End) more
 unfolding table
-single-reads (NamePattern Immutable n) (BeforeType true t ts h) = whole-means single_pattern false _ ∙ rw (name-reads n (of_kind COLON true ∷ t ∷ ts)) (rw h refl)
+single-reads (NamePattern Immutable n) (BeforeType true t ts h) =
+    whole-means single_pattern false _
+    ∙ rw (name-reads n (of_kind COLON true ∷ t ∷ ts)) (rw h refl)
 single-reads (NamePattern Immutable n) (BeforeType false t ts h) = whole-means single_pattern false _ ∙ rw (name-reads n (of_kind COLON false ∷ t ∷ ts)) refl
 single-reads (NamePattern Immutable n) (BeforeValue j ts) = whole-means single_pattern false _ ∙ rw (name-reads n (of_kind EQ j ∷ ts)) refl
 single-reads (NamePattern Immutable n) (BeforeEnd k ts) = whole-means single_pattern false _ ∙ rw (name-reads n (of_kind SEMICOLON k ∷ ts)) refl
@@ -33,7 +36,9 @@ single-reads (NamePattern (Mutable i) n) (BeforeType c t ts h) = whole-means sin
 single-reads (NamePattern (Mutable i) n) (BeforeValue j ts) = whole-means single_pattern false _ ∙ rw (name-reads n (of_kind EQ j ∷ ts)) refl
 single-reads (NamePattern (Mutable i) n) (BeforeEnd k ts) = whole-means single_pattern false _ ∙ rw (name-reads n (of_kind SEMICOLON k ∷ ts)) refl
 
-pattern-picks : (p : Pattern) {more : List Token} → Behind more → gives single_pattern (at End (pattern_tokens p more)) ≡ at (pattern_tree p End) more → gives pattern (at End (pattern_tokens p more)) ≡ at (pattern_tree p End) more
+pattern-picks : (p : Pattern) {more : List Token} → Behind more
+    → gives single_pattern (at End (pattern_tokens p more)) ≡ at (pattern_tree p End) more
+    → gives pattern (at End (pattern_tokens p more)) ≡ at (pattern_tree p End) more
 unfolding table
 pattern-picks (NamePattern Immutable n) (BeforeType true t ts h) e = whole-means pattern false _ ∙ rw e refl
 pattern-picks (NamePattern Immutable n) (BeforeType false t ts h) e = whole-means pattern false _ ∙ rw e refl
@@ -43,10 +48,12 @@ pattern-picks (NamePattern (Mutable i) n) (BeforeType c t ts h) e = whole-means 
 pattern-picks (NamePattern (Mutable i) n) (BeforeValue j ts) e = whole-means pattern false _ ∙ rw e refl
 pattern-picks (NamePattern (Mutable i) n) (BeforeEnd k ts) e = whole-means pattern false _ ∙ rw e refl
 
-pub pattern-reads : (p : Pattern) {more : List Token} → Behind more → gives pattern (at End (pattern_tokens p more)) ≡ at (pattern_tree p End) more
+pub pattern-reads : (p : Pattern) {more : List Token} → Behind more
+    → gives pattern (at End (pattern_tokens p more)) ≡ at (pattern_tree p End) more
 pattern-reads p b = pattern-picks p b (single-reads p b)
 
-pub pattern-is-there : (p : Pattern) {more : List Token} → Behind more → (g : Forest) → begins_at (Call pattern) (at g (pattern_tokens p more)) ≡ true
+pub pattern-is-there : (p : Pattern) {more : List Token} → Behind more → (g : Forest)
+    → begins_at (Call pattern) (at g (pattern_tokens p more)) ≡ true
 unfolding table
 pattern-is-there (NamePattern Immutable n) (BeforeType true t ts h) g = rw h refl
 pattern-is-there (NamePattern Immutable n) (BeforeType false t ts h) g = refl
@@ -66,7 +73,8 @@ typed c (SliceType j t k) more = BeforeType c _ _ refl
 abbrev pub of_type : Rule
 of_type = Then (Want ':' (Expected COLON)) (Want (Call any_type) ExpectedType)
 
-colon-reads : (g : Forest) (c : Bool) (ts : List Token) (f : Forest) (more : List Token) → ((h : Forest) → begins_at (Call any_type) (at h ts) ≡ true) → gives any_type (at End ts) ≡ at f more →
+colon-reads : (g : Forest) (c : Bool) (ts : List Token) (f : Forest) (more : List Token)
+    → ((h : Forest) → begins_at (Call any_type) (at h ts) ≡ true) → gives any_type (at End ts) ≡ at f more →
     reads of_type (at g (of_kind COLON c ∷ ts)) ≡ at ((g then Leaf COLON 1 End) then f) more
 unfolding forms
 colon-reads g c ts f more there e = rw (there (g then Leaf COLON 1 End)) (rw e refl)
@@ -75,5 +83,6 @@ pub type-there : (t : CoreType) (more : List Token) (g : Forest) → begins_at (
 unfolding forms
 type-there t more g = type-is-there t g more
 
-pub of_type-reads : (g : Forest) (c : Bool) (t : CoreType) (more : List Token) → NoColon more → NoAngle more → reads of_type (at g (of_kind COLON c ∷ type_tokens t more)) ≡ at ((g then Leaf COLON 1 End) then type_tree t End) more
+pub of_type-reads : (g : Forest) (c : Bool) (t : CoreType) (more : List Token) → NoColon more → NoAngle more
+    → reads of_type (at g (of_kind COLON c ∷ type_tokens t more)) ≡ at ((g then Leaf COLON 1 End) then type_tree t End) more
 of_type-reads g c t more h k = colon-reads g c _ _ more (type-there t more) (type-reads t more h k)

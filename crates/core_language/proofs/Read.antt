@@ -23,11 +23,13 @@ file-entry : (ts : List Token) (f : Forest) → gives source_file (at End ts) �
 unfolding entry takes_all
 file-entry ts f e = ap (λ (s : Reading). s.given) e
 
-type-entry : (ts : List Token) (f : Forest) → begins_at (Call any_type) (at End ts) ≡ true → gives any_type (at End ts) ≡ at f [] → entry whole any_type ts ≡ f
+type-entry : (ts : List Token) (f : Forest) → begins_at (Call any_type) (at End ts) ≡ true → gives any_type (at End ts) ≡ at f []
+    → entry whole any_type ts ≡ f
 unfolding entry takes_all is_used_up begins
 type-entry ts f there e = rw (there, e) refl
 
-expression-entry : (ts : List Token) (f : Forest) → begins_at (Call expression) (at End ts) ≡ true → gives expression (at End ts) ≡ at f [] → entry whole expression ts ≡ f
+expression-entry : (ts : List Token) (f : Forest) → begins_at (Call expression) (at End ts) ≡ true → gives expression (at End ts) ≡ at f []
+    → entry whole expression ts ≡ f
 unfolding entry takes_all is_used_up begins
 expression-entry ts f there e = rw (there, e) refl
 

@@ -36,7 +36,8 @@ pub data Stars (test : Reading → Bool) (turn : Reading → Reading) : Reading 
   Turn : {s u t : Reading} → test s ≡ true → turn s ≡ u → length u.rest < length s.rest → Stars test turn u t → Stars test turn s t
 
 -- any number of turns that is enough
-pub stars-turns : (test : Reading → Bool) (turn : Reading → Reading) (n : ℕ) {s t : Reading} → Stars test turn s t → length s.rest ≤ n → turns n test turn s ≡ t
+pub stars-turns : (test : Reading → Bool) (turn : Reading → Reading) (n : ℕ) {s t : Reading} → Stars test turn s t → length s.rest ≤ n
+    → turns n test turn s ≡ t
 unfolding turns
 stars-turns test turn zero (Stop e) le = refl
 stars-turns test turn (suc n) (Stop e) le = rw e refl
@@ -71,7 +72,8 @@ pub or-second : (a b : Rule) (s : Reading) → begins_at a s ≡ false → reads
 unfolding read
 or-second a b s e = rw e refl
 
-pub call-reads : (x : Production) (ts : List Token) (g : Forest) (more : List Token) → gives x (at End ts) ≡ at g more → reads (Call x) (at End ts) ≡ at g more
+pub call-reads : (x : Production) (ts : List Token) (g : Forest) (more : List Token) → gives x (at End ts) ≡ at g more
+    → reads (Call x) (at End ts) ≡ at g more
 unfolding read behind fresh
 call-reads x ts g more e = rw e refl
 

@@ -29,7 +29,8 @@ same-type_kind (SliceType j t k) = refl
 
 same-inside_type : (t : CoreType) → inside_type (apart_type t) ≡ inside_type t
 same-inside_type (PathType p) = ap (λ (f : Forest). Node PATH f End) (same-path p)
-same-inside_type (ReferenceType j m t) = ap (λ (f : Forest). Leaf AMP 1 f) (same-mut m _ ∙ ap (λ (f : Forest). mut_tree m f) (node-of (same-type_kind t) (same-inside_type t) refl))
+same-inside_type (ReferenceType j m t) =
+    ap (λ (f : Forest). Leaf AMP 1 f) (same-mut m _ ∙ ap (λ (f : Forest). mut_tree m f) (node-of (same-type_kind t) (same-inside_type t) refl))
 same-inside_type (SliceType j t k) = ap (λ (f : Forest). Leaf L_BRACK 1 f) (node-of (same-type_kind t) (same-inside_type t) refl)
 
 pub same-type : (t : CoreType) (f g : Forest) → f ≡ g → type_tree (apart_type t) f ≡ type_tree t g
@@ -113,7 +114,8 @@ same-annotation : (a : Annotation) (f : Forest) → annotation_tree (apart_annot
 same-annotation NoAnnotation f = refl
 same-annotation (AnnotatedBy c t) f = ap (λ (g : Forest). Leaf COLON 1 g) (same-type t f f refl)
 
-same-initializer : (v : Initializer) (f : Forest) (floats : List Bool) → initializer_tree (apart_initializer v floats) f ≡ initializer_tree v f
+same-initializer : (v : Initializer) (f : Forest) (floats : List Bool)
+    → initializer_tree (apart_initializer v floats) f ≡ initializer_tree v f
 same-initializer NoInitializer f floats = refl
 same-initializer (InitializedBy j e) f floats = ap (λ (g : Forest). Leaf EQ 1 g) (same-expression e f floats)
 
@@ -123,15 +125,19 @@ same-statement (Let j p a v k) f floats =
     (same-pattern p _ ∙ ap (λ (g : Forest). pattern_tree p g) (same-annotation a _ ∙ ap (λ (g : Forest). annotation_tree a g) (same-initializer v _ floats)))
 same-statement (Run e k) f floats = ap (λ (g : Forest). Node EXPR_STMT g f) (same-expression e _ floats)
 
-same-statements : (ss : Statements) (f : Forest) (floats : List Bool) → statements_tree (apart_statements ss floats) f ≡ statements_tree ss f
+same-statements : (ss : Statements) (f : Forest) (floats : List Bool)
+    → statements_tree (apart_statements ss floats) f ≡ statements_tree ss f
 same-statements NoStatement f floats = refl
 same-statements (LastExpression e) f floats = same-expression e f floats
-same-statements (StatementThen s ss) f floats = same-statement s _ floats ∙ ap (λ (g : Forest). statement_tree s g) (same-statements ss f (after_statement s floats))
+same-statements (StatementThen s ss) f floats =
+    same-statement s _ floats
+    ∙ ap (λ (g : Forest). statement_tree s g) (same-statements ss f (after_statement s floats))
 
 same-block : (b : Block) (f : Forest) (floats : List Bool) → block_tree (apart_block b floats) f ≡ block_tree b f
 same-block (Braces j ss k) f floats = ap (λ (g : Forest). Node BLOCK_EXPR (Node STMT_LIST (Leaf L_CURLY 1 g) End) f) (same-statements ss _ floats)
 
-same-listed : {A : Type 0} (h : A → A) (tree : A → Forest → Forest) → ((a : A) (f : Forest) → tree (h a) f ≡ tree a f) → (l : Listed A) (f : Forest) → listed_tree tree (apart_listed h l) f ≡ listed_tree tree l f
+same-listed : {A : Type 0} (h : A → A) (tree : A → Forest → Forest) → ((a : A) (f : Forest) → tree (h a) f ≡ tree a f)
+    → (l : Listed A) (f : Forest) → listed_tree tree (apart_listed h l) f ≡ listed_tree tree l f
 same-listed h tree e NoElement f = refl
 same-listed h tree e (LastElement a) f = e a f
 same-listed h tree e (ElementComma a j l) f = e a _ ∙ ap (λ (g : Forest). tree a (Leaf COMMA 1 g)) (same-listed h tree e l f)
@@ -141,7 +147,8 @@ same-field (NamedField v n c t) f =
     ap (λ (g : Forest). Node RECORD_FIELD g f) (same-visibility v _ ∙ ap (λ (g : Forest). visibility_tree v (name_tree (Leaf COLON 1 g))) (same-type t End End refl))
 
 same-parameter : (x : Parameter) (f : Forest) → parameter_tree (apart_parameter x) f ≡ parameter_tree x f
-same-parameter (TypedPattern p c t) f = ap (λ (g : Forest). Node PARAM g f) (same-pattern p _ ∙ ap (λ (g : Forest). pattern_tree p (Leaf COLON 1 g)) (same-type t End End refl))
+same-parameter (TypedPattern p c t) f =
+    ap (λ (g : Forest). Node PARAM g f) (same-pattern p _ ∙ ap (λ (g : Forest). pattern_tree p (Leaf COLON 1 g)) (same-type t End End refl))
 
 same-return_type : (r : ReturnType) (f : Forest) → return_type_tree (apart_return_type r) f ≡ return_type_tree r f
 same-return_type NoReturnType f = refl
@@ -179,7 +186,8 @@ mutual
   still-expression (Literal l j) floats i = tt
   still-expression (Named p) floats i = tt
   still-expression (Parenthesized j e k) floats i = still-expression e floats i
-  still-expression (FunctionCall e j es k) floats i = (still-expression e floats i.0, rw (same-level e floats) i.1, same-access e floats ∙ i.2, still-arguments es (after e floats) i.3)
+  still-expression (FunctionCall e j es k) floats i =
+      (still-expression e floats i.0, rw (same-level e floats) i.1, same-access e floats ∙ i.2, still-arguments es (after e floats) i.3)
   still-expression (MethodCall e d n j es k) floats i = (still-expression e floats i.0, rw (same-level e floats) i.1, still-arguments es (after e floats) i.2)
   still-expression (FieldAccess e d n) floats i = (still-expression e floats i.0, rw (same-level e floats) i.1)
   still-expression (Prefixed s j e) floats i = (still-expression e floats i.0, rw (same-level e floats) i.1)
@@ -193,7 +201,8 @@ mutual
   still-arguments (LastArgument e) floats i = still-expression e floats i
   still-arguments (ArgumentComma e j es) floats i = (still-expression e floats i.0, still-arguments es (after e floats) i.1)
 
-still-initializer : (v : Initializer) (floats : List Bool) → IsWellFormedInitializer v → IsWellFormedInitializer (apart_initializer v floats)
+still-initializer : (v : Initializer) (floats : List Bool) → IsWellFormedInitializer v
+    → IsWellFormedInitializer (apart_initializer v floats)
 still-initializer NoInitializer floats i = tt
 still-initializer (InitializedBy j e) floats i = still-expression e floats i
 
@@ -201,7 +210,8 @@ still-statement : (s : Statement) (floats : List Bool) → IsWellFormedStatement
 still-statement (Let j p a v k) floats i = still-initializer v floats i
 still-statement (Run e k) floats i = still-expression e floats i
 
-still-statements : (ss : Statements) (floats : List Bool) → AreWellFormedStatements ss → AreWellFormedStatements (apart_statements ss floats)
+still-statements : (ss : Statements) (floats : List Bool) → AreWellFormedStatements ss
+    → AreWellFormedStatements (apart_statements ss floats)
 still-statements NoStatement floats i = tt
 still-statements (LastExpression e) floats i = still-expression e floats i
 still-statements (StatementThen s ss) floats i = (still-statement s floats i.0, still-statements ss (after_statement s floats) i.1)

@@ -52,16 +52,21 @@ pub expression-begins : (e : Expression) (more : List Token) → Begins e (expre
 expression-begins (Literal l j) more = record { start = WithLiteral l j; rest = more; are = refl; amp = refl; high = λ i h. refl }
 expression-begins (Named p) more = let b = path-begins p more in record { start = WithName b.j; rest = b.rest; are = b.are; amp = refl; high = λ i h. refl }
 expression-begins (Parenthesized j e k) more = record { start = WithParen j; rest = _; are = refl; amp = refl; high = λ i h. refl }
-expression-begins (FunctionCall e j es k) more = let b = expression-begins e _ in record { start = b.start; rest = b.rest; are = b.are; amp = b.amp; high = λ i h. b.high i.0 i.1 }
-expression-begins (MethodCall e d n j es k) more = let b = expression-begins e _ in record { start = b.start; rest = b.rest; are = b.are; amp = b.amp; high = λ i h. b.high i.0 i.1 }
-expression-begins (FieldAccess e d n) more = let b = expression-begins e _ in record { start = b.start; rest = b.rest; are = b.are; amp = b.amp; high = λ i h. b.high i.0 i.1 }
+expression-begins (FunctionCall e j es k) more =
+    let b = expression-begins e _ in record { start = b.start; rest = b.rest; are = b.are; amp = b.amp; high = λ i h. b.high i.0 i.1 }
+expression-begins (MethodCall e d n j es k) more =
+    let b = expression-begins e _ in record { start = b.start; rest = b.rest; are = b.are; amp = b.amp; high = λ i h. b.high i.0 i.1 }
+expression-begins (FieldAccess e d n) more =
+    let b = expression-begins e _ in record { start = b.start; rest = b.rest; are = b.are; amp = b.amp; high = λ i h. b.high i.0 i.1 }
 expression-begins (Prefixed s j e) more = record { start = WithSign s j; rest = _; are = refl; amp = refl; high = λ i h. absurd (omega arith) }
 expression-begins (Borrow j m e) more = record { start = WithAmpersand j; rest = _; are = refl; amp = refl; high = λ i h. absurd (omega arith) }
-expression-begins (Binary l o j r) more = let b = expression-begins l _ in record { start = b.start; rest = b.rest; are = b.are; amp = b.amp; high = λ i h. b.high i.0 (le_trans' h i.2) }
+expression-begins (Binary l o j r) more =
+    let b = expression-begins l _ in record { start = b.start; rest = b.rest; are = b.are; amp = b.amp; high = λ i h. b.high i.0 (le_trans' h i.2) }
   where
     le_trans' : 14 ≤ power o → power o ≤ level l → 14 ≤ level l
     le_trans' x y = omega arith
-expression-begins (Assignment l o j r) more = let b = expression-begins l _ in record { start = b.start; rest = b.rest; are = b.are; amp = b.amp; high = λ i h. absurd (omega arith) }
+expression-begins (Assignment l o j r) more =
+    let b = expression-begins l _ in record { start = b.start; rest = b.rest; are = b.are; amp = b.amp; high = λ i h. absurd (omega arith) }
 
 -- what no expression begins with
 pub record Free (t : Token) : Type 0 where
@@ -147,11 +152,13 @@ layer-begins (suc (suc (suc (suc (suc (suc (suc zero))))))) h = refl
 layer-begins (suc (suc (suc (suc (suc (suc (suc (suc zero)))))))) h = refl
 layer-begins (suc (suc (suc (suc (suc (suc (suc (suc (suc d))))))))) h = refl
 
-pub prefixed-is-there : (e : Expression) (more : List Token) (g : Forest) → begins_at (Call prefixed) (at g (expression_tokens e more)) ≡ true
+pub prefixed-is-there : (e : Expression) (more : List Token) (g : Forest)
+    → begins_at (Call prefixed) (at g (expression_tokens e more)) ≡ true
 unfolding table
 prefixed-is-there e more g = let b = expression-begins e more in rw b.are (begins-prefixed b.start g b.rest)
 
-pub layer-is-there : (d : ℕ) → d ≤ 9 → (e : Expression) (more : List Token) (g : Forest) → begins_at (Call (layer_of d)) (at g (expression_tokens e more)) ≡ true
+pub layer-is-there : (d : ℕ) → d ≤ 9 → (e : Expression) (more : List Token) (g : Forest)
+    → begins_at (Call (layer_of d)) (at g (expression_tokens e more)) ≡ true
 unfolding begins
 layer-is-there d h e more g = rw (layer-begins d h) (let b = expression-begins e more in rw b.are (begins-prefixed b.start g b.rest))
 
@@ -174,7 +181,8 @@ begins-operation (WithSign Invert j) g ts = refl
 begins-operation (WithSign Dereference j) g ts = refl
 begins-operation (WithAmpersand j) g ts = refl
 
-pub operation-is-there : (e : Expression) (more : List Token) (g : Forest) → begins_at (Call operation) (at g (expression_tokens e more)) ≡ true
+pub operation-is-there : (e : Expression) (more : List Token) (g : Forest)
+    → begins_at (Call operation) (at g (expression_tokens e more)) ≡ true
 unfolding begins
 operation-is-there e more g = let b = expression-begins e more in rw b.are (begins-operation b.start g b.rest)
 
@@ -182,6 +190,7 @@ expression-look : look_of whole expression ≡ look_of whole operation
 unfolding table
 expression-look = refl
 
-pub expression-is-there : (e : Expression) (more : List Token) (g : Forest) → begins_at (Call expression) (at g (expression_tokens e more)) ≡ true
+pub expression-is-there : (e : Expression) (more : List Token) (g : Forest)
+    → begins_at (Call expression) (at g (expression_tokens e more)) ≡ true
 unfolding begins
 expression-is-there e more g = rw expression-look (let b = expression-begins e more in rw b.are (begins-operation b.start g b.rest))

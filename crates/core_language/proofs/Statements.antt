@@ -73,7 +73,8 @@ not-block-dot : (j : Bool) (ts : List Token) → NotBlock (of_kind DOT j ∷ ts)
 unfolding table
 not-block-dot j ts i g = refl
 
-block-literal : (l : LiteralForm) (j : Bool) (g : Forest) (ts : List Token) → begins_at (Call block_like) (at g (of_kind (literal_kind l) j ∷ ts)) ≡ false
+block-literal : (l : LiteralForm) (j : Bool) (g : Forest) (ts : List Token)
+    → begins_at (Call block_like) (at g (of_kind (literal_kind l) j ∷ ts)) ≡ false
 unfolding table
 block-literal Integer j g ts = refl
 block-literal FloatNumber j g ts = refl
@@ -100,7 +101,8 @@ block-token (WithSign Invert j) g ts n = refl
 block-token (WithSign Dereference j) g ts n = refl
 block-token (WithAmpersand j) g ts n = refl
 
-no-block : (e : Expression) (more : List Token) → NotBlock more → (g : Forest) → begins_at (Call block_like) (at g (expression_tokens e more)) ≡ false
+no-block : (e : Expression) (more : List Token) → NotBlock more → (g : Forest)
+    → begins_at (Call block_like) (at g (expression_tokens e more)) ≡ false
 no-block (Literal l j) more h g = block-literal l j g more
 no-block (Named p) more h g = block-path p more h g
 no-block (Parenthesized j e k) more h g = block-token (WithParen j) g _ tt
@@ -136,11 +138,13 @@ either-same : {A : Type 0} (b : Bool) (x y : A) → (if (if not b then true else
 either-same true x y = refl
 either-same false x y = refl
 
-end-semi : (k : ℕ) (i : Forest) (j : Bool) (more : List Token) → gives statement_end (at (Node k i End) (of_kind SEMICOLON j ∷ more)) ≡ at (Node EXPR_STMT (Node k i (Leaf SEMICOLON 1 End)) End) more
+end-semi : (k : ℕ) (i : Forest) (j : Bool) (more : List Token)
+    → gives statement_end (at (Node k i End) (of_kind SEMICOLON j ∷ more)) ≡ at (Node EXPR_STMT (Node k i (Leaf SEMICOLON 1 End)) End) more
 unfolding table
 end-semi k i j more = whole-means statement_end false _ ∙ refl
 
-end-last : (g : Forest) (j : Bool) (more : List Token) → gives statement_end (at g (of_kind R_CURLY j ∷ more)) ≡ at g (of_kind R_CURLY j ∷ more)
+end-last : (g : Forest) (j : Bool) (more : List Token)
+    → gives statement_end (at g (of_kind R_CURLY j ∷ more)) ≡ at g (of_kind R_CURLY j ∷ more)
 unfolding table
 end-last g j more = whole-means statement_end false _ ∙ either-same (nat_lt 0 (suc (length more))) (at g (of_kind R_CURLY j ∷ more)) _
 
@@ -152,7 +156,8 @@ closed-curly : (k : Bool) (more : List Token) → Closed (of_kind R_CURLY k ∷ 
 unfolding table
 closed-curly k more = closed-of _ (λ i g. refl) (λ g. refl) (λ g. refl)
 
-run-reads : (e : Expression) (more : List Token) (t : Reading) → IsWellFormed e → Closed more → gives statement_end (at (tree e) more) ≡ t → gives statement (at End (expression_tokens e more)) ≡ t
+run-reads : (e : Expression) (more : List Token) (t : Reading) → IsWellFormed e → Closed more → gives statement_end (at (tree e) more) ≡ t
+    → gives statement (at End (expression_tokens e more)) ≡ t
 run-reads e more t i c h =
     let b = expression-begins e more in
     let n : begins_at (Call block_like) (at End (token_of b.start ∷ b.rest)) ≡ false = rw b.are at (no-block e more c.calm.block End) in
@@ -170,40 +175,52 @@ let_rule =
     (Then 'let' (Then (Want (Call pattern) ExpectedPattern) (Then (Opt (Then ':' (Want (Call any_type) ExpectedType)))
     (Then value_part (Then (Opt (rules.Node LET_ELSE (Then 'else' (Want (Call block) (Expected BLOCK_EXPR))))) (Want 'semi' (Expected SEMICOLON)))))))
 
-let-picks : (j : Bool) (ts : List Token) → reads (rule statement) (at End (of_kind LET_KW j ∷ ts)) ≡ reads let_rule (at End (of_kind LET_KW j ∷ ts))
+let-picks : (j : Bool) (ts : List Token)
+    → reads (rule statement) (at End (of_kind LET_KW j ∷ ts)) ≡ reads let_rule (at End (of_kind LET_KW j ∷ ts))
 unfolding table
 let-picks j ts = refl
 
 -- The four forms of a `let`, of its parts.
-let-bare : (j : Bool) (ts : List Token) (x : ℕ) (i : Forest) (k : Bool) (more : List Token) → ((g : Forest) → begins_at (Call pattern) (at g ts) ≡ true) → gives pattern (at End ts) ≡ at (Node x i End) (of_kind SEMICOLON k ∷ more) →
+let-bare : (j : Bool) (ts : List Token) (x : ℕ) (i : Forest) (k : Bool) (more : List Token)
+    → ((g : Forest) → begins_at (Call pattern) (at g ts) ≡ true)
+    → gives pattern (at End ts) ≡ at (Node x i End) (of_kind SEMICOLON k ∷ more) →
     reads let_rule (at End (of_kind LET_KW j ∷ ts)) ≡ at (Node LET_STMT (Leaf LET_KW 1 (Node x i (Leaf SEMICOLON 1 End))) End) more
 unfolding forms
 let-bare j ts x i k more there e = rw (there (Leaf LET_KW 1 End)) (rw e refl)
 
 let-typed : (j : Bool) (ts : List Token) (x : ℕ) (i : Forest) (c : Bool) (us : List Token) (y : ℕ) (h : Forest) (k : Bool) (more : List Token) →
     ((g : Forest) → begins_at (Call pattern) (at g ts) ≡ true) → gives pattern (at End ts) ≡ at (Node x i End) (of_kind COLON c ∷ us) →
-    ((g : Forest) → begins_at (Call any_type) (at g us) ≡ true) → gives any_type (at End us) ≡ at (Node y h End) (of_kind SEMICOLON k ∷ more) →
-    reads let_rule (at End (of_kind LET_KW j ∷ ts)) ≡ at (Node LET_STMT (Leaf LET_KW 1 (Node x i (Leaf COLON 1 (Node y h (Leaf SEMICOLON 1 End))))) End) more
+    ((g : Forest) → begins_at (Call any_type) (at g us) ≡ true)
+    → gives any_type (at End us) ≡ at (Node y h End) (of_kind SEMICOLON k ∷ more) →
+    reads let_rule (at End (of_kind LET_KW j ∷ ts))
+    ≡ at (Node LET_STMT (Leaf LET_KW 1 (Node x i (Leaf COLON 1 (Node y h (Leaf SEMICOLON 1 End))))) End) more
 unfolding forms
-let-typed j ts x i c us y h k more there e there' e' = rw (there (Leaf LET_KW 1 End)) (rw e (rw (there' (Leaf LET_KW 1 (Node x i (Leaf COLON 1 End)))) (rw e' refl)))
+let-typed j ts x i c us y h k more there e there' e' =
+    rw (there (Leaf LET_KW 1 End)) (rw e (rw (there' (Leaf LET_KW 1 (Node x i (Leaf COLON 1 End)))) (rw e' refl)))
 
 let-valued : (j : Bool) (ts : List Token) (x : ℕ) (i : Forest) (c : Bool) (us : List Token) (y : ℕ) (h : Forest) (k : Bool) (more : List Token) →
     ((g : Forest) → begins_at (Call pattern) (at g ts) ≡ true) → gives pattern (at End ts) ≡ at (Node x i End) (of_kind EQ c ∷ us) →
-    ((g : Forest) → begins_at (Call expression) (at g us) ≡ true) → gives expression (at End us) ≡ at (Node y h End) (of_kind SEMICOLON k ∷ more) →
-    reads let_rule (at End (of_kind LET_KW j ∷ ts)) ≡ at (Node LET_STMT (Leaf LET_KW 1 (Node x i (Leaf EQ 1 (Node y h (Leaf SEMICOLON 1 End))))) End) more
+    ((g : Forest) → begins_at (Call expression) (at g us) ≡ true)
+    → gives expression (at End us) ≡ at (Node y h End) (of_kind SEMICOLON k ∷ more) →
+    reads let_rule (at End (of_kind LET_KW j ∷ ts))
+    ≡ at (Node LET_STMT (Leaf LET_KW 1 (Node x i (Leaf EQ 1 (Node y h (Leaf SEMICOLON 1 End))))) End) more
 unfolding forms
-let-valued j ts x i c us y h k more there e there' e' = rw (there (Leaf LET_KW 1 End)) (rw e (rw (there' (Leaf LET_KW 1 (Node x i (Leaf EQ 1 End)))) (rw e' refl)))
+let-valued j ts x i c us y h k more there e there' e' =
+    rw (there (Leaf LET_KW 1 End)) (rw e (rw (there' (Leaf LET_KW 1 (Node x i (Leaf EQ 1 End)))) (rw e' refl)))
 
 let-both : (j : Bool) (ts : List Token) (x : ℕ) (i : Forest) (c : Bool) (us : List Token) (y : ℕ) (h : Forest) (d : Bool) (vs : List Token) (z : ℕ) (l : Forest) (k : Bool) (more : List Token) →
     ((g : Forest) → begins_at (Call pattern) (at g ts) ≡ true) → gives pattern (at End ts) ≡ at (Node x i End) (of_kind COLON c ∷ us) →
     ((g : Forest) → begins_at (Call any_type) (at g us) ≡ true) → gives any_type (at End us) ≡ at (Node y h End) (of_kind EQ d ∷ vs) →
-    ((g : Forest) → begins_at (Call expression) (at g vs) ≡ true) → gives expression (at End vs) ≡ at (Node z l End) (of_kind SEMICOLON k ∷ more) →
-    reads let_rule (at End (of_kind LET_KW j ∷ ts)) ≡ at (Node LET_STMT (Leaf LET_KW 1 (Node x i (Leaf COLON 1 (Node y h (Leaf EQ 1 (Node z l (Leaf SEMICOLON 1 End))))))) End) more
+    ((g : Forest) → begins_at (Call expression) (at g vs) ≡ true)
+    → gives expression (at End vs) ≡ at (Node z l End) (of_kind SEMICOLON k ∷ more) →
+    reads let_rule (at End (of_kind LET_KW j ∷ ts))
+    ≡ at (Node LET_STMT (Leaf LET_KW 1 (Node x i (Leaf COLON 1 (Node y h (Leaf EQ 1 (Node z l (Leaf SEMICOLON 1 End))))))) End) more
 unfolding forms
 let-both j ts x i c us y h d vs z l k more t1 e1 t2 e2 t3 e3 =
     rw (t1 (Leaf LET_KW 1 End)) (rw e1 (rw (t2 (Leaf LET_KW 1 (Node x i (Leaf COLON 1 End)))) (rw e2 (rw (t3 (Leaf LET_KW 1 (Node x i (Leaf COLON 1 (Node y h (Leaf EQ 1 End)))))) (rw e3 refl)))))
 
-statement-reads : (s : Statement) (more : List Token) → IsWellFormedStatement s → gives statement (at End (statement_tokens s more)) ≡ at (statement_tree s End) more
+statement-reads : (s : Statement) (more : List Token) → IsWellFormedStatement s
+    → gives statement (at End (statement_tokens s more)) ≡ at (statement_tree s End) more
 unfolding ahead
 statement-reads (Let j (NamePattern m n) NoAnnotation NoInitializer k) more i =
     whole-means statement false _ ∙ let-picks j _
@@ -261,7 +278,8 @@ turn-there : (s : Statement) (more : List Token) (g : Forest) → begins_at turn
 turn-there (Let j p n v k) more g = turn-let g j _
 turn-there (Run e k) more g = turn-run e _ g
 
-pub unless-reads : (l : Look) (x : Production) (g : Forest) (ts : List Token) (f : Forest) (more : List Token) → gives x (at End ts) ≡ at f more → reads (Unless l (Call x)) (at g ts) ≡ at (g then f) more
+pub unless-reads : (l : Look) (x : Production) (g : Forest) (ts : List Token) (f : Forest) (more : List Token)
+    → gives x (at End ts) ≡ at f more → reads (Unless l (Call x)) (at g ts) ≡ at (g then f) more
 unfolding forms
 unless-reads l x g ts f more e = rw e refl
 
@@ -303,22 +321,26 @@ statements-read (StatementThen s ss) i g k more =
     (subst (λ (f : Forest). StarReads turn_statement (at (g then statement_tree s End) (statements_tokens ss (of_kind R_CURLY k ∷ more))) (at f (of_kind R_CURLY k ∷ more))) same last)
 
 -- A list in braces.
-pub braces-read : (list : ℕ) (a : Rule) (j k : Bool) (ts : List Token) (f : Forest) (more : List Token) → reads (Star a) (at (Leaf L_CURLY 1 End) ts) ≡ at (Leaf L_CURLY 1 f) (of_kind R_CURLY k ∷ more) →
+pub braces-read : (list : ℕ) (a : Rule) (j k : Bool) (ts : List Token) (f : Forest) (more : List Token)
+    → reads (Star a) (at (Leaf L_CURLY 1 End) ts) ≡ at (Leaf L_CURLY 1 f) (of_kind R_CURLY k ∷ more) →
     reads (rules.Node list (Then 'l_curly' (Then (Mode false (Star a)) (Want 'r_curly' (Expected R_CURLY))))) (at End (of_kind L_CURLY j ∷ ts)) ≡ at (Node list (Leaf L_CURLY 1 (f then Leaf R_CURLY 1 End)) End) more
 unfolding forms
 braces-read list a j k ts f more e = rw e refl
 
 -- the same behind other trees
-pub braces-read-in : (list : ℕ) (a : Rule) (g : Forest) (j k : Bool) (ts : List Token) (f : Forest) (more : List Token) → reads (Star a) (at (Leaf L_CURLY 1 End) ts) ≡ at (Leaf L_CURLY 1 f) (of_kind R_CURLY k ∷ more) →
+pub braces-read-in : (list : ℕ) (a : Rule) (g : Forest) (j k : Bool) (ts : List Token) (f : Forest) (more : List Token)
+    → reads (Star a) (at (Leaf L_CURLY 1 End) ts) ≡ at (Leaf L_CURLY 1 f) (of_kind R_CURLY k ∷ more) →
     reads (rules.Node list (Then 'l_curly' (Then (Mode false (Star a)) (Want 'r_curly' (Expected R_CURLY))))) (at g (of_kind L_CURLY j ∷ ts)) ≡ at (g then Node list (Leaf L_CURLY 1 (f then Leaf R_CURLY 1 End)) End) more
 unfolding forms
 braces-read-in list a g j k ts f more e = rw e refl
 
-list-rule : rule statement_list ≡ rules.Node STMT_LIST (Then 'l_curly' (Then (Mode false (Star turn_statement)) (Want 'r_curly' (Expected R_CURLY))))
+list-rule : rule statement_list
+    ≡ rules.Node STMT_LIST (Then 'l_curly' (Then (Mode false (Star turn_statement)) (Want 'r_curly' (Expected R_CURLY))))
 unfolding table
 list-rule = refl
 
-block-picks : (ts : List Token) (f : Forest) (more : List Token) → gives statement_list (at End ts) ≡ at f more → reads (rule block) (at End ts) ≡ at (Node BLOCK_EXPR f End) more
+block-picks : (ts : List Token) (f : Forest) (more : List Token) → gives statement_list (at End ts) ≡ at f more
+    → reads (rule block) (at End ts) ≡ at (Node BLOCK_EXPR f End) more
 unfolding table
 block-picks ts f more e = rw e refl
 
@@ -328,7 +350,8 @@ statements-then (LastExpression e) f = refl
 statements-then (StatementThen (Let j p n v k) ss) f = ap (λ (x : Forest). statement_tree (Let j p n v k) x) (statements-then ss f)
 statements-then (StatementThen (Run e k) ss) f = ap (λ (x : Forest). statement_tree (Run e k) x) (statements-then ss f)
 
-pub block-reads : (b : Block) (more : List Token) → IsWellFormedBlock b → gives block (at End (block_tokens b more)) ≡ at (block_tree b End) more
+pub block-reads : (b : Block) (more : List Token) → IsWellFormedBlock b
+    → gives block (at End (block_tokens b more)) ≡ at (block_tree b End) more
 block-reads (Braces j ss k) more i =
     whole-means block false _
     ∙ block-picks _ _ more

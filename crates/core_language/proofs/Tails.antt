@@ -18,7 +18,8 @@ use Rattle.core_language.proofs.Starts.{Free, expression-begins, operation-is-th
 
 -- the spellings of assignments
 abbrev pub assignment : Rule
-assignment = Or (op '=') (Or (op '+=') (Or (op '-=') (Or (op '*=') (Or (op '/=') (Or (op '%=') (Or (op '&=') (Or (op '|=') (Or (op '^=') (Or (op '<<=') (op '>>='))))))))))
+assignment =
+    Or (op '=') (Or (op '+=') (Or (op '-=') (Or (op '*=') (Or (op '/=') (Or (op '%=') (Or (op '&=') (Or (op '|=') (Or (op '^=') (Or (op '<<=') (op '>>='))))))))))
 
 -- an assignment with its right operand
 abbrev pub setting : Rule
@@ -65,11 +66,13 @@ assigner-between AssignShiftRight true t ts f = found (λ g. refl) (λ g. refl) 
 assigner-between AssignShiftRight false t ts f = found (λ g. refl) (λ g. refl) (λ g. refl) (λ i g. refl)
 
 -- where no dot is next, an operation begins with an operand, and its tail is an assignment or nothing
-operation-picks : (g : Forest) (ts : List Token) → IsNotNext DOT ts → reads (rule operation) (at g ts) ≡ reads (Then (Call disjunction) (Continue operation_tail)) (at g ts)
+operation-picks : (g : Forest) (ts : List Token) → IsNotNext DOT ts
+    → reads (rule operation) (at g ts) ≡ reads (Then (Call disjunction) (Continue operation_tail)) (at g ts)
 unfolding table
 operation-picks g ts h = rw h refl
 
-tail-picks : (g : Forest) (ts : List Token) → IsNotNext DOT ts → reads (rule operation_tail) (at g ts) ≡ reads (Or setting Nothing) (at g ts)
+tail-picks : (g : Forest) (ts : List Token) → IsNotNext DOT ts
+    → reads (rule operation_tail) (at g ts) ≡ reads (Or setting Nothing) (at g ts)
 unfolding table
 tail-picks g ts h = rw h refl
 
@@ -118,7 +121,8 @@ whole-operand e r more c =
     (call-reads disjunction _ _ more (r more c.calm c.stops))
     (continue-reads operation_tail _ ∙ whole-means operation_tail false _ ∙ tail-picks (tree e) more c.base.dot ∙ or-second setting Nothing _ (c.set _) ∙ nothing-reads _)
 
-pub whole-assign : (l : Expression) (o : Assigner) (j : Bool) (r : Expression) → ReadsAt 9 l → ReadsWhole r → ReadsWhole (Assignment l o j r)
+pub whole-assign : (l : Expression) (o : Assigner) (j : Bool) (r : Expression) → ReadsAt 9 l → ReadsWhole r
+    → ReadsWhole (Assignment l o j r)
 whole-assign l o j r left right more c =
     let b = expression-begins r more in
     let m = assigner-between o j (token_of b.start) b.rest (start-free b.start) in
@@ -144,5 +148,9 @@ expression-rule : rule expression ≡ Call operation
 unfolding table
 expression-rule = refl
 
-pub expression-reads : (e : Expression) (more : List Token) → gives operation (at End (expression_tokens e more)) ≡ at (tree e) more → gives expression (at End (expression_tokens e more)) ≡ at (tree e) more
-expression-reads e more h = whole-means expression false _ ∙ ap (λ (a : Rule). reads a (at End (expression_tokens e more))) expression-rule ∙ call-reads operation _ _ more h
+pub expression-reads : (e : Expression) (more : List Token) → gives operation (at End (expression_tokens e more)) ≡ at (tree e) more
+    → gives expression (at End (expression_tokens e more)) ≡ at (tree e) more
+expression-reads e more h =
+    whole-means expression false _
+    ∙ ap (λ (a : Rule). reads a (at End (expression_tokens e more))) expression-rule
+    ∙ call-reads operation _ _ more h

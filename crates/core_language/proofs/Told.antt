@@ -6,7 +6,25 @@ use Rattle.core_language.specs.Operators.{Assign, AssignBitAnd, AssignBitOr, Ass
 
 -- the operator with a leaf of this kind
 abbrev operator_of : ℕ → Operator
-operator_of k = if k == PIPE2 then LogicalOr else if k == AMP2 then LogicalAnd else if k == EQ2 then Equal else if k == NEQ then NotEqual else if k == L_ANGLE then Less else if k == R_ANGLE then Greater else if k == LTEQ then LessOrEqual else if k == GTEQ then GreaterOrEqual else if k == PIPE then BitOr else if k == CARET then BitXor else if k == AMP then BitAnd else if k == SHL then ShiftLeft else if k == SHR then ShiftRight else if k == PLUS then Plus else if k == MINUS then Minus else if k == STAR then Times else if k == SLASH then Divide else Remainder
+operator_of k =
+    if k == PIPE2 then LogicalOr
+    else if k == AMP2 then LogicalAnd
+    else if k == EQ2 then Equal
+    else if k == NEQ then NotEqual
+    else if k == L_ANGLE then Less
+    else if k == R_ANGLE then Greater
+    else if k == LTEQ then LessOrEqual
+    else if k == GTEQ then GreaterOrEqual
+    else if k == PIPE then BitOr
+    else if k == CARET then BitXor
+    else if k == AMP then BitAnd
+    else if k == SHL then ShiftLeft
+    else if k == SHR then ShiftRight
+    else if k == PLUS then Plus
+    else if k == MINUS then Minus
+    else if k == STAR then Times
+    else if k == SLASH then Divide
+    else Remainder
 
 operator-back : (o : Operator) → operator_of (operator_kind o) ≡ o
 operator-back LogicalOr = refl
@@ -33,7 +51,18 @@ operator-same o p e = sym (operator-back o) ∙ ap operator_of e ∙ operator-ba
 
 -- the assignment with a leaf of this kind
 abbrev assigner_of : ℕ → Assigner
-assigner_of k = if k == EQ then Assign else if k == PLUSEQ then AssignPlus else if k == MINUSEQ then AssignMinus else if k == STAREQ then AssignTimes else if k == SLASHEQ then AssignDivide else if k == PERCENTEQ then AssignRemainder else if k == AMPEQ then AssignBitAnd else if k == PIPEEQ then AssignBitOr else if k == CARETEQ then AssignBitXor else if k == SHLEQ then AssignShiftLeft else AssignShiftRight
+assigner_of k =
+    if k == EQ then Assign
+    else if k == PLUSEQ then AssignPlus
+    else if k == MINUSEQ then AssignMinus
+    else if k == STAREQ then AssignTimes
+    else if k == SLASHEQ then AssignDivide
+    else if k == PERCENTEQ then AssignRemainder
+    else if k == AMPEQ then AssignBitAnd
+    else if k == PIPEEQ then AssignBitOr
+    else if k == CARETEQ then AssignBitXor
+    else if k == SHLEQ then AssignShiftLeft
+    else AssignShiftRight
 
 assigner-back : (o : Assigner) → assigner_of (assigner_kind o) ≡ o
 assigner-back Assign = refl
@@ -53,7 +82,16 @@ assigner-same o p e = sym (assigner-back o) ∙ ap assigner_of e ∙ assigner-ba
 
 -- the literal of this kind
 abbrev literal_of : ℕ → LiteralForm
-literal_of k = if k == INT_NUMBER then Integer else if k == FLOAT_NUMBER then FloatNumber else if k == CHAR then Character else if k == BYTE then Byte else if k == STRING then Text else if k == BYTE_STRING then ByteText else if k == C_STRING then CText else if k == TRUE_KW then TrueWord else FalseWord
+literal_of k =
+    if k == INT_NUMBER then Integer
+    else if k == FLOAT_NUMBER then FloatNumber
+    else if k == CHAR then Character
+    else if k == BYTE then Byte
+    else if k == STRING then Text
+    else if k == BYTE_STRING then ByteText
+    else if k == C_STRING then CText
+    else if k == TRUE_KW then TrueWord
+    else FalseWord
 
 literal-back : (o : LiteralForm) → literal_of (literal_kind o) ≡ o
 literal-back Integer = refl
@@ -120,7 +158,19 @@ assigner-one AssignShiftRight j k ts us e = let r = head-one _ _ _ _ e in let q 
 
 -- whether a leaf of this kind is an assignment
 abbrev is_assigner_kind : ℕ → Bool
-is_assigner_kind k = if k == EQ then true else if k == PLUSEQ then true else if k == MINUSEQ then true else if k == STAREQ then true else if k == SLASHEQ then true else if k == PERCENTEQ then true else if k == AMPEQ then true else if k == PIPEEQ then true else if k == CARETEQ then true else if k == SHLEQ then true else if k == SHREQ then true else false
+is_assigner_kind k =
+    if k == EQ then true
+    else if k == PLUSEQ then true
+    else if k == MINUSEQ then true
+    else if k == STAREQ then true
+    else if k == SLASHEQ then true
+    else if k == PERCENTEQ then true
+    else if k == AMPEQ then true
+    else if k == PIPEEQ then true
+    else if k == CARETEQ then true
+    else if k == SHLEQ then true
+    else if k == SHREQ then true
+    else false
 
 operator-assigns : (o : Operator) → is_assigner_kind (operator_kind o) ≡ false
 operator-assigns LogicalOr = refl

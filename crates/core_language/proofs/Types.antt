@@ -54,7 +54,8 @@ begins-type (TypeWithBracket j) g ts = refl
 pub type-is-there : (t : CoreType) (g : Forest) (more : List Token) → sees false (at g (type_tokens t more)) (look_of whole any_type) ≡ true
 type-is-there t g more = let b = type-begins t more in rw b.are (begins-type b.start g b.rest)
 
-path-type : (j : Bool) (ts : List Token) (u : Reading) → gives type_path (at End (name_token j ∷ ts)) ≡ u → gives any_type (at End (name_token j ∷ ts)) ≡ at (Node PATH_TYPE (u.given) End) u.rest
+path-type : (j : Bool) (ts : List Token) (u : Reading) → gives type_path (at End (name_token j ∷ ts)) ≡ u
+    → gives any_type (at End (name_token j ∷ ts)) ≡ at (Node PATH_TYPE (u.given) End) u.rest
 unfolding table
 path-type j ts u e = whole-means any_type false _ ∙ rw e refl
 
@@ -66,21 +67,25 @@ ref-type j (TypeWithAmpersand i) ts u e = whole-means any_type false _ ∙ rw e 
 ref-type j (TypeWithBracket i) ts u e = whole-means any_type false _ ∙ rw e refl
 
 ref-mut-type : (j k : Bool) (s : TypeStart) (ts : List Token) (u : Reading) → gives any_type (at End (type_start_token s ∷ ts)) ≡ u →
-    gives any_type (at End (of_kind AMP j ∷ of_kind MUT_KW k ∷ type_start_token s ∷ ts)) ≡ at (Node REF_TYPE (Leaf AMP 1 (Leaf MUT_KW 1 u.given)) End) u.rest
+    gives any_type (at End (of_kind AMP j ∷ of_kind MUT_KW k ∷ type_start_token s ∷ ts))
+    ≡ at (Node REF_TYPE (Leaf AMP 1 (Leaf MUT_KW 1 u.given)) End) u.rest
 unfolding table
 ref-mut-type j k (TypeWithName i) ts u e = whole-means any_type false _ ∙ rw e refl
 ref-mut-type j k (TypeWithAmpersand i) ts u e = whole-means any_type false _ ∙ rw e refl
 ref-mut-type j k (TypeWithBracket i) ts u e = whole-means any_type false _ ∙ rw e refl
 
-slice-type : (j k : Bool) (s : TypeStart) (ts : List Token) (f : Forest) (more : List Token) → gives any_type (at End (type_start_token s ∷ ts)) ≡ at f (of_kind R_BRACK k ∷ more) →
-    gives any_type (at End (of_kind L_BRACK j ∷ type_start_token s ∷ ts)) ≡ at (Node SLICE_TYPE (Leaf L_BRACK 1 (f then Leaf R_BRACK 1 End)) End) more
+slice-type : (j k : Bool) (s : TypeStart) (ts : List Token) (f : Forest) (more : List Token)
+    → gives any_type (at End (type_start_token s ∷ ts)) ≡ at f (of_kind R_BRACK k ∷ more) →
+    gives any_type (at End (of_kind L_BRACK j ∷ type_start_token s ∷ ts))
+    ≡ at (Node SLICE_TYPE (Leaf L_BRACK 1 (f then Leaf R_BRACK 1 End)) End) more
 unfolding table
 slice-type j k (TypeWithName i) ts f more e = whole-means any_type false _ ∙ rw e refl
 slice-type j k (TypeWithAmpersand i) ts f more e = whole-means any_type false _ ∙ rw e refl
 slice-type j k (TypeWithBracket i) ts f more e = whole-means any_type false _ ∙ rw e refl
 
 -- A core type is read, whatever stands behind it but `::` and `<`.
-pub type-reads : (t : CoreType) (more : List Token) → NoColon more → NoAngle more → gives any_type (at End (type_tokens t more)) ≡ at (type_tree t End) more
+pub type-reads : (t : CoreType) (more : List Token) → NoColon more → NoAngle more
+    → gives any_type (at End (type_tokens t more)) ≡ at (type_tree t End) more
 unfolding ahead
 type-reads (PathType p) more h k =
     let b = path-begins p more in
