@@ -1,0 +1,212 @@
+-- Tokens and tree together determine the derivation of patterns, statements and blocks.
+use Rattle.std.proofs.Common.{◌≡◌, ℕ, Bool, true, false, List, ◌∷◌, refl, ap, sym, arith, ◌==◌}
+use Rattle.parser_input.specs.Input.{Token}
+use Rattle.parser_input.specs.Kinds.{PUB_KW, LET_KW, COLON, EQ, SEMICOLON, L_CURLY, R_CURLY, MUT_KW, LET_STMT, EXPR_STMT}
+use Rattle.parser_events.specs.Forest.{Forest, End, Leaf, Node}
+use Rattle.core_language.specs.Expressions.{Assignment, Binary, Borrow, Expression, FieldAccess, FunctionCall, Literal, MethodCall, Named, Parenthesized, Prefixed, expression_kind, expression_tokens, expression_tree, inside_expression}
+use Rattle.core_language.specs.Items.{Private, Public, Visibility, visibility_tokens, visibility_tree}
+use Rattle.core_language.specs.Statements.{AnnotatedBy, Annotation, Block, Braces, InitializedBy, Initializer, LastExpression, Let, NamePattern, NoAnnotation, NoInitializer, NoStatement, Pattern, Run, Statement, StatementThen, Statements, annotation_tokens, annotation_tree, block_tokens, block_tree, initializer_tokens, initializer_tree, pattern_tokens, pattern_tree, statement_tokens, statement_tree, statements_tokens, statements_tree}
+use Rattle.core_language.specs.Tokens.{of_kind}
+use Rattle.core_language.specs.Types.{CoreType, Immutable, Mutable, inside_type, type_kind, type_tokens, type_tree}
+use Rattle.core_language.proofs.OneExpression.{expression-one, mark-one, name-one, type-one}
+use Rattle.core_language.proofs.Told.{head-one}
+
+-- the kind of the first leaf, where a leaf is first
+abbrev pub first_leaf : Forest → ℕ
+first_leaf (Leaf k n f) = k
+first_leaf f = 0
+
+-- whether a node is first
+abbrev pub is_node : Forest → Bool
+is_node (Node k c f) = true
+is_node f = false
+
+-- the kind of the first node, where a node is first
+abbrev pub first_node : Forest → ℕ
+first_node (Node k c f) = k
+first_node f = 0
+
+-- what follows an equal part is equal
+pub record Same {A : Type 0} (a b : A) (f g : Forest) (ts us : List Token) : Type 0 where
+  pub part : a ≡ b
+  pub trees : f ≡ g
+  pub tokens : ts ≡ us
+
+pub differ : (b : Bool) → b ≡ true → b ≡ false → ⊥
+differ true p q = absurd cc
+differ false p q = absurd cc
+
+pub visibility-one : (v w : Visibility) (f g : Forest) (t u : Token) (ts us : List Token) → (t.kind == PUB_KW) ≡ false
+    → (u.kind == PUB_KW) ≡ false
+    → visibility_tree v f ≡ visibility_tree w g → visibility_tokens v (t ∷ ts) ≡ visibility_tokens w (u ∷ us)
+    → Same v w f g (t ∷ ts) (u ∷ us)
+visibility-one Private Private f g t u ts us p q e h = record { part = refl; trees = e; tokens = h }
+visibility-one (Public j) (Public k) f g t u ts us p q e h =
+    let r = head-one _ _ (t ∷ ts) (u ∷ us) h in
+    let same : f ≡ g = cc in
+    record { part = ap Public r.0; trees = same; tokens = r.1 }
+visibility-one Private (Public k) f g t u ts us p q e h =
+    let same : t ≡ of_kind PUB_KW k = cc in
+    absurd (differ (t.kind == PUB_KW) (ap (λ (x : Token). x.kind == PUB_KW) same) p)
+visibility-one (Public j) Private f g t u ts us p q e h =
+    let same : u ≡ of_kind PUB_KW j = cc in
+    absurd (differ (u.kind == PUB_KW) (ap (λ (x : Token). x.kind == PUB_KW) same) q)
+
+-- A type in its tree.
+pub type-in : (t u : CoreType) (f g : Forest) (more other : List Token) → type_tree t f ≡ type_tree u g
+    → type_tokens t more ≡ type_tokens u other → Same t u f g more other
+type-in t u f g more other e h =
+    let kind : type_kind t ≡ type_kind u = cc in
+    let inside : inside_type t ≡ inside_type u = cc in
+    let same : f ≡ g = cc in
+    let r = type-one t u more other kind inside h in
+    record { part = r.0; trees = same; tokens = r.1 }
+
+-- An expression in its tree.
+pub expression-in : (a b : Expression) (f g : Forest) (more other : List Token) → expression_tree a f ≡ expression_tree b g
+    → expression_tokens a more ≡ expression_tokens b other → Same a b f g more other
+expression-in a b f g more other e h =
+    let kind : expression_kind a ≡ expression_kind b = cc in
+    let inside : inside_expression a ≡ inside_expression b = cc in
+    let same : f ≡ g = cc in
+    let r = expression-one a b more other kind inside h in
+    record { part = r.0; trees = same; tokens = r.1 }
+
+pub pattern-one : (p q : Pattern) (f g : Forest) (more other : List Token) → pattern_tree p f ≡ pattern_tree q g
+    → pattern_tokens p more ≡ pattern_tokens q other → Same p q f g more other
+pattern-one (NamePattern Immutable j) (NamePattern Immutable k) f g more other e h =
+    let r = name-one j k more other h in
+    let same : f ≡ g = cc in
+    record { part = ap (NamePattern Immutable) r.0; trees = same; tokens = r.1 }
+pattern-one (NamePattern (Mutable i) j) (NamePattern (Mutable l) k) f g more other e h =
+    let m = mark-one MUT_KW i l _ _ h in
+    let r = name-one j k more other m.1 in
+    let mut : i ≡ l = m.0 in
+    let name : j ≡ k = r.0 in
+    let same : f ≡ g = cc in
+    record { part = cc; trees = same; tokens = r.1 }
+pattern-one (NamePattern Immutable j) (NamePattern (Mutable l) k) f g more other e h = absurd cc
+pattern-one (NamePattern (Mutable i) j) (NamePattern Immutable k) f g more other e h = absurd cc
+
+annotation-one : (a b : Annotation) (f g : Forest) (more other : List Token) → (first_leaf f == COLON) ≡ false
+    → (first_leaf g == COLON) ≡ false
+    → annotation_tree a f ≡ annotation_tree b g → annotation_tokens a more ≡ annotation_tokens b other → Same a b f g more other
+annotation-one NoAnnotation NoAnnotation f g more other p q e h = record { part = refl; trees = e; tokens = h }
+annotation-one (AnnotatedBy j t) (AnnotatedBy k u) f g more other p q e h =
+    let m = mark-one COLON j k _ _ h in
+    let inner : type_tree t f ≡ type_tree u g = cc in
+    let r = type-in t u f g more other inner m.1 in
+    let colon : j ≡ k = m.0 in
+    let type : t ≡ u = r.part in
+    record { part = cc; trees = r.trees; tokens = r.tokens }
+annotation-one NoAnnotation (AnnotatedBy k u) f g more other p q e h = absurd (differ (first_leaf f == COLON) (ap (λ (x : Forest). first_leaf x == COLON) e) p)
+annotation-one (AnnotatedBy j t) NoAnnotation f g more other p q e h =
+    absurd (differ (first_leaf g == COLON) (ap (λ (x : Forest). first_leaf x == COLON) (sym e)) q)
+
+initializer-one : (v w : Initializer) (more other : List Token)
+    → initializer_tree v (Leaf SEMICOLON 1 End) ≡ initializer_tree w (Leaf SEMICOLON 1 End)
+    → initializer_tokens v more ≡ initializer_tokens w other → (v ≡ w) × (more ≡ other)
+initializer-one NoInitializer NoInitializer more other e h = (refl, h)
+initializer-one (InitializedBy j a) (InitializedBy k b) more other e h =
+    let m = mark-one EQ j k _ _ h in
+    let inner : expression_tree a (Leaf SEMICOLON 1 End) ≡ expression_tree b (Leaf SEMICOLON 1 End) = cc in
+    let r = expression-in a b _ _ more other inner m.1 in
+    let equals : j ≡ k = m.0 in
+    let same : a ≡ b = r.part in
+    (cc, r.tokens)
+initializer-one NoInitializer (InitializedBy k b) more other e h = let n : SEMICOLON ≡ EQ = ap first_leaf e in absurd (omega (arith, n))
+initializer-one (InitializedBy j a) NoInitializer more other e h = let n : EQ ≡ SEMICOLON = ap first_leaf e in absurd (omega (arith, n))
+
+no-colon : (v : Initializer) → (first_leaf (initializer_tree v (Leaf SEMICOLON 1 End)) == COLON) ≡ false
+no-colon NoInitializer = refl
+no-colon (InitializedBy j e) = refl
+
+statement-one : (s t : Statement) (f g : Forest) (more other : List Token) → statement_tree s f ≡ statement_tree t g
+    → statement_tokens s more ≡ statement_tokens t other → Same s t f g more other
+statement-one (Let j p a v k) (Let l q b w m) f g more other e h =
+    let same : f ≡ g = cc in
+    let pattern_trees : pattern_tree p (annotation_tree a (initializer_tree v (Leaf SEMICOLON 1 End))) ≡ pattern_tree q (annotation_tree b (initializer_tree w (Leaf SEMICOLON 1 End))) = cc in
+    let first = mark-one LET_KW j l _ _ h in
+    let x = pattern-one p q _ _ _ _ pattern_trees first.1 in
+    let y = annotation-one a b _ _ _ _ (no-colon v) (no-colon w) x.trees x.tokens in
+    let z = initializer-one v w _ _ y.trees y.tokens in
+    let last = mark-one SEMICOLON k m more other z.1 in
+    let e1 : j ≡ l = first.0 in
+    let e2 : p ≡ q = x.part in
+    let e3 : a ≡ b = y.part in
+    let e4 : v ≡ w = z.0 in
+    let e5 : k ≡ m = last.0 in
+    record { part = cc; trees = same; tokens = last.1 }
+statement-one (Run a j) (Run b k) f g more other e h =
+    let same : f ≡ g = cc in
+    let inner : expression_tree a (Leaf SEMICOLON 1 End) ≡ expression_tree b (Leaf SEMICOLON 1 End) = cc in
+    let x = expression-in a b _ _ _ _ inner h in
+    let last = mark-one SEMICOLON j k more other x.tokens in
+    let e1 : a ≡ b = x.part in
+    let e2 : j ≡ k = last.0 in
+    record { part = cc; trees = same; tokens = last.1 }
+statement-one (Let j p a v k) (Run b m) f g more other e h = let n : LET_STMT ≡ EXPR_STMT = ap first_node e in absurd (omega (arith, n))
+statement-one (Run b m) (Let j p a v k) f g more other e h = let n : EXPR_STMT ≡ LET_STMT = ap first_node e in absurd (omega (arith, n))
+
+-- an expression's node is no statement's
+no-statement : (e : Expression) (s : Statement) (f g : Forest) → expression_tree e f ≡ statement_tree s g → ⊥
+no-statement e (Let j p a v k) f g h = no-let e (ap first_node h)
+  where
+    no-let : (e : Expression) → expression_kind e ≡ LET_STMT → ⊥
+    no-let (Literal l j) n = absurd (omega (arith, n))
+    no-let (Named p) n = absurd (omega (arith, n))
+    no-let (Parenthesized j e k) n = absurd (omega (arith, n))
+    no-let (FunctionCall e j es k) n = absurd (omega (arith, n))
+    no-let (MethodCall e d n2 j es k) n = absurd (omega (arith, n))
+    no-let (FieldAccess e d n2) n = absurd (omega (arith, n))
+    no-let (Prefixed s j e) n = absurd (omega (arith, n))
+    no-let (Borrow j m e) n = absurd (omega (arith, n))
+    no-let (Binary l o j r) n = absurd (omega (arith, n))
+    no-let (Assignment l o j r) n = absurd (omega (arith, n))
+no-statement e (Run b k) f g h = no-run e (ap first_node h)
+  where
+    no-run : (e : Expression) → expression_kind e ≡ EXPR_STMT → ⊥
+    no-run (Literal l j) n = absurd (omega (arith, n))
+    no-run (Named p) n = absurd (omega (arith, n))
+    no-run (Parenthesized j e k) n = absurd (omega (arith, n))
+    no-run (FunctionCall e j es k) n = absurd (omega (arith, n))
+    no-run (MethodCall e d n2 j es k) n = absurd (omega (arith, n))
+    no-run (FieldAccess e d n2) n = absurd (omega (arith, n))
+    no-run (Prefixed s j e) n = absurd (omega (arith, n))
+    no-run (Borrow j m e) n = absurd (omega (arith, n))
+    no-run (Binary l o j r) n = absurd (omega (arith, n))
+    no-run (Assignment l o j r) n = absurd (omega (arith, n))
+
+statements-one : (ss us : Statements) (f g : Forest) (more other : List Token) → is_node f ≡ false → is_node g ≡ false
+    → statements_tree ss f ≡ statements_tree us g → statements_tokens ss more ≡ statements_tokens us other → Same ss us f g more other
+statements-one NoStatement NoStatement f g more other p q e h = record { part = refl; trees = e; tokens = h }
+statements-one (LastExpression a) (LastExpression b) f g more other p q e h =
+    let x = expression-in a b f g more other e h in
+    record { part = ap LastExpression x.part; trees = x.trees; tokens = x.tokens }
+statements-one (StatementThen s ss) (StatementThen u us) f g more other p q e h =
+    let x = statement-one s u _ _ _ _ e h in
+    let y = statements-one ss us f g more other p q x.trees x.tokens in
+    let e1 : s ≡ u = x.part in
+    let e2 : ss ≡ us = y.part in
+    record { part = cc; trees = y.trees; tokens = y.tokens }
+statements-one (LastExpression a) (StatementThen s us) f g more other p q e h = absurd (no-statement a s f _ e)
+statements-one (StatementThen s us) (LastExpression a) f g more other p q e h = absurd (no-statement a s g _ (sym e))
+statements-one NoStatement (LastExpression b) f g more other p q e h = absurd (differ (is_node f) (ap is_node e) p)
+statements-one NoStatement (StatementThen (Let j x a v k) us) f g more other p q e h = absurd (differ (is_node f) (ap is_node e) p)
+statements-one NoStatement (StatementThen (Run b k) us) f g more other p q e h = absurd (differ (is_node f) (ap is_node e) p)
+statements-one (LastExpression b) NoStatement f g more other p q e h = absurd (differ (is_node g) (ap is_node (sym e)) q)
+statements-one (StatementThen (Let j x a v k) us) NoStatement f g more other p q e h = absurd (differ (is_node g) (ap is_node (sym e)) q)
+statements-one (StatementThen (Run b k) us) NoStatement f g more other p q e h = absurd (differ (is_node g) (ap is_node (sym e)) q)
+
+pub block-one : (b c : Block) (f g : Forest) (more other : List Token) → block_tree b f ≡ block_tree c g
+    → block_tokens b more ≡ block_tokens c other → Same b c f g more other
+block-one (Braces j ss k) (Braces l us m) f g more other e h =
+    let same : f ≡ g = cc in
+    let inner : statements_tree ss (Leaf R_CURLY 1 End) ≡ statements_tree us (Leaf R_CURLY 1 End) = cc in
+    let first = mark-one L_CURLY j l _ _ h in
+    let x = statements-one ss us _ _ _ _ refl refl inner first.1 in
+    let last = mark-one R_CURLY k m more other x.tokens in
+    let e1 : j ≡ l = first.0 in
+    let e2 : ss ≡ us = x.part in
+    let e3 : k ≡ m = last.0 in
+    record { part = cc; trees = same; tokens = last.1 }

@@ -1,0 +1,67 @@
+-- What is read of a whole text: the laws of reading.
+use Rattle.std.proofs.Common.{◌≡◌, true, List, [], refl, ap, sym, ◌∙◌}
+use Rattle.parser_input.specs.Input.{Token}
+use Rattle.parser_events.specs.Forest.{Forest, End}
+use Rattle.rust_grammar.specs.Rule.{source_file, any_type, expression, Call, begins}
+use Rattle.rust_grammar.specs.Meaning.{Reading, ahead}
+use Rattle.rust_grammar.specs.Entry.{takes_all, is_used_up, entry}
+use Rattle.rust_grammar.specs.Whole.{whole}
+use Rattle.core_language.specs.Types.{CoreType, type_tokens, type_tree}
+use Rattle.core_language.specs.Expressions.{Expression, expression_tokens, expression_tree, IsWellFormed}
+use Rattle.core_language.specs.Items.{Items, items_tokens, file_tree, AreWellFormedItems}
+use Rattle.core_language.specs.Laws.{CoreFilesAreRead, CoreTypesAreRead, CoreExpressionsAreRead, CoreFilesHaveOneTree, CoreTypesHaveOneTree, CoreExpressionsHaveOneTree}
+use Rattle.core_language.proofs.Rules.{at, gives, begins_at, table}
+use Rattle.core_language.proofs.Starts.{expression-is-there}
+use Rattle.core_language.proofs.Tails.{Closed, closed-of}
+use Rattle.core_language.proofs.Types.{type-reads}
+use Rattle.core_language.proofs.Patterns.{type-there}
+use Rattle.core_language.proofs.Expressions.{core-expression-reads}
+use Rattle.core_language.proofs.Items.{file-reads}
+
+-- An entry's tree, where all is read.
+file-entry : (ts : List Token) (f : Forest) → gives source_file (at End ts) ≡ at f [] → entry whole source_file ts ≡ f
+unfolding entry takes_all
+file-entry ts f e = ap (λ (s : Reading). s.given) e
+
+type-entry : (ts : List Token) (f : Forest) → begins_at (Call any_type) (at End ts) ≡ true → gives any_type (at End ts) ≡ at f []
+    → entry whole any_type ts ≡ f
+unfolding entry takes_all is_used_up begins
+type-entry ts f there e = rw (there, e) refl
+
+expression-entry : (ts : List Token) (f : Forest) → begins_at (Call expression) (at End ts) ≡ true → gives expression (at End ts) ≡ at f []
+    → entry whole expression ts ≡ f
+unfolding entry takes_all is_used_up begins
+expression-entry ts f there e = rw (there, e) refl
+
+file-of : (is : Items) → AreWellFormedItems is → entry whole source_file (items_tokens is []) ≡ file_tree is
+file-of is w = file-entry (items_tokens is []) (file_tree is) (file-reads is w)
+
+type-of : (t : CoreType) → entry whole any_type (type_tokens t []) ≡ type_tree t End
+unfolding ahead
+type-of t = type-entry (type_tokens t []) (type_tree t End) (type-there t [] End) (type-reads t [] refl refl)
+
+closed-end : Closed []
+unfolding table
+closed-end = closed-of [] (λ i g. refl) (λ g. refl) (λ g. refl)
+
+expression-of : (e : Expression) → IsWellFormed e → entry whole expression (expression_tokens e []) ≡ expression_tree e End
+expression-of e w = expression-entry (expression_tokens e []) (expression_tree e End) (expression-is-there e [] End) (core-expression-reads e w [] closed-end)
+
+pub files-read : CoreFilesAreRead
+files-read tokens tree c = ap (λ (ts : List Token). entry whole source_file ts) (sym c.has_tokens) ∙ file-of c.items c.well_formed ∙ c.has_tree
+
+pub types-read : CoreTypesAreRead
+types-read tokens tree c = ap (λ (ts : List Token). entry whole any_type ts) (sym c.has_tokens) ∙ type-of c.type ∙ c.has_tree
+
+pub expressions-read : CoreExpressionsAreRead
+expressions-read tokens tree c = ap (λ (ts : List Token). entry whole expression ts) (sym c.has_tokens) ∙ expression-of c.expression c.well_formed ∙ c.has_tree
+
+-- An input has one tree: the one that is read.
+pub files-one : CoreFilesHaveOneTree
+files-one tokens tree other c d = sym (files-read tokens tree c) ∙ files-read tokens other d
+
+pub types-one : CoreTypesHaveOneTree
+types-one tokens tree other c d = sym (types-read tokens tree c) ∙ types-read tokens other d
+
+pub expressions-one : CoreExpressionsHaveOneTree
+expressions-one tokens tree other c d = sym (expressions-read tokens tree c) ∙ expressions-read tokens other d

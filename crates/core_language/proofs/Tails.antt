@@ -1,0 +1,156 @@
+-- Assignments, and whole expressions.
+use Rattle.std.proofs.Common.{◌≡◌, ℕ, Bool, true, false, List, ◌∷◌, refl, ap, ◌∙◌, if◌then◌else◌}
+use Rattle.parser_input.specs.Input.{Token}
+use Rattle.parser_input.specs.Kinds.{DOT, BIN_EXPR}
+use Rattle.parser_events.specs.Forest.{ExpectedExpression, Forest, End, Leaf, Node, ◌then◌}
+use Rattle.rust_grammar.specs.Rule.{Production, Rule, Or, Wrap, Then, Want, Call, Continue, Nothing, operation, operation_tail, expression, disjunction}
+use Rattle.rust_grammar.specs.Meaning.{Reading, ahead}
+use Rattle.rust_grammar.specs.Notation.{op}
+use Rattle.rust_grammar.specs.Words.{'+=', '-=', '*=', '/=', '%=', '&=', '|=', '^=', '<<=', '>>=', '='}
+use Rattle.rust_grammar.specs.Whole.{rule}
+use Rattle.rust_grammar.proofs.WholeTable.{whole-means}
+use Rattle.core_language.specs.Expressions.{Assignment, Expression, expression_kind, expression_tokens, inside_expression}
+use Rattle.core_language.specs.Operators.{Assign, AssignBitAnd, AssignBitOr, AssignBitXor, AssignDivide, AssignMinus, AssignPlus, AssignRemainder, AssignShiftLeft, AssignShiftRight, AssignTimes, Assigner, assigner_count, assigner_kind, assigner_tokens, assigner_tree}
+use Rattle.core_language.proofs.Layers.{ReadsAt}
+use Rattle.core_language.proofs.Places.{Base, Calm, IsNotNext, Stops, is_calm, stops_at, calm-of, stops-of, tree}
+use Rattle.core_language.proofs.Rules.{at, begins_at, call-reads, forms, gives, or-first, or-second, reads, table, then-reads}
+use Rattle.core_language.proofs.Starts.{Free, expression-begins, operation-is-there, start-free, token_of}
+
+-- the spellings of assignments
+abbrev pub assignment : Rule
+assignment =
+    Or (op '=') (Or (op '+=') (Or (op '-=') (Or (op '*=') (Or (op '/=') (Or (op '%=') (Or (op '&=') (Or (op '|=') (Or (op '^=') (Or (op '<<=') (op '>>='))))))))))
+
+-- an assignment with its right operand
+abbrev pub setting : Rule
+setting = Wrap BIN_EXPR (Then assignment (Want (Call operation) ExpectedExpression))
+
+-- An assigner behind its left operand, where the right one begins with the token t.
+pub record Set (o : Assigner) (j : Bool) (t : Token) (ts : List Token) : Type 0 where
+  pub there : (g : Forest) → begins_at setting (at g (assigner_tokens o j (t ∷ ts))) ≡ true
+  pub taken : (g : Forest) → reads assignment (at g (assigner_tokens o j (t ∷ ts))) ≡ at (g then assigner_tree o End) (t ∷ ts)
+  pub stops : Stops 9 (assigner_tokens o j (t ∷ ts))
+  pub calm : Calm (assigner_tokens o j (t ∷ ts))
+
+-- the same, by tests
+found : {o : Assigner} {j : Bool} {t : Token} {ts : List Token} →
+    ((g : Forest) → begins_at setting (at g (assigner_tokens o j (t ∷ ts))) ≡ true) →
+    ((g : Forest) → reads assignment (at g (assigner_tokens o j (t ∷ ts))) ≡ at (g then assigner_tree o End) (t ∷ ts)) →
+    ((g : Forest) → stops_at 9 g (assigner_tokens o j (t ∷ ts)) ≡ true) →
+    ((i : Bool) (g : Forest) → is_calm i g (assigner_tokens o j (t ∷ ts)) ≡ true) → Set o j t ts
+found there taken stops calm = record { there = there; taken = taken; stops = stops-of 9 _ stops; calm = calm-of _ calm }
+
+assigner-between : (o : Assigner) (j : Bool) (t : Token) (ts : List Token) → Free t → Set o j t ts
+unfolding table
+assigner-between Assign true t ts f = found (λ g. rw (f.eq, f.gt) refl) (λ g. rw (f.eq, f.gt) refl) (λ g. rw (f.eq) refl) (λ i g. refl)
+assigner-between Assign false t ts f = found (λ g. refl) (λ g. refl) (λ g. refl) (λ i g. refl)
+assigner-between AssignPlus true t ts f = found (λ g. refl) (λ g. refl) (λ g. refl) (λ i g. refl)
+assigner-between AssignPlus false t ts f = found (λ g. refl) (λ g. refl) (λ g. refl) (λ i g. refl)
+assigner-between AssignMinus true t ts f = found (λ g. refl) (λ g. refl) (λ g. refl) (λ i g. refl)
+assigner-between AssignMinus false t ts f = found (λ g. refl) (λ g. refl) (λ g. refl) (λ i g. refl)
+assigner-between AssignTimes true t ts f = found (λ g. refl) (λ g. refl) (λ g. refl) (λ i g. refl)
+assigner-between AssignTimes false t ts f = found (λ g. refl) (λ g. refl) (λ g. refl) (λ i g. refl)
+assigner-between AssignDivide true t ts f = found (λ g. refl) (λ g. refl) (λ g. refl) (λ i g. refl)
+assigner-between AssignDivide false t ts f = found (λ g. refl) (λ g. refl) (λ g. refl) (λ i g. refl)
+assigner-between AssignRemainder true t ts f = found (λ g. refl) (λ g. refl) (λ g. refl) (λ i g. refl)
+assigner-between AssignRemainder false t ts f = found (λ g. refl) (λ g. refl) (λ g. refl) (λ i g. refl)
+assigner-between AssignBitAnd true t ts f = found (λ g. refl) (λ g. refl) (λ g. refl) (λ i g. refl)
+assigner-between AssignBitAnd false t ts f = found (λ g. refl) (λ g. refl) (λ g. refl) (λ i g. refl)
+assigner-between AssignBitOr true t ts f = found (λ g. refl) (λ g. refl) (λ g. refl) (λ i g. refl)
+assigner-between AssignBitOr false t ts f = found (λ g. refl) (λ g. refl) (λ g. refl) (λ i g. refl)
+assigner-between AssignBitXor true t ts f = found (λ g. refl) (λ g. refl) (λ g. refl) (λ i g. refl)
+assigner-between AssignBitXor false t ts f = found (λ g. refl) (λ g. refl) (λ g. refl) (λ i g. refl)
+assigner-between AssignShiftLeft true t ts f = found (λ g. refl) (λ g. refl) (λ g. refl) (λ i g. refl)
+assigner-between AssignShiftLeft false t ts f = found (λ g. refl) (λ g. refl) (λ g. refl) (λ i g. refl)
+assigner-between AssignShiftRight true t ts f = found (λ g. refl) (λ g. refl) (λ g. refl) (λ i g. refl)
+assigner-between AssignShiftRight false t ts f = found (λ g. refl) (λ g. refl) (λ g. refl) (λ i g. refl)
+
+-- where no dot is next, an operation begins with an operand, and its tail is an assignment or nothing
+operation-picks : (g : Forest) (ts : List Token) → IsNotNext DOT ts
+    → reads (rule operation) (at g ts) ≡ reads (Then (Call disjunction) (Continue operation_tail)) (at g ts)
+unfolding table
+operation-picks g ts h = rw h refl
+
+tail-picks : (g : Forest) (ts : List Token) → IsNotNext DOT ts
+    → reads (rule operation_tail) (at g ts) ≡ reads (Or setting Nothing) (at g ts)
+unfolding table
+tail-picks g ts h = rw h refl
+
+pub continue-reads : (x : Production) (s : Reading) → reads (Continue x) s ≡ gives x s
+unfolding forms
+continue-reads x s = refl
+
+nothing-reads : (s : Reading) → reads Nothing s ≡ s
+unfolding forms
+nothing-reads s = refl
+
+-- Nothing here goes on with an expression.
+pub record Closed (more : List Token) : Type 0 where
+  pub calm : Calm more
+  pub stops : Stops 9 more
+  pub base : Base more
+  pub set : (g : Forest) → begins_at setting (at g more) ≡ false
+
+-- the same, by tests
+pub closed-of : (more : List Token) → ((i : Bool) (g : Forest) → is_calm i g more ≡ true) → ((g : Forest) → stops_at 9 g more ≡ true) →
+    ((g : Forest) → begins_at setting (at g more) ≡ false) → Closed more
+closed-of more calm stops set = let s = stops-of 9 more stops in record { calm = calm-of more calm; stops = s; base = s.1.1.1.1.1.1.1.1.1; set = set }
+
+setting-reads : (k : ℕ) (i : Forest) (kind count : ℕ) (before after : List Token) (l : ℕ) (r : Forest) (more : List Token) →
+    ((g : Forest) → reads assignment (at g before) ≡ at (g then Leaf kind count End) after) →
+    ((g : Forest) → begins_at (Call operation) (at g after) ≡ true) →
+    gives operation (at End after) ≡ at (Node l r End) more →
+    reads setting (at (Node k i End) before) ≡ at (Node BIN_EXPR (Node k i (Leaf kind count (Node l r End))) End) more
+unfolding forms
+setting-reads k i kind count before after l r more taken there e = rw (taken (Node k i End)) (rw (there (Node k i (Leaf kind count End))) (rw e refl))
+
+-- An expression is read as a whole where nothing behind it goes on with it.
+abbrev pub ReadsWhole : Expression → Type 0
+ReadsWhole e = (more : List Token) → Closed more → gives operation (at End (expression_tokens e more)) ≡ at (tree e) more
+
+no-dot : (e : Expression) (more : List Token) → IsNotNext DOT (expression_tokens e more)
+unfolding ahead
+no-dot e more = let b = expression-begins e more in rw b.are ((start-free b.start).dot)
+
+-- An expression that is no assignment is an operand of the highest layer.
+pub whole-operand : (e : Expression) → ReadsAt 9 e → ReadsWhole e
+whole-operand e r more c =
+    whole-means operation false _
+    ∙ operation-picks End (expression_tokens e more) (no-dot e more)
+    ∙ then-reads (Call disjunction) (Continue operation_tail) _
+    (call-reads disjunction _ _ more (r more c.calm c.stops))
+    (continue-reads operation_tail _ ∙ whole-means operation_tail false _ ∙ tail-picks (tree e) more c.base.dot ∙ or-second setting Nothing _ (c.set _) ∙ nothing-reads _)
+
+pub whole-assign : (l : Expression) (o : Assigner) (j : Bool) (r : Expression) → ReadsAt 9 l → ReadsWhole r
+    → ReadsWhole (Assignment l o j r)
+whole-assign l o j r left right more c =
+    let b = expression-begins r more in
+    let m = assigner-between o j (token_of b.start) b.rest (start-free b.start) in
+    let there : (g : Forest) → begins_at setting (at g (assigner_tokens o j (expression_tokens r more))) ≡ true = λ g. rw b.are (m.there g) in
+    let taken : (g : Forest) → reads assignment (at g (assigner_tokens o j (expression_tokens r more))) ≡ at (g then assigner_tree o End) (expression_tokens r more) = λ g. rw b.are (m.taken g) in
+    let stop : Stops 9 (assigner_tokens o j (expression_tokens r more)) = rw b.are m.stops in
+    let calm' : Calm (assigner_tokens o j (expression_tokens r more)) = rw b.are m.calm in
+    let base : Base (assigner_tokens o j (expression_tokens r more)) = rw b.are (bottom m.stops) in
+    whole-means operation false _
+    ∙ operation-picks End (expression_tokens l (assigner_tokens o j (expression_tokens r more))) (no-dot l (assigner_tokens o j (expression_tokens r more)))
+    ∙ then-reads (Call disjunction) (Continue operation_tail) _
+    (call-reads disjunction _ _ (assigner_tokens o j (expression_tokens r more)) (left (assigner_tokens o j (expression_tokens r more)) calm' stop))
+    (continue-reads operation_tail _
+    ∙ whole-means operation_tail false _
+    ∙ tail-picks (tree l) (assigner_tokens o j (expression_tokens r more)) base.dot
+    ∙ or-first setting Nothing _ (there _)
+    ∙ setting-reads (expression_kind l) (inside_expression l) (assigner_kind o) (assigner_count o) (assigner_tokens o j (expression_tokens r more)) (expression_tokens r more) (expression_kind r) (inside_expression r) more taken (operation-is-there r more) (right more c))
+  where
+    bottom : {ts : List Token} → Stops 9 ts → Base ts
+    bottom s = s.1.1.1.1.1.1.1.1.1
+
+expression-rule : rule expression ≡ Call operation
+unfolding table
+expression-rule = refl
+
+pub expression-reads : (e : Expression) (more : List Token) → gives operation (at End (expression_tokens e more)) ≡ at (tree e) more
+    → gives expression (at End (expression_tokens e more)) ≡ at (tree e) more
+expression-reads e more h =
+    whole-means expression false _
+    ∙ ap (λ (a : Rule). reads a (at End (expression_tokens e more))) expression-rule
+    ∙ call-reads operation _ _ more h

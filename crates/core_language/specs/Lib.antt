@@ -1,0 +1,9 @@
+pub mod Tokens
+pub mod Types
+pub mod Operators
+pub mod Expressions
+pub mod Statements
+pub mod Items
+pub mod Language
+pub mod Spaced
+pub mod Laws

@@ -1,0 +1,19 @@
+-- The input tokens of the core language. In all that follows a `Bool` named after a token says whether that token touches the
+-- next one; where it is free, white space makes no difference.
+use Rattle.std.specs.Prelude.{ℕ, Bool, true, List, [], ◌∷◌}
+use Rattle.parser_input.specs.Kinds.{EOF, IDENT}
+use Rattle.parser_input.specs.Input.{Token}
+
+-- a token of this kind that is no name: a keyword, a literal, one character of punctuation
+abbrev pub of_kind : ℕ → Bool → Token
+of_kind kind joint = record { kind = kind; contextual = EOF; joint = joint }
+
+-- a name, which is no keyword, and no contextual keyword either
+abbrev pub name_token : Bool → Token
+name_token joint = record { kind = IDENT; contextual = IDENT; joint = joint }
+
+-- Punctuation of these characters, and the tokens behind it: one token a character, of which each but the last touches the next.
+abbrev pub joint_tokens : List ℕ → Bool → List Token → List Token
+joint_tokens [] joint more = more
+joint_tokens (kind ∷ []) joint more = of_kind kind joint ∷ more
+joint_tokens (kind ∷ next ∷ kinds) joint more = of_kind kind true ∷ joint_tokens (next ∷ kinds) joint more
