@@ -1,0 +1,5 @@
+//! Green trees are tried here.
+#![tactic(auto)]
+
+#[cfg(test)]
+mod tests;
