@@ -313,6 +313,7 @@ def heading(body):
     kinds = sorted(it for it in named if re.fullmatch(r"[A-Z][A-Z0-9_]+", it))
     lines = [
         "-- Files of an independent reader, with its inputs and trees: core files, and others of which the tree is no core tree.",
+        "-- tools/cases.py writes this file; a lemma's number is the line of its case.",
         "use Rattle.std.proofs.Common.{◌≡◌, ℕ, Bool, true, false, List, [], ◌∷◌, refl, arith, if◌then◌else◌}",
         f"use Rattle.parser_input.specs.Kinds.{{{', '.join(kinds)}}}",
         "use Rattle.parser_input.specs.Input.{Token}",
