@@ -27,3 +27,4 @@ pub mod Told
 pub mod OneExpression
 pub mod OneStatement
 pub mod OneItem
+pub mod Examples

@@ -7,3 +7,4 @@ pub mod Items
 pub mod Language
 pub mod Spaced
 pub mod Laws
+pub mod Examples

@@ -1,7 +1,8 @@
 -- The leaves of a tree as the input tokens of a text in which white space parts them: no token touches the next, but inside
--- punctuation of several characters. What is recorded of a float's token is whether its text does not end in a dot, so this is given.
+-- punctuation of several characters. Of a float's token the input has, in place of this, whether its text does not end in a dot;
+-- a tree does not know that, so it is given.
 use Rattle.std.specs.Prelude.{ℕ, ◌==◌, Bool, false, not, List, [], ◌∷◌, if◌then◌else◌}
-use Rattle.parser_input.specs.Kinds.{AMP, AMP2, AMPEQ, BANG, CARET, CARETEQ, COLON, COLON2, EQ, EQ2, FLOAT_NUMBER, GTEQ, IDENT, LTEQ, L_ANGLE, MINUS, MINUSEQ, NEQ, PERCENT, PERCENTEQ, PIPE, PIPE2, PIPEEQ, PLUS, PLUSEQ, R_ANGLE, SHL, SHLEQ, SHR, SHREQ, SLASH, SLASHEQ, STAR, STAREQ, THIN_ARROW}
+use Rattle.parser_input.specs.Kinds.{AMP, AMP2, AMPEQ, BANG, CARET, CARETEQ, COLON, COLON2, DOT, DOT2, DOT2EQ, EQ, EQ2, FAT_ARROW, FLOAT_NUMBER, GTEQ, IDENT, LTEQ, L_ANGLE, MINUS, MINUSEQ, NEQ, PERCENT, PERCENTEQ, PIPE, PIPE2, PIPEEQ, PLUS, PLUSEQ, R_ANGLE, SHL, SHLEQ, SHR, SHREQ, SLASH, SLASHEQ, STAR, STAREQ, THIN_ARROW}
 use Rattle.parser_input.specs.Input.{Token}
 use Rattle.parser_events.specs.Forest.{Forest, End, Leaf, Said, ErrorLeaf, Node, Float}
 use Rattle.core_language.specs.Tokens.{of_kind, name_token, joint_tokens}
@@ -14,8 +15,11 @@ pub record Composite : Type 0 where
 -- the leaves of several characters
 abbrev pub composites : List Composite
 composites =
+    record { kind = DOT2; characters = DOT ∷ DOT ∷ [] } ∷
+    record { kind = DOT2EQ; characters = DOT ∷ DOT ∷ EQ ∷ [] } ∷
     record { kind = COLON2; characters = COLON ∷ COLON ∷ [] } ∷
     record { kind = EQ2; characters = EQ ∷ EQ ∷ [] } ∷
+    record { kind = FAT_ARROW; characters = EQ ∷ R_ANGLE ∷ [] } ∷
     record { kind = NEQ; characters = BANG ∷ EQ ∷ [] } ∷
     record { kind = LTEQ; characters = L_ANGLE ∷ EQ ∷ [] } ∷
     record { kind = GTEQ; characters = R_ANGLE ∷ EQ ∷ [] } ∷
@@ -40,11 +44,14 @@ abbrev pub characters_in : List Composite → ℕ → List ℕ
 characters_in [] kind = kind ∷ []
 characters_in (c ∷ cs) kind = let others = characters_in cs kind in if c.kind == kind then c.characters else others
 
--- the tokens of a leaf that is no float
+-- the tokens of a leaf that is no float; a name is taken for no contextual keyword
 abbrev pub leaf_tokens : ℕ → List Token → List Token
-leaf_tokens kind more = let plain = joint_tokens (characters_in composites kind) false more in if kind == IDENT then name_token false ∷ more else plain
+leaf_tokens kind more =
+    let name = name_token false ∷ more in
+    let other = joint_tokens (characters_in composites kind) false more in
+    if kind == IDENT then name else other
 
--- the first of these, and those behind it
+-- the first of these; a float of which nothing is told does not touch the next token
 abbrev pub first_float : List Bool → Bool
 first_float [] = false
 first_float (float ∷ floats) = float

@@ -1,5 +1,6 @@
 //! Laws of the core language. Each is the contract of a function that makes no call.
 
+ghost use Rattle.core_language.specs.Examples.{ExamplesAreCore};
 ghost use Rattle.core_language.specs.Laws.{CoreExpressionsAreClean, CoreExpressionsAreRead, CoreExpressionsHaveOneDerivation, CoreExpressionsHaveOneTree, CoreFilesAreClean, CoreFilesAreRead, CoreFilesHaveOneDerivation, CoreFilesHaveOneTree, CoreTypesAreClean, CoreTypesAreRead, CoreTypesHaveOneDerivation, CoreTypesHaveOneTree, SpacedCoreExpressionsAreCore, SpacedCoreFilesAreCore, SpacedCoreTypesAreCore};
 
 /// Where the input is a core file, type or expression, the grammar gives its tree.
@@ -35,4 +36,9 @@ pub fn spaced_core_trees_are_core()
     ensures files { SpacedCoreFilesAreCore }
     ensures types { SpacedCoreTypesAreCore }
     ensures expressions { SpacedCoreExpressionsAreCore }
+{}
+
+/// A file and an expression of the core language, with their trees; and a tree that this expression does not have.
+pub fn examples_are_core()
+    ensures { ExamplesAreCore }
 {}

@@ -131,28 +131,28 @@ class Derivation:
             opening = self.leaf(children[0], "L_PAREN")
             inner, proof = self.expression(children[1])
             return f"(Parenthesized {opening} {inner} {self.leaf(children[2], 'R_PAREN')})", proof
+        if kind in ("CALL_EXPR", "METHOD_CALL_EXPR", "FIELD_EXPR"):
+            return self.postfix(kind, children)
+        return self.operation(children) if kind == "BIN_EXPR" else self.prefixed(kind, children)
+
+    def postfix(self, kind, children):
+        receiver, proof = self.expression(children[0])
         if kind == "CALL_EXPR":
-            callee, proof = self.expression(children[0])
             opening, inner, closing, others = self.brackets(children[1])
-            return f"(FunctionCall {callee} {opening} {inner} {closing})", f"({proof}, omega arith, refl, {others})"
-        if kind == "METHOD_CALL_EXPR":
-            receiver, proof = self.expression(children[0])
-            dot, name = self.leaf(children[1], "DOT"), self.name(children[2], "NAME_REF")
-            opening, inner, closing, others = self.brackets(children[3])
-            return f"(MethodCall {receiver} {dot} {name} {opening} {inner} {closing})", f"({proof}, omega arith, {others})"
+            return f"(FunctionCall {receiver} {opening} {inner} {closing})", f"({proof}, omega arith, refl, {others})"
+        dot, name = self.leaf(children[1], "DOT"), self.name(children[2], "NAME_REF")
         if kind == "FIELD_EXPR":
-            receiver, proof = self.expression(children[0])
-            return f"(FieldAccess {receiver} {self.leaf(children[1], 'DOT')} {self.name(children[2], 'NAME_REF')})", f"({proof}, omega arith)"
-        if kind == "PREFIX_EXPR":
-            operator = self.take(children[0][0])
-            operand, proof = self.expression(children[1])
-            return f"(Prefixed {PREFIXES[children[0][0]]} {operator} {operand})", f"({proof}, omega arith)"
-        if kind == "REF_EXPR":
-            ampersand = self.leaf(children[0], "AMP")
-            mut = self.mut(children[1:])
-            operand, proof = self.expression(children[-1])
-            return f"(Borrow {ampersand} {mut} {operand})", f"({proof}, omega arith)"
-        assert kind == "BIN_EXPR", kind
+            return f"(FieldAccess {receiver} {dot} {name})", f"({proof}, omega arith)"
+        opening, inner, closing, others = self.brackets(children[3])
+        return f"(MethodCall {receiver} {dot} {name} {opening} {inner} {closing})", f"({proof}, omega arith, {others})"
+
+    def prefixed(self, kind, children):
+        operator = self.take(children[0][0])
+        form = f"Borrow {operator} {self.mut(children[1:])}" if kind == "REF_EXPR" else f"Prefixed {PREFIXES[children[0][0]]} {operator}"
+        operand, proof = self.expression(children[-1])
+        return f"({form} {operand})", f"({proof}, omega arith)"
+
+    def operation(self, children):
         left, before = self.expression(children[0])
         operator = children[1][0]
         last = self.take(operator)
@@ -313,6 +313,7 @@ def heading(body):
     kinds = sorted(it for it in named if re.fullmatch(r"[A-Z][A-Z0-9_]+", it))
     lines = [
         "-- Files of an independent reader, with its inputs and trees: core files, and others of which the tree is no core tree.",
+        "-- tools/cases.py writes this file; a lemma's number is the line of its case.",
         "use Rattle.std.proofs.Common.{◌≡◌, ℕ, Bool, true, false, List, [], ◌∷◌, refl, arith, if◌then◌else◌}",
         f"use Rattle.parser_input.specs.Kinds.{{{', '.join(kinds)}}}",
         "use Rattle.parser_input.specs.Input.{Token}",
