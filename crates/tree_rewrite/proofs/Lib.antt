@@ -6,3 +6,6 @@ pub mod JobLemmas
 pub mod MarkedLemmas
 pub mod NestingLemmas
 pub mod ClimbLemmas
+pub mod DepthLemmas
+pub mod KeptLemmas
+pub mod MovedLemmas

@@ -6,3 +6,4 @@ pub mod Orders
 pub mod Recorded
 pub mod Laws
 pub mod Climbing
+pub mod Plan

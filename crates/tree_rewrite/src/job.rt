@@ -3,7 +3,8 @@ ghost use Rattle.std.specs.Prelude.{◌≡◌, Some};
 ghost use Rattle.std.specs.List.{list_all};
 ghost use Rattle.tree_rewrite.specs.Rewrite.{same_sheet};
 ghost use Rattle.tree_rewrite.specs.Orders.{is_owned, same_gap, may_follow, in_order, is_order};
-ghost use Rattle.tree_rewrite.specs.Recorded.{way_of};
+ghost use Rattle.tree_rewrite.specs.Recorded.{way_of, level_of};
+ghost use Rattle.tree_rewrite.specs.Plan.{depth_of};
 
 use crate::tree_change::TreeChange;
 use std::marker::Model;
@@ -49,6 +50,16 @@ impl Job {
         ensures { result ≡ record { sheet = way_of sheet; change = change; own = way_of own } }
     {
         Job { sheet, change, own }
+    }
+
+    /// The length of its sheet's way; none for the tree's own sheet.
+    pub(crate) fn level(&self) -> Option<usize>
+        ensures { level_of result ≡ depth_of self.now.sheet }
+    {
+        match &self.sheet {
+            Some(way) => Some(way.len()),
+            None => None,
+        }
     }
 
     /// Whether another job is made in this one's payload.

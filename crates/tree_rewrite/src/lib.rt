@@ -7,8 +7,13 @@
 
 pub mod change;
 pub mod climb;
+pub mod depth;
+pub mod error;
 pub mod job;
+pub mod kept;
 pub mod laws;
+pub mod moved;
 pub mod nesting;
+pub mod plan;
 pub mod tree_change;
 pub mod ways;
