@@ -9,3 +9,5 @@ pub mod ClimbLemmas
 pub mod DepthLemmas
 pub mod KeptLemmas
 pub mod MovedLemmas
+pub mod SheetLemmas
+pub mod FillLemmas

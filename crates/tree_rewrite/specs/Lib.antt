@@ -7,3 +7,5 @@ pub mod Recorded
 pub mod Laws
 pub mod Climbing
 pub mod Plan
+pub mod Reach
+pub mod Fill

@@ -7,13 +7,16 @@
 
 pub mod change;
 pub mod climb;
+pub mod content;
 pub mod depth;
 pub mod error;
+pub mod fill;
 pub mod job;
 pub mod kept;
 pub mod laws;
 pub mod moved;
 pub mod nesting;
 pub mod plan;
+pub mod sheet;
 pub mod tree_change;
 pub mod ways;

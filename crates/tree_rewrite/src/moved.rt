@@ -164,7 +164,11 @@ fn change_below(
 }
 
 /// The way of a child.
-fn with_number(alloc: Global, number: usize, way: &[usize]) -> Result<Vec<usize>, AllocError>
+pub(crate) fn with_number(
+    alloc: Global,
+    number: usize,
+    way: &[usize],
+) -> Result<Vec<usize>, AllocError>
     ensures { IfOk result (λ v. v.items ≡ number ∷ way.now) }
 {
     let mut below = vec![in alloc; number]?;

@@ -2,10 +2,14 @@
 ghost use Rattle.std.specs.Prelude.{◌≡◌, List, map, IfOk};
 ghost use Rattle.numbered_tree.specs.Element.{Element};
 ghost use Rattle.numbered_tree.specs.Handle.{element_of};
-ghost use Rattle.tree_rewrite.specs.Rewrite.{payload_of};
+ghost use Rattle.numbered_tree.specs.Element.{same_way};
+ghost use Rattle.tree_rewrite.specs.Marked.{gap};
+ghost use Rattle.tree_rewrite.specs.Reach.{reaches};
+ghost use Rattle.tree_rewrite.specs.Rewrite.{payload_of, sets, first_way};
 ghost use Rattle.tree_rewrite.specs.Orders.{same_gap_at};
 ghost use Rattle.tree_rewrite.specs.Recorded.{change_of};
 
+use crate::ways::is_within;
 use numbered_tree::SyntaxElement;
 use std::alloc::{AllocError, Global};
 use std::marker::Model;
@@ -117,6 +121,39 @@ impl TreeChange {
     {
         let target = self.target.copied(alloc)?;
         self.moved_to(alloc, target)
+    }
+
+    /// Whether it puts into a gap.
+    pub(crate) fn sets_gap(&self, way: &[usize], number: usize) -> bool
+        ensures { result ≡ sets self.now (gap way.now number) }
+    {
+        match &self.target {
+            Target::Gap { parent, index } => parent.as_slice() == way && *index == number,
+            Target::Slots { .. } => false,
+        }
+    }
+
+    /// Whether it says what stands below the element at a way.
+    pub(crate) fn reaches(&self, way: &[usize]) -> bool
+        ensures { result ≡ reaches way.now self.now }
+    {
+        match &self.target {
+            Target::Gap { parent, .. } => is_within(way, 0, parent),
+            Target::Slots { first, .. } => match first.split_first() {
+                Some((_, above)) => is_within(way, 0, above),
+                None => false,
+            },
+        }
+    }
+
+    /// Whether the first element that it replaces stands at a way; the root, where it replaces none.
+    pub(crate) fn begins_at(&self, way: &[usize]) -> bool
+        ensures { result ≡ same_way (first_way self.now) way.now }
+    {
+        match &self.target {
+            Target::Gap { .. } => way.is_empty(),
+            Target::Slots { first, .. } => first.as_slice() == way,
+        }
     }
 
     /// Whether both put into one gap.
