@@ -13,8 +13,8 @@ use Rattle.tree_rewrite.specs.Marked.{slot}
 use Rattle.tree_rewrite.specs.Rewrite.{Job, same_sheet, sets, jobs, jobs_from, job_of, change_at, payload_at, first_way, or_no_jobs, rewritten}
 use Rattle.tree_rewrite.specs.Orders.{test_at, is_owned, owns, is_order, put_in_order}
 use Rattle.tree_rewrite.specs.Laws.{OrdersAgree}
-use Rattle.tree_rewrite.specs.Plan.{depth_of}
-use Rattle.tree_rewrite.proofs.Plans.{sets_on, JobsArePlan}
+use Rattle.tree_rewrite.proofs.Plans.{JobsArePlan}
+use Rattle.tree_rewrite.specs.Plan.{depth_of, sets_on}
 use Rattle.tree_rewrite.proofs.OrderLemmas.{same_way-sound, same_way-own, same_sheet-sound, every_order}
 
 abbrev some_or : {A : Type 0} → A → Option A → A

@@ -11,3 +11,4 @@ pub mod KeptLemmas
 pub mod MovedLemmas
 pub mod SheetLemmas
 pub mod FillLemmas
+pub mod ExecuteLemmas

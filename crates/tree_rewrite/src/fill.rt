@@ -29,7 +29,7 @@ fn node_of(
 }
 
 /// Adds an element as it was.
-fn push_whole(
+pub(crate) fn push_whole(
     element: SyntaxElement,
     elements: &mut Vec<GreenElement>,
     origins: &mut Vec<Origin>,

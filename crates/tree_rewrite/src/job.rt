@@ -1,15 +1,17 @@
 //! Changes where they are made, and the orders in which they may be made one by one.
-ghost use Rattle.std.specs.Prelude.{◌≡◌, ◌&&◌, Some};
+ghost use Rattle.std.specs.Prelude.{◌≡◌, ◌&&◌, Some, map};
 ghost use Rattle.std.specs.List.{list_all};
-ghost use Rattle.tree_rewrite.specs.Rewrite.{same_sheet, sets, first_way};
+ghost use Rattle.tree_rewrite.specs.Rewrite.{same_sheet, sets, first_way, payload_of};
 ghost use Rattle.tree_rewrite.specs.Marked.{gap, slot};
 ghost use Rattle.tree_rewrite.specs.Reach.{reaches};
 ghost use Rattle.numbered_tree.specs.Element.{same_way};
+ghost use Rattle.numbered_tree.specs.Handle.{element_of};
 ghost use Rattle.tree_rewrite.specs.Orders.{is_owned, same_gap, may_follow, in_order, is_order};
 ghost use Rattle.tree_rewrite.specs.Recorded.{way_of, level_of};
 ghost use Rattle.tree_rewrite.specs.Plan.{depth_of};
 
 use crate::tree_change::TreeChange;
+use numbered_tree::SyntaxElement;
 use std::marker::Model;
 
 /// A change that is not dropped, where it is made.
@@ -53,6 +55,20 @@ impl Job {
         ensures { result ≡ record { sheet = way_of sheet; change = change; own = way_of own } }
     {
         Job { sheet, change, own }
+    }
+
+    /// What it puts in.
+    pub(crate) fn payload(&self) -> &[SyntaxElement]
+        ensures { map element_of result.now ≡ payload_of self.now.change }
+    {
+        self.change.payload()
+    }
+
+    /// The node that it replaces by a node.
+    pub(crate) fn own(&self) -> &Option<Vec<usize>>
+        ensures { way_of result.now ≡ self.now.own }
+    {
+        &self.own
     }
 
     /// The length of its sheet's way; none for the tree's own sheet.

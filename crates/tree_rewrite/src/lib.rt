@@ -10,6 +10,7 @@ pub mod climb;
 pub mod content;
 pub mod depth;
 pub mod error;
+pub mod execute;
 pub mod fill;
 pub mod job;
 pub mod kept;

@@ -1,20 +1,25 @@
 //! The plan of a rewrite: which changes are made where, and in which orders.
-ghost use Rattle.std.specs.Prelude.{◌≡◌, List, [], true, false, map, length, Some, IfOk, IfErr, OnOk, ◌++◌};
+ghost use Rattle.std.specs.Prelude.{◌≡◌, List, [], true, false, map, length, reverse, Some, IfOk, IfErr, OnOk, ◌++◌};
 ghost use Rattle.std.specs.List.{All};
 ghost use Rattle.tree_rewrite.specs.Change.{has_collision};
-ghost use Rattle.tree_rewrite.specs.Rewrite.{jobs};
+ghost use Rattle.tree_rewrite.specs.Rewrite.{jobs, rewritten};
 ghost use Rattle.tree_rewrite.specs.Orders.{is_order};
 ghost use Rattle.tree_rewrite.specs.Recorded.{recorded, IsOrdered};
 ghost use Rattle.tree_rewrite.specs.Plan.{RefusesPlan};
+ghost use Rattle.tree_rewrite.specs.Fill.{IsOf};
 
 use crate::change::Change;
+use crate::content::Content;
 use crate::depth::deepest_first;
 use crate::error::PlanError;
+use crate::execute::make_all;
+use crate::fill::push_standing;
 use crate::job::{Job, is_order};
 use crate::kept::jobs_of;
 use crate::nesting::has_collision;
 use crate::tree_change::TreeChange;
-use numbered_tree::{SyntaxMapping, SyntaxNode};
+use numbered_tree::{SyntaxElement, SyntaxMapping, SyntaxNode};
+use rowan_green::GreenError;
 use std::alloc::{AllocError, Global};
 use std::marker::Model;
 
@@ -28,7 +33,7 @@ pub struct Plan {
 impl Model for Plan {
     ghost use Rattle.std.specs.Coded.{codes};
     ghost use Rattle.rowan_green.specs.Forest.{tree_code};
-    ghost use Rattle.tree_rewrite.specs.Plan.{Plan, AreDeeper};
+    ghost use Rattle.tree_rewrite.specs.Plan.{Plan, AreDeeper, AreApart};
 
     ghost Value = { Plan };
 
@@ -36,7 +41,7 @@ impl Model for Plan {
 
     ghost view = { λ p. record { top = p.top; jobs = p.jobs.items } };
 
-    ghost invariant = { λ p. AreDeeper p.jobs.items };
+    ghost invariant = { λ p. AreDeeper p.jobs.items × AreApart p.jobs.items };
 }
 
 impl Plan {
@@ -86,6 +91,29 @@ impl Plan {
         ensures { result ≡ is_order self.now.jobs order.now }
     {
         is_order(&self.jobs, order)
+    }
+
+    /// The elements of the tree with all changes made at once, and where each of them and of those below them came from: the changes
+    /// are made one by one, in any order in which they may.
+    pub fn rewritten(&self, alloc: Global, order: &[usize]) -> Result<Content, GreenError>
+        requires { is_order self.now.jobs order.now ≡ true }
+        ensures { IfOk result (λ c. IsOf c (rewritten self.now.top (reverse self.now.jobs))) }
+    {
+        let made = make_all(alloc, &self.jobs, order)?;
+        let mut elements = Vec::new(alloc);
+        let mut origins = Vec::new(alloc);
+        let top = SyntaxElement::Node(self.top.clone()?);
+        push_standing(
+            alloc,
+            &self.jobs,
+            &made,
+            &None,
+            top,
+            &[],
+            &mut elements,
+            &mut origins,
+        )?;
+        Ok(Content { elements, origins })
     }
 }
 
