@@ -1,11 +1,11 @@
 -- How a climb goes on, step by step.
-use Rattle.std.proofs.Common.{◌≡◌, ℕ, suc, ◌+◌, [], ◌∷◌, ◌++◌, length, Option, Some, None, true, false, cond, refl, ap, sym, ◌∙◌, append_assoc, arith}
+use Rattle.std.proofs.Common.{◌≡◌, ℕ, zero, suc, ◌+◌, [], ◌∷◌, ◌++◌, length, Option, Some, None, true, false, cond, refl, ap, sym, ◌∙◌, append_assoc, arith}
 use Rattle.std.proofs.lemmas.List.{append-nil}
 use Rattle.rowan_green.specs.Forest.{Tree}
 use Rattle.rowan.specs.Place.{first_number, index_of}
 use Rattle.numbered_tree.specs.Element.{Way, Element, same_element, element_at}
 use Rattle.numbered_tree.specs.Handle.{parent_of}
-use Rattle.numbered_tree.specs.Mapping.{Mapping, image_of}
+use Rattle.numbered_tree.specs.Mapping.{Mapping, image_of, or_else}
 use Rattle.tree_rewrite.specs.Moved.{way_up, way_to, way_by_image, way_from_image, with_number}
 use Rattle.tree_rewrite.specs.Climbing.{after_numbers}
 
@@ -92,3 +92,19 @@ way_to-goes_on d ms b a o p v u h differs is =
     way_to-climbed d ms b a o v u h
     ∙ ap (after_numbers u) (way_from_image-step (λ e. way_to d ms b e) b o p differs is)
     ∙ after_numbers-more u (index_of o.place) (way_to d ms b p)
+
+-- ---- the root term plays no part in a climb
+pub image_of-any_tree : (ms : Mapping) (n : ℕ) (t s : Tree) (w : Way) → image_of ms (element_at n t w) ≡ image_of ms (element_at n s w)
+image_of-any_tree [] n t s w = refl
+image_of-any_tree (m ∷ ms) n t s w = ap (λ o. or_else o (cond (same_element m.0 (element_at n s w)) (Some m.1) None)) (image_of-any_tree ms n t s w)
+
+way_up-any_tree : (on : Element → Option Way) (ms : Mapping) (b : Element) (n : ℕ) (t s : Tree) (w : Way) → way_up on ms b n t w ≡ way_up on ms b n s w
+way_up-any_tree on ms b n t s [] = ap (λ o. cond (same_element b (element_at n s [])) (Some []) (way_by_image on b o None)) (image_of-any_tree ms n t s [])
+way_up-any_tree on ms b n t s (i ∷ w) =
+    let image = image_of-any_tree ms n t s (i ∷ w) in
+    let above = way_up-any_tree on ms b n t s w in
+    λ j. cond (same_element b (element_at n s (i ∷ w))) (Some []) (way_by_image on b (image j) (with_number i (above j)))
+
+pub way_to-any_tree : (d : ℕ) (ms : Mapping) (b : Element) (n : ℕ) (t s : Tree) (w : Way) → way_to d ms b (element_at n t w) ≡ way_to d ms b (element_at n s w)
+way_to-any_tree zero ms b n t s w = refl
+way_to-any_tree (suc d) ms b n t s w = way_up-any_tree (λ e. way_to d ms b e) ms b n t s w

@@ -13,14 +13,15 @@ use Rattle.tree_rewrite.specs.Marked.{slot}
 use Rattle.tree_rewrite.specs.Rewrite.{Job, same_sheet, sets, jobs, jobs_from, job_of, change_at, payload_at, first_way, or_no_jobs, rewritten}
 use Rattle.tree_rewrite.specs.Orders.{test_at, is_owned, owns, is_order, put_in_order}
 use Rattle.tree_rewrite.specs.Laws.{OrdersAgree}
-use Rattle.tree_rewrite.proofs.Plans.{sets_on, JobsArePlan}
+use Rattle.tree_rewrite.proofs.Plans.{JobsArePlan}
+use Rattle.tree_rewrite.specs.Plan.{depth_of, sets_on}
 use Rattle.tree_rewrite.proofs.OrderLemmas.{same_way-sound, same_way-own, same_sheet-sound, every_order}
 
 abbrev some_or : {A : Type 0} → A → Option A → A
 some_or d None = d
 some_or d (Some a) = a
 
-some_same : {A : Type 0} (a b : A) → Some a ≡ Some b → a ≡ b
+pub some_same : {A : Type 0} (a b : A) → Some a ≡ Some b → a ≡ b
 some_same a b e = ap (some_or a) e
 
 -- two that cover one way meet
@@ -40,7 +41,7 @@ covers_meet (a ∷ p) (c ∷ u) (i ∷ w) n m es ds s t x y =
     subst (λ z. (same_way p z && (leb a (c + m) && leb c (a + n))) ≡ true) e (and_from _ _ (same_way-own p) (and_from _ _ (le-leb a (c + m) n1) (le-leb c (a + n) n2)))
 
 -- ---- a held way lies above
-held_above : (cs : List Change) (p u : Way) → holder_of cs p ≡ Some u → (v : Way) × (v ++ u ≡ p)
+pub held_above : (cs : List Change) (p u : Way) → holder_of cs p ≡ Some u → (v : Way) × (v ++ u ≡ p)
 held_above cs [] u h = by_test (list_any (λ r. replaces r []) cs) h
   where
     by_test : (b : Bool) → cond b (Some []) None ≡ Some u → (v : Way) × (v ++ u ≡ [])
@@ -149,14 +150,14 @@ jobs_meet top cs ms c1 c2 j1 j2 n w e1 e2 h1 h2 =
     by_sheet None o1 o2 p1 p2 g1 g2 = sets_meet c1 c2 w (subst (λ c. sets c (slot w) ≡ true) (sym (some_same c1 j1.change p1)) g1) (subst (λ c. sets c (slot w) ≡ true) (sym (some_same c2 j2.change p2)) g2)
     by_sheet (Some u) o1 o2 p1 p2 g1 g2 = moved_meet top cs ms u c1 c2 j1.change j2.change w o1 o2 (payload_at cs u) p1 p2 g1 g2
 
-record AreJobs (top : Element) (cs : List Change) (ms : Mapping) (c : Change) (ds : List Change) (ks : List Job) : Type 0 where
-  job : Job
-  rest : List Job
-  of : job_of top cs ms c ≡ Some job
-  more : jobs_from top cs ms ds ≡ Some rest
-  is : ks ≡ job ∷ rest
+pub record AreJobs (top : Element) (cs : List Change) (ms : Mapping) (c : Change) (ds : List Change) (ks : List Job) : Type 0 where
+  pub job : Job
+  pub rest : List Job
+  pub of : job_of top cs ms c ≡ Some job
+  pub more : jobs_from top cs ms ds ≡ Some rest
+  pub is : ks ≡ job ∷ rest
 
-are_jobs : (top : Element) (cs : List Change) (ms : Mapping) (c : Change) (ds : List Change) (ks : List Job) → jobs_from top cs ms (c ∷ ds) ≡ Some ks → AreJobs top cs ms c ds ks
+pub are_jobs : (top : Element) (cs : List Change) (ms : Mapping) (c : Change) (ds : List Change) (ks : List Job) → jobs_from top cs ms (c ∷ ds) ≡ Some ks → AreJobs top cs ms c ds ks
 are_jobs top cs ms c ds ks h = by_job (job_of top cs ms c) refl h
   where
     by_rest : (j : Job) → job_of top cs ms c ≡ Some j → (r : Option (List Job)) → jobs_from top cs ms ds ≡ r → option_map (λ js. j ∷ js) r ≡ Some ks → AreJobs top cs ms c ds ks
@@ -261,15 +262,11 @@ orders_agree top cs ms os p h =
     by_jobs c (Some js) e s g = every_order top js os (jobs_are_plan top cs ms js c e) g
 
 -- ---- an owned job's sheet is deeper than its owner's: so jobs sorted by depth, the deepest first, are in order
-abbrev pub depth : Option Way → ℕ
-depth None = 0
-depth (Some w) = length w + 1
-
-held_depth : (cs : List Change) (p : Way) (o : Option Way) → holder_of cs p ≡ o → depth o ≤ length p + 1
+held_depth : (cs : List Change) (p : Way) (o : Option Way) → holder_of cs p ≡ o → depth_of o ≤ length p + 1
 held_depth cs p None h = omega arith
 held_depth cs p (Some u) h = let x = held_above cs p u h in omega (arith, ap length x.1, length-append x.0 u)
 
-own_deeper : (t : Tree) (cs : List Change) (c : Change) (w : Way) (b : Bool) → b ≡ is_node_by_node t c → cond b (Some (first_way c)) None ≡ Some w → depth (owner_of cs c) < length w + 1
+own_deeper : (t : Tree) (cs : List Change) (c : Change) (w : Way) (b : Bool) → b ≡ is_node_by_node t c → cond b (Some (first_way c)) None ≡ Some w → depth_of (owner_of cs c) < length w + 1
 own_deeper t cs c w false n e = absurd (false≢true (sym (ap is_none e)))
 own_deeper t cs (insert p i new) w true n e = absurd (false≢true (sym n))
 own_deeper t cs (replace [] m new s) w true n e = omega arith
@@ -277,15 +274,15 @@ own_deeper t cs (replace (i ∷ p) m new s) w true n e =
     let h = held_depth cs p (holder_of cs p) refl in
     omega (arith, h, ap length (some_same (i ∷ p) w e))
 
-pub job_deeper : (top : Element) (cs : List Change) (ms : Mapping) (c : Change) (j : Job) → job_of top cs ms c ≡ Some j → (w : Way) → j.own ≡ Some w → depth j.sheet < length w + 1
+pub job_deeper : (top : Element) (cs : List Change) (ms : Mapping) (c : Change) (j : Job) → job_of top cs ms c ≡ Some j → (w : Way) → j.own ≡ Some w → depth_of j.sheet < length w + 1
 job_deeper top cs ms c j e w o =
     let x = job_parts (change_at top cs ms (owner_of cs c) c) _ _ j e in
-    subst (λ n. depth n < length w + 1) x.1 (own_deeper top.place.root cs c w (is_node_by_node top.place.root c) refl (x.2 ∙ o))
+    subst (λ n. depth_of n < length w + 1) x.1 (own_deeper top.place.root cs c w (is_node_by_node top.place.root c) refl (x.2 ∙ o))
 
 -- the job j owns the job i
-pub owned_deeper : (top : Element) (cs : List Change) (ms : Mapping) (c : Change) (j i : Job) → job_of top cs ms c ≡ Some j → is_owned j.own i ≡ true → depth j.sheet < depth i.sheet
+pub owned_deeper : (top : Element) (cs : List Change) (ms : Mapping) (c : Change) (j i : Job) → job_of top cs ms c ≡ Some j → is_owned j.own i ≡ true → depth_of j.sheet < depth_of i.sheet
 owned_deeper top cs ms c j i e h = by_own j.own refl h
   where
-    by_own : (o : Option Way) → j.own ≡ o → is_owned o i ≡ true → depth j.sheet < depth i.sheet
+    by_own : (o : Option Way) → j.own ≡ o → is_owned o i ≡ true → depth_of j.sheet < depth_of i.sheet
     by_own None f g = absurd (false≢true g)
-    by_own (Some w) f g = subst (λ n. depth j.sheet < depth n) (sym (same_sheet-sound i.sheet (Some w) g)) (job_deeper top cs ms c j e w f)
+    by_own (Some w) f g = subst (λ n. depth_of j.sheet < depth_of n) (sym (same_sheet-sound i.sheet (Some w) g)) (job_deeper top cs ms c j e w f)

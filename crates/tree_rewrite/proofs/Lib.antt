@@ -6,3 +6,9 @@ pub mod JobLemmas
 pub mod MarkedLemmas
 pub mod NestingLemmas
 pub mod ClimbLemmas
+pub mod DepthLemmas
+pub mod KeptLemmas
+pub mod MovedLemmas
+pub mod SheetLemmas
+pub mod FillLemmas
+pub mod ExecuteLemmas

@@ -8,7 +8,7 @@ use Rattle.std.specs.List.{filter}
 use Rattle.std.proofs.lemmas.Bool.{false≢true, and_parts}
 use Rattle.tree_rewrite.specs.Change.{Change, insert, replace, is_within, covers}
 use Rattle.tree_rewrite.specs.Rewrite.{Job, same_sheet, sets, set_by, written}
-use Rattle.tree_rewrite.proofs.Plans.{sets_on}
+use Rattle.tree_rewrite.specs.Plan.{sets_on}
 use Rattle.tree_rewrite.specs.Marked.{Marked, nothing, inner, token, join, forest_in, origins, origin_at, gap, slot, Sheet, blank, or_own, filled}
 
 abbrev pub forest_join : Forest → Forest → Forest

@@ -9,7 +9,8 @@ use Rattle.tree_rewrite.specs.Change.{Change, insert, replace}
 use Rattle.tree_rewrite.specs.Marked.{Spot, gap, slot}
 use Rattle.tree_rewrite.specs.Rewrite.{Job, same_sheet, sets}
 use Rattle.tree_rewrite.specs.Orders.{test_at, is_owned, owns, same_gap_at, same_gap, may_follow, in_order, is_order, with_picked, picked}
-use Rattle.tree_rewrite.proofs.Plans.{sets_on, SameAt, SameOwn, NestedFirst, IsPlan, EveryOrder}
+use Rattle.tree_rewrite.proofs.Plans.{SameAt, SameOwn, NestedFirst, IsPlan, EveryOrder}
+use Rattle.tree_rewrite.specs.Plan.{sets_on}
 use Rattle.tree_rewrite.proofs.NumberLemmas.{AllOf, Rising, Apart, upto, passing_same}
 use Rattle.tree_rewrite.proofs.PutLemmas.{puts_rewritten}
 

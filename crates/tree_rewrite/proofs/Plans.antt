@@ -1,15 +1,13 @@
 -- What makes an order of jobs end in the rewritten element.
-use Rattle.std.specs.Prelude.{◌≡◌, ℕ, List, [], ◌∷◌, length, reverse, Option, Some, None, Bool, true, false, ◌&&◌, slice_get}
+use Rattle.std.specs.Prelude.{◌≡◌, ℕ, List, [], ◌∷◌, length, reverse, Option, Some, None, true, false, slice_get}
 use Rattle.std.specs.List.{filter}
 use Rattle.numbered_tree.specs.Element.{Way, Element}
 use Rattle.tree_rewrite.specs.Change.{Change, has_collision}
 use Rattle.numbered_tree.specs.Mapping.{Mapping}
 use Rattle.tree_rewrite.specs.Marked.{Spot, slot}
-use Rattle.tree_rewrite.specs.Rewrite.{Job, same_sheet, sets, rewritten, jobs}
+use Rattle.tree_rewrite.specs.Rewrite.{Job, rewritten, jobs}
+use Rattle.tree_rewrite.specs.Plan.{sets_on}
 use Rattle.tree_rewrite.specs.Orders.{test_at, owns, is_order, put_in_order}
-
-abbrev pub sets_on : Option Way → Spot → Job → Bool
-sets_on n k j = same_sheet j.sheet n && sets j.change k
 
 -- at each spot of this sheet the two lists set the same in the same order
 abbrev pub SameAt : Option Way → List Job → List Job → Type 0

@@ -4,7 +4,8 @@ use Rattle.std.specs.List.{filter}
 use Rattle.numbered_tree.specs.Element.{Way, Element}
 use Rattle.tree_rewrite.specs.Marked.{Marked, Spot, reading_of, readings_of, with_put}
 use Rattle.tree_rewrite.specs.Rewrite.{Job, set_by, Sheets, write, written, terms_within, terms_of, puts, rewritten, sheet_of, payload_of}
-use Rattle.tree_rewrite.proofs.Plans.{sets_on, SameAt, SameOwn, NestedFirst, Orders}
+use Rattle.tree_rewrite.proofs.Plans.{SameAt, SameOwn, NestedFirst, Orders}
+use Rattle.tree_rewrite.specs.Plan.{sets_on}
 
 kept_more : (c : Job → Marked) (n : Option Way) (k : Spot) (j : Job) (js : List Job)
     → written c js n k ≡ written c (filter (sets_on n k) js) n k

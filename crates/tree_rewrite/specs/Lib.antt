@@ -6,3 +6,6 @@ pub mod Orders
 pub mod Recorded
 pub mod Laws
 pub mod Climbing
+pub mod Plan
+pub mod Reach
+pub mod Fill

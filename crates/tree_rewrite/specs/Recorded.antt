@@ -1,5 +1,5 @@
 -- A recorded change and a job, as the code has them.
-use Rattle.std.specs.Prelude.{ℕ, ◌-◌, ◌≤◌, List, map, Option, option_map}
+use Rattle.std.specs.Prelude.{ℕ, ◌+◌, ◌-◌, ◌≤◌, List, map, Option, Some, None, option_map}
 use Rattle.std.specs.Global.{Vec}
 use Rattle.rowan.specs.Place.{index_of}
 use Rattle.numbered_tree.specs.Element.{Way, Element}
@@ -18,6 +18,11 @@ change_of (Slots first n single) new = replace first.items n new single
 -- the way that is kept, if one is
 abbrev pub way_of : Option (Vec ℕ) → Option Way
 way_of w = option_map (λ v. v.items) w
+
+-- how deep a sheet lies whose way has this length, or the tree's own
+abbrev pub level_of : Option ℕ → ℕ
+level_of None = 0
+level_of (Some n) = n + 1
 
 -- the change by the ways of what it changes
 abbrev pub recorded : declared.Change → Change

@@ -114,9 +114,13 @@ abbrev pub jobs_from : Element → List Change → Mapping → List Change → O
 jobs_from top cs ms [] = Some []
 jobs_from top cs ms (c ∷ ds) = option_and_then (λ j. option_map (λ js. j ∷ js) (jobs_from top cs ms ds)) (job_of top cs ms c)
 
+-- those of some changes that are not dropped among all of them
+abbrev pub kept_of : Tree → List Change → List Change → List Change
+kept_of t cs ds = filter (λ c. not (is_dropped t cs c)) ds
+
 -- the changes that are not dropped, as recorded
 abbrev pub kept : Tree → List Change → List Change
-kept t cs = filter (λ c. not (is_dropped t cs c)) cs
+kept t cs = kept_of t cs cs
 
 -- their jobs, in recorded order; none where one of them has no place
 abbrev pub jobs : Element → List Change → Mapping → Option (List Job)

@@ -56,22 +56,6 @@ fn climb<'m>(
     }
 }
 
-/// The same from a node.
-fn climb_from<'m>(
-    alloc: Global,
-    mapping: &'m SyntaxMapping,
-    payload: &SyntaxNode,
-    node: &SyntaxNode,
-    numbers: &mut Vec<usize>,
-) -> Result<ClimbEnd<'m>, AllocError>
-    ensures { (on : Element → Option Way) → IfOk result (λ end.
-        after_numbers numbers.old.items (way_up on mapping.now payload.now node.now.number node.now.place.root node.now.place.up)
-        ≡ after_numbers numbers.new.items (way_left on payload.now end)) }
-{
-    let way = node.way(alloc)?;
-    climb(mapping, payload, node.tree(), &way, numbers)
-}
-
 /// Whether two nodes are one.
 fn is_same(alloc: Global, node: &SyntaxNode, other: &SyntaxNode) -> Result<bool, AllocError>
     ensures { IfOk result (λ b. b ≡ same_element node.now other.now) }
@@ -80,22 +64,24 @@ fn is_same(alloc: Global, node: &SyntaxNode, other: &SyntaxNode) -> Result<bool,
     is_at(node, other.tree(), &way)
 }
 
-/// The numbers of the elements from a node up to the payload, its own first, where a mapped node goes on at what it is mapped to; none
-/// where the payload is not met.
+/// The numbers of the elements from one up to the payload, its own first, where a mapped node goes on at what it is mapped to; none
+/// where the payload is not met. The first element stands at a way in the tree of this number.
 pub fn way_to(
     alloc: Global,
     mapping: &SyntaxMapping,
     payload: &SyntaxNode,
-    from: &SyntaxNode,
+    tree: u32,
+    way: &[usize],
 ) -> Result<Option<Vec<usize>>, AllocError>
-    ensures { IfOk result (λ r. option_map (λ v. v.items) r
-        ≡ way_to (length mapping.now + 1) mapping.now payload.now from.now) }
+    ensures { (t : Tree) → IfOk result (λ r. option_map (λ v. v.items) r
+        ≡ way_to (length mapping.now + 1) mapping.now payload.now (element_at tree t way.now)) }
 {
     let mut numbers = Vec::new(alloc);
-    let mut place = from.clone()?;
+    let mut at = tree;
+    let mut rest = Vec::from_slice(alloc, way)?;
     let mut left = mapping.len();
     loop {
-        let output = match climb_from(alloc, mapping, payload, &place, &mut numbers)? {
+        let output = match climb(mapping, payload, at, &rest, &mut numbers)? {
             ClimbEnd::Payload => return Ok(Some(numbers)),
             ClimbEnd::Root => return Ok(None),
             ClimbEnd::Mapped(output) => output,
@@ -111,6 +97,8 @@ pub fn way_to(
             return Ok(None);
         }
         left -= 1;
-        place = parent;
+        let above = parent.way(alloc)?;
+        at = parent.tree();
+        rest = above;
     }
 }

@@ -1,11 +1,17 @@
 //! Changes where they are made, and the orders in which they may be made one by one.
-ghost use Rattle.std.specs.Prelude.{◌≡◌, Some};
+ghost use Rattle.std.specs.Prelude.{◌≡◌, ◌&&◌, Some, map};
 ghost use Rattle.std.specs.List.{list_all};
-ghost use Rattle.tree_rewrite.specs.Rewrite.{same_sheet};
+ghost use Rattle.tree_rewrite.specs.Rewrite.{same_sheet, sets, first_way, payload_of};
+ghost use Rattle.tree_rewrite.specs.Marked.{gap, slot};
+ghost use Rattle.tree_rewrite.specs.Reach.{reaches};
+ghost use Rattle.numbered_tree.specs.Element.{same_way};
+ghost use Rattle.numbered_tree.specs.Handle.{element_of};
 ghost use Rattle.tree_rewrite.specs.Orders.{is_owned, same_gap, may_follow, in_order, is_order};
-ghost use Rattle.tree_rewrite.specs.Recorded.{way_of};
+ghost use Rattle.tree_rewrite.specs.Recorded.{way_of, level_of};
+ghost use Rattle.tree_rewrite.specs.Plan.{depth_of};
 
 use crate::tree_change::TreeChange;
+use numbered_tree::SyntaxElement;
 use std::marker::Model;
 
 /// A change that is not dropped, where it is made.
@@ -49,6 +55,58 @@ impl Job {
         ensures { result ≡ record { sheet = way_of sheet; change = change; own = way_of own } }
     {
         Job { sheet, change, own }
+    }
+
+    /// What it puts in.
+    pub(crate) fn payload(&self) -> &[SyntaxElement]
+        ensures { map element_of result.now ≡ payload_of self.now.change }
+    {
+        self.change.payload()
+    }
+
+    /// The node that it replaces by a node.
+    pub(crate) fn own(&self) -> &Option<Vec<usize>>
+        ensures { way_of result.now ≡ self.now.own }
+    {
+        &self.own
+    }
+
+    /// The length of its sheet's way; none for the tree's own sheet.
+    pub(crate) fn level(&self) -> Option<usize>
+        ensures { level_of result ≡ depth_of self.now.sheet }
+    {
+        match &self.sheet {
+            Some(way) => Some(way.len()),
+            None => None,
+        }
+    }
+
+    /// Whether it puts into a gap of a sheet.
+    pub(crate) fn sets_gap(&self, sheet: &Option<Vec<usize>>, way: &[usize], index: usize) -> bool
+        ensures { result ≡ (same_sheet self.now.sheet (way_of sheet.now) && sets self.now.change (gap way.now index)) }
+    {
+        same_sheet(&self.sheet, sheet) && self.change.sets_gap(way, index)
+    }
+
+    /// Whether it says what stands in the place of an element of a sheet.
+    pub(crate) fn sets_slot(&self, sheet: &Option<Vec<usize>>, way: &[usize]) -> bool
+        ensures { result ≡ (same_sheet self.now.sheet (way_of sheet.now) && sets self.now.change (slot way.now)) }
+    {
+        same_sheet(&self.sheet, sheet) && self.change.replaces(way)
+    }
+
+    /// Whether it says what stands below an element of a sheet.
+    pub(crate) fn reaches(&self, sheet: &Option<Vec<usize>>, way: &[usize]) -> bool
+        ensures { result ≡ (same_sheet self.now.sheet (way_of sheet.now) && reaches way.now self.now.change) }
+    {
+        same_sheet(&self.sheet, sheet) && self.change.reaches(way)
+    }
+
+    /// Whether the first element that it replaces stands at a way; the root, where it replaces none.
+    pub(crate) fn begins_at(&self, way: &[usize]) -> bool
+        ensures { result ≡ same_way (first_way self.now.change) way.now }
+    {
+        self.change.begins_at(way)
     }
 
     /// Whether another job is made in this one's payload.

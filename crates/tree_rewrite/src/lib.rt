@@ -7,8 +7,17 @@
 
 pub mod change;
 pub mod climb;
+pub mod content;
+pub mod depth;
+pub mod error;
+pub mod execute;
+pub mod fill;
 pub mod job;
+pub mod kept;
 pub mod laws;
+pub mod moved;
 pub mod nesting;
+pub mod plan;
+pub mod sheet;
 pub mod tree_change;
 pub mod ways;

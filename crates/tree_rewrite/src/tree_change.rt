@@ -1,12 +1,17 @@
 //! Recorded changes, by the ways of what they change.
-ghost use Rattle.std.specs.Prelude.{◌≡◌, List, map};
+ghost use Rattle.std.specs.Prelude.{◌≡◌, List, map, IfOk};
 ghost use Rattle.numbered_tree.specs.Element.{Element};
 ghost use Rattle.numbered_tree.specs.Handle.{element_of};
-ghost use Rattle.tree_rewrite.specs.Rewrite.{payload_of};
+ghost use Rattle.numbered_tree.specs.Element.{same_way};
+ghost use Rattle.tree_rewrite.specs.Marked.{gap};
+ghost use Rattle.tree_rewrite.specs.Reach.{reaches};
+ghost use Rattle.tree_rewrite.specs.Rewrite.{payload_of, sets, first_way};
 ghost use Rattle.tree_rewrite.specs.Orders.{same_gap_at};
 ghost use Rattle.tree_rewrite.specs.Recorded.{change_of};
 
+use crate::ways::is_within;
 use numbered_tree::SyntaxElement;
+use std::alloc::{AllocError, Global};
 use std::marker::Model;
 
 /// What a change changes.
@@ -23,6 +28,40 @@ pub enum Target {
         more: usize,
         single: bool,
     },
+}
+
+impl Target {
+    /// The same place again.
+    fn copied(&self, alloc: Global) -> Result<Target, AllocError>
+        ensures { (es : List Element) → IfOk result (λ t. change_of t es ≡ change_of self.now es) }
+    {
+        match self {
+            Target::Gap { parent, index } => Ok(Target::Gap {
+                parent: Vec::from_slice(alloc, parent)?,
+                index: *index,
+            }),
+            Target::Slots {
+                first,
+                more,
+                single,
+            } => Ok(Target::Slots {
+                first: Vec::from_slice(alloc, first)?,
+                more: *more,
+                single: *single,
+            }),
+        }
+    }
+}
+
+/// These elements again.
+fn copies(alloc: Global, elements: &[SyntaxElement]) -> Result<Vec<SyntaxElement>, AllocError>
+    ensures { IfOk result (λ v. v.items ≡ elements.now) }
+{
+    let mut copies = Vec::new(alloc);
+    for element in elements {
+        copies.push(element.clone()?)?;
+    }
+    Ok(copies)
 }
 
 /// A change of a tree, whose elements it names by their ways.
@@ -66,6 +105,55 @@ impl TreeChange {
         ensures { map element_of result.now ≡ payload_of self.now }
     {
         &self.new
+    }
+
+    /// The same elements come elsewhere.
+    pub fn moved_to(&self, alloc: Global, target: Target) -> Result<TreeChange, AllocError>
+        ensures { IfOk result (λ c. c ≡ change_of target (payload_of self.now)) }
+    {
+        let new = copies(alloc, &self.new)?;
+        Ok(TreeChange { target, new })
+    }
+
+    /// The same change again.
+    pub fn copied(&self, alloc: Global) -> Result<TreeChange, AllocError>
+        ensures { IfOk result (λ c. c ≡ self.now) }
+    {
+        let target = self.target.copied(alloc)?;
+        self.moved_to(alloc, target)
+    }
+
+    /// Whether it puts into a gap.
+    pub(crate) fn sets_gap(&self, way: &[usize], number: usize) -> bool
+        ensures { result ≡ sets self.now (gap way.now number) }
+    {
+        match &self.target {
+            Target::Gap { parent, index } => parent.as_slice() == way && *index == number,
+            Target::Slots { .. } => false,
+        }
+    }
+
+    /// Whether it says what stands below the element at a way.
+    pub(crate) fn reaches(&self, way: &[usize]) -> bool
+        ensures { result ≡ reaches way.now self.now }
+    {
+        match &self.target {
+            Target::Gap { parent, .. } => is_within(way, 0, parent),
+            Target::Slots { first, .. } => match first.split_first() {
+                Some((_, above)) => is_within(way, 0, above),
+                None => false,
+            },
+        }
+    }
+
+    /// Whether the first element that it replaces stands at a way; the root, where it replaces none.
+    pub(crate) fn begins_at(&self, way: &[usize]) -> bool
+        ensures { result ≡ same_way (first_way self.now) way.now }
+    {
+        match &self.target {
+            Target::Gap { .. } => way.is_empty(),
+            Target::Slots { first, .. } => first.as_slice() == way,
+        }
     }
 
     /// Whether both put into one gap.

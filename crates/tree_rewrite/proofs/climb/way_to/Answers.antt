@@ -1,41 +1,27 @@
 use Rattle.std.proofs.Common.{◌≡◌, ◌+◌, sym, ◌∙◌, ap, arith, ◌-◌, ◌++◌, ◌∷◌, []}
 use Rattle.rowan.specs.Place.{index_of}
-use Rattle.numbered_tree.specs.Element.{Element}
-use Rattle.tree_rewrite.specs.Moved.{way_to}
+use Rattle.numbered_tree.specs.Element.{Element, element_at}
+use Rattle.tree_rewrite.specs.Moved.{way_to, way_up}
 use Rattle.tree_rewrite.specs.Climbing.{after_numbers, way_left}
-use Rattle.tree_rewrite.proofs.ClimbLemmas.{way_to-climbed, way_from_image-payload, way_from_image-root, way_to-goes_on, after_numbers-end}
+use Rattle.tree_rewrite.proofs.ClimbLemmas.{way_to-goes_on, way_to-any_tree}
 use Rattle.tree_rewrite.proofs.climb.way_to.Goals as goal
 
-pub returns-then-branch : goal.returns-then-branch
-returns-then-branch c =
-    let on = λ (e : Element). way_to c.loop-place.left c.args.mapping.now c.args.payload.now e in
-    let ended = c.in_ok-climb_from.ensures on ∙ ap (λ x. after_numbers c.climb_from.new.numbers.items (way_left on c.args.payload.now x)) c.in-Mapped.is in
-    let climbed = way_to-climbed c.loop-place.left c.args.mapping.now c.args.payload.now c.loop-place.place c.in-Mapped.output.now c.loop-place.numbers.items c.climb_from.new.numbers.items ended in
-    let met = way_from_image-payload on c.args.payload.now c.in-Mapped.output.now (sym c.in_ok-is_same.ensures ∙ c.if-branch.true) in
-    sym (c.loop-place.invariant ∙ climbed ∙ ap (after_numbers c.climb_from.new.numbers.items) met ∙ after_numbers-end c.climb_from.new.numbers.items)
-
-pub returns-in_default : goal.returns-in_default
-returns-in_default c =
-    let on = λ (e : Element). way_to c.loop-place.left c.args.mapping.now c.args.payload.now e in
-    let ended = c.in_ok-climb_from.ensures on ∙ ap (λ x. after_numbers c.climb_from.new.numbers.items (way_left on c.args.payload.now x)) c.in-Mapped.is in
-    let climbed = way_to-climbed c.loop-place.left c.args.mapping.now c.args.payload.now c.loop-place.place c.in-Mapped.output.now c.loop-place.numbers.items c.climb_from.new.numbers.items ended in
-    let lost = way_from_image-root on c.args.payload.now c.in-Mapped.output.now (sym c.in_ok-is_same.ensures ∙ c.if-branch.false) (sym c.in_default.is ∙ c.in_ok-parent.ensures) in
-    sym (c.loop-place.invariant ∙ climbed ∙ ap (after_numbers c.climb_from.new.numbers.items) lost)
-
-pub returns-then-left-eq0 : goal.returns-then-left-eq0
-returns-then-left-eq0 c =
-    let on = λ (e : Element). way_to c.loop-place.left c.args.mapping.now c.args.payload.now e in
-    let ended = c.in_ok-climb_from.ensures on ∙ ap (λ x. after_numbers c.climb_from.new.numbers.items (way_left on c.args.payload.now x)) c.in-Mapped.is in
-    let on_from = way_to-goes_on c.loop-place.left c.args.mapping.now c.args.payload.now c.loop-place.place c.in-Mapped.output.now c.in-Some.parent c.loop-place.numbers.items c.climb_from.new.numbers.items ended (sym c.in_ok-is_same.ensures ∙ c.if-branch.false) (sym c.in-Some.is ∙ c.in_ok-parent.ensures) in
-    sym (c.loop-place.invariant ∙ on_from ∙ ap (λ d. after_numbers (c.climb_from.new.numbers.items ++ index_of c.in-Mapped.output.now.place ∷ []) (way_to d c.args.mapping.now c.args.payload.now c.in-Some.parent)) c.if-left-eq0.true)
-
-pub loop-place-preserved : goal.loop-place-preserved
-loop-place-preserved c =
-    let on = λ (e : Element). way_to c.loop-place.left c.args.mapping.now c.args.payload.now e in
-    let ended = c.in_ok-climb_from.ensures on ∙ ap (λ x. after_numbers c.climb_from.new.numbers.items (way_left on c.args.payload.now x)) c.in-Mapped.is in
-    let on_from = way_to-goes_on c.loop-place.left c.args.mapping.now c.args.payload.now c.loop-place.place c.in-Mapped.output.now c.in-Some.parent c.loop-place.numbers.items c.climb_from.new.numbers.items ended (sym c.in_ok-is_same.ensures ∙ c.if-branch.false) (sym c.in-Some.is ∙ c.in_ok-parent.ensures) in
-    let one_less : c.loop-place.left ≡ c.loop-place.left - 1 + 1 = omega (arith, c.if-left-eq0.false) in
-    let pushed = c.in_ok-push.ensures.items ∙ ap (λ i. c.climb_from.new.numbers.items ++ i ∷ []) (c.index.ensures ∙ ap index_of c.cursor.ensures) in
-    c.loop-place.invariant ∙ on_from
-    ∙ ap (λ d. after_numbers (c.climb_from.new.numbers.items ++ index_of c.in-Mapped.output.now.place ∷ []) (way_to d c.args.mapping.now c.args.payload.now c.in-Some.parent)) one_less
-    ∙ ap (λ v. after_numbers v (way_to (c.loop-place.left - 1 + 1) c.args.mapping.now c.args.payload.now c.in-Some.parent)) (sym pushed)
+pub loop-rest-preserved : goal.loop-rest-preserved
+loop-rest-preserved c = λ t.
+    let ms = c.args.mapping.now in
+    let b = c.args.payload.now in
+    let d = c.loop-rest.left in
+    let old = c.loop-rest.numbers.items in
+    let new = c.climb.new.numbers.items in
+    let o = c.in-Mapped.output.now in
+    let p = c.in-Some.parent in
+    let on = λ (e : Element). way_to d ms b e in
+    let here = element_at c.loop-rest.at t c.loop-rest.rest.items in
+    let ended = ap (λ v. after_numbers old (way_up on ms b c.loop-rest.at t v)) (sym c.deref.ensures.value) ∙ c.in_ok-climb.ensures on t ∙ ap (λ x. after_numbers new (way_left on b x)) c.in-Mapped.is in
+    let on_from = way_to-goes_on d ms b here o p old new ended (sym c.in_ok-is_same.ensures ∙ c.if-branch.false) (sym c.in-Some.is ∙ c.in_ok-parent.ensures) in
+    let one_less : d ≡ d - 1 + 1 = omega (arith, c.if-left-eq0.false) in
+    let pushed = c.in_ok-push.ensures.items ∙ ap (λ i. new ++ i ∷ []) (c.index.ensures ∙ ap index_of c.cursor.ensures) in
+    let there = way_to-any_tree (d - 1 + 1) ms b p.number p.place.root t p.place.up ∙ (λ j. way_to (d - 1 + 1) ms b (element_at (sym c.tree-at.ensures j) t (sym c.in_ok-above.ensures j))) in
+    c.loop-rest.invariant t ∙ on_from
+    ∙ ap (λ k. after_numbers (new ++ index_of o.place ∷ []) (way_to k ms b p)) one_less
+    ∙ (λ j. after_numbers (sym pushed j) (there j))

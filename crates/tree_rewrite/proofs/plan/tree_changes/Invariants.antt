@@ -1,0 +1,6 @@
+use Rattle.std.proofs.Common.{◌≡◌, map}
+use Rattle.tree_rewrite.specs.Recorded.{recorded}
+use Rattle.tree_rewrite.proofs.plan.tree_changes.Given as goal
+
+abbrev pub invariant-loop-change : goal.invariant-loop-change
+invariant-loop-change l = l.made.items ≡ map recorded l.yielded

@@ -1,0 +1,10 @@
+-- Which changes say what stands below an element.
+use Rattle.std.specs.Prelude.{[], ◌∷◌, Bool, false}
+use Rattle.numbered_tree.specs.Element.{Way}
+use Rattle.tree_rewrite.specs.Change.{Change, insert, replace, is_within}
+
+-- the change says what stands at a gap or in a place whose parent is the element at `v` or lies below it
+abbrev pub reaches : Way → Change → Bool
+reaches v (insert p i new) = is_within v 0 p
+reaches v (replace [] n new single) = false
+reaches v (replace (i ∷ p) n new single) = is_within v 0 p

@@ -1,0 +1,100 @@
+//! The jobs of the changes that are not dropped.
+ghost use Rattle.std.specs.Prelude.{◌≡◌, [], false, map, option_map, IfOk};
+ghost use Rattle.std.specs.Option.{option_copied};
+ghost use Rattle.numbered_tree.specs.Handle.{element_of};
+ghost use Rattle.tree_rewrite.specs.Change.{is_dropped, is_node_by_node};
+ghost use Rattle.tree_rewrite.specs.Rewrite.{payload_at, own_of, job_of, jobs};
+ghost use Rattle.tree_rewrite.specs.Recorded.{way_of};
+
+use crate::job::Job;
+use crate::moved::change_in;
+use crate::nesting::{is_dropped, is_node_by_node, owner_of};
+use crate::tree_change::{Target, TreeChange};
+use numbered_tree::{SyntaxElement, SyntaxMapping, SyntaxNode};
+use rowan_green::GreenNode;
+use std::alloc::{AllocError, Global};
+
+/// The payload of what replaces the element at a way.
+fn payload_at<'a>(changes: &'a [TreeChange], way: &[usize]) -> Option<&'a SyntaxElement>
+    ensures { option_map element_of (option_copied result) ≡ payload_at changes.now way.now }
+{
+    for change in changes {
+        if let Some(payload) = change.payload().first()
+            && change.replaces(way)
+        {
+            return Some(payload);
+        }
+    }
+    None
+}
+
+/// The way of the node whose payload by a change may be changed itself.
+fn own_of(
+    alloc: Global,
+    root: &GreenNode,
+    change: &TreeChange,
+) -> Result<Option<Vec<usize>>, AllocError>
+    ensures { IfOk result (λ w. way_of w ≡ own_of root.now change.now) }
+{
+    match change.target() {
+        Target::Slots { first, .. } if is_node_by_node(root, change) => {
+            Ok(Some(Vec::from_slice(alloc, first)?))
+        }
+        _ => Ok(None),
+    }
+}
+
+/// The job of a change that is not dropped; none where it has no place.
+fn job_of(
+    alloc: Global,
+    root: &SyntaxNode,
+    changes: &[TreeChange],
+    mapping: &SyntaxMapping,
+    change: &TreeChange,
+) -> Result<Option<Job>, AllocError>
+    requires top { root.now.place.up ≡ [] }
+    requires kept { is_dropped root.now.place.root changes.now change.now ≡ false }
+    ensures { IfOk result (λ r. r ≡ job_of root.now changes.now mapping.now change.now) }
+{
+    let own = own_of(alloc, root.cursor().green(), change)?;
+    let Some(holder) = owner_of(changes, change) else {
+        return Ok(Some(Job::new(None, change.copied(alloc)?, own)));
+    };
+    let payload = match payload_at(changes, holder) {
+        Some(SyntaxElement::Node(payload)) => payload,
+        Some(SyntaxElement::Token(token)) => {
+            let _leaf = token.cursor().green();
+            unreachable!()
+        }
+        None => return Ok(None),
+    };
+    match change_in(alloc, root, mapping, holder, payload, change)? {
+        Some(moved) => {
+            let sheet = Vec::from_slice(alloc, holder)?;
+            Ok(Some(Job::new(Some(sheet), moved, own)))
+        }
+        None => Ok(None),
+    }
+}
+
+/// The jobs of the changes that are not dropped, in recorded order; none where one of them has no place.
+pub fn jobs_of(
+    alloc: Global,
+    root: &SyntaxNode,
+    changes: &[TreeChange],
+    mapping: &SyntaxMapping,
+) -> Result<Option<Vec<Job>>, AllocError>
+    requires { root.now.place.up ≡ [] }
+    ensures { IfOk result (λ r. option_map (λ v. v.items) r ≡ jobs root.now changes.now mapping.now) }
+{
+    let mut jobs = Vec::new(alloc);
+    for change in changes {
+        if !is_dropped(root.cursor().green(), changes, change) {
+            let Some(job) = job_of(alloc, root, changes, mapping, change)? else {
+                return Ok(None);
+            };
+            jobs.push(job)?;
+        }
+    }
+    Ok(Some(jobs))
+}

@@ -1,0 +1,196 @@
+//! Where a change is made that lies in a node which is replaced by a node: its place in that payload.
+ghost use Rattle.std.specs.Prelude.{◌≡◌, ◌+◌, [], ◌∷◌, option_map, IfOk};
+ghost use Rattle.std.specs.Option.{option_copied};
+ghost use Rattle.syntax_tree.specs.Lent.{lent};
+ghost use Rattle.rowan_green.specs.Term.{children_of, kind_of};
+ghost use Rattle.rowan.specs.Place.{term_by, children_in, first_number};
+ghost use Rattle.tree_rewrite.specs.Moved.{carried, same_kind, same_kinds, has_gap, way_above, change_below, change_in};
+
+use crate::climb::way_to;
+use crate::nesting::element_by;
+use crate::tree_change::{Target, TreeChange};
+use numbered_tree::{SyntaxMapping, SyntaxNode};
+use rowan_green::{GreenElement, GreenNode, GreenToken, NodeOrToken, SyntaxKind};
+use std::alloc::{AllocError, Global};
+
+/// The way that leads to `replaced`, where that has become the way `to`.
+fn carried(
+    alloc: Global,
+    replaced: &[usize],
+    to: &[usize],
+    way: &[usize],
+) -> Result<Vec<usize>, AllocError>
+    ensures { IfOk result (λ v. v.items ≡ carried replaced.now to.now way.now) }
+{
+    let count = way.len().saturating_sub(replaced.len());
+    let mut moved = Vec::from_slice(alloc, &way[..count])?;
+    moved.extend_from_slice(to)?;
+    Ok(moved)
+}
+
+/// The kind of an element that is lent.
+fn kind_of(element: NodeOrToken<&GreenNode, &GreenToken>) -> SyntaxKind
+    ensures { result.0 ≡ kind_of (lent element.entry) }
+{
+    match element {
+        NodeOrToken::Node(node) => node.kind(),
+        NodeOrToken::Token(token) => token.kind(),
+    }
+}
+
+/// Whether the new element is a node of the old one's kind that has a gap of this number.
+fn has_gap(
+    old: Option<NodeOrToken<&GreenNode, &GreenToken>>,
+    new: Option<NodeOrToken<&GreenNode, &GreenToken>>,
+    index: usize,
+) -> bool
+    ensures { result ≡ has_gap (option_map lent old.entry) (option_map lent new.entry) index }
+{
+    let Some(NodeOrToken::Node(node)) = new else {
+        return false;
+    };
+    let Some(old) = old else {
+        return false;
+    };
+    kind_of(old) == node.kind() && index <= node.children().len()
+}
+
+/// Whether two children are there, and of one kind.
+fn same_kind(old: Option<&GreenElement>, new: Option<&GreenElement>) -> bool
+    ensures { result ≡ same_kind (option_copied old.entry) (option_copied new.entry) }
+{
+    match (old, new) {
+        (Some(old), Some(new)) => old.kind() == new.kind(),
+        _ => false,
+    }
+}
+
+/// Whether the child of a number and so many more after it are there in both nodes, with the same kinds.
+fn same_kinds(old: &GreenNode, new: &GreenNode, start: usize, more: usize) -> bool
+    ensures { result ≡ same_kinds (children_of old.now) (children_of new.now) start (more + 1) }
+{
+    let count = old.children().len();
+    let mut index = start;
+    let mut left = more;
+    while index < count {
+        if !same_kind(old.child(index), new.child(index)) {
+            return false;
+        }
+        if left == 0 {
+            return true;
+        }
+        left -= 1;
+        index += 1;
+    }
+    false
+}
+
+/// The number of an element among its siblings, and the way of its parent; 0 and the root for the root.
+fn number_and_parent(way: &[usize]) -> (usize, &[usize])
+    ensures number { result.0 ≡ first_number way.now }
+    ensures parent { result.1.now ≡ way_above way.now }
+{
+    match way.split_first() {
+        Some((number, above)) => (*number, above),
+        None => (0, way),
+    }
+}
+
+/// The same for the children of two elements.
+fn same_children(
+    old: Option<NodeOrToken<&GreenNode, &GreenToken>>,
+    new: Option<NodeOrToken<&GreenNode, &GreenToken>>,
+    start: usize,
+    more: usize,
+) -> bool
+    ensures { result ≡ same_kinds (children_in (option_map lent old.entry)) (children_in (option_map lent new.entry)) start (more + 1) }
+{
+    match (old, new) {
+        (Some(NodeOrToken::Node(old)), Some(NodeOrToken::Node(new))) => {
+            same_kinds(old, new, start, more)
+        }
+        _ => false,
+    }
+}
+
+/// A change of the tree in the node at `replaced`, made in the payload, where that node has become the one at `to` below it; none
+/// where that has no such gap or elements.
+fn change_below(
+    alloc: Global,
+    root: &GreenNode,
+    replaced: &[usize],
+    payload: &SyntaxNode,
+    to: &[usize],
+    change: &TreeChange,
+) -> Result<Option<TreeChange>, AllocError>
+    ensures { IfOk result (λ r. r ≡ change_below root.now replaced.now payload.now to.now change.now) }
+{
+    let green = payload.cursor().green();
+    match change.target() {
+        Target::Gap { parent, index } => {
+            let way = carried(alloc, replaced, to, parent)?;
+            if !has_gap(element_by(root, parent), element_by(green, &way), *index) {
+                return Ok(None);
+            }
+            let target = Target::Gap {
+                parent: way,
+                index: *index,
+            };
+            Ok(Some(change.moved_to(alloc, target)?))
+        }
+        Target::Slots {
+            first,
+            more,
+            single,
+        } => {
+            let (number, above) = number_and_parent(first);
+            let way = carried(alloc, replaced, to, above)?;
+            if !same_children(
+                element_by(root, above),
+                element_by(green, &way),
+                number,
+                *more,
+            ) {
+                return Ok(None);
+            }
+            let target = Target::Slots {
+                first: with_number(alloc, number, &way)?,
+                more: *more,
+                single: *single,
+            };
+            Ok(Some(change.moved_to(alloc, target)?))
+        }
+    }
+}
+
+/// The way of a child.
+pub(crate) fn with_number(
+    alloc: Global,
+    number: usize,
+    way: &[usize],
+) -> Result<Vec<usize>, AllocError>
+    ensures { IfOk result (λ v. v.items ≡ number ∷ way.now) }
+{
+    let mut below = vec![in alloc; number]?;
+    below.extend_from_slice(way)?;
+    Ok(below)
+}
+
+/// A change in the node at `replaced`, made in its payload.
+pub fn change_in(
+    alloc: Global,
+    root: &SyntaxNode,
+    mapping: &SyntaxMapping,
+    replaced: &[usize],
+    payload: &SyntaxNode,
+    change: &TreeChange,
+) -> Result<Option<TreeChange>, AllocError>
+    requires { root.now.place.up ≡ [] }
+    ensures { IfOk result (λ r. r ≡ change_in root.now mapping.now replaced.now payload.now change.now) }
+{
+    let green = root.cursor().green();
+    match way_to(alloc, mapping, payload, root.tree(), replaced)? {
+        Some(to) => change_below(alloc, green, replaced, payload, &to, change),
+        None => Ok(None),
+    }
+}
