@@ -1,0 +1,78 @@
+//! Reads cases: each line of the input is a JSON object with an edition, what the text is read as, the text, the lines of its tree, and
+//! the messages, each as its offset and its words. Prints the cases that are read otherwise, and how many there are of both.
+//!
+//! The cases that lie beside it were computed by a slow, plain reader of the rules that shares no code with these crates.
+#![tactic(auto)]
+
+use anyhow::Context;
+use serde_json::Value;
+use std::alloc::Global;
+use std::io;
+use std::io::Write;
+use tree_lines::{Reading, names};
+
+#[cfg(test)]
+mod tests;
+
+/// A text of a case.
+fn text_at<'a>(case: &'a Value, name: &str) -> anyhow::Result<&'a str> {
+    case.get(name)
+        .and_then(Value::as_str)
+        .context("a case lacks a text")
+}
+
+/// A list of a case.
+fn list_at<'a>(case: &'a Value, name: &str) -> anyhow::Result<&'a [Value]> {
+    let list = case.get(name).and_then(Value::as_array);
+    let list = list.context("a case lacks a list")?;
+    Ok(list.as_slice())
+}
+
+/// Writes the lines that a case says.
+fn write_expected<W: Write>(out: &mut W, case: &Value) -> anyhow::Result<()> {
+    for line in list_at(case, "tree")? {
+        let line = line.as_str().context("a line is no text")?;
+        writeln!(out, "{line}")?;
+    }
+    for message in list_at(case, "messages")? {
+        let offset = message.get(0).and_then(Value::as_u64);
+        let offset = offset.context("a message has no offset")?;
+        let words = message.get(1).and_then(Value::as_str);
+        let words = words.context("a message has no words")?;
+        writeln!(out, "! {offset} {words}")?;
+    }
+    Ok(())
+}
+
+/// Whether a case is read as it says.
+fn is_met(alloc: Global, line: &str) -> anyhow::Result<bool> {
+    let case = Value::from_str(alloc, line)?;
+    let edition = names::edition(text_at(&case, "edition")?).context("no such edition")?;
+    let entry_point = names::entry_point(text_at(&case, "entry")?).context("no such entry")?;
+    let mut expected = Vec::new(alloc);
+    write_expected(&mut expected, &case)?;
+    let text = text_at(&case, "text")?;
+    let Ok(reading) = Reading::new(alloc, edition, entry_point, text) else {
+        return Ok(false);
+    };
+    let mut found = Vec::new(alloc);
+    reading.write(&mut found)?;
+    Ok(found.as_slice() == expected.as_slice())
+}
+
+fn main(rt: HostRuntime) -> anyhow::Result<()> {
+    let alloc = rt.alloc();
+    let cases = io::read_to_string(alloc, rt.reader())?;
+    let mut passed = 0u32;
+    let mut failed = 0u32;
+    for line in cases.as_str().lines() {
+        if is_met(alloc, line)? {
+            passed = passed.saturating_add(1);
+        } else {
+            println!(rt; "{line}")?;
+            failed = failed.saturating_add(1);
+        }
+    }
+    println!(rt; "{passed} passed, {failed} failed")?;
+    Ok(())
+}

@@ -1,0 +1,80 @@
+//! Prints the tree of the text on standard input, read as a source file of edition 2021: a line for each element of the tree, with its
+//! kind and where it starts and ends in bytes, and then a line `! OFFSET MESSAGE` for each message.
+//!
+//! With the argument `records` the input is a list of records, each a line with an edition and what the text is read as, as
+//! `2021 SourceFile`, and the text, which the character U+001E ends; an empty line follows the lines of each.
+#![tactic(auto)]
+
+use anyhow::{Context, bail};
+use parser_input::edition::Edition;
+use ra_parser::{ParseError, TopEntryPoint};
+use std::alloc::Global;
+use std::io::{BufWriter, Write};
+use std::{env, io};
+use tree_lines::{Reading, names};
+
+#[cfg(test)]
+mod tests;
+
+/// Writes the lines of a text.
+fn dump<W: Write>(
+    alloc: Global,
+    out: &mut W,
+    edition: Edition,
+    entry_point: TopEntryPoint,
+    text: &str,
+) -> anyhow::Result<()> {
+    match Reading::new(alloc, edition, entry_point, text) {
+        Ok(reading) => reading.write(out)?,
+        Err(ParseError::TooLong) => bail!("a text has too many tokens"),
+        Err(ParseError::NoMemory) => bail!("out of memory"),
+    }
+    Ok(())
+}
+
+/// Writes the lines of a record's text.
+fn dump_record<W: Write>(alloc: Global, out: &mut W, record: &str) -> anyhow::Result<()> {
+    let (head, text) = record.split_once('\n').context("a record has no text")?;
+    let (year, name) = head.split_once(' ').context("a record has no entry")?;
+    let edition = names::edition(year).context("no such edition")?;
+    let entry_point = names::entry_point(name).context("no such entry")?;
+    dump(alloc, out, edition, entry_point, text)
+}
+
+/// Writes the lines of each record, and an empty line behind them.
+fn dump_records<W: Write>(alloc: Global, out: &mut W, records: &str) -> anyhow::Result<()> {
+    for record in records.split_terminator('\u{1E}') {
+        dump_record(alloc, out, record)?;
+        writeln!(out)?;
+    }
+    Ok(())
+}
+
+/// Whether the program's last argument is `records`.
+fn wants_records(rt: &HostRuntime) -> io::Result<bool> {
+    let mut records = false;
+    for word in env::args(rt)? {
+        records = word.as_str() == "records";
+    }
+    Ok(records)
+}
+
+fn main(rt: HostRuntime) -> anyhow::Result<()> {
+    let alloc = rt.alloc();
+    let input = io::read_to_string(alloc, rt.reader())?;
+    let mut out = BufWriter::new(alloc, io::writer(&rt))?;
+    if wants_records(&rt)? {
+        dump_records(alloc, &mut out, input.as_str())?;
+    } else {
+        let edition = Edition::Edition2021;
+        dump(
+            alloc,
+            &mut out,
+            edition,
+            TopEntryPoint::SourceFile,
+            input.as_str(),
+        )?;
+    }
+    out.flush()?;
+    Ok(())
+}

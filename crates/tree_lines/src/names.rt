@@ -1,0 +1,29 @@
+//! Editions and entries by their names.
+
+use parser_input::edition::Edition;
+use ra_parser::TopEntryPoint;
+
+/// The edition of a year.
+pub fn edition(year: &str) -> Option<Edition> {
+    match year {
+        "2015" => Some(Edition::Edition2015),
+        "2018" => Some(Edition::Edition2018),
+        "2021" => Some(Edition::Edition2021),
+        "2024" => Some(Edition::Edition2024),
+        _ => None,
+    }
+}
+
+/// What a text is read as, by its name; `Type` is the entry `Ty`.
+pub fn entry_point(name: &str) -> Option<TopEntryPoint> {
+    match name {
+        "SourceFile" => Some(TopEntryPoint::SourceFile),
+        "MacroStmts" => Some(TopEntryPoint::MacroStmts),
+        "MacroItems" => Some(TopEntryPoint::MacroItems),
+        "Pattern" => Some(TopEntryPoint::Pattern),
+        "Type" => Some(TopEntryPoint::Ty),
+        "Expr" => Some(TopEntryPoint::Expr),
+        "MetaItem" => Some(TopEntryPoint::MetaItem),
+        _ => None,
+    }
+}

@@ -1,0 +1,79 @@
+//! A text, read.
+
+use crate::rows::{Row, Rows};
+use parser_events::shortcuts::intersperse_trivia;
+use parser_input::edition::Edition;
+use parser_input::lexed_str::LexedStr;
+use ra_parser::{ParseError, TopEntryPoint};
+use std::alloc::Global;
+use std::io;
+use std::io::Write;
+
+/// What a text was read as: its leaves, and the elements and messages of its tree.
+#[derive(Drop)]
+pub struct Reading<'a> {
+    lexed: LexedStr<'a>,
+    tree: Rows,
+}
+
+/// Writes two spaces for each node around an element.
+fn write_indent<W: Write>(out: &mut W, depth: usize) -> io::Result<()> {
+    for _ in 0..depth {
+        out.write_all(b"  ")?;
+    }
+    Ok(())
+}
+
+/// Writes the line of an element.
+fn write_row<W: Write>(out: &mut W, row: Row) -> io::Result<()> {
+    write_indent(out, row.depth)?;
+    writeln!(out, "{}@{}..{}", row.kind.name(), row.start, row.end)
+}
+
+impl<'a> Reading<'a> {
+    /// Reads a text as what is asked.
+    ///
+    /// # Errors
+    ///
+    /// A text of too many tokens, and want of memory.
+    pub fn new(
+        alloc: Global,
+        edition: Edition,
+        entry_point: TopEntryPoint,
+        text: &'a str,
+    ) -> Result<Reading<'a>, ParseError> {
+        let lexed = LexedStr::new(alloc, edition, text)?;
+        let input = lexed.to_input(alloc)?;
+        let output = entry_point.parse(alloc, &input)?;
+        let mut tree = Rows::new(alloc);
+        intersperse_trivia(&lexed, &output, &mut tree)?;
+        Ok(Reading { lexed, tree })
+    }
+
+    /// Writes the lines of the tree, a line for each element.
+    pub fn write_tree<W: Write>(&self, out: &mut W) -> io::Result<()> {
+        for row in &self.tree.rows {
+            write_row(out, *row)?;
+        }
+        Ok(())
+    }
+
+    /// Writes the messages, a line `! OFFSET MESSAGE` for each: the parser's, and then the lexer's.
+    pub fn write_messages<W: Write>(&self, out: &mut W) -> io::Result<()> {
+        for said in &self.tree.said {
+            writeln!(out, "! {} {}", said.offset, said.message)?;
+        }
+        for leaf in 0..self.lexed.len() {
+            if let Some(message) = self.lexed.error(leaf) {
+                writeln!(out, "! {} {message}", self.lexed.text_start(leaf))?;
+            }
+        }
+        Ok(())
+    }
+
+    /// Writes the lines of the tree, and then those of the messages.
+    pub fn write<W: Write>(&self, out: &mut W) -> io::Result<()> {
+        self.write_tree(out)?;
+        self.write_messages(out)
+    }
+}
