@@ -1,5 +1,5 @@
 -- A production that is called in the rule of another was called after a token was taken, or is of a lower rank.
-use Rattle.std.proofs.Common.{◌≡◌, ℕ, ◌<◌, ◌≤◌, Bool, true, false, ◌||◌, length, refl, sym, ◌∙◌, inl, inr, true≢false, arith}
+use Rattle.std.proofs.Common.{◌≡◌, ℕ, ◌<◌, ◌≤◌, Bool, true, false, ◌||◌, length, refl, sym, subst, ◌∙◌, inl, inr, true≢false, arith}
 use Rattle.std.proofs.lemmas.Bool.{ltb-true, or_cases}
 use Rattle.rust_grammar.specs.Rule.{Production, Rule, Nothing, One, Any, Then, Near, Or, Opt, Star, Node, Wrap, Want, Say, Skip, Split, When, Unless, Call, Continue, Mode, begins}
 use Rattle.rust_grammar.specs.Meaning.{Reading, fresh, look_of, meaning}
@@ -109,3 +109,7 @@ can-read x c s b =
       | inl z ↦ below x (length s.rest) z (rule x) false c s (and_r _ _ (and_l _ _ e)) (omega arith) (λ h. absurd (true≢false (sym h))) can
       | inr z ↦ at-end x (length s.rest) (rule x) c s (and_r _ _ e) z can
     ]
+
+-- the same of a row that is that rule
+pub row-can-read : (x : Production) (c : Bool) (s : Reading) {n : ℕ} {r : Rule} → n ≡ length s.rest → r ≡ rule x → IsBegun x c s → CanRead x n c r s
+row-can-read x c s {n} {r} e f b = subst (λ (m : ℕ). CanRead x m c r s) (sym e) (subst (λ (q : Rule). CanRead x (length s.rest) c q s) (sym f) (can-read x c s b))

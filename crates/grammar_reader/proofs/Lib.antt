@@ -1,4 +1,7 @@
 pub mod Looking
+pub mod PricesTable
+pub mod Spending
+pub mod Asking
 pub mod Sizes
 pub mod Begun
 pub mod Below

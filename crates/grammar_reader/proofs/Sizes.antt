@@ -178,3 +178,13 @@ falls-in a b n h = omega (arith, falls a b h)
 
 pub below-measure : {a b m : ℕ} → b ≡ m → a < b → a < m
 below-measure e h = omega (arith, e, h)
+
+-- The same where reading a rule stands above repeating it, and that above calling a production.
+pub falls-read : (small large : rows.Rule) (n : ℕ) → size (plain small) < size (plain large) → 16384 * n + 2 * weight small < 16384 * n + 2 * weight large
+falls-read a b n h = omega (arith, falls a b h)
+
+pub falls-turns : (small large : rows.Rule) (n : ℕ) → size (plain small) < size (plain large) → 16384 * n + (2 * weight small + 1) < 16384 * n + 2 * weight large
+falls-turns a b n h = omega (arith, falls a b h)
+
+pub falls-call : (large : rows.Rule) (n : ℕ) → 0 < size (plain large) → 16384 * n + 1 < 16384 * n + 2 * weight large
+falls-call b n h = omega (arith, h)

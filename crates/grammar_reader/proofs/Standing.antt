@@ -1,6 +1,7 @@
 -- How what calls of a parser do carries a reading on.
-use Rattle.std.proofs.Common.{◌≡◌, ℕ, suc, Bool, true, false, not, List, [], ◌∷◌, ◌+◌, drop, Option, Some, None, IfSome, refl, sym, ap, subst, ◌∙◌, true≢false, if◌then◌else◌}
+use Rattle.std.proofs.Common.{◌≡◌, ℕ, suc, ◌<◌, ◌^◌, Bool, true, false, not, List, [], ◌∷◌, ◌+◌, length, drop, Option, Some, None, IfSome, refl, sym, ap, subst, ◌∙◌, true≢false, if◌then◌else◌}
 use Rattle.std.proofs.lemmas.List.{drop-drop}
+use Rattle.parser_input.specs.Input.{Token}
 use Rattle.parser_input.specs.Kinds.{ERROR, FIELD_EXPR}
 use Rattle.parser_events.specs.Marked as marks
 use Rattle.parser_events.specs.Stack as stack
@@ -169,3 +170,10 @@ split-innermost b around (Some (f ∷ below)) (Some new) i n = ap stack.level n 
 
 pub still-innermost : (around : ℕ) (old new : View) {looks : ℕ} → new ≡ record old { looks = looks } → IsInnermost around old.nodes → IsInnermost around new.nodes
 still-innermost around old new same i = subst (λ (n : Option (List Marked)). IsInnermost around n) (sym (ap (λ (v : View). v.nodes) same)) i
+
+-- the same input, as long as before
+pub total-still : (total : ℕ) (old new : List Token) → new ≡ old → total ≡ length old → total ≡ length new
+total-still total old new e h = h ∙ ap (λ (ts : List Token). length ts) (sym e)
+
+pub short-still : (old new : List Token) → new ≡ old → length old < 2 ^ 64 → length new < 2 ^ 64
+short-still old new e h = subst (λ (ts : List Token). length ts < 2 ^ 64) (sym e) h

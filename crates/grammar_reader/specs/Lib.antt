@@ -1,5 +1,7 @@
 pub mod CanRead
 pub mod Data
+pub mod Looks
+pub mod Prices
 pub mod Size
 pub mod Stands
 pub mod Moves

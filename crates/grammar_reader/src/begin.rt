@@ -1,11 +1,12 @@
 //! Where a rule begins.
 
-ghost use Rattle.std.specs.Prelude.{◌≡◌, ◌<◌, ◌^◌, length};
+ghost use Rattle.std.specs.Prelude.{◌≡◌, ◌<◌, ◌≤◌, ◌+◌, ◌^◌, length};
 ghost use Rattle.rust_grammar.specs.Rule as rules;
 ghost use Rattle.rust_grammar.specs.Rule.{shift};
 ghost use Rattle.rust_grammar.specs.Meaning.{Reading, sees, begins_below};
 ghost use Rattle.rust_grammar.specs.Whole.{whole};
 ghost use Rattle.grammar_reader.specs.Data.{plain};
+ghost use Rattle.grammar_reader.specs.Looks.{asked};
 ghost use Rattle.grammar_reader.specs.Stands.{IsAt};
 
 use crate::look::{Place, is_spelled, is_there, tokens_left};
@@ -27,6 +28,7 @@ pub fn begins(
     ensures sees { (s : Reading) → IsAt place.given p.old s
         → result ≡ sees place.condition s (shift ahead (rules.begins (begins_below whole ranks) (plain rule.now))) }
     ensures same { p.new ≡ record p.old { looks = p.new.looks } }
+    ensures looks { p.new.looks ≤ p.old.looks + asked (rules.begins (begins_below whole ranks) (plain rule.now)) }
 {
     match rule {
         Rule::Nothing => true,

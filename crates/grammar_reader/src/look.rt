@@ -1,10 +1,11 @@
 //! Looks at the tokens ahead.
 
-ghost use Rattle.std.specs.Prelude.{◌≡◌, ◌<◌, ◌^◌, length};
+ghost use Rattle.std.specs.Prelude.{◌≡◌, ◌<◌, ◌≤◌, ◌+◌, ◌^◌, length};
 ghost use Rattle.parser_input.specs.Kind.{raw_of};
 ghost use Rattle.rust_grammar.specs.Rule.{shift, there_at, Kind, Joint, Both};
 ghost use Rattle.rust_grammar.specs.Meaning.{Reading, sees};
 ghost use Rattle.grammar_reader.specs.Data.{plain_look, spelled};
+ghost use Rattle.grammar_reader.specs.Looks.{asked};
 ghost use Rattle.grammar_reader.specs.Stands.{IsAt, left};
 
 use crate::rule::{Look, Spelling};
@@ -37,6 +38,7 @@ fn is_next(p: &mut Parser<'_>, place: Place, kind: SyntaxKind, n: u8, ahead: usi
     ensures sees { (s : Reading) → IsAt place.given p.old s
         → result ≡ sees place.condition s (shift ahead (Kind n (raw_of kind))) }
     ensures same { p.new ≡ record p.old { looks = p.new.looks } }
+    ensures looks { p.new.looks ≤ p.old.looks + 1 }
 {
     let far = ahead.saturating_add(usize::from(n));
     p.kind_at(far).to_raw() == kind.to_raw()
@@ -49,6 +51,7 @@ fn is_joint(p: &mut Parser<'_>, place: Place, kind: SyntaxKind, n: u8, ahead: us
     ensures sees { (s : Reading) → IsAt place.given p.old s
         → result ≡ sees place.condition s (shift ahead (Both (Kind n (raw_of kind)) (Joint n))) }
     ensures same { p.new ≡ record p.old { looks = p.new.looks } }
+    ensures looks { p.new.looks ≤ p.old.looks + 1 }
 {
     if !is_next(p, place, kind, n, ahead) {
         return false;
@@ -63,6 +66,7 @@ pub fn is_there(p: &mut Parser<'_>, place: Place, look: &Look, ahead: usize) -> 
     ensures sees { (s : Reading) → IsAt place.given p.old s
         → result ≡ sees place.condition s (shift ahead (plain_look look.now)) }
     ensures same { p.new ≡ record p.old { looks = p.new.looks } }
+    ensures looks { p.new.looks ≤ p.old.looks + asked (plain_look look.now) }
 {
     match look {
         Look::Always => true,
@@ -89,6 +93,7 @@ pub fn is_spelled(p: &mut Parser<'_>, place: Place, spelling: &Spelling, ahead: 
     ensures sees { (s : Reading) → IsAt place.given p.old s
         → result ≡ sees place.condition s (shift ahead (there_at 0 (spelled spelling.now).parts)) }
     ensures same { p.new ≡ record p.old { looks = p.new.looks } }
+    ensures looks { p.new.looks ≤ p.old.looks + asked (there_at 0 (spelled spelling.now).parts) }
 {
     match spelling {
         Spelling::Plain(kind) => is_next(p, place, *kind, 0, ahead),

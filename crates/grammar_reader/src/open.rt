@@ -1,6 +1,6 @@
 //! The node that the present production fills, and what its leaves and messages make of it.
 
-ghost use Rattle.std.specs.Prelude.{◌≡◌, ◌≤◌, ℕ, List, Option, false, length};
+ghost use Rattle.std.specs.Prelude.{◌≡◌, ◌≤◌, ◌+◌, ℕ, List, Option, false, length};
 ghost use Rattle.parser_input.specs.Kind.{raw_of};
 ghost use Rattle.parser_input.specs.Kinds as kinds;
 ghost use Rattle.parser_events.specs.Marked.{Marked};
@@ -27,6 +27,7 @@ pub fn take(p: &mut Parser<'_>, open: Open, kind: SyntaxKind, count: u8, total: 
     requires some { 1 ≤ count }
     requires open { IsInnermost open.marker p.old.nodes }
     ensures input { p.new.input ≡ p.old.input }
+    ensures looks { p.new.looks ≡ p.old.looks }
     ensures open { IsInnermost result.marker p.new.nodes }
     ensures innermost { (n : ℕ) → IsInnermost n p.old.nodes → IsInnermost n p.new.nodes }
     ensures does { (s : Reading) (below : Option (List Marked)) → Stands open.given p.old s below → count ≤ length s.rest
@@ -47,6 +48,7 @@ pub fn take(p: &mut Parser<'_>, open: Open, kind: SyntaxKind, count: u8, total: 
 pub fn tell(p: &mut Parser<'_>, open: Open, message: Message) -> Open
     requires open { IsInnermost open.marker p.old.nodes }
     ensures input { p.new.input ≡ p.old.input }
+    ensures looks { p.new.looks ≡ p.old.looks }
     ensures open { IsInnermost result.marker p.new.nodes }
     ensures innermost { (n : ℕ) → IsInnermost n p.old.nodes → IsInnermost n p.new.nodes }
     ensures does { (s : Reading) (below : Option (List Marked)) → Stands open.given p.old s below
@@ -64,6 +66,7 @@ pub fn tell(p: &mut Parser<'_>, open: Open, message: Message) -> Open
 pub fn wrap(p: &mut Parser<'_>, open: Open, kind: SyntaxKind) -> Open
     requires open { IsInnermost open.marker p.old.nodes }
     ensures input { p.new.input ≡ p.old.input }
+    ensures looks { p.new.looks ≡ p.old.looks }
     ensures open { IsInnermost result.marker p.new.nodes }
     ensures innermost { (n : ℕ) → IsInnermost n p.old.nodes → IsInnermost n p.new.nodes }
     ensures does { (s : Reading) (below : Option (List Marked)) → Stands open.given p.old s below
@@ -82,6 +85,7 @@ pub fn take_any(p: &mut Parser<'_>, open: Open, total: usize) -> Open
     requires total { total ≡ length p.old.input }
     requires open { IsInnermost open.marker p.old.nodes }
     ensures input { p.new.input ≡ p.old.input }
+    ensures looks { p.new.looks ≤ p.old.looks + 1 }
     ensures open { IsInnermost result.marker p.new.nodes }
     ensures innermost { (n : ℕ) → IsInnermost n p.old.nodes → IsInnermost n p.new.nodes }
     ensures does { (s : Reading) (below : Option (List Marked)) → Stands open.given p.old s below → 1 ≤ length s.rest
@@ -96,6 +100,7 @@ pub fn skip(p: &mut Parser<'_>, open: Open, message: Message, total: usize) -> O
     requires total { total ≡ length p.old.input }
     requires open { IsInnermost open.marker p.old.nodes }
     ensures input { p.new.input ≡ p.old.input }
+    ensures looks { p.new.looks ≤ p.old.looks + 1 }
     ensures open { IsInnermost result.marker p.new.nodes }
     ensures innermost { (n : ℕ) → IsInnermost n p.old.nodes → IsInnermost n p.new.nodes }
     ensures does { (s : Reading) (below : Option (List Marked)) → Stands open.given p.old s below → 1 ≤ length s.rest
@@ -118,6 +123,7 @@ pub fn start(p: &mut Parser<'_>) -> Open
     ensures open { IsInnermost result.marker p.new.nodes }
     ensures given { result.given ≡ false }
     ensures input { p.new.input ≡ p.old.input }
+    ensures looks { p.new.looks ≡ p.old.looks }
 {
     Open {
         marker: p.start(),
@@ -130,6 +136,7 @@ pub fn close(p: &mut Parser<'_>, open: Open, kind: SyntaxKind)
     requires open { IsInnermost open.marker p.old.nodes }
     ensures closes { Closes (raw_of kind) p.old p.new }
     ensures input { p.new.input ≡ p.old.input }
+    ensures looks { p.new.looks ≡ p.old.looks }
 {
     let Open { marker, given: _ } = open;
     marker.complete(p, kind);
@@ -141,6 +148,7 @@ pub fn leave_out(p: &mut Parser<'_>, open: Open) -> bool
     ensures leaves { Leaves p.old p.new }
     ensures given { result ≡ open.given }
     ensures input { p.new.input ≡ p.old.input }
+    ensures looks { p.new.looks ≡ p.old.looks }
 {
     let Open { marker, given } = open;
     marker.abandon(p);
@@ -151,6 +159,7 @@ pub fn leave_out(p: &mut Parser<'_>, open: Open) -> bool
 pub fn split(p: &mut Parser<'_>, open: Open) -> Open
     requires open { IsInnermost open.marker p.old.nodes }
     ensures input { p.new.input ≡ p.old.input }
+    ensures looks { p.new.looks ≤ p.old.looks + 1 }
     ensures open { IsInnermost result.marker p.new.nodes }
     ensures innermost { (n : ℕ) → IsInnermost n p.old.nodes → IsInnermost n p.new.nodes }
     ensures does { (s : Reading) (below : Option (List Marked)) → Stands open.given p.old s below

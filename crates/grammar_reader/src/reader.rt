@@ -1,6 +1,6 @@
 //! Reads what a rule says: one function for all forms.
 
-ghost use Rattle.std.specs.Prelude.{◌≡◌, ◌≤◌, ◌<◌, ◌+◌, ◌*◌, ◌^◌, ℕ, List, Option, IfSome, length};
+ghost use Rattle.std.specs.Prelude.{◌≡◌, ◌≤◌, ◌<◌, ◌+◌, ◌*◌, ◌^◌, ℕ, List, Option, IfSome, true, length};
 ghost use Rattle.parser_events.specs.Marked.{Marked};
 ghost use Rattle.parser_events.specs.Stack.{IsInnermost};
 ghost use Rattle.rust_grammar.specs.Rule as rules;
@@ -10,6 +10,8 @@ ghost use Rattle.rust_grammar.specs.Begun.{IsBegun};
 ghost use Rattle.rust_grammar.specs.Laws.{reads};
 ghost use Rattle.grammar_reader.specs.CanRead.{CanRead, HasRank, IsBelow, is_begun};
 ghost use Rattle.grammar_reader.specs.Data.{named, plain};
+ghost use Rattle.grammar_reader.specs.Looks.{begin_looks, Costs};
+ghost use Rattle.grammar_reader.specs.Prices.{idle, idle_of, debt, debt_of, is_paid};
 ghost use Rattle.grammar_reader.specs.Stands.{Stands, left};
 
 use crate::begin::begins;
@@ -44,6 +46,7 @@ pub fn at(
     ensures sees { (s : Reading) (below : Option (List Marked)) → Stands given p.old s below
         → result ≡ is_begun condition (plain rule.now) s }
     ensures same { p.new ≡ record p.old { looks = p.new.looks } }
+    ensures looks { p.new.looks ≤ p.old.looks + begin_looks (plain rule.now) }
 {
     let place = Place {
         total,
@@ -73,7 +76,8 @@ fn ranks_below(p: &Parser<'_>, caller: Caller) -> Option<u8>
     Some(caller.ranks - 1)
 }
 
-/// Reads a production as a continuation of the present one.
+/// Reads a production as a continuation of the present one. How many looks it makes is bounded by its rank, and by 4,096 for each
+/// token that it takes.
 #[cycle(reader)]
 pub fn production(
     p: &mut Parser<'_>,
@@ -93,6 +97,9 @@ pub fn production(
     ensures reads { (s : Reading) (below : Option (List Marked)) → rank (named production) ≤ ranks
         → Stands open.given p.old s below → IsBegun (named production) condition s
         → Stands result.given p.new (meaning whole (named production) condition s) below }
+    ensures looks { (s : Reading) (below : Option (List Marked)) → rank (named production) ≤ ranks
+        → Stands open.given p.old s below → IsBegun (named production) condition s
+        → Costs (idle_of (named production)) (debt_of (named production)) p.old p.new }
 {
     let began = tokens_left(p, total);
     let caller = Caller {
@@ -117,6 +124,10 @@ fn call(p: &mut Parser<'_>, open: Open, called: Production, condition: bool, cal
         → Stands open.given p.old s below → IsBelow x caller.began (named called) s
         → IsBegun (named called) condition (fresh s)
         → Stands result.given p.new (behind s (meaning whole (named called) condition (fresh s))) below }
+    ensures looks { (x : rules.Production) (s : Reading) (below : Option (List Marked)) → rank x ≤ caller.ranks
+        → Stands open.given p.old s below → IsBelow x caller.began (named called) s
+        → IsBegun (named called) condition (fresh s)
+        → Costs (idle_of (named called)) (debt_of (named called)) p.old p.new }
 {
     let Some(ranks) = ranks_below(p, caller) else {
         return open;
@@ -151,6 +162,10 @@ fn go_on(
         → Stands open.given p.old s below → IsBelow x caller.began (named called) s
         → IsBegun (named called) condition s
         → Stands result.given p.new (meaning whole (named called) condition s) below }
+    ensures looks { (x : rules.Production) (s : Reading) (below : Option (List Marked)) → rank x ≤ caller.ranks
+        → Stands open.given p.old s below → IsBelow x caller.began (named called) s
+        → IsBegun (named called) condition s
+        → Costs (idle_of (named called)) (debt_of (named called)) p.old p.new }
 {
     let Some(ranks) = ranks_below(p, caller) else {
         return open;
@@ -177,6 +192,10 @@ fn turns(
     ensures reads { (x : rules.Production) (s : Reading) (below : Option (List Marked)) → rank x ≤ caller.ranks
         → Stands open.given p.old s below → CanRead x caller.began condition (rules.Star (plain rule.now)) s
         → Stands result.given p.new (reads condition (rules.Star (plain rule.now)) s) below }
+    ensures looks { (x : rules.Production) (s : Reading) (below : Option (List Marked)) → rank x ≤ caller.ranks
+        → Stands open.given p.old s below → CanRead x caller.began condition (rules.Star (plain rule.now)) s
+        → is_paid (rules.Star (plain rule.now)) ≡ true
+        → Costs (idle (rules.Star (plain rule.now))) (debt (rules.Star (plain rule.now))) p.old p.new }
 {
     let mut open = open;
     let mut turns = tokens_left(p, caller.total);
@@ -213,6 +232,10 @@ fn read(
     ensures reads { (x : rules.Production) (s : Reading) (below : Option (List Marked)) → rank x ≤ caller.ranks
         → Stands open.given p.old s below → CanRead x caller.began condition (plain rule.now) s
         → Stands result.given p.new (reads condition (plain rule.now) s) below }
+    ensures looks { (x : rules.Production) (s : Reading) (below : Option (List Marked)) → rank x ≤ caller.ranks
+        → Stands open.given p.old s below → CanRead x caller.began condition (plain rule.now) s
+        → is_paid (plain rule.now) ≡ true
+        → Costs (idle (plain rule.now)) (debt (plain rule.now)) p.old p.new }
 {
     match rule {
         Rule::Nothing => open,

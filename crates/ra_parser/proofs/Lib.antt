@@ -10,3 +10,4 @@ pub mod Powers
 pub mod Sums
 pub mod Taking
 pub mod Entered
+pub mod EntryLooks

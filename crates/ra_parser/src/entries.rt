@@ -1,6 +1,6 @@
 //! Reads all of an input as one thing: what is left over, or cannot begin it, stands in an error.
 
-ghost use Rattle.std.specs.Prelude.{◌≡◌, ◌<◌, ◌^◌, ℕ, List, [], ◌∷◌, Option, Some, false, length};
+ghost use Rattle.std.specs.Prelude.{◌≡◌, ◌≤◌, ◌<◌, ◌+◌, ◌*◌, ◌^◌, ℕ, List, [], ◌∷◌, Option, Some, false, length};
 ghost use Rattle.parser_events.specs.Marked.{Marked, End, marked};
 ghost use Rattle.parser_events.specs.Seen.{message_of};
 ghost use Rattle.parser_events.specs.Stack.{IsInnermost};
@@ -11,6 +11,7 @@ ghost use Rattle.rust_grammar.specs.Whole.{whole};
 ghost use Rattle.grammar_reader.specs.Data.{named};
 ghost use Rattle.grammar_reader.specs.Stands.{Holds, Stands, left};
 ghost use Rattle.ra_parser.specs.Entries.{can_enter, production_of, strayed, with_leaves};
+ghost use Rattle.ra_parser.specs.Looks.{looks_per_token};
 
 use crate::entry_points::TopEntryPoint;
 use grammar_reader::look::tokens_left;
@@ -29,6 +30,7 @@ fn take_rest(p: &mut Parser<'_>, open: Open, total: usize) -> Open
     ensures open { IsInnermost result.marker p.new.nodes }
     ensures does { (s : Reading) (below : Option (List Marked)) → Stands open.given p.old s below
         → Stands result.given p.new (with_leaves s) below }
+    ensures looks { p.new.looks ≤ p.old.looks + length (left p.old) }
 {
     let mut open = open;
     'tokens: while tokens_left(p, total) > 0 {
@@ -41,8 +43,9 @@ fn take_rest(p: &mut Parser<'_>, open: Open, total: usize) -> Open
 fn stray(p: &mut Parser<'_>, open: Open, message: Message, total: usize)
     requires total { total ≡ length p.old.input }
     requires open { IsInnermost open.marker p.old.nodes }
-    ensures { (s : Reading) → Stands open.given p.old s (Some (End ∷ []))
+    ensures tree { (s : Reading) → Stands open.given p.old s (Some (End ∷ []))
         → Holds p.new.nodes (marked (strayed (message_of message) s) ∷ []) }
+    ensures looks { p.new.looks ≤ p.old.looks + length (left p.old) }
 {
     let open = tell(p, open, message);
     let open = take_rest(p, open, total);
@@ -101,6 +104,7 @@ fn is_entered(p: &mut Parser<'_>, entry_point: TopEntryPoint, total: usize) -> b
     ensures sees { (s : Reading) (below : Option (List Marked)) → Stands false p.old s below
         → result ≡ can_enter (production_of entry_point) s }
     ensures same { p.new ≡ record p.old { looks = p.new.looks } }
+    ensures looks { p.new.looks ≤ p.old.looks + 200 }
 {
     if takes_every_input(entry_point) {
         return true;
@@ -113,7 +117,8 @@ pub(crate) fn read_entry(p: &mut Parser<'_>, entry_point: TopEntryPoint, total: 
     requires total { total ≡ length p.old.input }
     requires short { length p.old.input < 2 ^ 64 }
     requires nodes { p.old.nodes ≡ Some (End ∷ []) }
-    ensures { Holds p.new.nodes (marked (entry whole (production_of entry_point) (left p.old)) ∷ []) }
+    ensures tree { Holds p.new.nodes (marked (entry whole (production_of entry_point) (left p.old)) ∷ []) }
+    ensures looks { p.new.looks ≤ p.old.looks + looks_per_token * (length (left p.old) + 1) }
 {
     let open = start(p);
     if !is_entered(p, entry_point, total) {

@@ -1,6 +1,6 @@
 //! What a text is asked to be.
 
-ghost use Rattle.std.specs.Prelude.{◌≡◌, ◌≤◌, length, IfOk, IfErr};
+ghost use Rattle.std.specs.Prelude.{◌≡◌, ◌≤◌, ◌+◌, ◌*◌, length, IfOk, IfErr};
 ghost use Rattle.parser_events.specs.Steps.{steps};
 ghost use Rattle.rust_grammar.specs.Entry.{entry};
 ghost use Rattle.rust_grammar.specs.Whole.{whole};
@@ -14,6 +14,9 @@ use std::alloc::{AllocError, Global};
 
 /// So many tokens of an input are read at most.
 pub const MOST_TOKENS: usize = 16_777_216;
+
+/// So many looks are made at most for each token of an input, and for its end.
+pub const STEPS_PER_TOKEN: u64 = 4096;
 
 /// What a text is read as.
 #[derive(Clone, Copy, Debug, PartialEq, Eq)]
@@ -49,13 +52,15 @@ impl From<AllocError> for ParseError {
 
 impl TopEntryPoint {
     /// Reads the tokens of an input as the one thing that is asked. Every input has a tree: what is wrong with it is said by messages
-    /// in it, and tokens that have no place stand in errors.
+    /// in it, and tokens that have no place stand in errors. At most [`STEPS_PER_TOKEN`] looks are made for each token and for the
+    /// end.
     ///
     /// # Errors
     ///
     /// An input of more than [`MOST_TOKENS`] tokens, and want of memory.
     pub fn parse(self, alloc: Global, input: &Input) -> Result<Output, ParseError>
         ensures parsed { IfOk result (λ output. output.steps ≡ steps (entry whole (production_of self) input.now)) }
+        ensures looks { IfOk result (λ output. output.looks ≤ STEPS_PER_TOKEN * (length input.now + 1)) }
         ensures short { IfOk result (λ output. length input.now ≤ most_tokens) }
         ensures refused { IfErr result (RefusesParse input.now) }
     {

@@ -34,3 +34,8 @@ pub mod Lengths
 pub mod EntriesShort
 pub mod TokenTrees
 pub mod TokenTreesTable
+pub mod Powers
+pub mod Operators
+pub mod Binding
+pub mod PowersTable
+pub mod Misplaced

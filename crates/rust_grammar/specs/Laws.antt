@@ -12,6 +12,7 @@ use Rattle.rust_grammar.specs.Parts.{repeated, nearby}
 use Rattle.rust_grammar.specs.Entry.{entry}
 use Rattle.rust_grammar.specs.Spelled.{tokens_after}
 use Rattle.rust_grammar.specs.TokenTrees.{are_token_trees_bracketed}
+use Rattle.rust_grammar.specs.Powers.{are_operators_placed}
 use Rattle.rust_grammar.specs.Whole as all
 
 -- These are places where the productions of the whole grammar can begin: each begins where its rule does.
@@ -127,3 +128,15 @@ EntriesFit =
 -- missing.
 abbrev pub TokenTreesAreBracketed : Type 0
 TokenTreesAreBracketed = (x : Production) (tokens : List Token) → are_token_trees_bracketed (entry all.whole x tokens) ≡ true
+
+-- In what a production gives, whether it begins there or not, each binary expression has operands that its operator's power
+-- allows.
+abbrev pub OperatorsOfProductionsBindByPower : Type 0
+OperatorsOfProductionsBindByPower =
+    (x : Production) (in_condition : Bool) (tokens : List Token)
+    → let start : Reading = record { given = End; rest = tokens } in
+    are_operators_placed (meaning all.whole x in_condition start).given ≡ true
+
+-- So it is in the tree of an entry.
+abbrev pub OperatorsOfEntriesBindByPower : Type 0
+OperatorsOfEntriesBindByPower = (x : Production) (tokens : List Token) → are_operators_placed (entry all.whole x tokens) ≡ true

@@ -17,4 +17,6 @@ pub mod Examples
 pub mod Parts
 pub mod Spelled
 pub mod TokenTrees
+pub mod Powers
+pub mod Misplaced
 pub mod Laws

@@ -1,7 +1,8 @@
 //! Laws of the definitions. Each is the contract of a function that makes no call.
 
 ghost use Rattle.rust_grammar.specs.Examples.{ExamplesAreRight};
-ghost use Rattle.rust_grammar.specs.Laws.{CallsBeginAnew, EachProductionHasARule, EntriesAreRooted, EntriesFit, EntriesTakeAllInOrder, OnlyOneBeginning, OnlyOneReading, PartsLookAhead, ProductionsTakeInOrder, RepetitionsAreReadTurnByTurn, TokenTreesAreBracketed, WholeProductionsBeginAsTheirRules, WholeProductionsMeanTheirRules};
+ghost use Rattle.rust_grammar.specs.Laws.{CallsBeginAnew, EachProductionHasARule, EntriesAreRooted, EntriesFit, EntriesTakeAllInOrder, OnlyOneBeginning, OnlyOneReading, OperatorsOfEntriesBindByPower, OperatorsOfProductionsBindByPower, PartsLookAhead, ProductionsTakeInOrder, RepetitionsAreReadTurnByTurn, TokenTreesAreBracketed, WholeProductionsBeginAsTheirRules, WholeProductionsMeanTheirRules};
+ghost use Rattle.rust_grammar.specs.Misplaced.{MisplacedOperatorsAreTold};
 
 /// A production gives what its rule gives, where each production that the rule calls gives what it means; each has a rule, and
 /// begins where its rule does.
@@ -45,6 +46,14 @@ pub fn entries_fit()
 /// Each token tree begins with an opening bracket, and ends with its partner or the message that it is missing.
 pub fn token_trees_are_bracketed()
     ensures { TokenTreesAreBracketed }
+{}
+
+/// A right operand that is a binary expression binds more tightly than the operator before it, unless that is an assignment; a
+/// left one binds no less tightly than the operator behind it, and is no assignment. Some trees where that is not so are told.
+pub fn operators_bind_by_power()
+    ensures productions { OperatorsOfProductionsBindByPower }
+    ensures entries { OperatorsOfEntriesBindByPower }
+    ensures misplaced { MisplacedOperatorsAreTold }
 {}
 
 /// Some inputs, with the trees that the grammar gives them.

@@ -6,6 +6,6 @@
 
 pub mod names;
 mod reading;
-mod rows;
+pub mod rows;
 
 pub use reading::Reading;

@@ -1,6 +1,10 @@
 //! A text, read.
+ghost use Rattle.std.specs.Prelude.{◌≡◌, IfOk, chars};
+ghost use Rattle.parser_input.specs.Stored.{whole_of};
+ghost use Rattle.ra_parser.specs.Entries.{production_of};
+ghost use Rattle.tree_lines.specs.Reading.{IsTreeOf};
 
-use crate::rows::{Row, Rows};
+use crate::rows::{Row, Rows, Said};
 use parser_events::shortcuts::intersperse_trivia;
 use parser_input::edition::Edition;
 use parser_input::lexed_str::LexedStr;
@@ -12,8 +16,11 @@ use std::io::Write;
 /// What a text was read as: its leaves, and the elements and messages of its tree.
 #[derive(Drop)]
 pub struct Reading<'a> {
-    lexed: LexedStr<'a>,
-    tree: Rows,
+    pub lexed: LexedStr<'a>,
+    /// The elements of the tree, each node before what it holds.
+    pub rows: Vec<Row>,
+    /// The messages of the parser, in the order of the tree.
+    pub said: Vec<Said>,
 }
 
 /// Writes two spaces for each node around an element.
@@ -41,18 +48,28 @@ impl<'a> Reading<'a> {
         edition: Edition,
         entry_point: TopEntryPoint,
         text: &'a str,
-    ) -> Result<Reading<'a>, ParseError> {
+    ) -> Result<Reading<'a>, ParseError>
+        ensures lexed { IfOk result (λ reading. reading.lexed ≡ whole_of edition (chars text.now)) }
+        ensures tree { IfOk result (λ reading.
+            IsTreeOf (production_of entry_point) edition (chars text.now) reading.rows.items reading.said.items) }
+    {
         let lexed = LexedStr::new(alloc, edition, text)?;
         let input = lexed.to_input(alloc)?;
         let output = entry_point.parse(alloc, &input)?;
         let mut tree = Rows::new(alloc);
         intersperse_trivia(&lexed, &output, &mut tree)?;
-        Ok(Reading { lexed, tree })
+        let Rows {
+            rows,
+            said,
+            entered: _,
+            offset: _,
+        } = tree;
+        Ok(Reading { lexed, rows, said })
     }
 
     /// Writes the lines of the tree, a line for each element.
     pub fn write_tree<W: Write>(&self, out: &mut W) -> io::Result<()> {
-        for row in &self.tree.rows {
+        for row in &self.rows {
             write_row(out, *row)?;
         }
         Ok(())
@@ -60,7 +77,7 @@ impl<'a> Reading<'a> {
 
     /// Writes the messages, a line `! OFFSET MESSAGE` for each: the parser's, and then the lexer's.
     pub fn write_messages<W: Write>(&self, out: &mut W) -> io::Result<()> {
-        for said in &self.tree.said {
+        for said in &self.said {
             writeln!(out, "! {} {}", said.offset, said.message)?;
         }
         for leaf in 0..self.lexed.len() {

@@ -5,6 +5,8 @@ use Rattle.rust_grammar.specs.Meaning.{sees}
 use Rattle.grammar_reader.specs.Data.{plain, plain_look, named}
 use Rattle.grammar_reader.specs.Size.{size}
 use Rattle.grammar_reader.specs.declared.rule.Rule as rows
+use Rattle.grammar_reader.specs.Looks.{asked}
+use Rattle.grammar_reader.proofs.Asking.{silent-cost, first-cost, second-cost, near-cost, mode-cost, call-cost}
 use Rattle.grammar_reader.proofs.Beginning.{silent-then, first-then, no-then, second-then, no-near, both-near, first-or, second-or, no-unless, unless, in-mode, no-rank, one-rank, one-less, rest-short}
 use Rattle.grammar_reader.proofs.Looking.{still-at, still-short, still-total}
 use Rattle.grammar_reader.proofs.Sizes.{falls-in, below-measure}
@@ -181,3 +183,91 @@ begins-requires-in-Want t c = (below-measure c.decreases (falls-in c.in-Want.inn
 pub begins-requires-in-Mode : goal.begins-requires-in-Mode
 unfolding size
 begins-requires-in-Mode t c = (below-measure c.decreases (falls-in c.in-Mode.inner.now c.args.rule.now c.args.ranks (omega (arith, ap (λ (d : rows.Rule). size (plain d)) c.in-Mode.is))), (c.requires.total, c.requires.short))
+
+pub returns-then-is_silent-clause-looks : goal.returns-then-is_silent-clause-looks
+unfolding begins
+returns-then-is_silent-clause-looks t c = rw c.in-Then.is (silent-cost c.args.ranks c.args.p.now.looks (plain c.in-Then.first.now) (plain c.in-Then.second.now) (sym c.is_silent.ensures ∙ c.if-is_silent.true) c.begins.ensures.looks)
+
+pub returns-then-begins-clause-looks : goal.returns-then-begins-clause-looks
+unfolding begins
+returns-then-begins-clause-looks t c = rw c.in-Then.is (first-cost c.args.ranks c.args.p.now.looks (plain c.in-Then.first.now) (plain c.in-Then.second.now) (sym c.is_silent.ensures ∙ c.if-is_silent.false) c.begins-in-Then.ensures.looks)
+
+pub returns-then-not-is_passed-clause-looks : goal.returns-then-not-is_passed-clause-looks
+unfolding begins
+returns-then-not-is_passed-clause-looks t c = rw c.in-Then.is (first-cost c.args.ranks c.args.p.now.looks (plain c.in-Then.first.now) (plain c.in-Then.second.now) (sym c.is_silent.ensures ∙ c.if-is_silent.false) c.begins-in-Then.ensures.looks)
+
+pub returns-else-not-is_passed-clause-looks : goal.returns-else-not-is_passed-clause-looks
+unfolding begins
+returns-else-not-is_passed-clause-looks t c = rw c.in-Then.is (second-cost c.args.ranks c.args.p.now.looks (plain c.in-Then.first.now) (plain c.in-Then.second.now) (sym c.is_silent.ensures ∙ c.if-is_silent.false) (sym c.is_passed.ensures ∙ c.if-not-is_passed.false) c.begins-in-Then.ensures.looks c.begins-in-Then-2.ensures.looks)
+
+pub returns-then-not-begins-clause-looks : goal.returns-then-not-begins-clause-looks
+unfolding begins asked
+returns-then-not-begins-clause-looks t c = rw c.in-Near.is (omega (arith, c.begins-in-Near.ensures.looks))
+
+pub returns-else-not-begins-clause-looks : goal.returns-else-not-begins-clause-looks
+unfolding begins
+returns-else-not-begins-clause-looks t c = rw c.in-Near.is (near-cost c.args.ranks c.args.p.now.looks (plain c.in-Near.first.now) (plain c.in-Near.second.now) c.begins-in-Near.ensures.looks c.begins-in-Near-2.ensures.looks)
+
+pub returns-then-begins-2-clause-looks : goal.returns-then-begins-2-clause-looks
+unfolding begins asked
+returns-then-begins-2-clause-looks t c = rw c.in-Or.is (omega (arith, c.begins-in-Or.ensures.looks))
+
+pub returns-else-begins-2-clause-looks : goal.returns-else-begins-2-clause-looks
+unfolding begins asked
+returns-else-begins-2-clause-looks t c = rw c.in-Or.is (omega (arith, c.begins-in-Or.ensures.looks, c.begins-in-Or-2.ensures.looks))
+
+pub returns-then-is_there-clause-looks : goal.returns-then-is_there-clause-looks
+unfolding begins asked
+returns-then-is_there-clause-looks t c = rw c.in-Unless.is (omega (arith, c.is_there-in-Unless.ensures.looks))
+
+pub returns-else-is_there-clause-looks : goal.returns-else-is_there-clause-looks
+unfolding begins asked
+returns-else-is_there-clause-looks t c = rw c.in-Unless.is (omega (arith, c.is_there-in-Unless.ensures.looks, c.begins-in-Unless.ensures.looks))
+
+pub returns-in-One-clause-looks : goal.returns-in-One-clause-looks
+unfolding begins
+returns-in-One-clause-looks t c = rw c.in-One.is c.is_spelled.ensures.looks
+
+pub returns-in-When-clause-looks : goal.returns-in-When-clause-looks
+unfolding begins
+returns-in-When-clause-looks t c = rw c.in-When.is c.is_there.ensures.looks
+
+pub returns-in-Opt-clause-looks : goal.returns-in-Opt-clause-looks
+unfolding begins
+returns-in-Opt-clause-looks t c = rw c.in-Opt.is c.begins-in-Opt.ensures.looks
+
+pub returns-in-Star-clause-looks : goal.returns-in-Star-clause-looks
+unfolding begins
+returns-in-Star-clause-looks t c = rw c.in-Star.is c.begins-in-Star.ensures.looks
+
+pub returns-in-Node-clause-looks : goal.returns-in-Node-clause-looks
+unfolding begins
+returns-in-Node-clause-looks t c = rw c.in-Node.is c.begins-in-Node.ensures.looks
+
+pub returns-in-Wrap-clause-looks : goal.returns-in-Wrap-clause-looks
+unfolding begins
+returns-in-Wrap-clause-looks t c = rw c.in-Wrap.is c.begins-in-Wrap.ensures.looks
+
+pub returns-in-Want-clause-looks : goal.returns-in-Want-clause-looks
+unfolding begins
+returns-in-Want-clause-looks t c = rw c.in-Want.is c.begins-in-Want.ensures.looks
+
+pub returns-else-ranks-eq0-clause-looks : goal.returns-else-ranks-eq0-clause-looks
+unfolding begins
+returns-else-ranks-eq0-clause-looks t c = rw c.in-Call.is (call-cost c.args.ranks (c.args.ranks - 1) _ _ (named c.in-Call.production) _ (one-less c.args.ranks c.if-ranks-eq0.false) c.rule_of.ensures.rule c.begins-in-Call.ensures.looks)
+
+pub returns-else-ranks-eq0-2-clause-looks : goal.returns-else-ranks-eq0-2-clause-looks
+unfolding begins
+returns-else-ranks-eq0-2-clause-looks t c = rw c.in-Continue.is (call-cost c.args.ranks (c.args.ranks - 1) _ _ (named c.in-Continue.production) _ (one-less c.args.ranks c.if-ranks-eq0-2.false) c.rule_of-in-Continue.ensures.rule c.begins-in-Continue.ensures.looks)
+
+pub returns-in-Mode-clause-looks : goal.returns-in-Mode-clause-looks
+unfolding begins
+returns-in-Mode-clause-looks t c = rw c.in-Mode.is (mode-cost c.args.ranks c.args.p.now.looks c.in-Mode.condition (plain c.in-Mode.inner.now) c.begins-in-Mode.ensures.looks)
+
+pub returns-in-LaterBodies-clause-looks : goal.returns-in-LaterBodies-clause-looks
+unfolding begins
+returns-in-LaterBodies-clause-looks t c = rw (c.in-LaterBodies.is, sym c.later_bodies.ensures.rule) c.begins-in-LaterBodies.ensures.looks
+
+pub returns-in-LaterAtoms-clause-looks : goal.returns-in-LaterAtoms-clause-looks
+unfolding begins
+returns-in-LaterAtoms-clause-looks t c = rw (c.in-LaterAtoms.is, sym c.later_atoms.ensures.rule) c.begins-in-LaterAtoms.ensures.looks

@@ -1,6 +1,7 @@
 use Rattle.std.proofs.Common.{◌∙◌, ℕ, not, refl, ap, length, nat_lt, arith}
 use Rattle.rust_grammar.specs.Rule.{shift}
 use Rattle.rust_grammar.specs.Meaning.{sees}
+use Rattle.grammar_reader.specs.Looks.{asked}
 use Rattle.grammar_reader.proofs.Looking.{contextual-seen, joint-seen, still-at, both-on, both-off, either-on, either-off, gave-seen}
 use Rattle.grammar_reader.proofs.look.+is_there.Goals as goal
 
@@ -49,3 +50,27 @@ returns-else-is_there-2-clause-sees t c s at = rw c.in-Either.is (either-off (c.
 pub returns-in-Not-clause-sees : goal.returns-in-Not-clause-sees
 unfolding sees shift
 returns-in-Not-clause-sees t c s at = rw c.in-Not.is (ap not (c.is_there-in-Not.ensures.sees s at))
+
+pub returns-in-Kind-clause-looks : goal.returns-in-Kind-clause-looks
+unfolding asked
+returns-in-Kind-clause-looks t c = rw c.in-Kind.is (omega (arith, c.is_next.ensures.looks))
+
+pub returns-then-is_there-clause-looks : goal.returns-then-is_there-clause-looks
+unfolding asked
+returns-then-is_there-clause-looks t c = rw c.in-Both.is (omega (arith, c.is_there.ensures.looks, c.is_there-then-is_there.ensures.looks))
+
+pub returns-else-is_there-clause-looks : goal.returns-else-is_there-clause-looks
+unfolding asked
+returns-else-is_there-clause-looks t c = rw c.in-Both.is (omega (arith, c.is_there.ensures.looks))
+
+pub returns-then-is_there-2-clause-looks : goal.returns-then-is_there-2-clause-looks
+unfolding asked
+returns-then-is_there-2-clause-looks t c = rw c.in-Either.is (omega (arith, c.is_there-in-Either.ensures.looks))
+
+pub returns-else-is_there-2-clause-looks : goal.returns-else-is_there-2-clause-looks
+unfolding asked
+returns-else-is_there-2-clause-looks t c = rw c.in-Either.is (omega (arith, c.is_there-in-Either.ensures.looks, c.is_there-else-is_there-2.ensures.looks))
+
+pub returns-in-Not-clause-looks : goal.returns-in-Not-clause-looks
+unfolding asked
+returns-in-Not-clause-looks t c = rw c.in-Not.is (omega (arith, c.is_there-in-Not.ensures.looks))

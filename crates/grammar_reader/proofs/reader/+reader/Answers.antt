@@ -1,39 +1,28 @@
 -- Form by form.
-use Rattle.std.proofs.Common.{◌≡◌, ℕ, ◌+◌, ◌*◌, ◌<◌, ◌≤◌, ◌^◌, Bool, true, false, List, Option, sym, ap, subst, ◌∙◌, arith, length, if◌then◌else◌}
+use Rattle.std.proofs.Common.{◌≡◌, ℕ, ◌+◌, ◌*◌, ◌<◌, ◌≤◌, max, Bool, true, false, List, Option, None, refl, sym, ap, subst, ◌∙◌, arith, length, if◌then◌else◌}
 use Rattle.parser_events.specs.Marked.{marked}
 use Rattle.parser_events.specs.View.{View}
 use Rattle.parser_input.specs.Input.{Token}
 use Rattle.rust_grammar.specs.Rule.{Rule}
-use Rattle.rust_grammar.specs.Meaning.{Reading, read, fresh, behind, leaf, meaning}
-use Rattle.rust_grammar.specs.Whole.{rank, rule, whole}
+use Rattle.rust_grammar.specs.Meaning.{Reading, read, fresh, behind, leaf, say, skip, split, wrapped, meaning}
+use Rattle.rust_grammar.specs.Whole.{rank, whole}
 use Rattle.rust_grammar.specs.Laws.{reads}
 use Rattle.rust_grammar.proofs.WholeTable.{whole-means}
-use Rattle.grammar_reader.specs.CanRead.{CanRead, HasRank, is_begun}
-use Rattle.grammar_reader.proofs.Below.{can-read}
+use Rattle.grammar_reader.specs.CanRead.{HasRank, is_begun}
+use Rattle.grammar_reader.proofs.Below.{row-can-read}
 use Rattle.grammar_reader.specs.Data.{plain, named}
 use Rattle.grammar_reader.specs.Size.{size}
-use Rattle.grammar_reader.specs.Stands.{Stands}
+use Rattle.grammar_reader.specs.Stands.{Stands, left}
 use Rattle.grammar_reader.specs.declared.rule.Rule as rows
-use Rattle.grammar_reader.proofs.Sizes.{weight, falls, below-measure}
-use Rattle.grammar_reader.proofs.Standing.{inside, stands-still, stands-opened, stands-closed, stands-left-out, still-innermost}
+use Rattle.grammar_reader.proofs.Sizes.{falls-read, falls-turns, falls-call, below-measure}
+use Rattle.grammar_reader.proofs.Standing.{inside, stands-still, stands-opened, stands-closed, stands-left-out, still-innermost, total-still, short-still}
+use Rattle.rust_grammar.proofs.Plain.{and_l, and_r}
+use Rattle.grammar_reader.specs.Looks.{begin_looks}
+use Rattle.grammar_reader.specs.Prices.{idle, debt, is_paid, either}
+use Rattle.grammar_reader.proofs.Spending.{no-token, some-tokens, after-each-other, first-of, second-of, same-length, same-left, fewer-left, tested, tested-read, tested-alone, within, as-priced, rule-paid, turn-taken, turn-idle, turn-refused, turns-over, turn-is-paid, turns-are-paid, first-paid, second-paid, second-few}
 use Rattle.grammar_reader.proofs.Turning.{no-turn, last-turn, next-turn, zero-turns}
 use Rattle.grammar_reader.proofs.reader.+reader.Goals as goal
 use Rattle.grammar_reader.proofs.reader.+reader.Goals.{call-then-given, call-else-given}
-
-falls-read : (small large : rows.Rule) (n : ℕ) → size (plain small) < size (plain large) → 16384 * n + 2 * weight small < 16384 * n + 2 * weight large
-falls-read a b n h = omega (arith, falls a b h)
-
-falls-turns : (small large : rows.Rule) (n : ℕ) → size (plain small) < size (plain large) → 16384 * n + (2 * weight small + 1) < 16384 * n + 2 * weight large
-falls-turns a b n h = omega (arith, falls a b h)
-
-falls-call : (large : rows.Rule) (n : ℕ) → 0 < size (plain large) → 16384 * n + 1 < 16384 * n + 2 * weight large
-falls-call b n h = omega (arith, h)
-
-total-still : (total : ℕ) (old new : List Token) → new ≡ old → total ≡ length old → total ≡ length new
-total-still total old new e h = h ∙ ap (λ (ts : List Token). length ts) (sym e)
-
-short-still : (old new : List Token) → new ≡ old → length old < 2 ^ 64 → length new < 2 ^ 64
-short-still old new e h = subst (λ (ts : List Token). length ts < 2 ^ 64) (sym e) h
 
 pub call-returns-in_default-clause-reads : goal.call-returns-in_default-clause-reads
 call-returns-in_default-clause-reads t c = λ x s below low h b e.
@@ -63,9 +52,7 @@ call-returns-clause-reads t c = λ x s below low h b e.
 pub production-returns-clause-reads : goal.production-returns-clause-reads
 production-returns-clause-reads t c = λ s below low h b.
     let x = named c.args.production in
-    let began : c.tokens_left-began.result ≡ length s.rest = c.tokens_left-began.ensures ∙ ap (λ (ts : List Token). length ts) h.at.rest in
-    let whole_row = subst (λ (n : ℕ). CanRead x n c.args.condition (rule x) s) (sym began) (can-read x c.args.condition s b) in
-    let can = subst (λ (r : Rule). CanRead x c.tokens_left-began.result c.args.condition r s) (sym c.rule_of.ensures.rule) whole_row in
+    let can = row-can-read x c.args.condition s (c.tokens_left-began.ensures ∙ same-length h.at.rest) c.rule_of.ensures.rule b in
     subst (λ (u : Reading). Stands c.read.result.given c.read.new.p u below)
     (ap (λ (r : Rule). reads c.args.condition r s) c.rule_of.ensures.rule ∙ sym (whole-means x c.args.condition s))
     (c.read.ensures.reads x s below low h can)
@@ -304,6 +291,15 @@ turns-turns-preserved t c =
             most = omega (arith, b.most);
             same = next-turn c.turns.turns c.args.condition (plain c.args.rule.now) b.now c.turns-test.true e fewer ∙ b.same;
           };
+      spending = λ x s below low h can paid.
+          let r = plain c.args.rule.now in
+          let b = c.turns.invariant.between x s below low h can in
+          let e : is_begun c.args.condition r b.now ≡ true = sym (c.at.ensures.sees b.now below b.stands) ∙ c.if-not-at.false in
+          let some : 0 < length s.rest = omega (arith, c.turns-test.true, b.most) in
+          let stood = stands-still c.at.ensures.same b.stands in
+          let read = c.read-open.ensures.looks x b.now below low stood (can b.now some b.shorter e) (turn-is-paid r paid) in
+          turn-taken (begin_looks r) (debt r) (idle r) (turns-are-paid r paid) (same-length (ap left c.at.ensures.same)) c.at.ensures.looks
+          (omega (arith, c.tokens_left-before.ensures, c.tokens_left.ensures, c.if-tokens_left-before.false)) (c.turns.invariant.spending x s below low h can paid) read;
     }
 
 pub turns-returns-clause-reads : goal.turns-returns-clause-reads
@@ -311,3 +307,192 @@ unfolding read
 turns-returns-clause-reads t c = λ x s below low h can.
     let b = c.turns.invariant.between x s below low h can in
     subst (λ (u : Reading). Stands c.turns.open.given c.turns.p u below) (sym (zero-turns c.turns.turns c.args.condition (plain c.args.rule.now) b.now (omega (arith, c.turns-test.false))) ∙ b.same) b.stands
+
+pub call-returns-in_default-clause-looks : goal.call-returns-in_default-clause-looks
+call-returns-in_default-clause-looks t c = λ x s below low h b e.
+    absurd (subst (λ (o : Option ℕ). HasRank (rank (named c.args.called)) o) c.in_default.is (c.ranks_below.ensures.some x (named c.args.called) s h.at.rest low b))
+
+pub go_on-returns-in_default-clause-looks : goal.go_on-returns-in_default-clause-looks
+go_on-returns-in_default-clause-looks t c = λ x s below low h b e.
+    absurd (subst (λ (o : Option ℕ). HasRank (rank (named c.args.called)) o) c.in_default.is (c.ranks_below.ensures.some x (named c.args.called) s h.at.rest low b))
+
+pub go_on-returns-clause-looks : goal.go_on-returns-clause-looks
+go_on-returns-clause-looks t c = λ x s below low h b e.
+    let ok : rank (named c.args.called) ≤ c.in-Some.ranks = subst (λ (o : Option ℕ). HasRank (rank (named c.args.called)) o) c.in-Some.is (c.ranks_below.ensures.some x (named c.args.called) s h.at.rest low b) in
+    c.production.ensures.looks s below ok h e
+
+pub call-returns-clause-looks : goal.call-returns-clause-looks
+unfolding fresh
+call-returns-clause-looks t c = λ x s below low h b e.
+    let ok : rank (named c.args.called) ≤ c.in-Some.ranks = subst (λ (o : Option ℕ). HasRank (rank (named c.args.called)) o) c.in-Some.is (c.ranks_below.ensures.some x (named c.args.called) s h.at.rest low b) in
+    let inner = c.production-inner.ensures.looks (fresh s) (inside below (marked s.given)) ok (stands-opened c.start-inner.ensures.opens c.start-inner.ensures.given h) e in
+    within (same-length c.start-inner.ensures.opens.rest) c.start-inner.ensures.looks (same-length c.leave_out-gave.ensures.leaves.rest) c.leave_out-gave.ensures.looks inner
+
+pub production-returns-clause-looks : goal.production-returns-clause-looks
+production-returns-clause-looks t c = λ s below low h b.
+    let x = named c.args.production in
+    let can = row-can-read x c.args.condition s (c.tokens_left-began.ensures ∙ same-length h.at.rest) c.rule_of.ensures.rule b in
+    as-priced x _ c.rule_of.ensures.rule (c.read.ensures.looks x s below low h can (rule-paid x _ c.rule_of.ensures.rule))
+
+pub read-returns-in-Nothing-clause-looks : goal.read-returns-in-Nothing-clause-looks
+unfolding idle debt
+read-returns-in-Nothing-clause-looks t c = rw c.in-Nothing.is (λ x s below low h can paid. no-token 0 0 refl (omega arith))
+
+pub read-returns-in-One-clause-looks : goal.read-returns-in-One-clause-looks
+unfolding read idle debt leaf
+read-returns-in-One-clause-looks t c = rw c.in-One.is (λ x s below low h can paid.
+    let n : c.count.result ≤ length s.rest = omega (arith, c.count.ensures.count, can) in
+    let t = c.take.ensures.does s below h n in
+    some-tokens None 0 (fewer-left c.count.result c.count.ensures.some n h.at.rest t.at.rest) (omega (arith, c.take.ensures.looks)))
+
+pub read-returns-in-Any-clause-looks : goal.read-returns-in-Any-clause-looks
+unfolding read idle debt leaf
+read-returns-in-Any-clause-looks t c = rw c.in-Any.is (λ x s below low h can paid.
+    some-tokens None 1 (fewer-left 1 (omega arith) can h.at.rest (c.take_any.ensures.does s below h can).at.rest) c.take_any.ensures.looks)
+
+pub read-returns-in-Then-clause-looks : goal.read-returns-in-Then-clause-looks
+unfolding read idle debt is_paid
+read-returns-in-Then-clause-looks t c = rw c.in-Then.is (λ x s below low h can paid.
+    let a = plain c.in-Then.first.now in
+    let b = plain c.in-Then.second.now in
+    after-each-other (idle a) (idle b) (debt a) (debt b) (second-few a b paid) (c.read-open.ensures.looks x s below low h can.0 (first-paid a b paid))
+    (c.read.ensures.looks x _ below low (c.read-open.ensures.reads x s below low h can.0) can.1 (second-paid a b paid)))
+
+pub read-returns-in-Near-clause-looks : goal.read-returns-in-Near-clause-looks
+unfolding read idle debt is_paid
+read-returns-in-Near-clause-looks t c = rw c.in-Near.is (λ x s below low h can paid.
+    let a = plain c.in-Near.first.now in
+    let b = plain c.in-Near.second.now in
+    after-each-other (idle a) (idle b) (debt a) (debt b) (second-few a b paid) (c.read-open-in-Near.ensures.looks x s below low h can.0 (first-paid a b paid))
+    (c.read-in-Near.ensures.looks x _ below low (c.read-open-in-Near.ensures.reads x s below low h can.0) can.1 (second-paid a b paid)))
+
+pub read-returns-then-at-clause-looks : goal.read-returns-then-at-clause-looks
+unfolding read idle debt is_paid
+read-returns-then-at-clause-looks t c = rw c.in-Or.is (λ x s below low h can paid.
+    let a = plain c.in-Or.first.now in
+    let b = plain c.in-Or.second.now in
+    let e : is_begun c.args.condition a s ≡ true = sym (c.at.ensures.sees s below h) ∙ c.if-at.true in
+    tested (begin_looks a) (either (idle a) (idle b)) (max (debt a) (debt b)) (same-length (ap left c.at.ensures.same)) c.at.ensures.looks
+    (first-of (idle a) (idle b) (debt a) (debt b) (c.read-then-at.ensures.looks x s below low (stands-still c.at.ensures.same h) (can.0 e) (and_l (is_paid a) (is_paid b) paid))))
+
+pub read-returns-else-at-clause-looks : goal.read-returns-else-at-clause-looks
+unfolding read idle debt is_paid
+read-returns-else-at-clause-looks t c = rw c.in-Or.is (λ x s below low h can paid.
+    let a = plain c.in-Or.first.now in
+    let b = plain c.in-Or.second.now in
+    let e : is_begun c.args.condition a s ≡ false = sym (c.at.ensures.sees s below h) ∙ c.if-at.false in
+    tested (begin_looks a) (either (idle a) (idle b)) (max (debt a) (debt b)) (same-length (ap left c.at.ensures.same)) c.at.ensures.looks
+    (second-of (idle a) (idle b) (debt a) (debt b) (c.read-in-Or.ensures.looks x s below low (stands-still c.at.ensures.same h) (can.1 e) (and_r (is_paid a) (is_paid b) paid))))
+
+pub read-returns-then-at-2-clause-looks : goal.read-returns-then-at-2-clause-looks
+unfolding read idle debt is_paid
+read-returns-then-at-2-clause-looks t c = rw c.in-Opt.is (λ x s below low h can paid.
+    let a = plain c.in-Opt.inner.now in
+    let e : is_begun c.args.condition a s ≡ true = sym (c.at-in-Opt.ensures.sees s below h) ∙ c.if-at-2.true in
+    tested-read (begin_looks a) (idle a) (debt a) (same-length (ap left c.at-in-Opt.ensures.same)) c.at-in-Opt.ensures.looks
+    (c.read-then-at-2.ensures.looks x s below low (stands-still c.at-in-Opt.ensures.same h) (can e) paid))
+
+pub read-returns-then-at-3-clause-looks : goal.read-returns-then-at-3-clause-looks
+unfolding read idle debt is_paid
+read-returns-then-at-3-clause-looks t c = rw c.in-Want.is (λ x s below low h can paid.
+    let a = plain c.in-Want.inner.now in
+    let e : is_begun c.args.condition a s ≡ true = sym (c.at-in-Want.ensures.sees s below h) ∙ c.if-at-3.true in
+    tested-read (begin_looks a) (idle a) (debt a) (same-length (ap left c.at-in-Want.ensures.same)) c.at-in-Want.ensures.looks
+    (c.read-then-at-3.ensures.looks x s below low (stands-still c.at-in-Want.ensures.same h) (can e) paid))
+
+pub read-returns-else-at-2-clause-looks : goal.read-returns-else-at-2-clause-looks
+unfolding read idle debt is_paid
+read-returns-else-at-2-clause-looks t c = rw c.in-Opt.is (λ x s below low h can paid.
+    let a = plain c.in-Opt.inner.now in
+    tested-alone (begin_looks a) (idle a) (begin_looks a + debt a) (same-length (ap left c.at-in-Opt.ensures.same)) c.at-in-Opt.ensures.looks)
+
+pub read-returns-else-at-3-clause-looks : goal.read-returns-else-at-3-clause-looks
+unfolding read idle debt is_paid say
+read-returns-else-at-3-clause-looks t c = rw c.in-Want.is (λ x s below low h can paid.
+    let a = plain c.in-Want.inner.now in
+    let t = c.tell.ensures.does s below (stands-still c.at-in-Want.ensures.same h) in
+    tested-alone (begin_looks a) (idle a) (begin_looks a + debt a) (same-left h.at.rest t.at.rest) (omega (arith, c.tell.ensures.looks, c.at-in-Want.ensures.looks)))
+
+pub read-returns-in-When-clause-looks : goal.read-returns-in-When-clause-looks
+unfolding read idle debt is_paid
+read-returns-in-When-clause-looks t c = rw c.in-When.is (λ x s below low h can paid. c.read-in-When.ensures.looks x s below low h can paid)
+
+pub read-returns-in-Unless-clause-looks : goal.read-returns-in-Unless-clause-looks
+unfolding read idle debt is_paid
+read-returns-in-Unless-clause-looks t c = rw c.in-Unless.is (λ x s below low h can paid. c.read-in-Unless.ensures.looks x s below low h can paid)
+
+pub read-returns-in-Mode-clause-looks : goal.read-returns-in-Mode-clause-looks
+unfolding read idle debt is_paid
+read-returns-in-Mode-clause-looks t c = rw c.in-Mode.is (λ x s below low h can paid. c.read-in-Mode.ensures.looks x s below low h can paid)
+
+pub read-returns-in-Star-clause-looks : goal.read-returns-in-Star-clause-looks
+unfolding read
+read-returns-in-Star-clause-looks t c = rw c.in-Star.is (λ x s below low h can paid. c.turns.ensures.looks x s below low h can paid)
+
+pub read-returns-in-Node-clause-looks : goal.read-returns-in-Node-clause-looks
+unfolding read idle debt is_paid
+read-returns-in-Node-clause-looks t c = rw c.in-Node.is (λ x s below low h can paid.
+    let inner = c.read-node.ensures.looks x (fresh s) (inside below (marked s.given)) low (stands-opened c.start-node.ensures.opens c.start-node.ensures.given h) can paid in
+    within (same-length c.start-node.ensures.opens.rest) c.start-node.ensures.looks (same-length c.close.ensures.closes.rest) c.close.ensures.looks inner)
+
+pub read-returns-in-Wrap-clause-looks : goal.read-returns-in-Wrap-clause-looks
+unfolding read idle debt is_paid wrapped
+read-returns-in-Wrap-clause-looks t c = rw c.in-Wrap.is (λ x s below low h can paid.
+    let t = c.read-open-in-Wrap.ensures.reads x s below low h can in
+    let w = c.wrap.ensures.does _ below t in
+    within refl refl (same-left t.at.rest w.at.rest) c.wrap.ensures.looks (c.read-open-in-Wrap.ensures.looks x s below low h can paid))
+
+pub read-returns-in-Say-clause-looks : goal.read-returns-in-Say-clause-looks
+unfolding read idle debt say
+read-returns-in-Say-clause-looks t c = rw c.in-Say.is (λ x s below low h can paid.
+    no-token 0 0 (same-left h.at.rest (c.tell-in-Say.ensures.does s below h).at.rest) (omega (arith, c.tell-in-Say.ensures.looks)))
+
+pub read-returns-in-Skip-clause-looks : goal.read-returns-in-Skip-clause-looks
+unfolding read idle debt skip
+read-returns-in-Skip-clause-looks t c = rw c.in-Skip.is (λ x s below low h can paid.
+    some-tokens None 1 (fewer-left 1 (omega arith) can h.at.rest (c.skip.ensures.does s below h can).at.rest) c.skip.ensures.looks)
+
+pub read-returns-in-Split-clause-looks : goal.read-returns-in-Split-clause-looks
+unfolding read idle debt split
+read-returns-in-Split-clause-looks t c = rw c.in-Split.is (λ x s below low h can paid.
+    some-tokens None 1 (fewer-left 1 (omega arith) can.0 h.at.rest (c.split.ensures.does s below h can.1).at.rest) c.split.ensures.looks)
+
+pub read-returns-in-Call-clause-looks : goal.read-returns-in-Call-clause-looks
+unfolding read idle debt fresh
+read-returns-in-Call-clause-looks t c = rw c.in-Call.is (λ x s below low h can paid. c.call.ensures.looks x s below low h can.0 can.1)
+
+pub read-returns-in-Continue-clause-looks : goal.read-returns-in-Continue-clause-looks
+unfolding read idle debt
+read-returns-in-Continue-clause-looks t c = rw c.in-Continue.is (λ x s below low h can paid. c.go_on.ensures.looks x s below low h can.0 can.1)
+
+pub read-returns-in-LaterBodies-clause-looks : goal.read-returns-in-LaterBodies-clause-looks
+unfolding read idle debt is_paid
+read-returns-in-LaterBodies-clause-looks t c = rw (c.in-LaterBodies.is, sym c.later_bodies.ensures.rule) (λ x s below low h can paid. c.read-in-LaterBodies.ensures.looks x s below low h can paid)
+
+pub read-returns-in-LaterAtoms-clause-looks : goal.read-returns-in-LaterAtoms-clause-looks
+unfolding read idle debt is_paid
+read-returns-in-LaterAtoms-clause-looks t c = rw (c.in-LaterAtoms.is, sym c.later_atoms.ensures.rule) (λ x s below low h can paid. c.read-in-LaterAtoms.ensures.looks x s below low h can paid)
+
+pub turns-returns-then-not-at-clause-looks : goal.turns-returns-then-not-at-clause-looks
+unfolding idle debt
+turns-returns-then-not-at-clause-looks t c = λ x s below low h can paid.
+    let r = plain c.args.rule.now in
+    turn-refused (begin_looks r) (debt r) (idle r) (same-length (ap left c.at.ensures.same)) c.at.ensures.looks (c.turns.invariant.spending x s below low h can paid)
+
+pub turns-returns-then-tokens_left-before-clause-looks : goal.turns-returns-then-tokens_left-before-clause-looks
+unfolding idle debt
+turns-returns-then-tokens_left-before-clause-looks t c = λ x s below low h can paid.
+    let r = plain c.args.rule.now in
+    let b = c.turns.invariant.between x s below low h can in
+    let e : is_begun c.args.condition r b.now ≡ true = sym (c.at.ensures.sees b.now below b.stands) ∙ c.if-not-at.false in
+    let some : 0 < length s.rest = omega (arith, c.turns-test.true, b.most) in
+    let stood = stands-still c.at.ensures.same b.stands in
+    let read = c.read-open.ensures.looks x b.now below low stood (can b.now some b.shorter e) (turn-is-paid r paid) in
+    turn-idle (begin_looks r) (debt r) (idle r) (same-length (ap left c.at.ensures.same)) c.at.ensures.looks
+    (omega (arith, c.tokens_left-before.ensures, c.tokens_left.ensures, c.if-tokens_left-before.true)) (c.turns.invariant.spending x s below low h can paid) read
+
+pub turns-returns-clause-looks : goal.turns-returns-clause-looks
+unfolding idle debt
+turns-returns-clause-looks t c = λ x s below low h can paid.
+    let r = plain c.args.rule.now in
+    turns-over (begin_looks r) (debt r) (idle r) (c.turns.invariant.spending x s below low h can paid)

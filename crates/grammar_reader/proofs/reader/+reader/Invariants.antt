@@ -2,6 +2,7 @@
 use Rattle.std.specs.Prelude.{◌≡◌, ℕ, ◌+◌, ◌*◌, length}
 use Rattle.parser_events.specs.Stack.{IsInnermost}
 use Rattle.grammar_reader.specs.Data.{plain}
+use Rattle.grammar_reader.proofs.Spending.{Spending}
 use Rattle.grammar_reader.proofs.Turning.{Midway}
 use Rattle.grammar_reader.specs.Stands.{left}
 use Rattle.grammar_reader.proofs.Sizes.{weight}
@@ -28,6 +29,7 @@ invariant-turns-turns l = record {
   marker : IsInnermost l.open.marker l.p.nodes;
   innermost : (n : ℕ) → IsInnermost n l.initial.p.nodes → IsInnermost n l.p.nodes;
   between : Midway l.caller.began l.caller.ranks l.condition (plain l.rule) l.turns l.initial.open.given l.initial.p l.open.given l.p;
+  spending : Spending l.caller.began l.caller.ranks l.condition (plain l.rule) l.initial.open.given l.initial.p l.p;
 }
 
 abbrev pub decreases-turns-turns : goal.decreases-turns-turns

@@ -6,22 +6,24 @@ use Rattle.grammar_reader.specs.Data.{named}
 use Rattle.grammar_reader.specs.Stands.{Holds, left}
 use Rattle.grammar_reader.proofs.Standing.{stands-still}
 use Rattle.ra_parser.specs.Entries.{can_enter, production_of, strayed}
+use Rattle.grammar_reader.proofs.Spending.{same-length}
+use Rattle.ra_parser.proofs.EntryLooks.{few-there}
 use Rattle.ra_parser.proofs.Taking.{stands-first}
 use Rattle.ra_parser.proofs.Entered.{from, read_from, read-there, entry-every, entry-missing, entry-whole, entry-over, holds-left-out}
 use Rattle.ra_parser.proofs.entries.read_entry.Goals as goal
 
-pub returns-then-not-is_entered : goal.returns-then-not-is_entered
-returns-then-not-is_entered c =
+pub returns-then-not-is_entered-clause-tree : goal.returns-then-not-is_entered-clause-tree
+returns-then-not-is_entered-clause-tree c =
     let x = production_of c.args.entry_point in
     let ts = left c.args.p.now in
     let first = stands-first c.start-open.ensures.opens c.start-open.ensures.given c.requires.nodes in
     let entered : c.is_entered.result ≡ can_enter x (from ts) = c.is_entered.ensures.sees (from ts) (Some (End ∷ [])) (stands-first c.start-open.ensures.opens refl c.requires.nodes) in
     subst (λ (f : Forest). Holds c.stray.new.p.nodes (marked f ∷ []))
     (ap (λ (m : Message). strayed m (from ts)) c.missing.ensures ∙ sym (entry-missing x ts (sym entered ∙ c.if-not-is_entered.true)))
-    (c.stray.ensures (from ts) (stands-still c.is_entered.ensures.same first))
+    (c.stray.ensures.tree (from ts) (stands-still c.is_entered.ensures.same first))
 
-pub returns-then-takes_every_input : goal.returns-then-takes_every_input
-returns-then-takes_every_input c =
+pub returns-then-takes_every_input-clause-tree : goal.returns-then-takes_every_input-clause-tree
+returns-then-takes_every_input-clause-tree c =
     let x = production_of c.args.entry_point in
     let ts = left c.args.p.now in
     let first = stands-first c.start-open.ensures.opens c.start-open.ensures.given c.requires.nodes in
@@ -30,8 +32,8 @@ returns-then-takes_every_input c =
     subst (λ (f : Forest). Holds c.leave_out.new.p.nodes (marked f ∷ [])) (sym (entry-every x ts (sym c.takes_every_input.ensures ∙ c.if-takes_every_input.true)))
     (holds-left-out (read_from x ts).given c.leave_out.ensures.leaves t.trees)
 
-pub returns-then-tokens_left-gt0 : goal.returns-then-tokens_left-gt0
-returns-then-tokens_left-gt0 c =
+pub returns-then-tokens_left-gt0-clause-tree : goal.returns-then-tokens_left-gt0-clause-tree
+returns-then-tokens_left-gt0-clause-tree c =
     let x = production_of c.args.entry_point in
     let ts = left c.args.p.now in
     let first = stands-first c.start-open.ensures.opens c.start-open.ensures.given c.requires.nodes in
@@ -40,10 +42,10 @@ returns-then-tokens_left-gt0 c =
     let t = read-there x (named c.asked.result) ts c.production-open.ensures.reads c.asked.ensures (stands-still c.is_entered.ensures.same first) begun in
     let some : 1 ≤ length (read_from x ts).rest = omega (arith, c.if-tokens_left-gt0.true, c.tokens_left.ensures, ap (λ (us : List Token). length us) t.at.rest) in
     subst (λ (f : Forest). Holds c.stray-then-tokens_left-gt0.new.p.nodes (marked f ∷ [])) (sym (entry-over x ts (sym c.takes_every_input.ensures ∙ c.if-takes_every_input.false) begun some))
-    (c.stray-then-tokens_left-gt0.ensures (read_from x ts) t)
+    (c.stray-then-tokens_left-gt0.ensures.tree (read_from x ts) t)
 
-pub returns : goal.returns
-returns c =
+pub returns-clause-tree : goal.returns-clause-tree
+returns-clause-tree c =
     let x = production_of c.args.entry_point in
     let ts = left c.args.p.now in
     let first = stands-first c.start-open.ensures.opens c.start-open.ensures.given c.requires.nodes in
@@ -53,3 +55,35 @@ returns c =
     let none : length (read_from x ts).rest ≤ 0 = omega (arith, c.if-tokens_left-gt0.false, c.tokens_left.ensures, ap (λ (us : List Token). length us) t.at.rest) in
     subst (λ (f : Forest). Holds c.leave_out-2.new.p.nodes (marked f ∷ [])) (sym (entry-whole x ts (sym c.takes_every_input.ensures ∙ c.if-takes_every_input.false) begun none))
     (holds-left-out (read_from x ts).given c.leave_out-2.ensures.leaves t.trees)
+
+pub returns-then-not-is_entered-clause-looks : goal.returns-then-not-is_entered-clause-looks
+returns-then-not-is_entered-clause-looks c =
+    let there = stands-still c.is_entered.ensures.same (stands-first c.start-open.ensures.opens c.start-open.ensures.given c.requires.nodes) in
+    omega (arith, c.stray.ensures.looks, same-length there.at.rest, c.is_entered.ensures.looks, c.start-open.ensures.looks)
+
+pub returns-then-takes_every_input-clause-looks : goal.returns-then-takes_every_input-clause-looks
+returns-then-takes_every_input-clause-looks c =
+    let ts = left c.args.p.now in
+    let first = stands-first c.start-open.ensures.opens c.start-open.ensures.given c.requires.nodes in
+    let entered : c.is_entered.result ≡ can_enter (production_of c.args.entry_point) (from ts) = c.is_entered.ensures.sees (from ts) (Some (End ∷ [])) (stands-first c.start-open.ensures.opens refl c.requires.nodes) in
+    let there = stands-still c.is_entered.ensures.same first in
+    let few = few-there c.args.entry_point _ ts c.production-open.ensures.looks c.asked.ensures there (sym entered ∙ c.if-not-is_entered.false) in
+    omega (arith, few, c.leave_out.ensures.looks, same-length there.at.rest, c.is_entered.ensures.looks, c.start-open.ensures.looks)
+
+pub returns-then-tokens_left-gt0-clause-looks : goal.returns-then-tokens_left-gt0-clause-looks
+returns-then-tokens_left-gt0-clause-looks c =
+    let ts = left c.args.p.now in
+    let first = stands-first c.start-open.ensures.opens c.start-open.ensures.given c.requires.nodes in
+    let entered : c.is_entered.result ≡ can_enter (production_of c.args.entry_point) (from ts) = c.is_entered.ensures.sees (from ts) (Some (End ∷ [])) (stands-first c.start-open.ensures.opens refl c.requires.nodes) in
+    let there = stands-still c.is_entered.ensures.same first in
+    let few = few-there c.args.entry_point _ ts c.production-open.ensures.looks c.asked.ensures there (sym entered ∙ c.if-not-is_entered.false) in
+    omega (arith, few, c.stray-then-tokens_left-gt0.ensures.looks, same-length there.at.rest, c.is_entered.ensures.looks, c.start-open.ensures.looks)
+
+pub returns-clause-looks : goal.returns-clause-looks
+returns-clause-looks c =
+    let ts = left c.args.p.now in
+    let first = stands-first c.start-open.ensures.opens c.start-open.ensures.given c.requires.nodes in
+    let entered : c.is_entered.result ≡ can_enter (production_of c.args.entry_point) (from ts) = c.is_entered.ensures.sees (from ts) (Some (End ∷ [])) (stands-first c.start-open.ensures.opens refl c.requires.nodes) in
+    let there = stands-still c.is_entered.ensures.same first in
+    let few = few-there c.args.entry_point _ ts c.production-open.ensures.looks c.asked.ensures there (sym entered ∙ c.if-not-is_entered.false) in
+    omega (arith, few, c.leave_out-2.ensures.looks, same-length there.at.rest, c.is_entered.ensures.looks, c.start-open.ensures.looks)

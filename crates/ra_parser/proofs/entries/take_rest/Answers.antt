@@ -13,6 +13,7 @@ tokens-smaller c =
     fewer-left _ s (c.take_any-open.ensures.does s None (stands-somewhere c.tokens.open.given c.tokens.p) some) some
 
 pub tokens-preserved : goal.tokens-preserved
+unfolding somewhere
 tokens-preserved c = record {
   input = c.take_any-open.ensures.input ∙ c.tokens.invariant.input;
   marker = c.take_any-open.ensures.«open»;
@@ -24,6 +25,11 @@ tokens-preserved c = record {
         stands = c.take_any-open.ensures.does b.now below b.stands some;
         same = token-taken b.now some ∙ b.same;
       };
+  looks =
+      let s = somewhere c.tokens.open.given c.tokens.p in
+      let some : 1 ≤ length s.rest = omega (arith, c.tokens-test.true, c.tokens_left.ensures) in
+      let fewer = fewer-left _ s (c.take_any-open.ensures.does s None (stands-somewhere c.tokens.open.given c.tokens.p) some) some in
+      omega (arith, fewer, c.take_any-open.ensures.looks, c.tokens.invariant.looks);
 }
 
 pub returns-clause-does : goal.returns-clause-does

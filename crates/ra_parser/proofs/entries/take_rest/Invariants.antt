@@ -1,4 +1,4 @@
-use Rattle.std.specs.Prelude.{◌≡◌, length}
+use Rattle.std.specs.Prelude.{◌≡◌, ◌+◌, ◌≤◌, length}
 use Rattle.parser_events.specs.Stack.{IsInnermost}
 use Rattle.grammar_reader.specs.Stands.{left}
 use Rattle.ra_parser.proofs.Taking.{Midway}
@@ -9,6 +9,7 @@ invariant-tokens l = record {
   input : l.p.input ≡ l.initial.p.input;
   marker : IsInnermost l.open.marker l.p.nodes;
   taking : Midway l.initial.open.given l.initial.p l.open.given l.p;
+  looks : l.p.looks + length (left l.p) ≤ l.initial.p.looks + length (left l.initial.p);
 }
 
 abbrev pub decreases-tokens : goal.decreases-tokens

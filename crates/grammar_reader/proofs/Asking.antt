@@ -1,0 +1,80 @@
+-- How many looks tell whether a rule begins, form by form.
+use Rattle.std.proofs.Common.{◌≡◌, ℕ, suc, ◌+◌, ◌≤◌, Bool, true, false, refl, sym, subst, arith, if◌then◌else◌}
+use Rattle.rust_grammar.specs.Rule.{Production, Rule, Look, Always, Never, Kind, Contextual, Joint, Left, InCondition, Given, Both, Either, Not, Then, Near, Mode, begins, shift, passes, is_silent, width, in_mode}
+use Rattle.rust_grammar.specs.Meaning.{begins_below, look_of}
+use Rattle.rust_grammar.specs.Whole.{rule, whole}
+use Rattle.grammar_reader.specs.Looks.{asked, begin_looks}
+
+asked-shift : (m : ℕ) (l : Look) → asked (shift m l) ≡ asked l
+unfolding asked shift
+asked-shift m Always = refl
+asked-shift m Never = refl
+asked-shift m (Kind n k) = refl
+asked-shift m (Contextual n k) = refl
+asked-shift m (Joint n) = refl
+asked-shift m Left = refl
+asked-shift m InCondition = refl
+asked-shift m Given = refl
+asked-shift m (Both a b) = rw (asked-shift m a, asked-shift m b) refl
+asked-shift m (Either a b) = rw (asked-shift m a, asked-shift m b) refl
+asked-shift m (Not a) = asked-shift m a
+
+set-mode : (b : Bool) → asked (if b then Always else Never) ≡ 0
+unfolding asked
+set-mode true = refl
+set-mode false = refl
+
+asked-mode : (c : Bool) (l : Look) → asked (in_mode c l) ≡ asked l
+unfolding asked in_mode
+asked-mode c Always = refl
+asked-mode c Never = refl
+asked-mode c (Kind n k) = refl
+asked-mode c (Contextual n k) = refl
+asked-mode c (Joint n) = refl
+asked-mode c Left = refl
+asked-mode c InCondition = set-mode c
+asked-mode c Given = refl
+asked-mode c (Both a b) = rw (asked-mode c a, asked-mode c b) refl
+asked-mode c (Either a b) = rw (asked-mode c a, asked-mode c b) refl
+asked-mode c (Not a) = asked-mode c a
+
+module _ (k old : ℕ) where
+  -- so many looks tell at most whether a rule begins
+  abbrev pub cost : Rule → ℕ
+  cost r = asked (begins (begins_below whole k) r)
+
+  pub silent-cost : (a b : Rule) {new : ℕ} → is_silent a ≡ true → new ≤ old + cost b → new ≤ old + cost (Then a b)
+  unfolding begins
+  silent-cost a b e h = rw e h
+
+  pub first-cost : (a b : Rule) {new : ℕ} → is_silent a ≡ false → new ≤ old + cost a → new ≤ old + cost (Then a b)
+  unfolding begins asked
+  first-cost a b {new} e h = rw e (both (passes a))
+    where
+      both : (p : Bool) → new ≤ old + asked (if p then Either (begins (begins_below whole k) a) (begins (begins_below whole k) b) else begins (begins_below whole k) a)
+      both true = omega (arith, h)
+      both false = h
+
+  pub second-cost : (a b : Rule) {mid new : ℕ} → is_silent a ≡ false → passes a ≡ true → mid ≤ old + cost a → new ≤ mid + cost b → new ≤ old + cost (Then a b)
+  unfolding begins asked
+  second-cost a b e p h i = rw (e, p) (omega (arith, h, i))
+
+  pub near-cost : (a b : Rule) {mid new : ℕ} → mid ≤ old + cost a → new ≤ mid + cost b → new ≤ old + cost (Near a b)
+  unfolding begins asked
+  near-cost a b h i = omega (arith, h, i, asked-shift (width a) (begins (begins_below whole k) b))
+
+  pub mode-cost : (d : Bool) (a : Rule) {new : ℕ} → new ≤ old + cost a → new ≤ old + cost (Mode d a)
+  unfolding begins
+  mode-cost d a h = omega (arith, h, asked-mode d (begins (begins_below whole k) a))
+
+-- a production, of which is asked one call less deep
+pub call-cost : (k j old new : ℕ) (x : Production) (row : Rule) → k ≡ suc j → row ≡ rule x → new ≤ old + cost j old row → new ≤ old + asked (begins_below whole k x)
+unfolding begins_below whole
+call-cost k j old new x row e i h = subst (λ (n : ℕ). new ≤ old + asked (begins_below whole n x)) (sym e) deeper
+  where
+    deeper : new ≤ old + asked (begins_below whole (suc j) x)
+    deeper = subst (λ (q : Rule). new ≤ old + asked (begins (begins_below whole j) q)) i h
+
+pub begin-cost : (old new : ℕ) (r : Rule) → new ≤ old + cost 20 old r → new ≤ old + begin_looks r
+unfolding begin_looks look_of whole
+begin-cost old new r h = h

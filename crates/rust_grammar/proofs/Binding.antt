@@ -1,0 +1,241 @@
+-- What is known of the trees that a rule gives, and that it is true.
+use Rattle.std.proofs.Common.{◌≡◌, ℕ, zero, suc, Bool, true, false, not, ◌&&◌, ◌==◌, length, nat_lt, refl, sym, subst, if◌then◌else◌, true≢false}
+use Rattle.std.proofs.lemmas.Bool.{eqb-true}
+use Rattle.parser_input.specs.Kinds.{BIN_EXPR}
+use Rattle.parser_events.specs.Forest as forest
+use Rattle.parser_events.specs.Forest.{Forest, Message, ◌then◌}
+use Rattle.rust_grammar.specs.Rule.{Production, Rule, Look, Nothing, One, Any, Then, Near, Or, Opt, Star, Node, Wrap, Want, Say, Skip, Split, When, Unless, Call, Continue, Mode, body, literal, block, statement_end, macro_statement_end, expression, operation, operation_tail, disjunction, conjunction, comparison, bit_or, bit_xor, bit_and, bit_shift, sum, product, cast, prefixed, postfix, after_dot, atom, block_like, if_expr, begins}
+use Rattle.rust_grammar.specs.Meaning.{Reading, Calls, read, sees, ahead, fresh, leaf, say, skip, split, node, wrapped, behind, turns}
+use Rattle.rust_grammar.specs.Powers.{power, are_operators_placed}
+use Rattle.rust_grammar.proofs.Plain.{and_l, and_r}
+use Rattle.rust_grammar.proofs.Spelled.{chosen}
+use Rattle.rust_grammar.proofs.Operators.{fits_between, Fits, fits-so, binary-is, right-there, said-bound, said-only}
+use Rattle.rust_grammar.proofs.Powers.{Standing, Empty, Operand, Placed, Unknown, is_of, is_within, join, beside, inside, weaken, empty-is, of-first, of-second, of-beside, of-node, of-float}
+
+-- what is known of a production's trees where it begins
+unfoldable pub starts : Production → Standing
+starts body = Placed
+starts statement_end = Placed
+starts macro_statement_end = Placed
+starts operation_tail = Operand 3
+starts postfix = Operand 12
+starts after_dot = Placed
+starts x = Empty
+
+-- what is known of its trees where it ends
+unfoldable pub ends : Production → Standing
+ends expression = Operand 1
+ends operation = Operand 1
+ends operation_tail = Operand 1
+ends disjunction = Operand 3
+ends conjunction = Operand 4
+ends comparison = Operand 5
+ends bit_or = Operand 6
+ends bit_xor = Operand 7
+ends bit_and = Operand 8
+ends bit_shift = Operand 9
+ends sum = Operand 10
+ends product = Operand 11
+ends cast = Operand 12
+ends prefixed = Operand 12
+ends postfix = Operand 12
+ends after_dot = Operand 12
+ends atom = Operand 12
+ends literal = Operand 12
+ends block = Operand 12
+ends block_like = Operand 12
+ends if_expr = Operand 12
+ends x = Placed
+
+-- one leaf, an operator of this power
+unfoldable pub has_power : ℕ → Rule → Bool
+has_power p (One x) = power x.kind == p
+has_power p (When l a) = has_power p a
+has_power p (Or a b) = has_power p a && has_power p b
+has_power p a = false
+
+-- the power of the first of these operators
+unfoldable pub first_power : Rule → ℕ
+first_power (One x) = power x.kind
+first_power (When l a) = first_power a
+first_power (Or a b) = first_power a
+first_power a = 0
+
+-- a binary expression of operators of power p, between operands of these levels
+unfoldable pub binary : (p q : ℕ) → Rule → Standing → Standing
+binary p q a (Operand r) = if has_power p a && fits_between p q r then Operand p else Unknown
+binary p q a r = Unknown
+
+-- the same, of an operand and what stands behind it
+unfoldable pub operated : Standing → Rule → Standing
+operated (Operand q) (Then a (Want (Call y) m)) = binary (first_power a) q a (ends y)
+operated p a = Unknown
+
+-- What is known of the trees behind a rule.
+unfoldable pub gives : Standing → Rule → Standing
+gives p Nothing = p
+gives p (One x) = beside p Placed
+gives p Any = beside p Placed
+gives p (Then a b) = gives (gives p a) b
+gives p (Near a b) = gives (gives p a) b
+gives p (Or a b) = join (gives p a) (gives p b)
+gives p (When l a) = gives p a
+gives p (Unless l a) = gives p a
+gives p (Opt a) = join p (gives p a)
+gives p (Star a) = let turned = join p (gives p a) in if is_within (gives turned a) turned then turned else Unknown
+gives p (Node k a) = if k == BIN_EXPR then Unknown else beside p (inside (gives Empty a))
+gives p (Wrap k a) = if k == BIN_EXPR then operated p a else inside (gives p a)
+gives p (Want a m) = join (gives p a) (beside p Placed)
+gives p (Say m) = beside p Placed
+gives p (Skip m) = beside p Placed
+gives p Split = inside p
+gives p (Call y) = beside p (ends y)
+gives p (Continue y) = if is_within p (starts y) then ends y else Unknown
+gives p (Mode c a) = gives p a
+
+-- what is taken of calls
+abbrev pub KeepsPowers : Production → Bool → Reading → Reading → Type 0
+KeepsPowers y d t u = is_of (starts y) t.given ≡ true → is_of (ends y) u.given ≡ true
+
+-- one leaf was added, an operator of power p
+record OneOperator (p : ℕ) (s t : Reading) : Type 0 where
+  pub kind : ℕ
+  pub count : ℕ
+  pub is : t.given ≡ s.given then forest.Leaf kind count forest.End
+  pub of : power kind ≡ p
+
+-- what each turn keeps holds behind the repetition
+turns-keep : (p : Standing) (n : ℕ) (test : Reading → Bool) (turn : Reading → Reading) (s : Reading)
+    → ((v : Reading) → is_of p v.given ≡ true → is_of p (turn v).given ≡ true) → is_of p s.given ≡ true
+    → is_of p (turns n test turn s).given ≡ true
+unfolding turns
+turns-keep p zero test turn s each h = h
+turns-keep p (suc n) test turn s each h =
+    chosen (λ (u : Reading). is_of p u.given ≡ true) (test s) _ _
+    (λ e. chosen (λ (u : Reading). is_of p u.given ≡ true) (nat_lt (length (turn s).rest) (length s.rest)) _ _
+    (λ f. turns-keep p n test turn (turn s) each (each s h)) (λ f. each s h))
+    (λ e. h)
+
+-- of one of two standings
+chosen-standing : (b : Bool) (p q : Standing) (f : Forest)
+    → (b ≡ true → is_of p f ≡ true) → (b ≡ false → is_of q f ≡ true)
+    → is_of (if b then p else q) f ≡ true
+chosen-standing true p q f e i = e refl
+chosen-standing false p q f e i = i refl
+
+unknown-is : (f : Forest) → is_of Unknown f ≡ true
+unfolding is_of
+unknown-is f = refl
+
+-- one tree, in which there is no binary expression
+one-placed : (k n : ℕ) → is_of Placed (forest.Leaf k n forest.End) ≡ true
+unfolding is_of are_operators_placed
+one-placed k n = refl
+
+said-placed : (m : Message) → is_of Placed (forest.Said m forest.End) ≡ true
+unfolding is_of are_operators_placed
+said-placed m = refl
+
+error-placed : (m : Message) (k : ℕ) → is_of Placed (forest.ErrorLeaf m k forest.End) ≡ true
+unfolding is_of are_operators_placed
+error-placed m k = refl
+
+module _ (looks : Production → Look) (call : Calls) where
+  -- such a rule gives one leaf, an operator of that power
+  one-operator : (a : Rule) (p : ℕ) (c : Bool) (s : Reading) → has_power p a ≡ true → OneOperator p s (read looks call c a s)
+  unfolding has_power read leaf
+  one-operator (One x) p c s e = record { kind = x.kind; count = length x.parts; is = refl; of = eqb-true _ _ e }
+  one-operator (When l a) p c s e = one-operator a p c s e
+  one-operator (Or a b) p c s e =
+      chosen (OneOperator p s) (sees c s (begins looks a)) _ _
+      (λ i. one-operator a p c s (and_l (has_power p a) (has_power p b) e)) (λ i. one-operator b p c s (and_r (has_power p a) (has_power p b) e))
+  one-operator a p c s e = absurd (true≢false (sym e))
+
+module _ (looks : Production → Look) (call : Calls) (ok : (y : Production) (d : Bool) (t : Reading) → KeepsPowers y d t (call y d t)) where
+  -- what is known of a call
+  called-is : (y : Production) (c : Bool) (s : Reading) → is_of (ends y) (call y c (fresh s)).given ≡ true
+  unfolding fresh
+  called-is y c s = ok y c (fresh s) (empty-is (starts y))
+
+  -- an operand, an operator, and a part that is wanted
+  binary-so : (p q r : ℕ) (a : Rule) (y : Production) (m : Message) (c : Bool) (s : Reading)
+      → ends y ≡ Operand r → has_power p a ≡ true → Fits p q r → is_of (Operand q) s.given ≡ true
+      → is_of (Operand p) (forest.Node BIN_EXPR (read looks call c (Then a (Want (Call y) m)) s).given forest.End) ≡ true
+  unfolding read behind say
+  binary-so p q r a y m c s e i fit h =
+      let one = one-operator looks call a p c s i in
+      let t = read looks call c a s in
+      let operand = (call y c (fresh t)).given in
+      let right = right-there r operand fit.right_bound (subst (λ (u : Standing). is_of u operand ≡ true) e (called-is y c t)) in
+      let missing = forest.Said m forest.End in
+      chosen (λ (u : Reading). is_of (Operand p) (forest.Node BIN_EXPR u.given forest.End) ≡ true) (sees c t (begins looks (Call y)))
+      (behind t (call y c (fresh t))) (say m t)
+      (λ j. subst (λ (f : Forest). is_of (Operand p) (forest.Node BIN_EXPR (f then operand) forest.End) ≡ true) (sym one.is)
+      (binary-is p q r s.given one.kind one.count operand one.of fit h right.0 right.1))
+      (λ j. subst (λ (f : Forest). is_of (Operand p) (forest.Node BIN_EXPR (f then missing) forest.End) ≡ true) (sym one.is)
+      (binary-is p q r s.given one.kind one.count missing one.of fit h (said-bound r m fit.right_bound) (said-only m)))
+
+  -- so is what such a wrap gives
+  operated-is : (p : Standing) (a : Rule) (c : Bool) (s : Reading)
+      → is_of p s.given ≡ true
+      → is_of (operated p a) (forest.Node BIN_EXPR (read looks call c a s).given forest.End) ≡ true
+  unfolding operated binary
+  operated-is (Operand q) (Then a (Want (Call y) m)) c s h = of (ends y) refl
+    where
+      p : ℕ
+      p = first_power a
+
+      tree : Forest
+      tree = forest.Node BIN_EXPR (read looks call c (Then a (Want (Call y) m)) s).given forest.End
+
+      of : (r : Standing) → ends y ≡ r → is_of (binary p q a r) tree ≡ true
+      of (Operand r) e =
+          chosen-standing (has_power p a && fits_between p q r) (Operand p) Unknown tree
+          (λ i. binary-so p q r a y m c s e (and_l (has_power p a) (fits_between p q r) i)
+          (fits-so p q r (and_r (has_power p a) (fits_between p q r) i)) h)
+          (λ i. unknown-is tree)
+      of Empty e = unknown-is tree
+      of Placed e = unknown-is tree
+      of Unknown e = unknown-is tree
+  operated-is p a c s h = unknown-is _
+
+  -- What is known of the trees behind a rule is true.
+  pub placed-so : (r : Rule) (p : Standing) (c : Bool) (s : Reading) → is_of p s.given ≡ true → is_of (gives p r) (read looks call c r s).given ≡ true
+  unfolding gives read leaf say skip split fresh node wrapped behind
+  placed-so Nothing p c s h = h
+  placed-so (One x) p c s h = of-beside p Placed s.given (forest.Leaf x.kind (length x.parts) forest.End) h (one-placed x.kind (length x.parts))
+  placed-so Any p c s h = of-beside p Placed s.given (forest.Leaf (ahead 0 s.rest).kind 1 forest.End) h (one-placed (ahead 0 s.rest).kind 1)
+  placed-so (Then a b) p c s h = placed-so b (gives p a) c (read looks call c a s) (placed-so a p c s h)
+  placed-so (Near a b) p c s h = placed-so b (gives p a) c (read looks call c a s) (placed-so a p c s h)
+  placed-so (Or a b) p c s h =
+      chosen (λ (u : Reading). is_of (join (gives p a) (gives p b)) u.given ≡ true) (sees c s (begins looks a)) _ _
+      (λ i. of-first (gives p a) (gives p b) _ (placed-so a p c s h)) (λ i. of-second (gives p a) (gives p b) _ (placed-so b p c s h))
+  placed-so (When l a) p c s h = placed-so a p c s h
+  placed-so (Unless l a) p c s h = placed-so a p c s h
+  placed-so (Opt a) p c s h =
+      chosen (λ (u : Reading). is_of (join p (gives p a)) u.given ≡ true) (sees c s (begins looks a)) _ _
+      (λ i. of-second p (gives p a) _ (placed-so a p c s h)) (λ i. of-first p (gives p a) _ h)
+  placed-so (Star a) p c s h =
+      let turned = join p (gives p a) in
+      chosen-standing (is_within (gives turned a) turned) turned Unknown _
+      (λ e. turns-keep turned (length s.rest) (λ t. sees c t (begins looks a)) (read looks call c a) s
+      (λ v i. weaken (gives turned a) turned _ e (placed-so a turned c v i)) (of-first p (gives p a) _ h))
+      (λ e. unknown-is _)
+  placed-so (Node k a) p c s h =
+      chosen-standing (k == BIN_EXPR) Unknown (beside p (inside (gives Empty a))) _ (λ e. unknown-is _)
+      (λ e. of-beside p (inside (gives Empty a)) s.given _ h (of-node (gives Empty a) k _ e (placed-so a Empty c (fresh s) (empty-is Empty))))
+  placed-so (Wrap k a) p c s h =
+      chosen-standing (k == BIN_EXPR) (operated p a) (inside (gives p a)) _
+      (λ e. rw (eqb-true k BIN_EXPR e) (operated-is p a c s h))
+      (λ e. of-node (gives p a) k _ e (placed-so a p c s h))
+  placed-so (Want a m) p c s h =
+      chosen (λ (u : Reading). is_of (join (gives p a) (beside p Placed)) u.given ≡ true) (sees c s (begins looks a)) _ _
+      (λ i. of-first (gives p a) (beside p Placed) _ (placed-so a p c s h))
+      (λ i. of-second (gives p a) (beside p Placed) _ (of-beside p Placed s.given (forest.Said m forest.End) h (said-placed m)))
+  placed-so (Say m) p c s h = of-beside p Placed s.given (forest.Said m forest.End) h (said-placed m)
+  placed-so (Skip m) p c s h = of-beside p Placed s.given (forest.ErrorLeaf m (ahead 0 s.rest).kind forest.End) h (error-placed m (ahead 0 s.rest).kind)
+  placed-so Split p c s h = of-float p (not (ahead 0 s.rest).joint) s.given h
+  placed-so (Call y) p c s h = of-beside p (ends y) s.given (call y c (fresh s)).given h (called-is y c s)
+  placed-so (Continue y) p c s h =
+      chosen-standing (is_within p (starts y)) (ends y) Unknown _ (λ e. ok y c s (weaken p (starts y) s.given e h)) (λ e. unknown-is _)
+  placed-so (Mode d a) p c s h = placed-so a p d s h

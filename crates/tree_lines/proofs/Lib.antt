@@ -1,0 +1,3 @@
+pub mod Closing
+pub mod Listing
+pub mod ReadAs

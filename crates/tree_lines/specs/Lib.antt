@@ -1,0 +1,4 @@
+pub mod Elements
+pub mod Listed
+pub mod Names
+pub mod Reading

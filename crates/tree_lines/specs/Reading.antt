@@ -1,0 +1,23 @@
+-- What a text is read as.
+use Rattle.std.specs.Prelude.{◌≡◌, ℕ, List, map}
+use Rattle.parser_input.specs.Lexed.{lexed, leaves_of}
+use Rattle.parser_input.specs.declared.edition.Edition.{Edition}
+use Rattle.parser_events.specs.Dress.{dress_root}
+use Rattle.parser_events.specs.Dressed.{Dressed, sayings_of}
+use Rattle.rust_grammar.specs.Laws.{entry_of}
+use Rattle.rust_grammar.specs.Rule.{Production}
+use Rattle.tree_lines.specs.Elements.{elements}
+use Rattle.tree_lines.specs.Listed.{element_of, saying_of}
+use Rattle.tree_lines.specs.declared.rows.Row.{Row}
+use Rattle.tree_lines.specs.declared.rows.Said.{Said}
+
+-- the tree of a text that is asked to be this, with the text
+unfoldable pub tree_of : Production → Edition → List ℕ → Dressed
+tree_of asked edition text =
+    let leaves = leaves_of (lexed edition text) in
+    dress_root (entry_of asked edition leaves) leaves
+
+-- The rows are the elements of the tree, and the messages those that stand in it.
+pub record IsTreeOf (asked : Production) (edition : Edition) (text : List ℕ) (rows : List Row) (said : List Said) : Type 0 where
+  pub elements_are : map element_of rows ≡ elements 0 0 (tree_of asked edition text)
+  pub sayings_are : map saying_of said ≡ sayings_of (tree_of asked edition text)
