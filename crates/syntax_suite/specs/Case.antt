@@ -3,9 +3,9 @@ use Rattle.std.specs.Prelude.{ℕ, zero, suc, ◌-◌, List, [], ◌∷◌, leng
 use Rattle.std.specs.List.{filter, flat_map}
 use Rattle.std.specs.Cmp.Lexicographic.{pointwise}
 use Rattle.rowan_green.specs.Forest.{Forest, empty, Tree, same_forest}
-use Rattle.numbered_tree.specs.Element.{Way, same_way, Element, element_at}
+use Rattle.syntax_tree.specs.Element.{Way, same_way, Element, element_at}
 use Rattle.tree_rewrite.specs.Change.{Change, insert, replace, has_collision}
-use Rattle.numbered_tree.specs.Mapping.{Mapping}
+use Rattle.syntax_tree.specs.Mapping.{Mapping}
 use Rattle.tree_rewrite.specs.Marked.{Marked, forest_in, changed, origins}
 use Rattle.tree_rewrite.specs.Rewrite.{Job, jobs, rewrite, or_no_jobs}
 use Rattle.tree_rewrite.specs.Orders.{is_order}

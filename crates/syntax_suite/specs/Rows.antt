@@ -2,9 +2,9 @@
 use Rattle.std.specs.Prelude.{◌≡◌, ℕ, List, [], ◌∷◌, ◌++◌, reverse, map, codes, Bool, true, false}
 use Rattle.std.specs.List.{filter}
 use Rattle.rowan_green.specs.Forest.{Forest, empty, node, leaf, Tree, forest_text}
-use Rattle.numbered_tree.specs.Element.{Way, Element, element_at}
+use Rattle.syntax_tree.specs.Element.{Way, Element, element_at}
 use Rattle.tree_rewrite.specs.Change.{Change, insert, replace, has_collision}
-use Rattle.numbered_tree.specs.Mapping.{Mapping}
+use Rattle.syntax_tree.specs.Mapping.{Mapping}
 use Rattle.tree_rewrite.specs.Marked.{forest_in, origins, changed}
 use Rattle.tree_rewrite.specs.Rewrite.{Job, jobs, or_no_jobs, rewrite, is_placeable}
 use Rattle.tree_rewrite.specs.Orders.{is_order, put_in_order}

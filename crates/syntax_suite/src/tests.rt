@@ -1,13 +1,12 @@
 //! What no contract says: that calls succeed where memory is ample. A row asks a question, and says what must be written for the answer.
-use numbered_tree::{
-    MappingError, Position, PositionError, SyntaxElement, SyntaxMapping, SyntaxMappingBuilder,
-    SyntaxNode, SyntaxToken,
-};
 use parser_input::SyntaxKind;
 use rowan_green::{GreenError, GreenNode, GreenNodeBuilder, GreenToken};
 use std::alloc::Global;
 use std::test::Fail;
-use syntax_tree::TreeIds;
+use syntax_tree::{
+    MappingError, Position, PositionError, SyntaxElement, SyntaxMapping, SyntaxMappingBuilder,
+    SyntaxNode, SyntaxToken, TreeIds,
+};
 use tree_rewrite::job::{Job, is_order};
 use tree_rewrite::tree_change::{Target, TreeChange};
 
@@ -198,7 +197,7 @@ fn answer(alloc: Global, ask: Ask) -> Result<String, Fail> {
 }
 
 #[test]
-fn numbered_trees(rt: HostRuntime) -> Result<(), Fail> {
+fn syntax_trees(rt: HostRuntime) -> Result<(), Fail> {
     let alloc = rt.alloc();
     for row in [
         asked(Ask::Elements, "SOURCE_FILE;PATH 0;IDENT 0 0;SEMICOLON 1;"),

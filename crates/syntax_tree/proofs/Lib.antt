@@ -1,7 +1,6 @@
-pub mod Children
-pub mod Starts
-pub mod Replaced
-pub mod Found
-pub mod Placed
+pub mod Places
+pub mod Mappings
 pub mod Memory
-pub mod Slices
+pub mod Replacements
+pub mod WayLevels
+pub mod NestedWalks

@@ -1,41 +1,42 @@
--- Nodes and tokens that are handed out.
-use Rattle.std.specs.Prelude.{ℕ, List, [], Option, option_map, unwrap_or, nat_lt, if◌then◌else◌}
-use Rattle.parser_input.specs.Kind.{kind_count}
-use Rattle.parser_input.specs.Kinds.{ERROR}
-use Rattle.rowan_green.specs.Forest.{Tree}
-use Rattle.rowan_green.specs.Term.{Term, kind_of, term_len, text_of}
-use Rattle.rowan_green.specs.declared.utility_types.NodeOrToken.TheVariants.{Node}
-use Rattle.syntax_tree.specs.Path.{Path, Placed, at}
-use Rattle.syntax_tree.specs.Replacement.{start_of}
+-- What a node or a token that is handed out stands for.
+use Rattle.std.specs.Prelude.{ℕ, List, map, Option, option_map}
+use Rattle.rowan_green.specs.Either.{either}
+use Rattle.rowan.specs.Place.{Place, above}
+use Rattle.rowan.specs.Around.{Cursor}
+use Rattle.rowan.specs.Walk.{Event, entered}
+use Rattle.syntax_tree.specs.Element.{Way, Element, element_at, term_of}
+use Rattle.syntax_tree.specs.declared.element.SyntaxElement.{SyntaxElement}
+use Rattle.syntax_tree.specs.declared.element.SyntaxElement.TheVariants.{Node, Token}
 
--- what contracts see of one: the number of its tree, the tree, and the path that leads to it
-pub record Handle : Type 0 where
+abbrev pub element_of : SyntaxElement → Element
+element_of (Node e) = e
+element_of (Token e) = e
+
+-- the element at a place of the tree of this number
+abbrev pub with_number : ℕ → Place → Element
+with_number n p = record { number = n; place = p }
+
+-- another place of the same tree
+abbrev pub with_place : Element → Place → Element
+with_place e p = with_number e.number p
+
+-- the node or token at a place of the tree of this number
+abbrev pub with_cursor : ℕ → Cursor → SyntaxElement
+with_cursor n c = either (λ p. Node (with_number n p)) (λ p. Token (with_number n p)) c
+
+-- a walk through the tree of this number, as the events that are left
+pub record Walk : Type 0 where
   pub number : ℕ
-  pub root : Tree
-  pub path : Path
+  pub events : List Event
 
--- the element that it stands for
-abbrev pub element_of : Handle → Option Term
-element_of h = at (Node h.root) h.path
+-- the elements that it still enters
+abbrev pub elements_left : Walk → List SyntaxElement
+elements_left w = map (with_cursor w.number) (entered w.events)
 
--- the byte where that begins
-abbrev pub begin_of : Handle → ℕ
-begin_of h = start_of (Node h.root) h.path
+-- the element above
+abbrev pub parent_of : Element → Option Element
+parent_of e = option_map (with_place e) (above e.place)
 
--- how many bytes it has
-abbrev pub length_of : Handle → ℕ
-length_of h = unwrap_or (option_map term_len (element_of h)) 0
-
-abbrev pub text_at : Handle → List ℕ
-text_at h = unwrap_or (option_map text_of (element_of h)) []
-
--- the kind that a raw number stands for; one that is none of the kinds reads as an error
-abbrev pub readable : ℕ → ℕ
-readable raw = if nat_lt raw kind_count then raw else ERROR
-
-abbrev pub kind_at : Handle → ℕ
-kind_at h = readable (unwrap_or (option_map kind_of (element_of h)) ERROR)
-
--- an element of the tree that h is of
-abbrev pub placed_handle : Handle → Placed → Handle
-placed_handle h p = record { number = h.number; root = h.root; path = p.path }
+-- the element of the same tree that stands at a way, if one does
+abbrev pub standing_at : Element → Way → Option Element
+standing_at e w = let q = element_at e.number e.place.root w in option_map (λ _. q) (term_of q)

@@ -1,7 +1,9 @@
-pub mod Path
-pub mod Replacement
-pub mod Lent
-pub mod Walk
-pub mod Refusal
-pub mod Handle
+pub mod Language
 pub mod Element
+pub mod Handle
+pub mod Mapping
+pub mod Position
+pub mod Refusal
+pub mod Lent
+pub mod Search
+pub mod Replacement

@@ -1,95 +1,73 @@
 //! The first element of a kind and a range.
-ghost use Rattle.std.specs.Prelude.{◌≡◌, ◌+◌, ◌<◌, ◌^◌, ◌==◌, ◌&&◌, [], false, find, option_map, IfOk};
+ghost use Rattle.std.specs.Prelude.{◌≡◌, ◌&&◌, nat_le, IfOk};
 ghost use Rattle.parser_input.specs.Kind.{raw_of};
-ghost use Rattle.rowan_green.specs.Term.{term_len};
-ghost use Rattle.syntax_tree.specs.Path.{first_of, is_of};
-ghost use Rattle.syntax_tree.specs.Walk.{placed_at, found_path};
+ghost use Rattle.rowan.specs.Place.{kind_at, start_of, end_of};
+ghost use Rattle.syntax_tree.specs.Handle.{element_of};
+ghost use Rattle.syntax_tree.specs.Search.{is_of, first_of};
 
-use parser_input::syntax_kind::SyntaxKind;
-use rowan_green::{GreenElement, GreenNode, NodeOrToken};
+use crate::element::SyntaxElement;
+use crate::handle::SyntaxNode;
+use crate::iter::numbered;
+use parser_input::SyntaxKind;
+use rowan::WalkEvent;
+use rowan_green::TextRange;
 use std::alloc::{AllocError, Global};
 
-/// What is looked for: a raw kind, and the bytes from `start` to just before `end`.
-#[derive(Drop)]
-struct Wanted {
-    kind: u16,
-    start: usize,
-    end: usize,
-}
-
-impl Wanted {
-    fn is(&self, kind: u16, start: usize, end: usize) -> bool
-        ensures { result ≡ (kind == self.now.kind && (start == self.now.start && end == self.now.end)) }
+impl SyntaxElement {
+    /// The raw number of its kind.
+    fn raw_kind(&self) -> u16
+        ensures { result ≡ kind_at (element_of self.now).place }
     {
-        kind == self.kind && start == self.start && end == self.end
-    }
-}
-
-/// The path of the first element in preorder that is of a kind and has the bytes from `start` to just
-/// before `end`.
-pub fn first_of(
-    alloc: Global,
-    root: &GreenNode,
-    kind: SyntaxKind,
-    start: usize,
-    end: usize,
-) -> Result<Option<Vec<usize>>, AllocError>
-    ensures { IfOk result (λ found. option_map (λ v. v.items) found ≡ option_map (λ p. p.path)
-        (first_of (raw_of kind) start end root.now)) }
-{
-    let wanted = Wanted {
-        kind: kind.to_raw(),
-        start,
-        end,
-    };
-    prove!(root.text_len().0 <= u32::MAX);
-    let element = NodeOrToken::Node(root.clone()?);
-    let mut path = Vec::new(alloc);
-    if found_in(&element, 0, &wanted, &mut path)? {
-        return Ok(Some(path));
-    }
-    Ok(None)
-}
-
-/// Whether what is wanted is an element or lies below it. If so, `path` is what leads to it. Elements
-/// whose bytes do not hold the wanted ones are not gone into.
-fn found_in(
-    element: &GreenElement,
-    start: usize,
-    wanted: &Wanted,
-    path: &mut Vec<usize>,
-) -> Result<bool, AllocError>
-    requires { start + term_len element.now < 2 ^ 32 }
-    ensures found { IfOk result (λ found. found_path found path.new.items ≡ option_map (λ p. p.path)
-        (find (is_of wanted.now.kind wanted.now.start wanted.now.end)
-        (placed_at path.old.items start element.now))) }
-    ensures kept { IfOk result (λ found. found ≡ false → path.new.items ≡ path.old.items) }
-{
-    let end = start + usize::from(element.text_len());
-    if wanted.start < start {
-        return Ok(false);
-    }
-    if end < wanted.end {
-        return Ok(false);
-    }
-    if wanted.is(element.kind().0, start, end) {
-        return Ok(true);
-    }
-    let NodeOrToken::Node(node) = element else {
-        return Ok(false);
-    };
-    let depth = path.len();
-    let mut child_start = start;
-    for index in 0..node.children().len() {
-        let Some(child) = node.child(index) else {
-            return Ok(false);
-        };
-        path.push(index)?;
-        if found_in(child, child_start, wanted, path)? {
-            return Ok(true);
+        match self {
+            SyntaxElement::Node(node) => node.cursor().green().kind().0,
+            SyntaxElement::Token(token) => token.cursor().green().kind().0,
         }
-        path.truncate(depth);
-        child_start += usize::from(child.text_len());
     }
-    Ok(false)
+
+    fn is_of(&self, kind: u16, range: TextRange) -> bool
+        ensures { result ≡ is_of kind range.start.0 range.end.0 (element_of self.now).place }
+    {
+        let own = self.text_range();
+        self.raw_kind() == kind && own.start().0 == range.start().0 && own.end().0 == range.end().0
+    }
+
+    /// Whether its range contains another one.
+    fn spans(&self, range: TextRange) -> bool
+        ensures { result ≡ (nat_le (start_of (element_of self.now).place) range.start.0
+            && nat_le range.end.0 (end_of (element_of self.now).place)) }
+    {
+        let own = self.text_range();
+        own.start().0 <= range.start().0 && range.end().0 <= own.end().0
+    }
+}
+
+impl SyntaxNode {
+    /// The first element in preorder that is of a kind and has a range, at and below this node: of several that have the range,
+    /// the outermost. Elements whose range does not contain this one are not gone into.
+    pub fn find(
+        &self,
+        alloc: Global,
+        kind: SyntaxKind,
+        range: TextRange,
+    ) -> Result<Option<SyntaxElement>, AllocError>
+        ensures { IfOk result (λ found. found ≡ first_of (raw_of kind) range.start.0 range.end.0 self.now) }
+    {
+        let kind = kind.to_raw();
+        let mut walk = self.cursor().preorder_with_tokens(alloc)?;
+        while let Some(event) = walk.next() {
+            let WalkEvent::Enter(cursor) = event? else {
+                continue;
+            };
+            let element = numbered(self.tree(), cursor);
+            if element.is_of(kind, range) {
+                return Ok(Some(element));
+            }
+            let spans = element.spans(range);
+            drop(element);
+            if !spans {
+                walk.skip_subtree()?;
+            }
+        }
+        Ok(None)
+    }
 }

@@ -1,20 +1,27 @@
-//! Trees with numbers, and the elements in them.
+//! Nodes and tokens of numbered trees, over `rowan`'s cursors.
 //!
-//! A contract sees an element by the path that leads to it: the numbers of the children to go into,
-//! from the root on.
+//! A contract sees one as the number of its tree and the place at which it stands: a root term, and the way up to the root. A
+//! cursor is lent for all other reading.
 #![tactic(auto)]
 
+pub mod element;
 pub mod elements;
 pub mod error;
 pub mod find;
-pub mod path;
+pub mod handle;
+pub mod iter;
+pub mod language;
+pub mod mapping;
+pub mod position;
 pub mod replace;
-pub mod syntax_node;
 pub mod tree_ids;
+pub mod ways;
 
-pub use error::{Spent, TreeError};
-pub use find::first_of;
-pub use path::{ElementRef, element_at, start_of};
-pub use replace::replaced_at;
-pub use syntax_node::{SyntaxElement, SyntaxNode, SyntaxToken};
+pub use element::SyntaxElement;
+pub use error::{MappingError, PositionError, Spent, TreeError};
+pub use handle::{SyntaxNode, SyntaxToken};
+pub use iter::{Ancestors, DescendantsWithTokens, SyntaxElementChildren, SyntaxNodeChildren};
+pub use language::RustLanguage;
+pub use mapping::{SyntaxMapping, SyntaxMappingBuilder};
+pub use position::Position;
 pub use tree_ids::TreeIds;

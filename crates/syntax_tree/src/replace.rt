@@ -1,58 +1,34 @@
 //! One element put in the place of another.
-ghost use Rattle.std.specs.Prelude.{◌≡◌, ◌≢◌, ◌<◌, ◌^◌, [], Some, None, length, IfOk, IfErr};
-ghost use Rattle.rowan_green.specs.Forest.{tree_text};
+ghost use Rattle.std.specs.Prelude.{◌≡◌, ◌<◌, ◌^◌, IfOk, IfErr};
 ghost use Rattle.rowan_green.specs.Refusal.{RefusesUnless};
 ghost use Rattle.rowan_green.specs.Term.{term_len};
-ghost use Rattle.rowan_green.specs.declared.utility_types.NodeOrToken.TheVariants.{Node};
-ghost use Rattle.syntax_tree.specs.Path.{at, replaced};
-ghost use Rattle.syntax_tree.specs.Replacement.{changed_tree, IsNode};
+ghost use Rattle.syntax_tree.specs.Handle.{element_of};
+ghost use Rattle.syntax_tree.specs.Replacement.{replaced};
 
-use rowan_green::{GreenElement, GreenError, GreenNode, NodeOrToken};
+use crate::element::SyntaxElement;
+use rowan_green::{GreenElement, GreenError, NodeOrToken};
 use std::alloc::Global;
 
-/// The tree with the element at a path replaced. What is not on the path is shared with the old tree.
-/// Refuses as too long only where the new text is.
-pub fn replaced_at(
-    alloc: Global,
-    root: &GreenNode,
-    path: &[usize],
-    new: &GreenElement,
-) -> Result<GreenNode, GreenError>
-    requires leads { at (Node root.now) path.now ≢ None }
-    requires root_is_node { path.now ≡ [] → IsNode new.now }
-    ensures ok { IfOk result (λ t. t ≡ changed_tree root.now (Some (record { path = path.now; new = new.now }))) }
-    ensures refused { IfErr result (RefusesUnless (length (tree_text
-        (changed_tree root.now (Some (record { path = path.now; new = new.now })))) < 2 ^ 32)) }
-{
-    let element = NodeOrToken::Node(root.clone()?);
-    match replaced_in(alloc, &element, path, new)? {
-        NodeOrToken::Node(node) => Ok(node),
-        NodeOrToken::Token(_) => unreachable!(),
+impl SyntaxElement {
+    /// The whole tree with this element replaced by another one, which stands alone where this is the root. What is not above
+    /// this element is shared with the old tree. Refuses as too long only where the new text is.
+    pub fn replaced_by(&self, alloc: Global, new: &GreenElement) -> Result<GreenElement, GreenError>
+        ensures ok { IfOk result (λ e. e ≡
+            replaced (element_of self.now).place.root (element_of self.now).place.up new.now) }
+        ensures refused { IfErr result (RefusesUnless (term_len
+            (replaced (element_of self.now).place.root (element_of self.now).place.up new.now) < 2 ^ 32)) }
+    {
+        let mut replaced = new.clone()?;
+        let mut place = self.clone()?;
+        while let Some(parent) = place.parent()? {
+            let index = place.index_below(&parent);
+            let node = parent
+                .cursor()
+                .green()
+                .replace_child(alloc, index, replaced)?;
+            replaced = NodeOrToken::Node(node);
+            place = SyntaxElement::Node(parent);
+        }
+        Ok(replaced)
     }
-}
-
-/// An element with the one at a path replaced.
-fn replaced_in(
-    alloc: Global,
-    element: &GreenElement,
-    path: &[usize],
-    new: &GreenElement,
-) -> Result<GreenElement, GreenError>
-    requires leads { at element.now path.now ≢ None }
-    ensures ok { IfOk result (λ e. e ≡ replaced element.now path.now new.now) }
-    ensures refused { IfErr result (RefusesUnless (term_len (replaced element.now path.now new.now) < 2 ^ 32)) }
-{
-    let Some((index, below)) = path.split_first() else {
-        return Ok(new.clone()?);
-    };
-    let NodeOrToken::Node(node) = element else {
-        unreachable!()
-    };
-    let Some(child) = node.child(*index) else {
-        unreachable!()
-    };
-    let changed = replaced_in(alloc, child, below, new)?;
-    prove!(*index < node.children().len());
-    let node = node.replace_child(alloc, *index, changed)?;
-    Ok(NodeOrToken::Node(node))
 }

@@ -3,9 +3,9 @@ use Rattle.std.proofs.Common.{◌≡◌, ℕ, zero, suc, ◌+◌, [], ◌∷◌,
 use Rattle.std.proofs.lemmas.List.{append-nil}
 use Rattle.rowan_green.specs.Forest.{Tree}
 use Rattle.rowan.specs.Place.{first_number, index_of}
-use Rattle.numbered_tree.specs.Element.{Way, Element, same_element, element_at}
-use Rattle.numbered_tree.specs.Handle.{parent_of}
-use Rattle.numbered_tree.specs.Mapping.{Mapping, image_of, or_else}
+use Rattle.syntax_tree.specs.Element.{Way, Element, same_element, element_at}
+use Rattle.syntax_tree.specs.Handle.{parent_of}
+use Rattle.syntax_tree.specs.Mapping.{Mapping, image_of, or_else}
 use Rattle.tree_rewrite.specs.Moved.{way_up, way_to, way_by_image, way_from_image, with_number}
 use Rattle.tree_rewrite.specs.Climbing.{after_numbers}
 

@@ -1,21 +1,20 @@
 -- What the code that makes jobs one by one goes by.
-use Rattle.std.proofs.Common.{◌≡◌, ℕ, List, [], ◌∷◌, ◌++◌, reverse, Option, Some, None, Bool, refl, ap, sym, ◌∙◌, subst, slice_get, true, arith}
+use Rattle.std.proofs.Common.{◌≡◌, ℕ, List, [], ◌∷◌, ◌++◌, reverse, Option, Some, None, refl, ap, sym, ◌∙◌, subst, slice_get, true, arith}
 use Rattle.std.proofs.lemmas.List.{reverse-append}
 use Rattle.std.proofs.lemmas.Bool.{false_from_ne_true}
-use Rattle.rowan_green.specs.Forest.{node, leaf}
-use Rattle.rowan_green.specs.Term.{Term, terms}
+use Rattle.rowan_green.specs.Term.{Term}
 use Rattle.rowan_green.specs.declared.utility_types.NodeOrToken.TheVariants.{Node, Token}
-use Rattle.numbered_tree.specs.Element.{Element, term_of}
-use Rattle.tree_rewrite.specs.Marked.{Marked, nothing, inner, token, forest_in, origins, with_put, Sheet, reading_of, read_from}
+use Rattle.syntax_tree.specs.Element.{Element, term_of}
+use Rattle.tree_rewrite.specs.Marked.{Sheet, reading_of, read_from}
 use Rattle.tree_rewrite.specs.Rewrite.{Job, Sheets, puts, sheet_of, terms_of, rewritten}
 use Rattle.tree_rewrite.specs.Orders.{owns, is_order, put_in_order}
 use Rattle.tree_rewrite.specs.Plan.{AreDeeper, AreApart}
 use Rattle.tree_rewrite.proofs.OrderLemmas.{every_order}
 use Rattle.tree_rewrite.specs.Recorded.{way_of}
 use Rattle.std.specs.Global.{Vec}
-use Rattle.tree_rewrite.specs.Fill.{IsOf, AreTerms, HavePut, Adds, standing}
-use Rattle.tree_rewrite.specs.declared.content.Content.{Content}
-use Rattle.tree_rewrite.specs.declared.content.Put.{Put}
+use Rattle.tree_rewrite.specs.Fill.{AreTerms, HavePut, standing}
+use Rattle.tree_rewrite.specs.Pieces.{Say}
+use Rattle.tree_rewrite.specs.declared.piece.Put.{Put}
 
 -- an element at the top of its sheet
 pub standing-top : (s : Sheet) (e : Element) (o : Option Term) → term_of e ≡ o → standing s e [] o ≡ reading_of s e
@@ -23,26 +22,8 @@ standing-top s e None h = sym (ap (read_from s e) h)
 standing-top s e (Some (Node t)) h = sym (ap (read_from s e) h)
 standing-top s e (Some (Token l)) h = sym (ap (read_from s e) h)
 
--- marks change neither terms nor origins
-forest_in-with_put : (b : Bool) (m : Marked) → forest_in (with_put b m) ≡ forest_in m
-forest_in-with_put b nothing = refl
-forest_in-with_put b (inner m k f r) = ap (λ g. node k (forest_in f) g) (forest_in-with_put b r)
-forest_in-with_put b (token m l r) = ap (λ g. leaf l g) (forest_in-with_put b r)
-
-origins-with_put : (b : Bool) (m : Marked) → origins (with_put b m) ≡ origins m
-origins-with_put b nothing = refl
-origins-with_put b (inner m k f r) = ap (λ l. m.origin ∷ (origins f ++ l)) (origins-with_put b r)
-origins-with_put b (token m l r) = ap (λ l. m.origin ∷ l) (origins-with_put b r)
-
--- what was added to nothing
-pub is_of-added : (c : Content) (m : Marked) → Adds [] c.elements.items [] c.origins.items m → IsOf c m
-is_of-added c m a = record { terms = a.terms; origins = a.origins }
-
-pub is_of-marked : (c : Content) (b : Bool) (m : Marked) → IsOf c m → IsOf c (with_put b m)
-is_of-marked c b m h = record { terms = h.terms ∙ ap terms (sym (forest_in-with_put b m)); origins = h.origins ∙ sym (origins-with_put b m) }
-
 -- one job more is made
-pub put_more : (all : List Job) (ps qs : List Put) (p : Put) (j : Job) (js : List Job) → qs ≡ ps ++ p ∷ [] → slice_get all p.number ≡ Some j → IsOf p.content (terms_of (puts js) j)
+pub put_more : (all : List Job) (ps qs : List Put) (p : Put) (j : Job) (js : List Job) → qs ≡ ps ++ p ∷ [] → slice_get all p.number ≡ Some j → Say p.pieces.items (terms_of (puts js) j)
     → HavePut all ps js → HavePut all qs (j ∷ js)
 put_more all ps qs p j js e n c h = subst (λ l. AreTerms all l (j ∷ js)) (sym (ap reverse e ∙ reverse-append ps (p ∷ []))) (n, c, h)
 

@@ -1,23 +1,25 @@
 -- What the code that fills sheets goes by.
-use Rattle.std.proofs.Common.{◌≡◌, ℕ, ◌+◌, ◌<◌, List, [], ◌∷◌, ◌++◌, length, length-drop, get_or, map, drop, Option, Some, None, is_some, true, false, Result, Ok, Err, MatchResult, OnOk, refl, ap, sym, ◌∙◌, arith, subst, append_assoc, slice_get}
-use Rattle.std.proofs.lemmas.List.{append-nil, drop_more}
+use Rattle.std.proofs.Common.{◌≡◌, ℕ, ◌+◌, ◌<◌, List, [], ◌∷◌, ◌++◌, length, length-drop, get_or, map, drop, Option, Some, None, is_some, Bool, true, false, Result, Ok, Err, MatchResult, OnOk, refl, ap, sym, ◌∙◌, arith, subst, append_assoc, slice_get}
+use Rattle.std.proofs.lemmas.List.{drop_more}
 use Rattle.std.proofs.lemmas.Option.{slice_get-get_or}
 use Rattle.rowan_green.specs.Forest.{Forest, empty, node, leaf, Tree, forest_count}
-use Rattle.rowan_green.specs.Term.{Term, terms, tree_of, forest_of, forest_of-terms}
+use Rattle.rowan_green.specs.Term.{Term, terms}
 use Rattle.rowan_green.specs.declared.utility_types.NodeOrToken.TheVariants.{Node, Token}
-use Rattle.rowan.specs.Place.{terms_below, children_in, below}
+use Rattle.rowan.specs.Place.{terms_below, children_in, below, kind_at}
 use Rattle.rowan.specs.Around.{numbered, children}
-use Rattle.numbered_tree.specs.Element.{Way, Element, term_of}
-use Rattle.numbered_tree.specs.Handle.{element_of, with_number, with_cursor}
-use Rattle.numbered_tree.specs.declared.element.SyntaxElement.{SyntaxElement}
-use Rattle.numbered_tree.specs.declared.element.SyntaxElement.TheVariants as elements
+use Rattle.syntax_tree.specs.Element.{Way, Element, term_of}
+use Rattle.syntax_tree.specs.Handle.{element_of, with_number, with_cursor}
+use Rattle.syntax_tree.specs.declared.element.SyntaxElement.{SyntaxElement}
+use Rattle.syntax_tree.specs.declared.element.SyntaxElement.TheVariants as elements
 use Rattle.tree_rewrite.specs.Change.{is_within, covers}
-use Rattle.tree_rewrite.specs.Marked.{Mark, Marked, nothing, inner, token, join, forest_in, origins, origin_at, gap, slot, Sheet, blank, or_own, filled, read_from, reading_of}
+use Rattle.tree_rewrite.specs.Marked.{Marked, nothing, inner, token, join, with_put, origin_at, gap, slot, Sheet, blank, or_own, filled, read_from, reading_of}
 use Rattle.tree_rewrite.specs.Rewrite.{Job, puts}
-use Rattle.tree_rewrite.specs.Fill.{IsBlankBelow, Adds, all_elements, inside, node_in, standing}
-use Rattle.tree_rewrite.specs.declared.content.Origin.{Origin}
-use Rattle.tree_rewrite.proofs.MarkedLemmas.{forest_in-blank, filled_agree, agree_from}
-use Rattle.tree_rewrite.proofs.SheetLemmas.{all_elements-append}
+use Rattle.tree_rewrite.specs.Fill.{IsBlankBelow, inside, node_in, standing}
+use Rattle.tree_rewrite.specs.Pieces.{added, after, after_piece, in_node, in_group, Adds}
+use Rattle.tree_rewrite.specs.declared.piece.Piece.{Piece}
+use Rattle.tree_rewrite.specs.declared.piece.Piece.TheVariants.{Whole, Open, Group, Close}
+use Rattle.tree_rewrite.proofs.MarkedLemmas.{filled_agree, agree_from}
+use Rattle.tree_rewrite.proofs.SheetLemmas.{after-append}
 use Rattle.std.proofs.lemmas.Bool.{or_left, and_from, le-leb, false≢true}
 use Rattle.rowan_green.specs.Leaf.{Leaf}
 use Rattle.tree_rewrite.proofs.OrderLemmas.{same_way-own}
@@ -79,29 +81,23 @@ pub standing-node : (s : Sheet) (e : Element) (w : Way) (o : Option Term) (t : T
 standing-node s e w o t h r = ap (node_in s e w) h ∙ ap (λ x. or_own x (node_in s e w (Some (Node t)))) (sym r) ∙ ap (standing s e w) (sym h)
 
 -- ---- what is added for a whole element
-whole_terms : (x : Element) (g : Term) → term_of x ≡ Some g → terms (forest_in (reading_of blank x)) ≡ g ∷ []
-whole_terms x (Node t) h = ap (λ o. terms (forest_in (read_from blank x o))) h ∙ ap (λ f. Node (record { kind = t.kind; forest = f }) ∷ []) (forest_in-blank x [] 0 t.forest)
-whole_terms x (Token l) h = ap (λ o. terms (forest_in (read_from blank x o))) h
+pub adds-whole : (ps qs : List Piece) (x : SyntaxElement) → qs ≡ ps ++ Whole x ∷ [] → Adds ps qs (reading_of blank (element_of x))
+adds-whole ps qs x e = record { says = λ s. ap (λ l. after l s) e ∙ after-append ps (Whole x ∷ []) s }
 
-pub adds-whole : (es fs : List Term) (os ps : List Origin) (x : SyntaxElement) (g : Term) → term_of (element_of x) ≡ Some g → fs ≡ es ++ g ∷ [] → ps ≡ os ++ record { element = x; whole = true } ∷ []
-    → Adds es fs os ps (reading_of blank (element_of x))
-adds-whole es fs os ps x g h e o = record {
-  terms = e ∙ ap (λ l. es ++ l) (sym (whole_terms (element_of x) g h));
-  origins = ap all_elements o ∙ all_elements-append os (record { element = x; whole = true } ∷ []) ∙ ap (λ l. all_elements os ++ l) (append-nil (origins (reading_of blank (element_of x))));
+-- ---- what is added for a node, or for what a job puts in, after what stands in it
+pub adds-node : (ps opened qs rs : List Piece) (x : Element) (f : Marked) → opened ≡ ps ++ Open x ∷ [] → Adds opened qs f → rs ≡ qs ++ Close ∷ []
+    → Adds ps rs (inner (record { origin = x; put = false }) (kind_at x.place) f nothing)
+adds-node ps opened qs rs x f o a e = record {
+  says = λ s.
+      let here : after opened s ≡ record { done = nothing; around = in_node (after ps s).done x (after ps s).around } = ap (λ l. after l s) o ∙ after-append ps (Open x ∷ []) s in
+      ap (λ l. after l s) e ∙ after-append qs (Close ∷ []) s ∙ ap (after_piece Close) (a.says s ∙ ap (added f) here);
 }
 
--- ---- what is added for a node, after its children
-pub adds-node : (es fs gs : List Term) (os ps qs : List Origin) (x : SyntaxElement) (m : Mark) (k : ℕ) (f : Marked) (t : Tree)
-    → m.origin ≡ element_of x → ps ≡ os ++ record { element = x; whole = false } ∷ [] → Adds [] gs ps qs f → t ≡ tree_of k gs → fs ≡ es ++ Node t ∷ []
-    → Adds es fs os qs (inner m k f nothing)
-adds-node es fs gs os ps qs x m k f t o p a is e = record {
-  terms =
-      let forest : forest_of gs ≡ forest_in f = ap forest_of a.terms ∙ forest_of-terms (forest_in f) in
-      e ∙ ap (λ y. es ++ Node y ∷ []) (is ∙ ap (λ z. record { kind = k; forest = z }) forest);
-  origins =
-      a.origins ∙ ap (λ l. l ++ origins f) (ap all_elements p ∙ all_elements-append os (record { element = x; whole = false } ∷ []))
-      ∙ append_assoc (all_elements os) (element_of x ∷ []) (origins f)
-      ∙ (λ j. all_elements os ++ sym o j ∷ sym (append-nil (origins f)) j);
+pub adds-group : (ps opened qs rs : List Piece) (b : Bool) (f : Marked) → opened ≡ ps ++ Group b ∷ [] → Adds opened qs f → rs ≡ qs ++ Close ∷ [] → Adds ps rs (with_put b f)
+adds-group ps opened qs rs b f o a e = record {
+  says = λ s.
+      let here : after opened s ≡ record { done = nothing; around = in_group (after ps s).done b (after ps s).around } = ap (λ l. after l s) o ∙ after-append ps (Group b ∷ []) s in
+      ap (λ l. after l s) e ∙ after-append qs (Close ∷ []) s ∙ ap (after_piece Close) (a.says s ∙ ap (added f) here);
 }
 
 -- ---- children, one after another
@@ -138,7 +134,7 @@ pub record NextChild (x : Element) (i : ℕ) (child : SyntaxElement) (left : Lis
   pub smaller : size_of (element_of child) < size_of x
   pub reads : (s : Sheet) (e : Element) (w : Way) → filled s e w i rest ≡ join (or_own (s (gap w i)) nothing) (join (standing s e (i ∷ w) (term_of (element_of child))) (filled s e w (i + 1) after.rest))
 
-drop_first : (xs : List Term) (i : ℕ) (y : Term) (ys : List Term) → y ∷ ys ≡ drop i xs → (slice_get xs i ≡ Some y) × (ys ≡ drop (i + 1) xs) × (i < length xs)
+pub drop_first : (xs : List Term) (i : ℕ) (y : Term) (ys : List Term) → y ∷ ys ≡ drop i xs → (slice_get xs i ≡ Some y) × (ys ≡ drop (i + 1) xs) × (i < length xs)
 drop_first xs i y ys h =
     let within : i < length xs = omega (arith, ap length h, length-drop i xs) in
     let more : y ∷ ys ≡ get_or xs i y ∷ drop (i + 1) xs = h ∙ drop_more xs i y within in

@@ -5,9 +5,9 @@ use Rattle.std.proofs.lemmas.Bool.{leb-true, le-leb, and_parts, and_from, or_par
 use Rattle.std.proofs.lemmas.List.{append_cancel_right, take_at}
 use Rattle.rowan_green.specs.Forest.{Tree}
 use Rattle.rowan.specs.Place.{term_by, children_in, first_number}
-use Rattle.numbered_tree.specs.Element.{Way, same_way, Element, element_at}
+use Rattle.syntax_tree.specs.Element.{Way, same_way, Element, element_at}
 use Rattle.tree_rewrite.specs.Change.{Change, insert, replace, covers, meets, has_collision, holder_of, owner_of, replaces, is_dropped, is_node_by_node}
-use Rattle.numbered_tree.specs.Mapping.{Mapping}
+use Rattle.syntax_tree.specs.Mapping.{Mapping}
 use Rattle.tree_rewrite.specs.Moved.{change_in, way_to, change_below, carried, way_above, same_kinds, has_gap}
 use Rattle.tree_rewrite.specs.Marked.{slot}
 use Rattle.tree_rewrite.specs.Rewrite.{Job, same_sheet, sets, jobs, jobs_from, job_of, change_at, payload_at, first_way, or_no_jobs, rewritten}

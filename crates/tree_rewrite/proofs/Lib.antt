@@ -11,4 +11,8 @@ pub mod KeptLemmas
 pub mod MovedLemmas
 pub mod SheetLemmas
 pub mod FillLemmas
+pub mod GreenLemmas
 pub mod ExecuteLemmas
+pub mod CameLemmas
+pub mod ChangedLemmas
+pub mod RangeLemmas

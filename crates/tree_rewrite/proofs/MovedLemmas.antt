@@ -4,7 +4,7 @@ use Rattle.rowan_green.specs.Forest.{Tree}
 use Rattle.rowan_green.specs.Term.{Term}
 use Rattle.rowan_green.specs.declared.utility_types.NodeOrToken.TheVariants.{Node}
 use Rattle.rowan.specs.Place.{term_by, children_in, first_number}
-use Rattle.numbered_tree.specs.Element.{Way, Element}
+use Rattle.syntax_tree.specs.Element.{Way, Element}
 use Rattle.tree_rewrite.specs.Change.{insert, replace}
 use Rattle.tree_rewrite.specs.Moved.{same_kind, same_kinds, has_gap, way_above, carried, change_below}
 

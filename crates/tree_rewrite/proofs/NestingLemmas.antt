@@ -3,7 +3,7 @@ use Rattle.std.proofs.Common.{◌≡◌, ℕ, List, [], ◌∷◌, length, Some,
 use Rattle.std.specs.List.{list_any}
 use Rattle.rowan_green.specs.Forest.{Tree}
 use Rattle.rowan.specs.Place.{term_by}
-use Rattle.numbered_tree.specs.Element.{Way, Element, term_of, is_node}
+use Rattle.syntax_tree.specs.Element.{Way, Element, term_of, is_node}
 use Rattle.tree_rewrite.specs.Change.{Change, replace, replaces, holder_of, is_node_by_node}
 use Rattle.tree_rewrite.specs.Rewrite.{payload_of}
 

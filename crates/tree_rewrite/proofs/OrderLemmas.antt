@@ -4,7 +4,7 @@ use Rattle.std.proofs.lemmas.List.{length-reverse}
 use mathlib.Core.List.{reverse_aux}
 use Rattle.std.specs.List.{filter, list_all}
 use Rattle.std.proofs.lemmas.Bool.{eqb-true, eqb-false, eq-eqb, ltb-true, and_parts, and_from, false≢true, not-true}
-use Rattle.numbered_tree.specs.Element.{Way, same_way}
+use Rattle.syntax_tree.specs.Element.{Way, same_way}
 use Rattle.tree_rewrite.specs.Change.{Change, insert, replace}
 use Rattle.tree_rewrite.specs.Marked.{Spot, gap, slot}
 use Rattle.tree_rewrite.specs.Rewrite.{Job, same_sheet, sets}

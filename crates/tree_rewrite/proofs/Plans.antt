@@ -1,9 +1,9 @@
 -- What makes an order of jobs end in the rewritten element.
 use Rattle.std.specs.Prelude.{◌≡◌, ℕ, List, [], ◌∷◌, length, reverse, Option, Some, None, true, false, slice_get}
 use Rattle.std.specs.List.{filter}
-use Rattle.numbered_tree.specs.Element.{Way, Element}
+use Rattle.syntax_tree.specs.Element.{Way, Element}
 use Rattle.tree_rewrite.specs.Change.{Change, has_collision}
-use Rattle.numbered_tree.specs.Mapping.{Mapping}
+use Rattle.syntax_tree.specs.Mapping.{Mapping}
 use Rattle.tree_rewrite.specs.Marked.{Spot, slot}
 use Rattle.tree_rewrite.specs.Rewrite.{Job, rewritten, jobs}
 use Rattle.tree_rewrite.specs.Plan.{sets_on}

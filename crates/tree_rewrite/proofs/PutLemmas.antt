@@ -1,7 +1,7 @@
 -- Puts in every order of which each spot sees one and the same list.
 use Rattle.std.proofs.Common.{◌≡◌, ℕ, zero, suc, ◌≤◌, List, [], ◌∷◌, length, Option, Some, None, is_none, Bool, true, false, refl, ap, sym, ◌∙◌, arith}
 use Rattle.std.specs.List.{filter}
-use Rattle.numbered_tree.specs.Element.{Way, Element}
+use Rattle.syntax_tree.specs.Element.{Way, Element}
 use Rattle.tree_rewrite.specs.Marked.{Marked, Spot, reading_of, readings_of, with_put}
 use Rattle.tree_rewrite.specs.Rewrite.{Job, set_by, Sheets, write, written, terms_within, terms_of, puts, rewritten, sheet_of, payload_of}
 use Rattle.tree_rewrite.proofs.Plans.{SameAt, SameOwn, NestedFirst, Orders}

@@ -1,20 +1,17 @@
 -- What the code of sheets goes by.
-use Rattle.std.proofs.Common.{◌≡◌, ℕ, List, [], ◌∷◌, ◌++◌, length, reverse, Option, Some, None, Bool, true, false, ◌&&◌, cond, refl, ap, sym, ◌∙◌, arith, subst, append_assoc, slice_get}
+use Rattle.std.proofs.Common.{◌≡◌, ℕ, List, [], ◌∷◌, ◌++◌, length, reverse, Option, Some, None, Bool, true, false, ◌&&◌, cond, refl, ap, sym, ◌∙◌, arith, subst, slice_get}
 use Rattle.std.proofs.lemmas.Bool.{and_parts, false≢true}
-use Rattle.std.proofs.lemmas.List.{append-nil, reverse-append}
-use Rattle.rowan_green.specs.Term.{Term, terms}
-use Rattle.rowan_green.specs.declared.utility_types.NodeOrToken.TheVariants.{Node, Token}
-use Rattle.numbered_tree.specs.Element.{Way, same_way}
+use Rattle.std.proofs.lemmas.List.{reverse-append}
+use Rattle.syntax_tree.specs.Element.{Way, same_way}
 use Rattle.tree_rewrite.specs.Change.{Change, insert, replace, is_within}
 use Rattle.tree_rewrite.specs.Reach.{reaches}
 use Rattle.tree_rewrite.proofs.OrderLemmas.{same_way-sound}
-use Rattle.tree_rewrite.specs.Marked.{Marked, nothing, inner, token, join, forest_in, origins, gap, slot, or_own}
+use Rattle.tree_rewrite.specs.Marked.{Marked, nothing, inner, token, join, gap, slot, or_own}
 use Rattle.tree_rewrite.specs.Rewrite.{Job, same_sheet, sets, set_by, first_way, puts, terms_of}
-use Rattle.tree_rewrite.specs.Fill.{IsBlankBelow, all_elements, elements_in, IsOf, AreTerms, HavePut, Adds, at_gap}
-use Rattle.tree_rewrite.specs.declared.content.Origin.{Origin}
-use Rattle.tree_rewrite.specs.declared.content.Content.{Content}
-use Rattle.tree_rewrite.specs.declared.content.Put.{Put}
-use Rattle.tree_rewrite.proofs.MarkedLemmas.{origins-join}
+use Rattle.tree_rewrite.specs.Fill.{IsBlankBelow, AreTerms, HavePut, at_gap}
+use Rattle.tree_rewrite.specs.Pieces.{Stand, added, after, after_piece, Adds, Say}
+use Rattle.tree_rewrite.specs.declared.piece.Piece.{Piece}
+use Rattle.tree_rewrite.specs.declared.piece.Put.{Put}
 
 -- ---- the last of what was put
 pub record Split (all : List Job) (p : Put) (before : List Put) (js : List Job) : Type 0 where
@@ -22,7 +19,7 @@ pub record Split (all : List Job) (p : Put) (before : List Put) (js : List Job) 
   pub rest : List Job
   pub is : js ≡ job ∷ rest
   pub numbered : slice_get all p.number ≡ Some job
-  pub content : IsOf p.content (terms_of (puts rest) job)
+  pub content : Say p.pieces.items (terms_of (puts rest) job)
   pub have : HavePut all before rest
 
 pub split_puts : (all : List Job) (ps before : List Put) (p : Put) (js : List Job) → ps ≡ before ++ p ∷ [] → HavePut all ps js → Split all p before js
@@ -64,34 +61,6 @@ slot_set j js n w h = by_change j.change h
 pub slot_kept : (j : Job) (js : List Job) (n : Option Way) (w : Way) → (same_sheet j.sheet n && sets j.change (slot w)) ≡ false → puts (j ∷ js) n (slot w) ≡ puts js n (slot w)
 slot_kept j js n w h = ap (λ b. cond b (Some (set_by j.change (slot w) (terms_of (puts js) j) (puts js n (slot w)))) (puts js n (slot w))) h
 
--- ---- what is added
-pub terms-join : (m n : Marked) → terms (forest_in (join m n)) ≡ terms (forest_in m) ++ terms (forest_in n)
-terms-join nothing n = refl
-terms-join (inner m k f r) n = ap (λ l. Node (record { kind = k; forest = forest_in f }) ∷ l) (terms-join r n)
-terms-join (token m l r) n = ap (λ ts. Token l ∷ ts) (terms-join r n)
-
-pub all_elements-append : (os ps : List Origin) → all_elements (os ++ ps) ≡ all_elements os ++ all_elements ps
-all_elements-append [] ps = refl
-all_elements-append (o ∷ os) ps = ap (λ l. elements_in o ++ l) (all_elements-append os ps) ∙ sym (append_assoc (elements_in o) (all_elements os) (all_elements ps))
-
-pub adds-nothing : (es : List Term) (os : List Origin) → Adds es es os os nothing
-adds-nothing es os = record { terms = sym (append-nil es); origins = sym (append-nil (all_elements os)) }
-
-pub adds-join : (es fs gs : List Term) (os ps qs : List Origin) (m n : Marked) → Adds es fs os ps m → Adds fs gs ps qs n → Adds es gs os qs (join m n)
-adds-join es fs gs os ps qs m n a b = record {
-  terms = b.terms ∙ ap (λ l. l ++ terms (forest_in n)) a.terms ∙ append_assoc es (terms (forest_in m)) (terms (forest_in n)) ∙ ap (λ l. es ++ l) (sym (terms-join m n));
-  origins = b.origins ∙ ap (λ l. l ++ origins n) a.origins ∙ append_assoc (all_elements os) (origins m) (origins n) ∙ ap (λ l. all_elements os ++ l) (sym (origins-join m n));
-}
-
-pub adds-content : (c : Content) (m : Marked) (es fs : List Term) (os ps : List Origin) → IsOf c m → fs ≡ es ++ c.elements.items → ps ≡ os ++ c.origins.items → Adds es fs os ps m
-adds-content c m es fs os ps h e o = record {
-  terms = e ∙ ap (λ l. es ++ l) h.terms;
-  origins = ap all_elements o ∙ all_elements-append os c.origins.items ∙ ap (λ l. all_elements os ++ l) h.origins;
-}
-
-pub adds-same : (es fs : List Term) (os ps : List Origin) (m n : Marked) → m ≡ n → Adds es fs os ps m → Adds es fs os ps n
-adds-same es fs os ps m n e a = subst (λ x. Adds es fs os ps x) e a
-
 -- ---- lists, one after another
 pub join-nothing : (m : Marked) → join m nothing ≡ m
 join-nothing nothing = refl
@@ -102,6 +71,27 @@ pub join-assoc : (m n o : Marked) → join (join m n) o ≡ join m (join n o)
 join-assoc nothing n o = refl
 join-assoc (inner m k f r) n o = ap (λ x. inner m k f x) (join-assoc r n o)
 join-assoc (token m l r) n o = ap (λ x. token m l x) (join-assoc r n o)
+
+-- ---- what is added
+pub added-nothing : (t : Stand) → added nothing t ≡ t
+added-nothing t = λ j. record { done = join-nothing t.done j; around = t.around }
+
+pub after-append : (ps qs : List Piece) (s : Stand) → after (ps ++ qs) s ≡ after qs (after ps s)
+after-append [] qs s = refl
+after-append (p ∷ ps) qs s = after-append ps qs (after_piece p s)
+
+pub adds-nothing : (ps : List Piece) → Adds ps ps nothing
+adds-nothing ps = record { says = λ s. sym (added-nothing (after ps s)) }
+
+pub adds-join : (ps qs rs : List Piece) (m n : Marked) → Adds ps qs m → Adds qs rs n → Adds ps rs (join m n)
+adds-join ps qs rs m n a b =
+    record { says = λ s. b.says s ∙ ap (added n) (a.says s) ∙ λ j. record { done = join-assoc (after ps s).done m n j; around = (after ps s).around } }
+
+pub adds-pieces : (ps qs new : List Piece) (m : Marked) → qs ≡ ps ++ new → Say new m → Adds ps qs m
+adds-pieces ps qs new m e h = record { says = λ s. ap (λ l. after l s) e ∙ after-append ps new s ∙ h.says (after ps s) }
+
+pub adds-same : (ps qs : List Piece) (m n : Marked) → m ≡ n → Adds ps qs m → Adds ps qs n
+adds-same ps qs m n e a = subst (λ x. Adds ps qs x) e a
 
 -- one job more at a gap, after what was added for later ones
 pub gap_next : (j : Job) (is js : List Job) (n : Option Way) (w : Way) (i : ℕ) (m whole : Marked) (b : Bool) → b ≡ (same_sheet j.sheet n && sets j.change (gap w i)) → is ≡ j ∷ js
@@ -159,8 +149,8 @@ pub below_end : (js is : List Job) (n : Option Way) (v : Way) → is ≡ [] → 
 below_end js is n v s e p w i = ((e p w i).0 ∙ ap (λ l. puts l n (gap p i)) s, (e p w i).1 ∙ ap (λ l. puts l n (slot (i ∷ p))) s)
 
 -- ---- nothing was added; or something, after nothing
-pub adds-none : (es fs : List Term) (os ps : List Origin) (m : Marked) → fs ≡ es → ps ≡ os → m ≡ nothing → Adds es fs os ps m
-adds-none es fs os ps m e o h = adds-same es fs os ps nothing m (sym h) (subst (λ x. Adds es x os ps nothing) (sym e) (subst (λ y. Adds es es os y nothing) (sym o) (adds-nothing es os)))
+pub adds-none : (ps qs : List Piece) (m : Marked) → qs ≡ ps → m ≡ nothing → Adds ps qs m
+adds-none ps qs m e h = adds-same ps qs nothing m (sym h) (subst (λ x. Adds ps x nothing) (sym e) (adds-nothing ps))
 
-pub adds-from : (es fs gs : List Term) (os ps qs : List Origin) (m n : Marked) → fs ≡ es → ps ≡ os → m ≡ n → Adds fs gs ps qs m → Adds es gs os qs n
-adds-from es fs gs os ps qs m n e o h a = adds-same es gs os qs m n h (subst (λ x. Adds x gs os qs m) e (subst (λ y. Adds fs gs y qs m) o a))
+pub adds-from : (ps qs rs : List Piece) (m n : Marked) → qs ≡ ps → m ≡ n → Adds qs rs m → Adds ps rs n
+adds-from ps qs rs m n e h a = adds-same ps rs m n h (subst (λ x. Adds x rs m) e a)

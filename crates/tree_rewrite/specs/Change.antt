@@ -3,7 +3,7 @@ use Rattle.std.specs.Prelude.{ℕ, ◌+◌, List, [], ◌∷◌, Option, Some, N
 use Rattle.std.specs.List.{list_any}
 use Rattle.rowan_green.specs.Forest.{Tree}
 use Rattle.rowan.specs.Place.{term_by}
-use Rattle.numbered_tree.specs.Element.{Way, same_way, Element, term_of, is_node}
+use Rattle.syntax_tree.specs.Element.{Way, same_way, Element, term_of, is_node}
 
 -- a change of one tree, whose elements it names by their ways
 pub data Change : Type 0 where

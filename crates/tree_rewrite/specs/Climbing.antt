@@ -1,6 +1,6 @@
 -- Where a climb towards a payload ends, and what is left of the way from there.
 use Rattle.std.specs.Prelude.{[], ◌++◌, Option, Some, None, option_map}
-use Rattle.numbered_tree.specs.Element.{Way, Element}
+use Rattle.syntax_tree.specs.Element.{Way, Element}
 use Rattle.tree_rewrite.specs.Moved.{way_from_image}
 use Rattle.tree_rewrite.specs.declared.climb.ClimbEnd.{ClimbEnd}
 use Rattle.tree_rewrite.specs.declared.climb.ClimbEnd.TheVariants.{Payload, Root, Mapped}

@@ -8,4 +8,10 @@ pub mod Laws
 pub mod Climbing
 pub mod Plan
 pub mod Reach
+pub mod Pieces
 pub mod Fill
+pub mod Fits
+pub mod Came
+pub mod Changed
+pub mod Tracking
+pub mod Growing

@@ -4,7 +4,7 @@ use Rattle.rowan_green.specs.Leaf.{Leaf}
 use Rattle.rowan_green.specs.Forest.{Forest, empty, node, leaf}
 use Rattle.rowan_green.specs.Term.{Term}
 use Rattle.rowan_green.specs.declared.utility_types.NodeOrToken.TheVariants.{Node, Token}
-use Rattle.numbered_tree.specs.Element.{Way, Element, term_of}
+use Rattle.syntax_tree.specs.Element.{Way, Element, term_of}
 
 -- the element that one was copied from; `put` where a change brought it in that lies in no other
 pub record Mark : Type 0 where

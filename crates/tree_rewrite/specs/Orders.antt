@@ -1,7 +1,7 @@
 -- Orders in which the jobs of a rewrite may be made one by one.
 use Rattle.std.specs.Prelude.{ℕ, List, [], ◌∷◌, length, Option, Some, None, Bool, true, false, ◌&&◌, ◌||◌, not, nat_eq, nat_lt, slice_get}
 use Rattle.std.specs.List.{list_all}
-use Rattle.numbered_tree.specs.Element.{Way, same_way, Element}
+use Rattle.syntax_tree.specs.Element.{Way, same_way, Element}
 use Rattle.tree_rewrite.specs.Change.{Change, insert, replace}
 use Rattle.tree_rewrite.specs.Marked.{Marked, reading_of}
 use Rattle.tree_rewrite.specs.Rewrite.{Job, same_sheet, puts}

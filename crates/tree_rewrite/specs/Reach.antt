@@ -1,6 +1,6 @@
 -- Which changes say what stands below an element.
 use Rattle.std.specs.Prelude.{[], ◌∷◌, Bool, false}
-use Rattle.numbered_tree.specs.Element.{Way}
+use Rattle.syntax_tree.specs.Element.{Way}
 use Rattle.tree_rewrite.specs.Change.{Change, insert, replace, is_within}
 
 -- the change says what stands at a gap or in a place whose parent is the element at `v` or lies below it

@@ -2,8 +2,8 @@
 use Rattle.std.specs.Prelude.{ℕ, ◌+◌, ◌-◌, ◌≤◌, List, map, Option, Some, None, option_map}
 use Rattle.std.specs.Global.{Vec}
 use Rattle.rowan.specs.Place.{index_of}
-use Rattle.numbered_tree.specs.Element.{Way, Element}
-use Rattle.numbered_tree.specs.Handle.{element_of}
+use Rattle.syntax_tree.specs.Element.{Way, Element}
+use Rattle.syntax_tree.specs.Handle.{element_of}
 use Rattle.tree_rewrite.specs.Change.{Change, insert, replace}
 use Rattle.tree_rewrite.specs.declared.change.Change as declared
 use Rattle.tree_rewrite.specs.declared.change.Change.TheVariants.{Insert, Replace}

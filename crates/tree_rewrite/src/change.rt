@@ -3,8 +3,8 @@ ghost use Rattle.std.specs.Prelude.{◌≡◌, ◌≤◌, IfOk};
 ghost use Rattle.tree_rewrite.specs.Recorded.{recorded, IsOrdered};
 
 use crate::tree_change::{Target, TreeChange};
-use numbered_tree::{Position, SyntaxElement};
 use std::alloc::{AllocError, Global};
+use syntax_tree::{Position, SyntaxElement};
 
 /// A change of the tree that its position, or its first element, is of.
 #[derive(Drop)]

@@ -1,12 +1,12 @@
 //! The way from a replaced node to its payload, through what a mapping names.
 ghost use Rattle.std.specs.Prelude.{◌≡◌, ◌+◌, length, Option, option_map, IfOk};
 ghost use Rattle.rowan_green.specs.Forest.{Tree};
-ghost use Rattle.numbered_tree.specs.Element.{Way, Element, same_element, element_at};
+ghost use Rattle.syntax_tree.specs.Element.{Way, Element, same_element, element_at};
 ghost use Rattle.tree_rewrite.specs.Moved.{way_up, way_to};
 ghost use Rattle.tree_rewrite.specs.Climbing.{after_numbers, way_left};
 
-use numbered_tree::{SyntaxMapping, SyntaxNode};
 use std::alloc::{AllocError, Global};
+use syntax_tree::{SyntaxMapping, SyntaxNode};
 
 /// Where a climb ends.
 enum ClimbEnd<'a> {

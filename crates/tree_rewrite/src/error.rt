@@ -1,4 +1,4 @@
-//! Why there is no plan.
+//! Why there is no plan, and why a plan is not executed.
 use std::alloc::{AllocError, AllocFailed};
 use std::error::Error;
 use std::fmt;
@@ -55,5 +55,55 @@ impl<T: Drop> From<AllocFailed<T>> for PlanError {
 
     fn from(_e: AllocFailed<T>) -> PlanError {
         PlanError::NoMemory
+    }
+}
+
+/// Why a plan is not executed.
+#[derive(Clone, Copy, Debug, PartialEq, Eq)]
+pub enum ExecuteError {
+    /// A node of the rewritten tree would have a text of 2^32 bytes or more, or so many children.
+    TooLong = 1,
+    /// Memory was refused.
+    NoMemory = 2,
+    /// What replaces the root is not one node.
+    NotOneNode = 3,
+}
+
+impl fmt::Display for ExecuteError {
+    ghost use Rattle.std.specs.Prelude.{Some};
+    ghost use Rattle.tree_rewrite.specs.Fits.{execute_message};
+
+    ghost output = { λ e. Some (execute_message e) };
+
+    fn fmt<W: fmt::Write>(&self, f: &mut fmt::Formatter<W>) -> fmt::Result {
+        match self {
+            ExecuteError::TooLong => write!(f, "too long"),
+            ExecuteError::NoMemory => write!(f, "out of memory"),
+            ExecuteError::NotOneNode => write!(f, "what replaces the root is not one node"),
+        }
+    }
+}
+
+impl Error for ExecuteError {}
+
+impl From<AllocError> for ExecuteError {
+    ghost use Rattle.tree_rewrite.specs.declared.error.ExecuteError.TheVariants.{NoMemory};
+    ghost use Rattle.std.specs.Prelude.{◌≡◌};
+
+    ghost from_gives = { λ _ e. e ≡ NoMemory };
+
+    fn from(_e: AllocError) -> ExecuteError {
+        ExecuteError::NoMemory
+    }
+}
+
+impl<T: Drop> From<AllocFailed<T>> for ExecuteError {
+    ghost use Rattle.tree_rewrite.specs.declared.error.ExecuteError.TheVariants.{NoMemory};
+    ghost use Rattle.std.specs.Prelude.{◌≡◌};
+
+    ghost from_gives = { λ _ e. e ≡ NoMemory };
+
+    fn from(_e: AllocFailed<T>) -> ExecuteError {
+        ExecuteError::NoMemory
     }
 }

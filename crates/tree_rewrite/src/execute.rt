@@ -1,19 +1,19 @@
 //! Jobs made one by one, in an order.
 ghost use Rattle.std.specs.Prelude.{◌≡◌, List, [], map, slice_get, IfOk, OnOk};
 ghost use Rattle.std.specs.Option.{option_copied};
-ghost use Rattle.numbered_tree.specs.Handle.{element_of};
+ghost use Rattle.syntax_tree.specs.Handle.{element_of};
 ghost use Rattle.tree_rewrite.specs.Marked.{reading_of};
 ghost use Rattle.tree_rewrite.specs.Rewrite.{Job, puts, sheet_of, terms_of};
 ghost use Rattle.tree_rewrite.specs.Orders.{with_picked, picked};
 ghost use Rattle.tree_rewrite.specs.Recorded.{way_of};
-ghost use Rattle.tree_rewrite.specs.Fill.{IsOf, HavePut, Adds};
+ghost use Rattle.tree_rewrite.specs.Fill.{HavePut};
+ghost use Rattle.tree_rewrite.specs.Pieces.{Adds, Say};
 
-use crate::content::{Content, Origin, Put};
 use crate::fill::{push_standing, push_whole};
 use crate::job::Job;
-use numbered_tree::SyntaxElement;
-use rowan_green::{GreenElement, GreenError};
-use std::alloc::Global;
+use crate::piece::{Piece, Put};
+use std::alloc::{AllocError, Global};
+use syntax_tree::SyntaxElement;
 
 /// Adds an element of a payload, as it stands on the payload's sheet after these jobs, if it has one.
 fn push_payload(
@@ -22,39 +22,36 @@ fn push_payload(
     made: &[Put],
     own: &Option<Vec<usize>>,
     element: &SyntaxElement,
-    elements: &mut Vec<GreenElement>,
-    origins: &mut Vec<Origin>,
-) -> Result<(), GreenError>
+    pieces: &mut Vec<Piece>,
+) -> Result<(), AllocError>
     ensures { (js : List Job) → HavePut jobs.now made.now js → OnOk result
-        (Adds elements.old.items elements.new.items origins.old.items origins.new.items
+        (Adds pieces.old.items pieces.new.items
         (reading_of (sheet_of (puts js) (way_of own.now)) (element_of element.now))) }
 {
     let copy = element.clone()?;
     match own {
-        None => push_whole(copy, elements, origins)?,
-        Some(_) => push_standing(alloc, jobs, made, own, copy, &[], elements, origins)?,
+        None => push_whole(copy, pieces)?,
+        Some(_) => push_standing(alloc, jobs, made, own, copy, &[], pieces)?,
     }
     Ok(())
 }
 
 /// What a job puts in after these jobs.
-fn content_of(alloc: Global, jobs: &[Job], made: &[Put], job: &Job) -> Result<Content, GreenError>
-    ensures { (js : List Job) → HavePut jobs.now made.now js → IfOk result (λ c. IsOf c (terms_of (puts js) job.now)) }
+fn content_of(
+    alloc: Global,
+    jobs: &[Job],
+    made: &[Put],
+    job: &Job,
+) -> Result<Vec<Piece>, AllocError>
+    ensures { (js : List Job) → HavePut jobs.now made.now js → IfOk result (λ v. Say v.items (terms_of (puts js) job.now)) }
 {
-    let mut elements = Vec::new(alloc);
-    let mut origins = Vec::new(alloc);
+    let mut pieces = Vec::new(alloc);
+    pieces.push(Piece::Group(job.is_outer()))?;
     for element in job.payload() {
-        push_payload(
-            alloc,
-            jobs,
-            made,
-            job.own(),
-            element,
-            &mut elements,
-            &mut origins,
-        )?;
+        push_payload(alloc, jobs, made, job.own(), element, &mut pieces)?;
     }
-    Ok(Content { elements, origins })
+    pieces.push(Piece::Close)?;
+    Ok(pieces)
 }
 
 /// The job of a number, if there is one.
@@ -65,19 +62,19 @@ fn job_at(jobs: &[Job], number: usize) -> Option<&Job>
 }
 
 /// Makes the job of a number after these, if there is one.
-fn make(alloc: Global, jobs: &[Job], number: usize, made: &mut Vec<Put>) -> Result<(), GreenError>
+fn make(alloc: Global, jobs: &[Job], number: usize, made: &mut Vec<Put>) -> Result<(), AllocError>
     ensures { (js : List Job) → HavePut jobs.now made.old.items js → OnOk result
         (HavePut jobs.now made.new.items (with_picked (slice_get jobs.now number) js)) }
 {
     if let Some(job) = job_at(jobs, number) {
-        let content = content_of(alloc, jobs, made, job)?;
-        made.push(Put { number, content })?;
+        let pieces = content_of(alloc, jobs, made, job)?;
+        made.push(Put { number, pieces })?;
     }
     Ok(())
 }
 
 /// Makes the jobs of these numbers, one by one.
-pub fn make_all(alloc: Global, jobs: &[Job], order: &[usize]) -> Result<Vec<Put>, GreenError>
+pub fn make_all(alloc: Global, jobs: &[Job], order: &[usize]) -> Result<Vec<Put>, AllocError>
     ensures { IfOk result (λ v. HavePut jobs.now v.items (picked jobs.now order.now [])) }
 {
     let mut made = Vec::new(alloc);

@@ -1,47 +1,26 @@
 //! Elements of a sheet as they stand after some jobs. What no job touches is shared.
 ghost use Rattle.std.specs.Prelude.{◌≡◌, List, IfOk, OnOk};
-ghost use Rattle.rowan_green.specs.Term.{tree_of};
-ghost use Rattle.numbered_tree.specs.Element.{Element, term_of};
-ghost use Rattle.numbered_tree.specs.Handle.{element_of};
+ghost use Rattle.syntax_tree.specs.Element.{Element, term_of};
+ghost use Rattle.syntax_tree.specs.Handle.{element_of};
 ghost use Rattle.tree_rewrite.specs.Marked.{origin_at, filled, blank, reading_of};
 ghost use Rattle.tree_rewrite.specs.Rewrite.{Job, puts};
 ghost use Rattle.tree_rewrite.specs.Recorded.{way_of};
-ghost use Rattle.tree_rewrite.specs.Fill.{HavePut, Adds, standing, node_in, inside};
+ghost use Rattle.tree_rewrite.specs.Fill.{HavePut, standing, node_in, inside};
+ghost use Rattle.tree_rewrite.specs.Pieces.{Adds};
 
-use crate::content::{Origin, Put};
 use crate::job::Job;
 use crate::moved::with_number;
+use crate::piece::{Piece, Put};
 use crate::sheet::{is_touched, push_gap, push_slot};
-use numbered_tree::{SyntaxElement, SyntaxNode};
-use rowan_green::{GreenElement, GreenError, GreenNode, NodeOrToken, SyntaxKind};
-use std::alloc::Global;
-
-/// A node of this kind with these children.
-fn node_of(
-    alloc: Global,
-    kind: SyntaxKind,
-    children: Vec<GreenElement>,
-) -> Result<GreenNode, GreenError>
-    ensures { IfOk result (λ n. n ≡ tree_of kind.0 children.items) }
-{
-    let node = GreenNode::new(alloc, kind, children.into_iter())?;
-    Ok(node)
-}
+use std::alloc::{AllocError, Global};
+use syntax_tree::{SyntaxElement, SyntaxNode};
 
 /// Adds an element as it was.
-pub(crate) fn push_whole(
-    element: SyntaxElement,
-    elements: &mut Vec<GreenElement>,
-    origins: &mut Vec<Origin>,
-) -> Result<(), GreenError>
+pub(crate) fn push_whole(element: SyntaxElement, pieces: &mut Vec<Piece>) -> Result<(), AllocError>
     ensures { OnOk result
-        (Adds elements.old.items elements.new.items origins.old.items origins.new.items (reading_of blank (element_of element))) }
+        (Adds pieces.old.items pieces.new.items (reading_of blank (element_of element))) }
 {
-    elements.push(element.green()?)?;
-    origins.push(Origin {
-        element,
-        whole: true,
-    })?;
+    pieces.push(Piece::Whole(element))?;
     Ok(())
 }
 
@@ -54,23 +33,26 @@ pub fn push_standing(
     sheet: &Option<Vec<usize>>,
     element: SyntaxElement,
     way: &[usize],
-    elements: &mut Vec<GreenElement>,
-    origins: &mut Vec<Origin>,
-) -> Result<(), GreenError>
+    pieces: &mut Vec<Piece>,
+) -> Result<(), AllocError>
     ensures { (js : List Job) (e : Element) → HavePut jobs.now made.now js → element_of element ≡ (origin_at e way.now).origin → OnOk result
-        (Adds elements.old.items elements.new.items origins.old.items origins.new.items
+        (Adds pieces.old.items pieces.new.items
         (standing (puts js (way_of sheet.now)) e way.now (term_of (element_of element)))) }
 {
-    if push_slot(jobs, made, sheet, way, elements, origins)? {
+    if push_slot(jobs, made, sheet, way, pieces)? {
         return Ok(());
     }
     match element {
-        SyntaxElement::Token(token) => push_whole(SyntaxElement::Token(token), elements, origins),
+        SyntaxElement::Token(token) => {
+            let _stands = token.cursor().green();
+            push_whole(SyntaxElement::Token(token), pieces)
+        }
         SyntaxElement::Node(node) => {
+            let _stands = node.cursor().green();
             if is_touched(jobs, made, sheet, way) {
-                push_node(alloc, jobs, made, sheet, &node, way, elements, origins)
+                push_node(alloc, jobs, made, sheet, &node, way, pieces)
             } else {
-                push_whole(SyntaxElement::Node(node), elements, origins)
+                push_whole(SyntaxElement::Node(node), pieces)
             }
         }
     }
@@ -85,22 +67,16 @@ fn push_node(
     sheet: &Option<Vec<usize>>,
     node: &SyntaxNode,
     way: &[usize],
-    elements: &mut Vec<GreenElement>,
-    origins: &mut Vec<Origin>,
-) -> Result<(), GreenError>
+    pieces: &mut Vec<Piece>,
+) -> Result<(), AllocError>
     ensures { (js : List Job) (e : Element) → HavePut jobs.now made.now js → node.now ≡ (origin_at e way.now).origin → OnOk result
-        (Adds elements.old.items elements.new.items origins.old.items origins.new.items
+        (Adds pieces.old.items pieces.new.items
         (node_in (puts js (way_of sheet.now)) e way.now (term_of node.now))) }
 {
-    let kind = node.cursor().green().kind();
-    let mut children = Vec::new(alloc);
-    origins.push(Origin {
-        element: SyntaxElement::Node(node.clone()?),
-        whole: false,
-    })?;
-    fill(alloc, jobs, made, sheet, node, way, &mut children, origins)?;
-    let green = node_of(alloc, kind, children)?;
-    elements.push(NodeOrToken::Node(green))?;
+    let _stands = node.cursor().green();
+    pieces.push(Piece::Open(node.clone()?))?;
+    fill(alloc, jobs, made, sheet, node, way, pieces)?;
+    pieces.push(Piece::Close)?;
     Ok(())
 }
 
@@ -113,11 +89,10 @@ fn fill(
     sheet: &Option<Vec<usize>>,
     node: &SyntaxNode,
     way: &[usize],
-    elements: &mut Vec<GreenElement>,
-    origins: &mut Vec<Origin>,
-) -> Result<(), GreenError>
+    pieces: &mut Vec<Piece>,
+) -> Result<(), AllocError>
     ensures { (js : List Job) (e : Element) → HavePut jobs.now made.now js → node.now ≡ (origin_at e way.now).origin → OnOk result
-        (Adds elements.old.items elements.new.items origins.old.items origins.new.items
+        (Adds pieces.old.items pieces.new.items
         (filled (puts js (way_of sheet.now)) e way.now 0 (inside (term_of node.now)))) }
 {
     let count = node.cursor().green().children().len();
@@ -125,12 +100,12 @@ fn fill(
     let mut index = 0;
     while let Some(child) = children.next() {
         let child = child?;
-        push_gap(jobs, made, sheet, way, index, elements, origins)?;
+        push_gap(jobs, made, sheet, way, index, pieces)?;
         let below = with_number(alloc, index, way)?;
-        push_standing(alloc, jobs, made, sheet, child, &below, elements, origins)?;
+        push_standing(alloc, jobs, made, sheet, child, &below, pieces)?;
         prove!(index < count);
         index += 1;
     }
-    push_gap(jobs, made, sheet, way, index, elements, origins)?;
+    push_gap(jobs, made, sheet, way, index, pieces)?;
     Ok(())
 }

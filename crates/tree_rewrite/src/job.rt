@@ -1,18 +1,18 @@
 //! Changes where they are made, and the orders in which they may be made one by one.
-ghost use Rattle.std.specs.Prelude.{◌≡◌, ◌&&◌, Some, map};
+ghost use Rattle.std.specs.Prelude.{◌≡◌, ◌&&◌, Some, is_none, map};
 ghost use Rattle.std.specs.List.{list_all};
 ghost use Rattle.tree_rewrite.specs.Rewrite.{same_sheet, sets, first_way, payload_of};
 ghost use Rattle.tree_rewrite.specs.Marked.{gap, slot};
 ghost use Rattle.tree_rewrite.specs.Reach.{reaches};
-ghost use Rattle.numbered_tree.specs.Element.{same_way};
-ghost use Rattle.numbered_tree.specs.Handle.{element_of};
+ghost use Rattle.syntax_tree.specs.Element.{same_way};
+ghost use Rattle.syntax_tree.specs.Handle.{element_of};
 ghost use Rattle.tree_rewrite.specs.Orders.{is_owned, same_gap, may_follow, in_order, is_order};
 ghost use Rattle.tree_rewrite.specs.Recorded.{way_of, level_of};
 ghost use Rattle.tree_rewrite.specs.Plan.{depth_of};
 
 use crate::tree_change::TreeChange;
-use numbered_tree::SyntaxElement;
 use std::marker::Model;
+use syntax_tree::SyntaxElement;
 
 /// A change that is not dropped, where it is made.
 #[derive(Drop)]
@@ -69,6 +69,13 @@ impl Job {
         ensures { way_of result.now ≡ self.now.own }
     {
         &self.own
+    }
+
+    /// Whether it is made in the tree itself.
+    pub(crate) fn is_outer(&self) -> bool
+        ensures { result ≡ is_none self.now.sheet }
+    {
+        self.sheet.is_none()
     }
 
     /// The length of its sheet's way; none for the tree's own sheet.

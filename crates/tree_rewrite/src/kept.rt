@@ -1,7 +1,7 @@
 //! The jobs of the changes that are not dropped.
 ghost use Rattle.std.specs.Prelude.{◌≡◌, [], false, map, option_map, IfOk};
 ghost use Rattle.std.specs.Option.{option_copied};
-ghost use Rattle.numbered_tree.specs.Handle.{element_of};
+ghost use Rattle.syntax_tree.specs.Handle.{element_of};
 ghost use Rattle.tree_rewrite.specs.Change.{is_dropped, is_node_by_node};
 ghost use Rattle.tree_rewrite.specs.Rewrite.{payload_at, own_of, job_of, jobs};
 ghost use Rattle.tree_rewrite.specs.Recorded.{way_of};
@@ -10,9 +10,9 @@ use crate::job::Job;
 use crate::moved::change_in;
 use crate::nesting::{is_dropped, is_node_by_node, owner_of};
 use crate::tree_change::{Target, TreeChange};
-use numbered_tree::{SyntaxElement, SyntaxMapping, SyntaxNode};
 use rowan_green::GreenNode;
 use std::alloc::{AllocError, Global};
+use syntax_tree::{SyntaxElement, SyntaxMapping, SyntaxNode};
 
 /// The payload of what replaces the element at a way.
 fn payload_at<'a>(changes: &'a [TreeChange], way: &[usize]) -> Option<&'a SyntaxElement>

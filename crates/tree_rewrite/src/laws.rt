@@ -1,7 +1,12 @@
 //! Laws of the definitions. Each is the contract of a function that makes no call.
-ghost use Rattle.tree_rewrite.specs.Laws.{OrdersAgree};
+ghost use Rattle.tree_rewrite.specs.Laws.{OrdersAgree, RangesAgree};
 
 /// Changes that are made one by one, in any order of their jobs, end in the tree with all of them made at once.
 pub fn orders_agree()
     ensures { OrdersAgree }
+{}
+
+/// The ranges of what was put in are those of the ways of what was put in.
+pub fn ranges_agree()
+    ensures { RangesAgree }
 {}

@@ -6,17 +6,20 @@
 #![tactic(auto)]
 
 pub mod change;
+pub mod changed;
 pub mod climb;
-pub mod content;
 pub mod depth;
 pub mod error;
 pub mod execute;
 pub mod fill;
+pub mod green;
 pub mod job;
 pub mod kept;
 pub mod laws;
 pub mod moved;
 pub mod nesting;
+pub mod origins;
+pub mod piece;
 pub mod plan;
 pub mod sheet;
 pub mod tree_change;

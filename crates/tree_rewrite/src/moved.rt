@@ -9,9 +9,9 @@ ghost use Rattle.tree_rewrite.specs.Moved.{carried, same_kind, same_kinds, has_g
 use crate::climb::way_to;
 use crate::nesting::element_by;
 use crate::tree_change::{Target, TreeChange};
-use numbered_tree::{SyntaxMapping, SyntaxNode};
 use rowan_green::{GreenElement, GreenNode, GreenToken, NodeOrToken, SyntaxKind};
 use std::alloc::{AllocError, Global};
+use syntax_tree::{SyntaxMapping, SyntaxNode};
 
 /// The way that leads to `replaced`, where that has become the way `to`.
 fn carried(

@@ -1,33 +1,50 @@
 //! The plan of a rewrite: which changes are made where, and in which orders.
 ghost use Rattle.std.specs.Prelude.{◌≡◌, List, [], true, false, map, length, reverse, Some, IfOk, IfErr, OnOk, ◌++◌};
 ghost use Rattle.std.specs.List.{All};
+ghost use Rattle.syntax_tree.specs.Handle.{element_of};
 ghost use Rattle.tree_rewrite.specs.Change.{has_collision};
+ghost use Rattle.tree_rewrite.specs.Marked.{origins};
 ghost use Rattle.tree_rewrite.specs.Rewrite.{jobs, rewritten};
 ghost use Rattle.tree_rewrite.specs.Orders.{is_order};
 ghost use Rattle.tree_rewrite.specs.Recorded.{recorded, IsOrdered};
 ghost use Rattle.tree_rewrite.specs.Plan.{RefusesPlan};
-ghost use Rattle.tree_rewrite.specs.Fill.{IsOf};
+ghost use Rattle.tree_rewrite.specs.Pieces.{Say};
+ghost use Rattle.tree_rewrite.specs.Changed.{AreChanged};
+ghost use Rattle.tree_rewrite.specs.Fits.{NewFit, IsNode, RefusesRewrite};
 
 use crate::change::Change;
-use crate::content::Content;
+use crate::changed::changed_of;
 use crate::depth::deepest_first;
-use crate::error::PlanError;
+use crate::error::{ExecuteError, PlanError};
 use crate::execute::make_all;
 use crate::fill::push_standing;
+use crate::green::{green_of, one_node};
 use crate::job::{Job, is_order};
 use crate::kept::jobs_of;
 use crate::nesting::has_collision;
+use crate::origins::origins_of;
+use crate::piece::Piece;
 use crate::tree_change::TreeChange;
-use numbered_tree::{SyntaxElement, SyntaxMapping, SyntaxNode};
-use rowan_green::GreenError;
+use rowan_green::{GreenNode, TextRange};
 use std::alloc::{AllocError, Global};
 use std::marker::Model;
+use syntax_tree::{SyntaxElement, SyntaxMapping, SyntaxNode};
 
 /// The changes of a tree that are not dropped, where they are made. A contract sees the tree, and the jobs in recorded order.
 #[derive(Drop)]
 pub struct Plan {
     top: SyntaxNode,
     jobs: Vec<Job>,
+}
+
+/// A tree with all changes of a plan made.
+#[derive(Drop)]
+pub struct Rewritten {
+    pub green: GreenNode,
+    /// The bytes of what was put in by changes that lie in no other, in the order of the tree. A deletion has none.
+    pub changed: Vec<TextRange>,
+    /// Where each of its elements came from, in preorder.
+    pub origins: Vec<SyntaxElement>,
 }
 
 impl Model for Plan {
@@ -93,27 +110,43 @@ impl Plan {
         is_order(&self.jobs, order)
     }
 
-    /// The elements of the tree with all changes made at once, and where each of them and of those below them came from: the changes
-    /// are made one by one, in any order in which they may.
-    pub fn rewritten(&self, alloc: Global, order: &[usize]) -> Result<Content, GreenError>
+    /// The tree with all changes made at once: they are made one by one, in any order in which they may. Refuses as `TooLong` where a
+    /// node of the tree would have a text of 2^32 bytes or more, or so many children; as `NotOneNode` where the root is replaced by
+    /// something else than one node.
+    pub fn execute(&self, alloc: Global, order: &[usize]) -> Result<Rewritten, ExecuteError>
         requires { is_order self.now.jobs order.now ≡ true }
-        ensures { IfOk result (λ c. IsOf c (rewritten self.now.top (reverse self.now.jobs))) }
+        ensures green { IfOk result (λ r. IsNode (rewritten self.now.top (reverse self.now.jobs)) r.green) }
+        ensures changed { IfOk result (λ r. AreChanged r.changed.items (rewritten self.now.top (reverse self.now.jobs))) }
+        ensures origins { IfOk result (λ r. map element_of r.origins.items
+            ≡ origins (rewritten self.now.top (reverse self.now.jobs))) }
+        ensures fits { OnOk result (NewFit (rewritten self.now.top (reverse self.now.jobs))) }
+        ensures refused { IfErr result (RefusesRewrite (rewritten self.now.top (reverse self.now.jobs))) }
+    {
+        let pieces = self.pieces(alloc, order)?;
+        let elements = green_of(alloc, &pieces)?;
+        let Some(green) = one_node(elements) else {
+            return Err(ExecuteError::NotOneNode);
+        };
+        let _fits = green.text_len();
+        let changed = changed_of(alloc, &pieces)?;
+        let origins = origins_of(alloc, &pieces)?;
+        Ok(Rewritten {
+            green,
+            changed,
+            origins,
+        })
+    }
+
+    /// The tree with all changes made at once, piece by piece: they are made one by one, in any order in which they may.
+    fn pieces(&self, alloc: Global, order: &[usize]) -> Result<Vec<Piece>, AllocError>
+        requires { is_order self.now.jobs order.now ≡ true }
+        ensures { IfOk result (λ v. Say v.items (rewritten self.now.top (reverse self.now.jobs))) }
     {
         let made = make_all(alloc, &self.jobs, order)?;
-        let mut elements = Vec::new(alloc);
-        let mut origins = Vec::new(alloc);
+        let mut pieces = Vec::new(alloc);
         let top = SyntaxElement::Node(self.top.clone()?);
-        push_standing(
-            alloc,
-            &self.jobs,
-            &made,
-            &None,
-            top,
-            &[],
-            &mut elements,
-            &mut origins,
-        )?;
-        Ok(Content { elements, origins })
+        push_standing(alloc, &self.jobs, &made, &None, top, &[], &mut pieces)?;
+        Ok(pieces)
     }
 }
 

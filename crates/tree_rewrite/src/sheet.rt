@@ -1,16 +1,16 @@
 //! Sheets: what stands at a gap, or in the place of an element, after some jobs.
 ghost use Rattle.std.specs.Prelude.{◌≡◌, List, Option, Some, ℕ, ◌&&◌, slice_get, is_some, if◌then◌else◌, IfOk, OnOk};
 ghost use Rattle.std.specs.Bool.{OnFalse};
-ghost use Rattle.numbered_tree.specs.Element.{same_way};
+ghost use Rattle.syntax_tree.specs.Element.{same_way};
 ghost use Rattle.tree_rewrite.specs.Marked.{Marked, nothing, gap, slot};
 ghost use Rattle.tree_rewrite.specs.Rewrite.{Job, puts, same_sheet, sets, first_way};
 ghost use Rattle.tree_rewrite.specs.Recorded.{way_of};
-ghost use Rattle.tree_rewrite.specs.Fill.{IsOf, HavePut, Adds, IsBlankBelow, at_gap, at_slot};
+ghost use Rattle.tree_rewrite.specs.Fill.{HavePut, IsBlankBelow, at_gap, at_slot};
+ghost use Rattle.tree_rewrite.specs.Pieces.{Adds, Say};
 ghost use Rattle.tree_rewrite.specs.Reach.{reaches};
 
-use crate::content::{Origin, Put};
 use crate::job::Job;
-use rowan_green::GreenElement;
+use crate::piece::{Piece, Put, push_pieces};
 use std::alloc::AllocError;
 
 /// Whether the job that has put this puts into a gap of a sheet.
@@ -58,37 +58,26 @@ pub fn push_gap(
     sheet: &Option<Vec<usize>>,
     way: &[usize],
     index: usize,
-    elements: &mut Vec<GreenElement>,
-    origins: &mut Vec<Origin>,
+    pieces: &mut Vec<Piece>,
 ) -> Result<(), AllocError>
     ensures { (js : List Job) → HavePut jobs.now made.now js → OnOk result
-        (Adds elements.old.items elements.new.items origins.old.items origins.new.items (at_gap js (way_of sheet.now) way.now index)) }
+        (Adds pieces.old.items pieces.new.items (at_gap js (way_of sheet.now) way.now index)) }
 {
     let mut rest = made;
     while let Some((put, before)) = rest.split_last() {
-        push_if(
-            sets_gap(jobs, put, sheet, way, index),
-            put,
-            elements,
-            origins,
-        )?;
+        push_if(sets_gap(jobs, put, sheet, way, index), put, pieces)?;
         rest = before;
     }
     Ok(())
 }
 
 /// Adds what a job has put in, if told so.
-fn push_if(
-    is_there: bool,
-    put: &Put,
-    elements: &mut Vec<GreenElement>,
-    origins: &mut Vec<Origin>,
-) -> Result<(), AllocError>
-    ensures { (m : Marked) → IsOf put.now.content m → OnOk result
-        (Adds elements.old.items elements.new.items origins.old.items origins.new.items (if is_there then m else nothing)) }
+fn push_if(is_there: bool, put: &Put, pieces: &mut Vec<Piece>) -> Result<(), AllocError>
+    ensures { (m : Marked) → Say put.now.pieces.items m → OnOk result
+        (Adds pieces.old.items pieces.new.items (if is_there then m else nothing)) }
 {
     if is_there {
-        put.content.push_to(elements, origins)?;
+        push_pieces(&put.pieces, pieces)?;
     }
     Ok(())
 }
@@ -99,18 +88,17 @@ pub fn push_slot(
     made: &[Put],
     sheet: &Option<Vec<usize>>,
     way: &[usize],
-    elements: &mut Vec<GreenElement>,
-    origins: &mut Vec<Origin>,
+    pieces: &mut Vec<Piece>,
 ) -> Result<bool, AllocError>
     ensures replaced { (js : List Job) → HavePut jobs.now made.now js → IfOk result
         (λ b. b ≡ is_some (puts js (way_of sheet.now) (slot way.now))) }
     ensures added { (js : List Job) → HavePut jobs.now made.now js → OnOk result
-        (Adds elements.old.items elements.new.items origins.old.items origins.new.items (at_slot js (way_of sheet.now) way.now)) }
+        (Adds pieces.old.items pieces.new.items (at_slot js (way_of sheet.now) way.now)) }
 {
     let mut rest = made;
     while let Some((put, before)) = rest.split_last() {
         if sets_slot(jobs, put, sheet, way) {
-            push_if(begins_at(jobs, put, way), put, elements, origins)?;
+            push_if(begins_at(jobs, put, way), put, pieces)?;
             return Ok(true);
         }
         rest = before;

@@ -1,8 +1,8 @@
 //! Recorded changes, by the ways of what they change.
 ghost use Rattle.std.specs.Prelude.{◌≡◌, List, map, IfOk};
-ghost use Rattle.numbered_tree.specs.Element.{Element};
-ghost use Rattle.numbered_tree.specs.Handle.{element_of};
-ghost use Rattle.numbered_tree.specs.Element.{same_way};
+ghost use Rattle.syntax_tree.specs.Element.{Element};
+ghost use Rattle.syntax_tree.specs.Handle.{element_of};
+ghost use Rattle.syntax_tree.specs.Element.{same_way};
 ghost use Rattle.tree_rewrite.specs.Marked.{gap};
 ghost use Rattle.tree_rewrite.specs.Reach.{reaches};
 ghost use Rattle.tree_rewrite.specs.Rewrite.{payload_of, sets, first_way};
@@ -10,9 +10,9 @@ ghost use Rattle.tree_rewrite.specs.Orders.{same_gap_at};
 ghost use Rattle.tree_rewrite.specs.Recorded.{change_of};
 
 use crate::ways::is_within;
-use numbered_tree::SyntaxElement;
 use std::alloc::{AllocError, Global};
 use std::marker::Model;
+use syntax_tree::SyntaxElement;
 
 /// What a change changes.
 #[derive(Drop)]
@@ -75,7 +75,7 @@ impl Model for TreeChange {
     ghost use Rattle.std.specs.Prelude.{map};
     ghost use Rattle.std.specs.Coded.{codes};
     ghost use Rattle.rowan_green.specs.Forest.{tree_code};
-    ghost use Rattle.numbered_tree.specs.Handle.{element_of};
+    ghost use Rattle.syntax_tree.specs.Handle.{element_of};
     ghost use Rattle.tree_rewrite.specs.Change.{Change};
     ghost use Rattle.tree_rewrite.specs.Recorded.{change_of};
 

@@ -1,6 +1,6 @@
 use Rattle.std.proofs.Common.{◌≡◌, length, Option}
 use Rattle.rowan_green.specs.Forest.{Tree}
-use Rattle.numbered_tree.specs.Element.{Way, Element}
+use Rattle.syntax_tree.specs.Element.{Way, Element}
 use Rattle.tree_rewrite.specs.Moved.{way_up}
 use Rattle.tree_rewrite.specs.Climbing.{after_numbers}
 use Rattle.tree_rewrite.proofs.climb.climb.Given as goal

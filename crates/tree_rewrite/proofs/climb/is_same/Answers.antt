@@ -1,5 +1,5 @@
 use Rattle.std.proofs.Common.{◌≡◌, ◌∙◌, IfOk, subst}
-use Rattle.numbered_tree.specs.Element.{element_at, same_element}
+use Rattle.syntax_tree.specs.Element.{element_at, same_element}
 use Rattle.tree_rewrite.proofs.climb.is_same.Goals as goal
 
 pub returns : goal.returns

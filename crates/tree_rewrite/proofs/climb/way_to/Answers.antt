@@ -1,6 +1,6 @@
 use Rattle.std.proofs.Common.{◌≡◌, ◌+◌, sym, ◌∙◌, ap, arith, ◌-◌, ◌++◌, ◌∷◌, []}
 use Rattle.rowan.specs.Place.{index_of}
-use Rattle.numbered_tree.specs.Element.{Element, element_at}
+use Rattle.syntax_tree.specs.Element.{Element, element_at}
 use Rattle.tree_rewrite.specs.Moved.{way_to, way_up}
 use Rattle.tree_rewrite.specs.Climbing.{after_numbers, way_left}
 use Rattle.tree_rewrite.proofs.ClimbLemmas.{way_to-goes_on, way_to-any_tree}

@@ -1,6 +1,6 @@
 use Rattle.std.proofs.Common.{◌≡◌, ◌+◌, length}
 use Rattle.rowan_green.specs.Forest.{Tree}
-use Rattle.numbered_tree.specs.Element.{element_at}
+use Rattle.syntax_tree.specs.Element.{element_at}
 use Rattle.tree_rewrite.specs.Moved.{way_to}
 use Rattle.tree_rewrite.specs.Climbing.{after_numbers}
 use Rattle.tree_rewrite.proofs.climb.way_to.Given as goal

@@ -2,7 +2,7 @@ use Rattle.std.proofs.Common.{◌≡◌, Some, None, slice_get, subst, sym, ap, 
 use Rattle.std.specs.Option.{option_copied}
 use Rattle.tree_rewrite.specs.Orders.{with_picked}
 use Rattle.tree_rewrite.specs.Fill.{HavePut}
-use Rattle.tree_rewrite.specs.declared.content.Put.{Put}
+use Rattle.tree_rewrite.specs.declared.piece.Put.{Put}
 use Rattle.tree_rewrite.proofs.ExecuteLemmas.{put_more}
 use Rattle.tree_rewrite.proofs.execute.make.Goals as goal
 
@@ -10,9 +10,9 @@ pub returns-in_ok-push : goal.returns-in_ok-push
 returns-in_ok-push c = λ js h.
     let all = c.args.jobs.now in
     let found : slice_get all c.args.number ≡ Some c.in-Some.job.now = sym c.job_at.ensures ∙ ap option_copied c.in-Some.is in
-    let put : Put = record { number = c.args.number; content = c.in_ok-content.content } in
+    let put : Put = record { number = c.args.number; pieces = c.in_ok-pieces.pieces } in
     subst (λ o. HavePut all c.push.new.self.items (with_picked o js)) (sym found)
-    (put_more all c.args.made.now.items c.push.new.self.items put c.in-Some.job.now js c.in_ok-push.ensures.items found (c.in_ok-content.ensures js (subst (λ l. HavePut all l js) (sym c.deref.ensures.value) h)) h)
+    (put_more all c.args.made.now.items c.push.new.self.items put c.in-Some.job.now js c.in_ok-push.ensures.items found (c.in_ok-pieces.ensures js (subst (λ l. HavePut all l js) (sym c.deref.ensures.value) h)) h)
 
 pub returns-in_default : goal.returns-in_default
 returns-in_default c = λ js h.

@@ -1,6 +1,6 @@
 use Rattle.std.proofs.Common.{[], refl, sym, ap, ◌∙◌}
-use Rattle.numbered_tree.specs.Element.{term_of}
-use Rattle.numbered_tree.specs.Handle.{element_of}
+use Rattle.syntax_tree.specs.Element.{term_of}
+use Rattle.syntax_tree.specs.Handle.{element_of}
 use Rattle.tree_rewrite.specs.Marked.{reading_of}
 use Rattle.tree_rewrite.specs.Rewrite.{puts, sheet_of}
 use Rattle.tree_rewrite.specs.Recorded.{way_of}
@@ -15,4 +15,4 @@ returns-in_ok-push_standing-in-Some c = λ js h.
     let n = way_of c.args.own.now in
     let same = ap element_of c.in_ok-copy.ensures.cases in
     let read = ap (λ y. standing (puts js n) e [] (term_of y)) same ∙ standing-top (puts js n) e (term_of e) refl ∙ ap (λ s. reading_of s e) (sym (sheet_some (puts js) c.args.own.now _ c.in-Some.is)) in
-    adds-same _ _ _ _ _ (reading_of (sheet_of (puts js) n) e) read (c.in_ok-push_standing-in-Some.ensures js e h same)
+    adds-same _ _ _ (reading_of (sheet_of (puts js) n) e) read (c.in_ok-push_standing-in-Some.ensures js e h same)

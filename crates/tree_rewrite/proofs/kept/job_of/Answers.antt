@@ -3,8 +3,8 @@ use Rattle.std.proofs.Common.{◌≡◌, Some, sym, ◌∙◌, ap, false, option
 use Rattle.std.specs.Option.{option_copied}
 use Rattle.std.proofs.lemmas.Bool.{false≢true}
 use Rattle.rowan.specs.Place.{term_at}
-use Rattle.numbered_tree.specs.Element.{is_node, term_of}
-use Rattle.numbered_tree.specs.Handle.{element_of}
+use Rattle.syntax_tree.specs.Element.{is_node, term_of}
+use Rattle.syntax_tree.specs.Handle.{element_of}
 use Rattle.tree_rewrite.proofs.KeptLemmas.{kept_payload}
 use Rattle.tree_rewrite.proofs.kept.job_of.Goals as goal
 

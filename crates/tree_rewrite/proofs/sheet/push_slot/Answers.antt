@@ -11,7 +11,7 @@ loop-put-preserved c = λ js h.
     let old = c.loop-put.invariant js h in
     let s = split_puts c.args.jobs.now c.loop-put.rest.now c.in-Some.before.now c.in-Some.put.now old.0 c.in-Some.ensures.cases.0 old.1 in
     let n = way_of c.args.sheet.now in
-    (s.rest, s.have, slot_next s.job old.0 s.rest n c.args.way.now (puts js n (slot c.args.way.now)) s.is (sym (c.sets_slot.ensures s.job s.numbered) ∙ c.if-sets_slot.false) old.2, old.3, old.4)
+    (s.rest, s.have, slot_next s.job old.0 s.rest n c.args.way.now (puts js n (slot c.args.way.now)) s.is (sym (c.sets_slot.ensures s.job s.numbered) ∙ c.if-sets_slot.false) old.2, old.3)
 
 pub returns-then-sets_slot-clause-added : goal.returns-then-sets_slot-clause-added
 returns-then-sets_slot-clause-added c = λ js h.
@@ -20,7 +20,7 @@ returns-then-sets_slot-clause-added c = λ js h.
     let n = way_of c.args.sheet.now in
     let terms = terms_of (puts s.rest) s.job in
     let here = slot_here s.job old.0 s.rest n c.args.way.now (puts js n (slot c.args.way.now)) c.begins_at.result s.is (sym (c.sets_slot.ensures s.job s.numbered) ∙ c.if-sets_slot.true) (c.begins_at.ensures s.job s.numbered) old.2 in
-    adds-from _ _ _ _ _ _ (cond c.begins_at.result terms nothing) (at_slot js n c.args.way.now) old.3 old.4 (sym (ap (λ o. or_own o nothing) here)) (c.in_ok-push_if.ensures terms s.content)
+    adds-from _ _ _ (cond c.begins_at.result terms nothing) (at_slot js n c.args.way.now) old.3 (sym (ap (λ o. or_own o nothing) here)) (c.in_ok-push_if.ensures terms s.content)
 
 pub returns-then-sets_slot-clause-replaced : goal.returns-then-sets_slot-clause-replaced
 returns-then-sets_slot-clause-replaced c = λ js h.
@@ -40,4 +40,4 @@ returns-clause-added c = λ js h.
     let old = c.loop-put.invariant js h in
     let n = way_of c.args.sheet.now in
     let none = slot_end old.0 n c.args.way.now (puts js n (slot c.args.way.now)) (no_puts c.args.jobs.now c.loop-put.rest.now old.0 c.in_default.ensures.cases old.1) old.2 in
-    adds-none _ _ _ _ (at_slot js n c.args.way.now) old.3 old.4 (ap (λ o. or_own o nothing) none)
+    adds-none _ _ (at_slot js n c.args.way.now) old.3 (ap (λ o. or_own o nothing) none)

@@ -8,7 +8,7 @@ use Rattle.tree_rewrite.proofs.sheet.push_slot.Given as goal
 abbrev pub invariant-loop-put : goal.invariant-loop-put
 invariant-loop-put l = (js : List Job) → HavePut l.jobs l.made js →
     (is : List Job) × HavePut l.jobs l.rest is × (puts js (way_of l.sheet) (slot l.way) ≡ puts is (way_of l.sheet) (slot l.way))
-    × (l.elements.items ≡ l.initial.elements.items) × (l.origins.items ≡ l.initial.origins.items)
+    × (l.pieces.items ≡ l.initial.pieces.items)
 
 abbrev pub decreases-loop-put : goal.decreases-loop-put
 decreases-loop-put l = length l.rest

@@ -12,3 +12,6 @@ invariant_of-result c =
     let of : jobs c.args.root.now cs c.args.mapping.now ≡ Some js = sym c.in_ok-jobs.ensures ∙ ap (λ o. option_map (λ v. v.items) o) c.in-Some.is in
     let apart : has_collision cs ≡ false = ap has_collision (c.deref-2.ensures.value ∙ sym c.deref.ensures.value) ∙ sym c.has_collision.ensures ∙ c.if-has_collision.false in
     (jobs_deeper c.args.root.now cs c.args.mapping.now js of, (jobs_are_plan c.args.root.now cs c.args.mapping.now js apart of).apart)
+
+pub returns-then-has_collision-clause-refused : goal.returns-then-has_collision-clause-refused
+returns-then-has_collision-clause-refused c = ap has_collision (sym c.in_ok-changes.ensures ∙ sym c.deref.ensures.value) ∙ sym c.has_collision.ensures ∙ c.if-has_collision.true

@@ -1,0 +1,306 @@
+//! A case: changes recorded on a tree, and what becomes of it.
+ghost use Rattle.std.specs.Prelude.{◌≡◌, [], IfOk};
+ghost use Rattle.std.specs.List.{All};
+ghost use Rattle.tree_rewrite.specs.Recorded.{IsOrdered};
+
+use anyhow::{Context, bail};
+use rowan_green::{GreenNode, GreenNodeBuilder, SyntaxKind, TextRange};
+use serde_json::Value;
+use std::alloc::Global;
+use syntax_tree::{
+    Position, SyntaxElement, SyntaxMapping, SyntaxMappingBuilder, SyntaxNode, TreeIds,
+};
+use tree_rewrite::change::Change;
+use tree_rewrite::error::PlanError;
+use tree_rewrite::plan::Plan;
+
+/// A member of an object.
+fn member<'a>(value: &'a Value, name: &str) -> anyhow::Result<&'a Value> {
+    value.get(name).context("a member is missing")
+}
+
+/// The elements of a list.
+fn list(value: &Value) -> anyhow::Result<&[Value]> {
+    let list = value.as_array().context("a value is no list")?;
+    Ok(list.as_slice())
+}
+
+/// A number of a list.
+fn number_in(value: &Value, index: usize) -> anyhow::Result<usize> {
+    let number = value.get(index).and_then(Value::as_u64);
+    Ok(number.context("a value is no number")? as usize)
+}
+
+/// Numbers.
+fn numbers(alloc: Global, value: &Value) -> anyhow::Result<Vec<usize>> {
+    let mut numbers = Vec::new(alloc);
+    for number in list(value)? {
+        let number = number.as_u64().context("a value is no number")?;
+        numbers.push(number as usize)?;
+    }
+    Ok(numbers)
+}
+
+/// A sign of a tree: a node begins, or ends, or a leaf stands there.
+fn build_sign(sign: &Value, builder: &mut GreenNodeBuilder) -> anyhow::Result<()> {
+    let Some(kind) = sign.get(0).and_then(Value::as_u64) else {
+        return Ok(builder.finish_node()?);
+    };
+    let kind = SyntaxKind(kind.min(5) as u16);
+    match sign.get(1).and_then(Value::as_str) {
+        Some(text) => builder.token(kind, text)?,
+        None => builder.start_node(kind)?,
+    }
+    Ok(())
+}
+
+/// A tree of signs.
+fn green(alloc: Global, signs: &Value) -> anyhow::Result<GreenNode> {
+    let mut builder = GreenNodeBuilder::new(alloc);
+    for sign in list(signs)? {
+        build_sign(sign, &mut builder)?;
+    }
+    match builder.finish() {
+        Ok(node) => Ok(node),
+        Err(unfinished) => Err(unfinished.error.into()),
+    }
+}
+
+/// The trees, numbered from 1 on.
+fn trees(alloc: Global, case: &Value) -> anyhow::Result<Vec<SyntaxNode>> {
+    let mut ids = TreeIds::new();
+    let mut trees = Vec::new(alloc);
+    for signs in list(member(case, "trees")?)? {
+        let green = green(alloc, signs)?;
+        trees.push(SyntaxNode::new_root(alloc, green, &mut ids)?)?;
+    }
+    Ok(trees)
+}
+
+/// The child of this number.
+fn child(alloc: Global, node: &SyntaxNode, number: usize) -> anyhow::Result<SyntaxElement> {
+    let mut left = number;
+    for child in node.children_with_tokens(alloc)? {
+        let child = child?;
+        if left == 0 {
+            return Ok(child);
+        }
+        left -= 1;
+    }
+    bail!("a child is missing")
+}
+
+/// The element at a path from a node.
+fn element_at(alloc: Global, root: &SyntaxNode, path: &[usize]) -> anyhow::Result<SyntaxElement> {
+    let mut element = SyntaxElement::Node(root.clone()?);
+    for number in path {
+        let SyntaxElement::Node(node) = element else {
+            bail!("a path leads through a token")
+        };
+        element = child(alloc, &node, *number)?;
+    }
+    Ok(element)
+}
+
+/// The element that the number of a tree and a path name.
+fn element(alloc: Global, trees: &[SyntaxNode], at: &Value) -> anyhow::Result<SyntaxElement> {
+    let number = number_in(at, 0)?;
+    let root = trees.get(number.saturating_sub(1)).context("no such tree")?;
+    let path = numbers(alloc, at.get(1).context("a path is missing")?)?;
+    element_at(alloc, root, &path)
+}
+
+/// The same, where a node stands there.
+fn node(alloc: Global, trees: &[SyntaxNode], at: &Value) -> anyhow::Result<SyntaxNode> {
+    match element(alloc, trees, at)? {
+        SyntaxElement::Node(node) => Ok(node),
+        SyntaxElement::Token(_) => bail!("a token stands for a node"),
+    }
+}
+
+/// The mapping.
+fn mapping(alloc: Global, trees: &[SyntaxNode], case: &Value) -> anyhow::Result<SyntaxMapping> {
+    let mut mapping = SyntaxMapping::new(alloc);
+    for entry in list(member(case, "mapping")?)? {
+        let input = node(alloc, trees, entry.get(0).context("no input")?)?;
+        let output = node(alloc, trees, entry.get(1).context("no output")?)?;
+        let parent = output.parent()?.context("a root is mapped to")?;
+        let mut builder = SyntaxMappingBuilder::new(alloc, parent)?;
+        builder.map_node(alloc, input, output)?;
+        builder.finish(&mut mapping)?;
+    }
+    Ok(mapping)
+}
+
+/// What a change puts in.
+fn payload(
+    alloc: Global,
+    trees: &[SyntaxNode],
+    change: &Value,
+) -> anyhow::Result<Vec<SyntaxElement>> {
+    let mut new = Vec::new(alloc);
+    for at in list(member(change, "new")?)? {
+        new.push(element(alloc, trees, at)?)?;
+    }
+    Ok(new)
+}
+
+/// The node that a change is recorded at.
+fn parent(alloc: Global, root: &SyntaxNode, path: &Value) -> anyhow::Result<SyntaxNode> {
+    match element_at(alloc, root, &numbers(alloc, path)?)? {
+        SyntaxElement::Node(node) => Ok(node),
+        SyntaxElement::Token(_) => bail!("a token has no children"),
+    }
+}
+
+/// A member that is a number.
+fn number(value: &Value, name: &str) -> anyhow::Result<usize> {
+    let number = member(value, name)?.as_u64();
+    Ok(number.context("a member is no number")? as usize)
+}
+
+/// A recorded replacement.
+fn replacement(
+    alloc: Global,
+    root: &SyntaxNode,
+    trees: &[SyntaxNode],
+    change: &Value,
+) -> anyhow::Result<Change>
+    ensures { IfOk result (λ c. IsOrdered c) }
+{
+    let single = member(change, "single")?.as_bool().context("no truth")?;
+    let new = payload(alloc, trees, change)?;
+    let path = member(change, "parent")?;
+    if path.is_null() {
+        let first = SyntaxElement::Node(root.clone()?);
+        let last = first.clone()?;
+        return Ok(Change::Replace {
+            first,
+            last,
+            new,
+            single,
+        });
+    }
+    let parent = parent(alloc, root, path)?;
+    let first = child(alloc, &parent, number(change, "first")?)?;
+    let last = child(alloc, &parent, number(change, "last")?)?;
+    if last.index() < first.index() {
+        bail!("a row of children is turned around")
+    }
+    Ok(Change::Replace {
+        first,
+        last,
+        new,
+        single,
+    })
+}
+
+/// A recorded change.
+fn change(
+    alloc: Global,
+    root: &SyntaxNode,
+    trees: &[SyntaxNode],
+    value: &Value,
+) -> anyhow::Result<Change>
+    ensures { IfOk result (λ c. IsOrdered c) }
+{
+    let Some(insert) = value.get("insert") else {
+        return replacement(alloc, root, trees, member(value, "replace")?);
+    };
+    let place = Position {
+        parent: parent(alloc, root, member(insert, "parent")?)?,
+        index: number(insert, "index")?,
+    };
+    let new = payload(alloc, trees, insert)?;
+    Ok(Change::Insert { place, new })
+}
+
+/// The recorded changes.
+fn changes(
+    alloc: Global,
+    root: &SyntaxNode,
+    trees: &[SyntaxNode],
+    case: &Value,
+) -> anyhow::Result<Vec<Change>>
+    ensures { IfOk result (λ v. All IsOrdered v.items) }
+{
+    let mut changes = Vec::new(alloc);
+    for value in list(member(case, "changes")?)? {
+        changes.push(change(alloc, root, trees, value)?)?;
+    }
+    Ok(changes)
+}
+
+/// Whether these are the ranges of what changed.
+fn are_changed(case: &Value, ranges: &[TextRange]) -> anyhow::Result<bool> {
+    let expected = list(member(case, "changed")?)?;
+    for (range, expected) in ranges.iter().zip(expected) {
+        let start = number_in(expected, 0)?;
+        let end = number_in(expected, 1)?;
+        if range.start().0 as usize != start || range.end().0 as usize != end {
+            return Ok(false);
+        }
+    }
+    Ok(ranges.len() == expected.len())
+}
+
+/// Whether these are where the elements came from.
+fn are_origins(alloc: Global, case: &Value, origins: &[SyntaxElement]) -> anyhow::Result<bool> {
+    let expected = list(member(case, "origins")?)?;
+    for (origin, expected) in origins.iter().zip(expected) {
+        let path = numbers(alloc, expected.get(1).context("a path is missing")?)?;
+        if origin.tree() as usize != number_in(expected, 0)? {
+            return Ok(false);
+        }
+        if origin.path(alloc)?.as_slice() != path.as_slice() {
+            return Ok(false);
+        }
+    }
+    Ok(origins.len() == expected.len())
+}
+
+/// Whether the plan, executed in this order, makes the tree of the case.
+fn is_made(alloc: Global, case: &Value, plan: &Plan, order: &[usize]) -> anyhow::Result<bool> {
+    if !plan.is_order(order) {
+        return Ok(false);
+    }
+    let rewritten = plan.execute(alloc, order)?;
+    let expected = green(alloc, member(case, "tree")?)?;
+    let changed = are_changed(case, &rewritten.changed)?;
+    let origins = are_origins(alloc, case, &rewritten.origins)?;
+    Ok(rewritten.green == expected && changed && origins)
+}
+
+/// Whether it does so in each order that the case names, or else in the plan's own.
+fn is_executed(alloc: Global, case: &Value, plan: &Plan) -> anyhow::Result<bool> {
+    if plan.len() != number(case, "kept")? {
+        return Ok(false);
+    }
+    if let Some(orders) = case.get("orders") {
+        for order in list(orders)? {
+            if !is_made(alloc, case, plan, &numbers(alloc, order)?)? {
+                return Ok(false);
+            }
+        }
+    }
+    is_made(alloc, case, plan, &plan.order(alloc)?)
+}
+
+/// Whether of the changes becomes what the case says.
+pub fn is_met(alloc: Global, case: &Value) -> anyhow::Result<bool> {
+    let verdict = member(case, "verdict")?.as_str().context("no verdict")?;
+    let green = green(
+        alloc,
+        list(member(case, "trees")?)?.first().context("no tree")?,
+    )?;
+    let root = SyntaxNode::new_root(alloc, green, &mut TreeIds::new())?;
+    let trees = trees(alloc, case)?;
+    let mapping = mapping(alloc, &trees, case)?;
+    let changes = changes(alloc, &root, &trees, case)?;
+    match Plan::build(alloc, &root, changes, &mapping) {
+        Ok(plan) => Ok(verdict == "accepted" && is_executed(alloc, case, &plan)?),
+        Err(PlanError::Intersecting) => Ok(verdict == "Intersecting"),
+        Err(PlanError::MissingMapping) => Ok(verdict == "MissingMapping"),
+        Err(PlanError::NoMemory) => bail!("out of memory"),
+    }
+}

@@ -1,0 +1,180 @@
+//! Elements: a node or a token.
+ghost use Rattle.std.specs.Prelude.{◌≡◌, ◌+◌, ◌<◌, ◌^◌, length, reverse, IfOk, Some};
+ghost use Rattle.rowan.specs.Place.{kind_at, start_of, end_of, index_of, terms_below};
+ghost use Rattle.syntax_tree.specs.Language.{kind_of_raw};
+ghost use Rattle.syntax_tree.specs.Element.{term_of, is_node};
+ghost use Rattle.syntax_tree.specs.Handle.{element_of, parent_of};
+
+use crate::handle::{SyntaxNode, SyntaxToken};
+use parser_input::SyntaxKind;
+use rowan_green::{GreenElement, NodeOrToken, TextRange};
+use std::alloc::{AllocError, Global};
+
+/// A node or a token of a numbered tree.
+#[derive(Drop)]
+pub enum SyntaxElement {
+    Node(SyntaxNode),
+    Token(SyntaxToken),
+}
+
+impl SyntaxElement {
+    /// The number of its tree.
+    pub fn tree(&self) -> u32
+        ensures { result ≡ (element_of self.now).number }
+    {
+        match self {
+            SyntaxElement::Node(node) => node.tree(),
+            SyntaxElement::Token(token) => token.tree(),
+        }
+    }
+
+    /// The numbers of the children to go into, from the root on.
+    pub fn path(&self, alloc: Global) -> Result<Vec<usize>, AllocError>
+        ensures { IfOk result (λ v. v.items ≡ reverse (element_of self.now).place.up) }
+    {
+        match self {
+            SyntaxElement::Node(node) => node.path(alloc),
+            SyntaxElement::Token(token) => token.path(alloc),
+        }
+    }
+
+    /// The child numbers from the element up to the root, its own first.
+    pub fn way(&self, alloc: Global) -> Result<Vec<usize>, AllocError>
+        ensures { IfOk result (λ v. v.items ≡ (element_of self.now).place.up) }
+    {
+        match self {
+            SyntaxElement::Node(node) => node.way(alloc),
+            SyntaxElement::Token(token) => token.way(alloc),
+        }
+    }
+
+    pub fn kind(&self) -> SyntaxKind
+        ensures { result ≡ kind_of_raw (kind_at (element_of self.now).place) }
+    {
+        match self {
+            SyntaxElement::Node(node) => node.kind(),
+            SyntaxElement::Token(token) => token.kind(),
+        }
+    }
+
+    /// Its bytes in the tree's text.
+    pub fn text_range(&self) -> TextRange
+        ensures start { result.start.0 ≡ start_of (element_of self.now).place }
+        ensures end { result.end.0 ≡ end_of (element_of self.now).place }
+    {
+        match self {
+            SyntaxElement::Node(node) => node.text_range(),
+            SyntaxElement::Token(token) => token.text_range(),
+        }
+    }
+
+    /// Its number among its parent's children, nodes and tokens alike; 0 for a root.
+    pub fn index(&self) -> usize
+        ensures { result ≡ index_of (element_of self.now).place }
+    {
+        match self {
+            SyntaxElement::Node(node) => node.cursor().index(),
+            SyntaxElement::Token(token) => token.cursor().index(),
+        }
+    }
+
+    /// Its number below a node that is its parent.
+    pub(crate) fn index_below(&self, parent: &SyntaxNode) -> usize
+        requires { parent_of (element_of self.now) ≡ Some parent.now }
+        ensures index { result ≡ index_of (element_of self.now).place }
+        ensures within { result < length (terms_below parent.now.place) }
+        ensures few { length (terms_below parent.now.place) < 2 ^ 32 }
+    {
+        let _siblings = parent.cursor().green().children();
+        match self {
+            SyntaxElement::Node(node) => {
+                let _stands = node.cursor().green();
+                node.cursor().index()
+            }
+            SyntaxElement::Token(token) => {
+                let _stands = token.cursor().green();
+                token.cursor().index()
+            }
+        }
+    }
+
+    /// The number after its own, below a node that is its parent.
+    pub(crate) fn next_index(&self, parent: &SyntaxNode) -> usize
+        requires { parent_of (element_of self.now) ≡ Some parent.now }
+        ensures { result ≡ index_of (element_of self.now).place + 1 }
+    {
+        let siblings = parent.cursor().green().children().len();
+        let index = self.index_below(parent);
+        prove!(index < siblings);
+        index + 1
+    }
+
+    /// The parent, none of a root.
+    pub fn parent(&self) -> Result<Option<SyntaxNode>, AllocError>
+        ensures { IfOk result (λ r. r ≡ parent_of (element_of self.now)) }
+    {
+        match self {
+            SyntaxElement::Node(node) => node.parent(),
+            SyntaxElement::Token(token) => token.parent(),
+        }
+    }
+
+    pub fn is_node(&self) -> bool
+        ensures { result ≡ is_node (term_of (element_of self.now)) }
+    {
+        match self {
+            SyntaxElement::Node(node) => {
+                let _stands = node.cursor().green();
+                true
+            }
+            SyntaxElement::Token(token) => {
+                let _stands = token.cursor().green();
+                false
+            }
+        }
+    }
+
+    /// The element without its place.
+    pub fn green(&self) -> Result<GreenElement, AllocError>
+        ensures { IfOk result (λ e. term_of (element_of self.now) ≡ Some e) }
+    {
+        match self {
+            SyntaxElement::Node(node) => Ok(NodeOrToken::Node(node.cursor().green().clone()?)),
+            SyntaxElement::Token(token) => Ok(NodeOrToken::Token(token.cursor().green().clone()?)),
+        }
+    }
+}
+
+impl Clone for SyntaxElement {
+    ghost is_clone = { λ e copy. copy ≡ e };
+
+    /// Refuses only where as many clones stand as a `usize` can count.
+    fn clone(&self) -> Result<SyntaxElement, AllocError> {
+        match self {
+            SyntaxElement::Node(node) => Ok(SyntaxElement::Node(node.clone()?)),
+            SyntaxElement::Token(token) => Ok(SyntaxElement::Token(token.clone()?)),
+        }
+    }
+}
+
+impl From<SyntaxNode> for SyntaxElement {
+    ghost use Rattle.std.specs.Prelude.{◌≡◌};
+    ghost use Rattle.syntax_tree.specs.declared.element.SyntaxElement.TheVariants.{Node};
+
+    ghost from_gives = { λ node element. element ≡ Node node };
+
+    fn from(node: SyntaxNode) -> SyntaxElement {
+        SyntaxElement::Node(node)
+    }
+}
+
+impl From<SyntaxToken> for SyntaxElement {
+    ghost use Rattle.std.specs.Prelude.{◌≡◌};
+    ghost use Rattle.syntax_tree.specs.declared.element.SyntaxElement.TheVariants.{Token};
+
+    ghost from_gives = { λ token element. element ≡ Token token };
+
+    fn from(token: SyntaxToken) -> SyntaxElement {
+        SyntaxElement::Token(token)
+    }
+}

@@ -1,0 +1,229 @@
+//! The elements around a node, as iterators.
+ghost use Rattle.std.specs.Prelude.{◌≡◌, map, IfOk};
+ghost use Rattle.rowan_green.specs.declared.utility_types.NodeOrToken.TheVariants.{Node};
+ghost use Rattle.rowan.specs.Around.{ancestors, children, nodes};
+ghost use Rattle.rowan.specs.Walk.{walk};
+ghost use Rattle.syntax_tree.specs.Handle.{with_place, with_number, with_cursor};
+
+use crate::element::SyntaxElement;
+use crate::handle::{SyntaxNode, SyntaxToken};
+use crate::language::RustLanguage;
+use rowan_green::NodeOrToken;
+use std::alloc::{AllocError, Global};
+use std::marker::Model;
+
+/// The element of a cursor into the tree of this number.
+pub(crate) fn numbered(tree: u32, cursor: rowan::SyntaxElement<RustLanguage>) -> SyntaxElement
+    ensures { result ≡ with_cursor tree cursor }
+{
+    match cursor {
+        NodeOrToken::Node(cursor) => SyntaxElement::Node(SyntaxNode::of(tree, cursor)),
+        NodeOrToken::Token(cursor) => SyntaxElement::Token(SyntaxToken::of(tree, cursor)),
+    }
+}
+
+/// A node and those above it, up to the root. A contract sees those that are left.
+#[derive(Drop)]
+pub struct Ancestors {
+    tree: u32,
+    cursors: rowan::Ancestors<RustLanguage>,
+}
+
+impl Model for Ancestors {
+    ghost use Rattle.std.specs.Prelude.{List, map};
+    ghost use Rattle.std.specs.Coded.{codes};
+    ghost use Rattle.rowan_green.specs.Forest.{tree_code};
+    ghost use Rattle.syntax_tree.specs.Element.{Element};
+    ghost use Rattle.syntax_tree.specs.Handle.{with_number};
+
+    ghost Value = { List Element };
+
+    ghost coded = { Prim.hlevel (codes, tree_code) };
+
+    ghost view = { λ c. map (with_number c.tree) c.cursors };
+}
+
+impl Iterator for Ancestors {
+    type Item = Result<SyntaxNode, AllocError>;
+
+    ghost use Rattle.std.specs.Prelude.{length};
+    ghost use Rattle.std.specs.Iterator.{at_most};
+    ghost use Rattle.rowan.specs.Yields.{YieldsOrFails};
+
+    ghost next_gives = { YieldsOrFails };
+
+    ghost remaining = { λ s. at_most (length s) };
+
+    fn next(&mut self) -> Option<Result<SyntaxNode, AllocError>> {
+        match self.cursors.next()? {
+            Ok(cursor) => Some(Ok(SyntaxNode::of(self.tree, cursor))),
+            Err(e) => Some(Err(e)),
+        }
+    }
+}
+
+/// The children of a node that are nodes. A contract sees those that are left.
+#[derive(Drop)]
+pub struct SyntaxNodeChildren {
+    tree: u32,
+    cursors: rowan::SyntaxNodeChildren<RustLanguage>,
+}
+
+impl Model for SyntaxNodeChildren {
+    ghost use Rattle.std.specs.Prelude.{List, map};
+    ghost use Rattle.std.specs.Coded.{codes};
+    ghost use Rattle.rowan_green.specs.Forest.{tree_code};
+    ghost use Rattle.syntax_tree.specs.Element.{Element};
+    ghost use Rattle.syntax_tree.specs.Handle.{with_number};
+
+    ghost Value = { List Element };
+
+    ghost coded = { Prim.hlevel (codes, tree_code) };
+
+    ghost view = { λ c. map (with_number c.tree) c.cursors };
+}
+
+impl Iterator for SyntaxNodeChildren {
+    type Item = Result<SyntaxNode, AllocError>;
+
+    ghost use Rattle.std.specs.Prelude.{length};
+    ghost use Rattle.std.specs.Iterator.{at_most};
+    ghost use Rattle.rowan.specs.Yields.{YieldsOrFails};
+
+    ghost next_gives = { YieldsOrFails };
+
+    ghost remaining = { λ s. at_most (length s) };
+
+    fn next(&mut self) -> Option<Result<SyntaxNode, AllocError>> {
+        match self.cursors.next()? {
+            Ok(cursor) => Some(Ok(SyntaxNode::of(self.tree, cursor))),
+            Err(e) => Some(Err(e)),
+        }
+    }
+}
+
+/// The children of a node, nodes and tokens. A contract sees those that are left.
+#[derive(Drop)]
+pub struct SyntaxElementChildren {
+    tree: u32,
+    cursors: rowan::SyntaxElementChildren<RustLanguage>,
+}
+
+impl Model for SyntaxElementChildren {
+    ghost use Rattle.std.specs.Prelude.{List, map};
+    ghost use Rattle.std.specs.Coded.{codes};
+    ghost use Rattle.rowan_green.specs.Forest.{tree_code};
+    ghost use Rattle.syntax_tree.specs.declared.element.SyntaxElement.{SyntaxElement};
+    ghost use Rattle.syntax_tree.specs.Handle.{with_cursor};
+
+    ghost Value = { List SyntaxElement };
+
+    ghost coded = { Prim.hlevel (codes, tree_code) };
+
+    ghost view = { λ c. map (with_cursor c.tree) c.cursors };
+}
+
+impl Iterator for SyntaxElementChildren {
+    type Item = Result<SyntaxElement, AllocError>;
+
+    ghost use Rattle.std.specs.Prelude.{length};
+    ghost use Rattle.std.specs.Iterator.{at_most};
+    ghost use Rattle.rowan.specs.Yields.{YieldsOrFails};
+
+    ghost next_gives = { YieldsOrFails };
+
+    ghost remaining = { λ s. at_most (length s) };
+
+    fn next(&mut self) -> Option<Result<SyntaxElement, AllocError>> {
+        match self.cursors.next()? {
+            Ok(cursor) => Some(Ok(numbered(self.tree, cursor))),
+            Err(e) => Some(Err(e)),
+        }
+    }
+}
+
+/// A node and all elements below it, each before those below it. A contract sees the events of the walk that are left.
+#[derive(Drop)]
+pub struct DescendantsWithTokens {
+    tree: u32,
+    cursors: rowan::DescendantsWithTokens<RustLanguage>,
+}
+
+impl Model for DescendantsWithTokens {
+    ghost use Rattle.std.specs.Coded.{codes};
+    ghost use Rattle.rowan_green.specs.Forest.{tree_code};
+    ghost use Rattle.syntax_tree.specs.Handle.{Walk};
+
+    ghost Value = { Walk };
+
+    ghost coded = { Prim.hlevel (codes, tree_code) };
+
+    ghost view = { λ c. record { number = c.tree; events = c.cursors } };
+}
+
+impl Iterator for DescendantsWithTokens {
+    type Item = Result<SyntaxElement, AllocError>;
+
+    ghost use Rattle.std.specs.Prelude.{length};
+    ghost use Rattle.std.specs.Iterator.{at_most};
+    ghost use Rattle.rowan.specs.Yields.{YieldsOrFails};
+    ghost use Rattle.syntax_tree.specs.Handle.{elements_left};
+
+    ghost next_gives = { λ s r t. YieldsOrFails (elements_left s) r (elements_left t) };
+
+    ghost remaining = { λ s. at_most (length s.events) };
+
+    fn next(&mut self) -> Option<Result<SyntaxElement, AllocError>> {
+        match self.cursors.next()? {
+            Ok(cursor) => Some(Ok(numbered(self.tree, cursor))),
+            Err(e) => Some(Err(e)),
+        }
+    }
+}
+
+impl SyntaxNode {
+    /// The node, its parent, and so on up to the root.
+    pub fn ancestors(&self) -> Result<Ancestors, AllocError>
+        ensures { IfOk result (λ a. a ≡ map (with_place self.now) (ancestors self.now.place)) }
+    {
+        Ok(Ancestors {
+            tree: self.tree(),
+            cursors: self.cursor().ancestors()?,
+        })
+    }
+
+    /// The children that are nodes, in order.
+    pub fn children(&self, alloc: Global) -> Result<SyntaxNodeChildren, AllocError>
+        ensures { IfOk result (λ c. c ≡ map (with_place self.now) (nodes (children self.now.place))) }
+    {
+        Ok(SyntaxNodeChildren {
+            tree: self.tree(),
+            cursors: self.cursor().children(alloc)?,
+        })
+    }
+
+    /// The children in order, nodes and tokens.
+    pub fn children_with_tokens(&self, alloc: Global) -> Result<SyntaxElementChildren, AllocError>
+        ensures { IfOk result
+            (λ c. c ≡ map (with_cursor self.now.number) (children self.now.place)) }
+    {
+        Ok(SyntaxElementChildren {
+            tree: self.tree(),
+            cursors: self.cursor().children_with_tokens(alloc)?,
+        })
+    }
+
+    /// The node and all elements below it, in preorder.
+    pub fn descendants_with_tokens(
+        &self,
+        alloc: Global,
+    ) -> Result<DescendantsWithTokens, AllocError>
+        ensures { IfOk result
+            (λ c. c ≡ record { number = self.now.number; events = walk (Node self.now.place) }) }
+    {
+        Ok(DescendantsWithTokens {
+            tree: self.tree(),
+            cursors: self.cursor().descendants_with_tokens(alloc)?,
+        })
+    }
+}

@@ -1,0 +1,23 @@
+-- The jobs are made one by one, and every admitted order of them ends in the rewritten element.
+use Rattle.std.proofs.Common.{[], None, reverse, refl, subst, sym, ap, ◌∙◌}
+use Rattle.syntax_tree.specs.Element.{term_of}
+use Rattle.tree_rewrite.specs.Rewrite.{puts, rewritten}
+use Rattle.tree_rewrite.specs.Orders.{picked, is_order}
+use Rattle.tree_rewrite.specs.Fill.{HavePut, standing}
+use Rattle.tree_rewrite.proofs.SheetLemmas.{adds-from}
+use Rattle.tree_rewrite.proofs.ExecuteLemmas.{standing-top, any_order}
+use Rattle.tree_rewrite.proofs.plan.Plan.pieces.Goals as goal
+
+pub returns : goal.returns
+returns c =
+    let js = c.self.inside.jobs.items in
+    let os = c.args.order.now in
+    let e = c.self.inside.top in
+    let made = picked js os [] in
+    let s = puts made None in
+    let have = subst (λ l. HavePut l c.in_ok-made.made.items (picked l os [])) c.deref.ensures.value c.in_ok-made.ensures in
+    let given = subst (λ l. HavePut l c.deref-3.result.now made) (sym c.deref-2.ensures.value) (subst (λ v. HavePut js v made) (sym c.deref-3.ensures.value) have) in
+    let same = c.in_ok-clone.ensures.cases in
+    let order = any_order e js os c.self.invariant.0 c.self.invariant.1 (ap (λ p. is_order p.jobs os) c.self.view_is ∙ c.requires) in
+    let whole = ap (λ y. standing s e [] (term_of y)) same ∙ standing-top s e (term_of e) refl ∙ order ∙ ap (λ p. rewritten p.top (reverse p.jobs)) c.self.view_is in
+    adds-from _ _ _ _ (rewritten c.args.self.now.top (reverse c.args.self.now.jobs)) c.new-pieces.ensures.items whole (c.in_ok-push_standing.ensures made e given same)

@@ -1,0 +1,148 @@
+//! Elements of a green tree, made of pieces.
+ghost use Rattle.std.specs.Prelude.{◌≡◌, ◌++◌, ◌∷◌, [], IfOk, IfErr, IfSome, OnOk, Some};
+ghost use Rattle.rowan_green.specs.Forest.{Tree};
+ghost use Rattle.rowan_green.specs.Term.{terms, tree_of, FitsNode};
+ghost use Rattle.rowan_green.specs.declared.utility_types.NodeOrToken.TheVariants.{Node};
+ghost use Rattle.tree_rewrite.specs.Marked.{Marked, forest_in};
+ghost use Rattle.tree_rewrite.specs.Pieces.{Stand, closed, after_piece, Say};
+ghost use Rattle.tree_rewrite.specs.Fits.{AllFit, NewFit};
+ghost use Rattle.tree_rewrite.specs.Growing.{IsMade, AllFitIn, NewFitIn, RefusesUnless};
+
+use crate::error::ExecuteError;
+use crate::piece::Piece;
+use rowan_green::{GreenElement, GreenError, GreenNode, NodeOrToken, SyntaxKind};
+use std::alloc::{AllocError, Global};
+use std::mem;
+
+/// A node that was begun, by its kind, or what a job puts in, with the elements before it.
+#[derive(Drop)]
+pub struct Begun {
+    kind: Option<SyntaxKind>,
+    before: Vec<GreenElement>,
+}
+
+/// A node of this kind with these children.
+fn node_of(
+    alloc: Global,
+    kind: SyntaxKind,
+    children: Vec<GreenElement>,
+) -> Result<GreenNode, ExecuteError>
+    ensures node { IfOk result (λ n. n ≡ tree_of kind.0 children.items) }
+    ensures fits { OnOk result (FitsNode children.items) }
+    ensures refused { IfErr result (RefusesUnless (FitsNode children.items)) }
+{
+    match GreenNode::new(alloc, kind, children.into_iter()) {
+        Ok(node) => Ok(node),
+        Err(GreenError::TooLong) => Err(ExecuteError::TooLong),
+        Err(_) => Err(ExecuteError::NoMemory),
+    }
+}
+
+/// Begins a node of this kind, or what a job puts in.
+fn begin(
+    alloc: Global,
+    kind: Option<SyntaxKind>,
+    done: &mut Vec<GreenElement>,
+    around: &mut Vec<Begun>,
+) -> Result<(), AllocError>
+    ensures done { OnOk result (done.new.items ≡ []) }
+    ensures around { OnOk result ((g : Begun) × (around.new.items ≡ around.old.items ++ g ∷ [])
+        × (g.kind ≡ kind) × (g.before.items ≡ done.old.items)) }
+{
+    let before = mem::replace(done, Vec::new(alloc));
+    around.push(Begun { kind, before })?;
+    Ok(())
+}
+
+/// Adds these elements.
+fn push_all(elements: Vec<GreenElement>, to: &mut Vec<GreenElement>) -> Result<(), AllocError>
+    ensures { OnOk result (to.new.items ≡ to.old.items ++ elements.items) }
+{
+    for element in elements {
+        to.push(element)?;
+    }
+    Ok(())
+}
+
+/// Ends what was begun last.
+fn close(
+    alloc: Global,
+    done: &mut Vec<GreenElement>,
+    around: &mut Vec<Begun>,
+) -> Result<(), ExecuteError>
+    ensures made { (s : Stand) → IsMade done.old.items around.old.items s → OnOk result
+        (IsMade done.new.items around.new.items (closed s.done s.around)) }
+    ensures fits { (s : Stand) → IsMade done.old.items around.old.items s → NewFitIn s → OnOk result
+        (NewFitIn (closed s.done s.around)) }
+    ensures refused { (s : Stand) → IsMade done.old.items around.old.items s → IfErr result
+        (RefusesUnless (AllFitIn (closed s.done s.around))) }
+{
+    let Some(Begun { kind, before }) = around.pop() else {
+        return Ok(());
+    };
+    let children = mem::replace(done, before);
+    match kind {
+        Some(kind) => {
+            let node = node_of(alloc, kind, children)?;
+            done.push(NodeOrToken::Node(node))?;
+        }
+        None => push_all(children, done)?,
+    }
+    Ok(())
+}
+
+/// Goes on by a piece.
+fn step(
+    alloc: Global,
+    piece: &Piece,
+    done: &mut Vec<GreenElement>,
+    around: &mut Vec<Begun>,
+) -> Result<(), ExecuteError>
+    ensures made { (s : Stand) → IsMade done.old.items around.old.items s → OnOk result
+        (IsMade done.new.items around.new.items (after_piece piece.now s)) }
+    ensures fits { (s : Stand) → IsMade done.old.items around.old.items s → NewFitIn s → OnOk result
+        (NewFitIn (after_piece piece.now s)) }
+    ensures refused { (s : Stand) → IsMade done.old.items around.old.items s → IfErr result
+        (RefusesUnless (AllFitIn (after_piece piece.now s))) }
+{
+    match piece {
+        Piece::Whole(element) => done.push(element.green()?)?,
+        Piece::Open(node) => {
+            let kind = node.cursor().green().kind();
+            begin(alloc, Some(kind), done, around)?;
+        }
+        Piece::Group(_) => begin(alloc, None, done, around)?,
+        Piece::Close => close(alloc, done, around)?,
+    }
+    Ok(())
+}
+
+/// The elements that pieces say.
+pub fn green_of(alloc: Global, pieces: &[Piece]) -> Result<Vec<GreenElement>, ExecuteError>
+    ensures elements { (m : Marked) → Say pieces.now m → IfOk result (λ v. v.items ≡ terms (forest_in m)) }
+    ensures fits { (m : Marked) → Say pieces.now m → OnOk result (NewFit m) }
+    ensures refused { (m : Marked) → Say pieces.now m → IfErr result (RefusesUnless (AllFit m)) }
+{
+    let mut done = Vec::new(alloc);
+    let mut around = Vec::new(alloc);
+    for piece in pieces {
+        step(alloc, piece, &mut done, &mut around)?;
+    }
+    Ok(done)
+}
+
+/// The node, where one stands alone.
+pub fn one_node(elements: Vec<GreenElement>) -> Option<GreenNode>
+    ensures is { IfSome result (λ t. elements.items ≡ Node t ∷ []) }
+    ensures all { (t : Tree) → elements.items ≡ Node t ∷ [] → result ≡ Some t }
+{
+    let mut elements = elements;
+    let last = elements.pop();
+    if !elements.is_empty() {
+        return None;
+    }
+    match last {
+        Some(NodeOrToken::Node(node)) => Some(node),
+        _ => None,
+    }
+}

@@ -1,0 +1,62 @@
+//! Where the elements of a rewritten tree came from.
+ghost use Rattle.std.specs.Prelude.{◌≡◌, ◌++◌, map, IfOk, OnOk};
+ghost use Rattle.syntax_tree.specs.Handle.{element_of};
+ghost use Rattle.tree_rewrite.specs.Marked.{Marked, origins, blank, reading_of};
+ghost use Rattle.tree_rewrite.specs.Pieces.{Say};
+ghost use Rattle.tree_rewrite.specs.Came.{origins_by, all_origins};
+
+use crate::piece::Piece;
+use std::alloc::{AllocError, Global};
+use syntax_tree::{SyntaxElement, SyntaxNode, SyntaxToken};
+
+/// Adds a node and all elements below it, in preorder.
+fn push_walk(
+    alloc: Global,
+    node: &SyntaxNode,
+    to: &mut Vec<SyntaxElement>,
+) -> Result<(), AllocError>
+    ensures { OnOk result (map element_of to.new.items
+        ≡ map element_of to.old.items ++ origins (reading_of blank node.now)) }
+{
+    let _stands = node.cursor().green();
+    let mut left = node.descendants_with_tokens(alloc)?;
+    while let Some(element) = left.next() {
+        let element = element?;
+        to.push(element)?;
+    }
+    Ok(())
+}
+
+/// Adds a token.
+fn push_token(token: &SyntaxToken, to: &mut Vec<SyntaxElement>) -> Result<(), AllocError>
+    ensures { OnOk result (map element_of to.new.items
+        ≡ map element_of to.old.items ++ origins (reading_of blank token.now)) }
+{
+    let _stands = token.cursor().green();
+    to.push(SyntaxElement::Token(token.clone()?))?;
+    Ok(())
+}
+
+/// Adds the elements that a piece brings, in preorder.
+fn push_piece(alloc: Global, piece: &Piece, to: &mut Vec<SyntaxElement>) -> Result<(), AllocError>
+    ensures { OnOk result (map element_of to.new.items ≡ map element_of to.old.items ++ origins_by piece.now) }
+{
+    match piece {
+        Piece::Whole(SyntaxElement::Node(node)) => push_walk(alloc, node, to)?,
+        Piece::Whole(SyntaxElement::Token(token)) => push_token(token, to)?,
+        Piece::Open(node) => to.push(SyntaxElement::Node(node.clone()?))?,
+        Piece::Group(_) | Piece::Close => (),
+    }
+    Ok(())
+}
+
+/// Where the elements that pieces say came from, in preorder.
+pub fn origins_of(alloc: Global, pieces: &[Piece]) -> Result<Vec<SyntaxElement>, AllocError>
+    ensures { (m : Marked) → Say pieces.now m → IfOk result (λ v. map element_of v.items ≡ origins m) }
+{
+    let mut origins = Vec::new(alloc);
+    for piece in pieces {
+        push_piece(alloc, piece, &mut origins)?;
+    }
+    Ok(origins)
+}
