@@ -6,3 +6,7 @@ pub mod NoFloat
 pub mod Runs
 pub mod Requests
 pub mod Fronts
+pub mod Named
+pub mod Rows
+pub mod Ranges
+pub mod Puts

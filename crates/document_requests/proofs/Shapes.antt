@@ -3,7 +3,7 @@ use Rattle.std.proofs.Common.{◌≡◌, ◌<◌, List, [], ◌∷◌, length, g
 use Rattle.serde_json.specs.Data.{item, no_items}
 use Rattle.serde_json.specs.View.{view, items_view}
 use Rattle.serde_json.specs.declared.value.Value.{Value}
-use Rattle.document_requests.specs.Request.{target_in, payload_in, only_change}
+use Rattle.document_requests.specs.Request.{target_in, payload_in}
 
 pub two_items : (vs : List Value) (a b : Value) → length vs ≡ 2 → a ≡ get_or vs 0 a → b ≡ get_or vs 1 b → items_view vs ≡ item (view a) (item (view b) no_items)
 two_items [] a b two first second = absurd (omega arith)
@@ -41,12 +41,3 @@ payload_long [] long = absurd (omega arith)
 payload_long (x ∷ []) long = absurd (omega arith)
 payload_long (x ∷ y ∷ []) long = absurd (omega arith)
 payload_long (x ∷ y ∷ z ∷ vs) long = refl
-
-pub change_short : (vs : List Value) → length vs < 1 → None ≡ only_change (items_view vs)
-change_short [] short = refl
-change_short (x ∷ vs) short = absurd (omega arith)
-
-pub change_long : (vs : List Value) → 1 < length vs → None ≡ only_change (items_view vs)
-change_long [] long = absurd (omega arith)
-change_long (x ∷ []) long = absurd (omega arith)
-change_long (x ∷ y ∷ vs) long = refl

@@ -4,6 +4,8 @@ use Rattle.rowan_green.specs.declared.text_range.TextRange.{TextRange}
 use Rattle.rust_document.specs.Step.{State}
 use Rattle.rust_document.specs.declared.error.CommitError.{CommitError}
 use Rattle.rust_document.specs.declared.error.CommitError.TheVariants as commits
+use Rattle.rust_document.specs.declared.error.EditError.{EditError}
+use Rattle.rust_document.specs.declared.error.EditError.TheVariants as edits
 use Rattle.rust_document.specs.declared.error.PayloadError.{PayloadError}
 use Rattle.rust_document.specs.declared.error.PayloadError.TheVariants as payloads
 use Rattle.rust_document.specs.declared.error.RecordError.{RecordError}
@@ -42,6 +44,11 @@ stop_of_payload payloads.TooLong = Refused refusals.Payload
 stop_of_payload payloads.NoTreeNumber = Refused refusals.NoTreeNumber
 stop_of_payload payloads.NoMemory = NoMemory
 stop_of_payload payloads.Message = Refused refusals.Payload
+
+abbrev pub stop_of_edit : EditError → Stop
+stop_of_edit edits.TooLong = Refused refusals.TooLong
+stop_of_edit edits.NoTreeNumber = Refused refusals.NoTreeNumber
+stop_of_edit edits.NoMemory = NoMemory
 
 abbrev pub stop_of_record : RecordError → Stop
 stop_of_record records.Foreign = Refused refusals.NoTarget

@@ -5,6 +5,8 @@ pub mod Floats
 pub mod Request
 pub mod Asked
 pub mod Reply
+pub mod Lines
+pub mod Messages
 pub mod Answered
 pub mod Session
 pub mod Applied

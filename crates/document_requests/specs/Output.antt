@@ -1,7 +1,10 @@
 -- What is written for a request, and the exit status.
-use Rattle.std.specs.Prelude.{ℕ, List, ◌++◌, length, nat_lt, Option, Some, None, option_and_then, if◌then◌else◌}
+use Rattle.std.specs.Prelude.{ℕ, ◌&&◌, List, ◌++◌, length, nat_lt, Option, Some, None, if◌then◌else◌}
 use Rattle.std.specs.Str.{is_utf8}
+use Rattle.serde_json.specs.Data.{Data}
 use Rattle.serde_json.specs.Read.{read}
+use Rattle.serde_json.specs.Written.{has_float}
+use Rattle.document_requests.specs.Floats.{writes_float}
 use Rattle.parser_input.specs.declared.edition.Edition.{Edition}
 use Rattle.rust_document.specs.Step.{MAX_TEXT}
 use Rattle.document_requests.specs.Reply.{Refused, line, lines}
@@ -31,13 +34,20 @@ served r =
     if nat_lt MAX_TEXT (length r.text) then not_run refusals.TooLong
     else ended (run r.commands (first_session r.edition r.text))
 
--- the request that these bytes are: UTF-8, JSON, and of a request's shape
-abbrev pub request_in : List ℕ → Option Request
-request_in bytes = if is_utf8 bytes then option_and_then (request_of bytes) (read bytes) else None
-
+-- a value that is a request
 abbrev pub served_if_any : Option Request → Output
-served_if_any None = not_run refusals.Later
+served_if_any None = not_run refusals.Request
 served_if_any (Some r) = served r
 
+-- A value that is written with a number with a point or an exponent is refused before its shape is looked at. (`-0` and whole numbers
+-- past 64 bits are read as floats too; they are no whole numbers, and where nobody looks at them they change nothing.)
+abbrev pub of_value : List ℕ → Data → Output
+of_value text d = if has_float d && writes_float text then not_run refusals.Float else served_if_any (request_of d)
+
+abbrev pub of_value_if_any : List ℕ → Option Data → Output
+of_value_if_any text None = not_run refusals.Request
+of_value_if_any text (Some d) = of_value text d
+
+-- what is written for these bytes: they are to be UTF-8, JSON, and of a request's shape
 abbrev pub replies : List ℕ → Output
-replies bytes = served_if_any (request_in bytes)
+replies bytes = if is_utf8 bytes then of_value_if_any bytes (read bytes) else not_run refusals.Request

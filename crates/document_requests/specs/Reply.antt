@@ -5,14 +5,21 @@ use Rattle.serde_json.specs.Data.{Data, number, unsigned, string, array, object,
 use Rattle.serde_json.specs.View.{items_of}
 use Rattle.serde_json.specs.Written.{compact_text}
 use Rattle.document_requests.specs.declared.reply.Refusal.{Refusal}
-use Rattle.document_requests.specs.declared.reply.Refusal.TheVariants.{TooLong, NoTarget, Payload, BadTarget, Unfaithful, NoTreeNumber, Later}
+use Rattle.document_requests.specs.declared.reply.Refusal.TheVariants.{Request, Float, Range, TooLong, NoTarget, Payload, BadTarget, Unfaithful, NoTreeNumber, Later}
 
--- the ranges of the new text that a commit put in, or why nothing was done
+-- an edit was made; the ranges of the new text that a commit put in; the tree's lines; messages, each with its place; why nothing was
+-- done
 pub data Reply : Type 0 where
+  Edited : Reply
   Changed : List (ℕ × ℕ) → Reply
+  Tree : List (List ℕ) → Reply
+  Errors : List (ℕ × List ℕ) → Reply
   Refused : Refusal → Reply
 
 abbrev pub refusal_name : Refusal → List ℕ
+refusal_name Request = codes "Request"
+refusal_name Float = codes "Float"
+refusal_name Range = codes "Range"
 refusal_name TooLong = codes "TooLong"
 refusal_name NoTarget = codes "NoTarget"
 refusal_name Payload = codes "Payload"
@@ -27,8 +34,20 @@ range_data range = array (item (number (unsigned range.0)) (item (number (unsign
 abbrev pub ranges_data : List (ℕ × ℕ) → Items
 ranges_data ranges = items_of (map range_data ranges)
 
+abbrev pub lines_data : List (List ℕ) → Items
+lines_data lines = items_of (map string lines)
+
+abbrev pub message_data : ℕ × List ℕ → Data
+message_data message = array (item (number (unsigned message.0)) (item (string message.1) no_items))
+
+abbrev pub messages_data : List (ℕ × List ℕ) → Items
+messages_data messages = items_of (map message_data messages)
+
 abbrev pub reply_data : Reply → Data
+reply_data Edited = object (member (codes "ok") (string (codes "edit")) no_members)
 reply_data (Changed ranges) = object (member (codes "changed") (array (ranges_data ranges)) (member (codes "ok") (string (codes "commit")) no_members))
+reply_data (Tree lines) = object (member (codes "ok") (string (codes "tree")) (member (codes "tree") (array (lines_data lines)) no_members))
+reply_data (Errors messages) = object (member (codes "errors") (array (messages_data messages)) (member (codes "ok") (string (codes "errors")) no_members))
 reply_data (Refused refusal) = object (member (codes "err") (string (refusal_name refusal)) no_members)
 
 -- JSON with no space, and a line feed

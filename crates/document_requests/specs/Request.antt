@@ -1,23 +1,25 @@
 -- What a request asks, and which JSON values are requests.
-use Rattle.std.specs.Prelude.{ℕ, ◌&&◌, List, [], ◌∷◌, Option, Some, None, option_map, option_and_then, codes, if◌then◌else◌}
+use Rattle.std.specs.Prelude.{ℕ, List, [], ◌∷◌, Option, Some, None, option_map, option_and_then, codes, if◌then◌else◌}
 use Rattle.std.specs.Str.{bytes_eq}
 use Rattle.serde_json.specs.Data.{Data, Items, no_items, item}
 use Rattle.serde_json.specs.Find.{get, as_str, as_array, as_number, as_u64}
-use Rattle.serde_json.specs.Written.{has_float}
 use Rattle.parser_input.specs.declared.edition.Edition.{Edition}
 use Rattle.document_requests.specs.declared.request.Op.{Op}
 use Rattle.document_requests.specs.declared.request.Entry.{Entry}
 use Rattle.document_requests.specs.declared.request.Target.{Target}
-use Rattle.document_requests.specs.Floats.{writes_float}
 use Rattle.document_requests.specs.Words.{edition_named, op_named, entry_named, kind_named}
 
--- an element becomes what a text is read as
+-- what a text is read as comes to a target, or the target goes
 pub data Change : Type 0 where
   Put : Op → Target → Entry → List ℕ → Change
+  Delete : Target → Change
 
--- changes that are made at once
+-- a text comes in the place of some bytes; changes are made at once; the tree or the messages are asked for
 pub data Command : Type 0 where
+  Edit : ℕ → ℕ → List ℕ → Command
   Commit : List Change → Command
+  Tree : Command
+  Errors : Command
 
 -- a text in an edition, and what is done to it
 pub record Request : Type 0 where
@@ -49,37 +51,49 @@ abbrev pub payload_in : Items → Option (Entry × List ℕ)
 payload_in (item entry (item text no_items)) = option_and_then (λ e. option_map (λ t. (e, t)) (as_str text)) (option_and_then entry_named (as_str entry))
 payload_in _ = None
 
+-- what is to be put, and how
+abbrev pub put_named : List ℕ → Target → Data → Option Change
+put_named word target d =
+    option_and_then (λ op. option_map (λ p. Put op target p.0 p.1) (option_and_then payload_in (list_in (codes "with") d))) (op_named word)
+
+abbrev pub change_named : List ℕ → Target → Data → Option Change
+change_named word target d = if bytes_eq word (codes "delete") then Some (Delete target) else put_named word target d
+
 abbrev pub change_of : Data → Option Change
-change_of d =
+change_of d = option_and_then (λ word. option_and_then (λ target. change_named word target d) (option_and_then target_in (list_in (codes "at") d))) (text_in (codes "op") d)
+
+-- all of them, where each is one
+abbrev pub all_in : {X : Type 0} → (Data → Option X) → Items → Option (List X)
+all_in of no_items = Some []
+all_in of (item d ds) = option_and_then (λ x. option_map (λ xs. x ∷ xs) (all_in of ds)) (of d)
+
+-- the member of this name, where it is a whole number
+abbrev pub number_in : List ℕ → Data → Option ℕ
+number_in name d = option_and_then whole_number (get name d)
+
+abbrev pub edit_of : Data → Option Command
+edit_of d =
     option_and_then
-    (λ op. option_and_then (λ target. option_map (λ p. Put op target p.0 p.1) (option_and_then payload_in (list_in (codes "with") d))) (option_and_then target_in (list_in (codes "at") d)))
-    (option_and_then op_named (text_in (codes "op") d))
+    (λ start. option_and_then (λ stop. option_map (λ text. Edit start stop text) (text_in (codes "text") d)) (number_in (codes "end") d))
+    (number_in (codes "start") d)
 
--- so far a commit has one change
-abbrev pub only_change : Items → Option (List Change)
-only_change (item d no_items) = option_map (λ c. c ∷ []) (change_of d)
-only_change _ = None
+abbrev pub commit_of : Data → Option Command
+commit_of d = option_map Commit (option_and_then (all_in change_of) (list_in (codes "changes") d))
 
--- so far a command is a commit
 abbrev pub command_named : List ℕ → Data → Option Command
-command_named word d = if bytes_eq word (codes "commit") then option_map Commit (option_and_then only_change (list_in (codes "changes") d)) else None
+command_named word d =
+    if bytes_eq word (codes "edit") then edit_of d
+    else if bytes_eq word (codes "commit") then commit_of d
+    else if bytes_eq word (codes "tree") then Some Tree
+    else if bytes_eq word (codes "errors") then Some Errors
+    else None
 
 abbrev pub command_of : Data → Option Command
 command_of d = option_and_then (λ word. command_named word d) (text_in (codes "do") d)
 
--- all of them, where each is a command
-abbrev pub commands_in : Items → Option (List Command)
-commands_in no_items = Some []
-commands_in (item d ds) = option_and_then (λ c. option_map (λ cs. c ∷ cs) (commands_in ds)) (command_of d)
-
 -- the request, whose further members are not looked at
-abbrev pub asked_in : Data → Option Request
-asked_in d =
+abbrev pub request_of : Data → Option Request
+request_of d =
     option_and_then
-    (λ edition. option_and_then (λ text. option_map (λ commands. record { edition = edition; text = text; commands = commands }) (option_and_then commands_in (list_in (codes "commands") d))) (text_in (codes "text") d))
+    (λ edition. option_and_then (λ text. option_map (λ commands. record { edition = edition; text = text; commands = commands }) (option_and_then (all_in command_of) (list_in (codes "commands") d))) (text_in (codes "text") d))
     (option_and_then edition_named (text_in (codes "edition") d))
-
--- the request that a text holds as this value, in which no number is written with a point or an exponent. (`-0` and whole numbers past
--- 64 bits are read as floats too; they are no whole numbers, and where nobody looks at them they change nothing.)
-abbrev pub request_of : List ℕ → Data → Option Request
-request_of text d = if has_float d && writes_float text then None else asked_in d

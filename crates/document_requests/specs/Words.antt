@@ -7,9 +7,9 @@ use Rattle.parser_input.specs.declared.edition.Edition.TheVariants.{Edition2015,
 use Rattle.parser_input.specs.declared.syntax_kind.SyntaxKind.{SyntaxKind}
 use Rattle.parser_input.proofs.KindTable.{all_kinds}
 use Rattle.document_requests.specs.declared.request.Op.{Op}
-use Rattle.document_requests.specs.declared.request.Op.TheVariants.{Replace}
+use Rattle.document_requests.specs.declared.request.Op.TheVariants.{Replace, Before, After}
 use Rattle.document_requests.specs.declared.request.Entry.{Entry}
-use Rattle.document_requests.specs.declared.request.Entry.TheVariants.{Token, Expr, Ty, Pattern}
+use Rattle.document_requests.specs.declared.request.Entry.TheVariants.{Token, Expr, Ty, Pattern, Item, Stmt}
 
 abbrev pub edition_named : List ℕ → Option Edition
 edition_named word =
@@ -20,7 +20,11 @@ edition_named word =
     else None
 
 abbrev pub op_named : List ℕ → Option Op
-op_named word = if bytes_eq word (codes "replace") then Some Replace else None
+op_named word =
+    if bytes_eq word (codes "replace") then Some Replace
+    else if bytes_eq word (codes "before") then Some Before
+    else if bytes_eq word (codes "after") then Some After
+    else None
 
 abbrev pub entry_named : List ℕ → Option Entry
 entry_named word =
@@ -28,6 +32,8 @@ entry_named word =
     else if bytes_eq word (codes "expr") then Some Expr
     else if bytes_eq word (codes "type") then Some Ty
     else if bytes_eq word (codes "pattern") then Some Pattern
+    else if bytes_eq word (codes "item") then Some Item
+    else if bytes_eq word (codes "stmt") then Some Stmt
     else None
 
 -- the kind of this name

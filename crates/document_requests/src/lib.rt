@@ -7,6 +7,7 @@ pub mod apply;
 mod device;
 pub mod fault;
 mod floats;
+mod lines;
 mod print;
 pub mod reply;
 pub mod request;

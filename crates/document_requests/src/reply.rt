@@ -1,11 +1,18 @@
 //! What a command is answered.
 use rowan_green::TextRange;
+use rust_document::SyntaxError;
 
 /// What became of a command.
 #[derive(Debug, Drop)]
 pub enum Reply {
+    /// An edit was made.
+    Edit,
     /// A commit was accepted; these bytes of the new text were put in.
     Commit { changed: Vec<TextRange> },
+    /// The tree: a line for each element, a node before what it holds, with two spaces for each node around it.
+    Tree { lines: Vec<String> },
+    /// The messages, the parser's before the lexer's.
+    Errors { list: Vec<SyntaxError> },
     /// Nothing was done.
     Refused(Refusal),
 }
@@ -13,6 +20,12 @@ pub enum Reply {
 /// Why a command or a whole request was refused.
 #[derive(Clone, Copy, Debug, PartialEq, Eq)]
 pub enum Refusal {
+    /// It is no request: no UTF-8, no JSON, or of another shape.
+    Request,
+    /// It holds a number with a point or an exponent.
+    Float,
+    /// An edit begins behind its end, ends behind the text, or has an end inside of a character.
+    Range,
     /// A text would have more than 16,777,216 bytes.
     TooLong,
     /// No element of the text has the target's kind and bytes.
@@ -38,6 +51,9 @@ impl Refusal {
         ensures { result.now ≡ refusal_name self }
     {
         match self {
+            Refusal::Request => "Request",
+            Refusal::Float => "Float",
+            Refusal::Range => "Range",
             Refusal::TooLong => "TooLong",
             Refusal::NoTarget => "NoTarget",
             Refusal::Payload => "Payload",

@@ -13,8 +13,20 @@ pub struct Request<'a> {
 /// A step of a request.
 #[derive(Drop)]
 pub enum Command<'a> {
+    /// Other characters take the place of the bytes from `start` to just before `stop`.
+    Edit {
+        start: u64,
+        stop: u64,
+        text: &'a str,
+    },
     /// Changes that are made at once.
-    Commit { changes: Vec<Change<'a>> },
+    Commit {
+        changes: Vec<Change<'a>>,
+    },
+    /// The lines of the tree are asked for.
+    Tree,
+    /// The messages are asked for.
+    Errors,
 }
 
 /// A part of a commit.
@@ -27,6 +39,10 @@ pub enum Change<'a> {
         entry: Entry,
         text: &'a str,
     },
+    /// The element at the target is taken out.
+    Delete {
+        target: Target,
+    },
 }
 
 /// How a text is put at its target.
@@ -34,6 +50,10 @@ pub enum Change<'a> {
 pub enum Op {
     /// In its place.
     Replace,
+    /// In front of it.
+    Before,
+    /// Behind it.
+    After,
 }
 
 /// What a text is read as.
@@ -47,6 +67,10 @@ pub enum Entry {
     Ty,
     /// A pattern.
     Pattern,
+    /// The one item of a file.
+    Item,
+    /// One statement.
+    Stmt,
 }
 
 /// An element of the present tree: the first in preorder that is of this kind and has the bytes from `start` to just before

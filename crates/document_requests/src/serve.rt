@@ -2,11 +2,11 @@
 ghost use Rattle.std.specs.Prelude.{◌≡◌, map, option_map, IfOk};
 ghost use Rattle.document_requests.specs.Asked.{request as request_asked};
 ghost use Rattle.document_requests.specs.Outcome.{output};
-ghost use Rattle.document_requests.specs.Output.{served, served_if_any, replies};
-ghost use Rattle.document_requests.specs.Request.{request_of};
+ghost use Rattle.document_requests.specs.Output.{of_value, replies, served};
 ghost use Rattle.serde_json.specs.View.{view};
 
 use crate::apply::apply;
+use crate::floats::{has_float, writes_float};
 use crate::reply::{Refusal, Reply};
 use crate::request::Request;
 use crate::shape::request_of;
@@ -51,11 +51,14 @@ fn serve(alloc: Global, request: &Request<'_>) -> Result<Outcome, AllocError>
 
 /// Runs the request that a text holds as a value, if it holds one.
 fn serve_value(alloc: Global, text: &str, value: &Value) -> Result<Outcome, AllocError>
-    ensures { IfOk result (λ outcome. output outcome ≡ served_if_any (request_of text.now (view value.now))) }
+    ensures { IfOk result (λ outcome. output outcome ≡ of_value text.now (view value.now)) }
 {
-    match request_of(alloc, text, value)? {
+    if has_float(value) && writes_float(text) {
+        return Ok(Outcome::NotRun(Refusal::Float));
+    }
+    match request_of(alloc, value)? {
         Some(request) => serve(alloc, &request),
-        None => Ok(Outcome::NotRun(Refusal::Later)),
+        None => Ok(Outcome::NotRun(Refusal::Request)),
     }
 }
 
@@ -64,13 +67,13 @@ pub fn serve_bytes(alloc: Global, bytes: &[u8]) -> Result<Outcome, AllocError>
     ensures { IfOk result (λ outcome. output outcome ≡ replies bytes.now) }
 {
     let Ok(text) = str::from_utf8(bytes) else {
-        return Ok(Outcome::NotRun(Refusal::Later));
+        return Ok(Outcome::NotRun(Refusal::Request));
     };
     match Value::from_str(alloc, text) {
         Ok(value) => serve_value(alloc, text, &value),
         Err(error) => match error.classify() {
             Category::Memory => Err(AllocError),
-            _ => Ok(Outcome::NotRun(Refusal::Later)),
+            _ => Ok(Outcome::NotRun(Refusal::Request)),
         },
     }
 }

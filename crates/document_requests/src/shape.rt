@@ -3,10 +3,9 @@ ghost use Rattle.std.specs.Prelude.{◌≡◌, map, option_map, IfOk};
 ghost use Rattle.serde_json.specs.Find.{as_str};
 ghost use Rattle.serde_json.specs.View.{view, items_view};
 ghost use Rattle.document_requests.specs.Words.{edition_named, op_named, entry_named, kind_named};
-ghost use Rattle.document_requests.specs.Request.{whole_number, target_in, payload_in, change_of, only_change, command_of, commands_in, request_of};
+ghost use Rattle.document_requests.specs.Request.{whole_number, target_in, payload_in, put_named, change_of, all_in, edit_of, commit_of, command_of, request_of};
 ghost use Rattle.document_requests.specs.Asked.{change, command, request};
 
-use crate::floats::{has_float, writes_float};
 use crate::request::{Change, Command, Entry, Op, Request, Target};
 use parser_input::edition::Edition;
 use parser_input::syntax_kind::SyntaxKind;
@@ -30,6 +29,8 @@ fn op_named(word: &str) -> Option<Op>
 {
     match word {
         "replace" => Some(Op::Replace),
+        "before" => Some(Op::Before),
+        "after" => Some(Op::After),
         _ => None,
     }
 }
@@ -42,6 +43,8 @@ fn entry_named(word: &str) -> Option<Entry>
         "expr" => Some(Entry::Expr),
         "type" => Some(Entry::Ty),
         "pattern" => Some(Entry::Pattern),
+        "item" => Some(Entry::Item),
+        "stmt" => Some(Entry::Stmt),
         _ => None,
     }
 }
@@ -74,11 +77,11 @@ fn payload_in(values: &[Value]) -> Option<(Entry, &str)>
     Some((entry, text.as_str()?))
 }
 
-fn change_of(value: &Value) -> Option<Change<'_>>
-    ensures { option_map change result ≡ change_of (view value.now) }
+/// What is to be put, and how.
+fn put_of<'a>(word: &str, target: Target, value: &'a Value) -> Option<Change<'a>>
+    ensures { option_map change result ≡ put_named word.now target (view value.now) }
 {
-    let op = op_named(value.get("op")?.as_str()?)?;
-    let target = target_in(value.get("at")?.as_array()?)?;
+    let op = op_named(word)?;
     let (entry, text) = payload_in(value.get("with")?.as_array()?)?;
     Some(Change::Put {
         op,
@@ -88,16 +91,48 @@ fn change_of(value: &Value) -> Option<Change<'_>>
     })
 }
 
-/// The one change that a commit has so far.
-fn only_change(alloc: Global, values: &[Value]) -> Result<Option<Vec<Change<'_>>>, AllocError>
-    ensures { IfOk result (λ found. option_map (λ changes. map change changes.items) found
-        ≡ only_change (items_view values.now)) }
+fn change_of(value: &Value) -> Option<Change<'_>>
+    ensures { option_map change result ≡ change_of (view value.now) }
 {
-    let [value] = values else {
+    let word = value.get("op")?.as_str()?;
+    let target = target_in(value.get("at")?.as_array()?)?;
+    match word {
+        "delete" => Some(Change::Delete { target }),
+        _ => put_of(word, target, value),
+    }
+}
+
+fn changes_in(alloc: Global, values: &[Value]) -> Result<Option<Vec<Change<'_>>>, AllocError>
+    ensures { IfOk result (λ found. option_map (λ changes. map change changes.items) found
+        ≡ all_in change_of (items_view values.now)) }
+{
+    let mut changes = Vec::with_capacity(alloc, values.len())?;
+    for value in values {
+        let Some(change) = change_of(value) else {
+            return Ok(None);
+        };
+        changes.push(change)?;
+    }
+    Ok(Some(changes))
+}
+
+fn edit_of(value: &Value) -> Option<Command<'_>>
+    ensures { option_map command result ≡ edit_of (view value.now) }
+{
+    let start = value.get("start")?.as_u64()?;
+    let stop = value.get("end")?.as_u64()?;
+    let text = value.get("text")?.as_str()?;
+    Some(Command::Edit { start, stop, text })
+}
+
+fn commit_of(alloc: Global, value: &Value) -> Result<Option<Command<'_>>, AllocError>
+    ensures { IfOk result (λ found. option_map command found ≡ commit_of (view value.now)) }
+{
+    let Some(values) = value.get("changes").and_then(Value::as_array) else {
         return Ok(None);
     };
-    match change_of(value) {
-        Some(change) => Ok(Some(vec![in alloc; change]?)),
+    match changes_in(alloc, values)? {
+        Some(changes) => Ok(Some(Command::Commit { changes })),
         None => Ok(None),
     }
 }
@@ -105,21 +140,21 @@ fn only_change(alloc: Global, values: &[Value]) -> Result<Option<Vec<Change<'_>>
 fn command_of(alloc: Global, value: &Value) -> Result<Option<Command<'_>>, AllocError>
     ensures { IfOk result (λ found. option_map command found ≡ command_of (view value.now)) }
 {
-    let Some("commit") = value.get("do").and_then(Value::as_str) else {
+    let Some(word) = value.get("do").and_then(Value::as_str) else {
         return Ok(None);
     };
-    let Some(values) = value.get("changes").and_then(Value::as_array) else {
-        return Ok(None);
-    };
-    match only_change(alloc, values)? {
-        Some(changes) => Ok(Some(Command::Commit { changes })),
-        None => Ok(None),
+    match word {
+        "edit" => Ok(edit_of(value)),
+        "commit" => commit_of(alloc, value),
+        "tree" => Ok(Some(Command::Tree)),
+        "errors" => Ok(Some(Command::Errors)),
+        _ => Ok(None),
     }
 }
 
 fn commands_in(alloc: Global, values: &[Value]) -> Result<Option<Vec<Command<'_>>>, AllocError>
     ensures { IfOk result (λ found. option_map (λ commands. map command commands.items) found
-        ≡ commands_in (items_view values.now)) }
+        ≡ all_in command_of (items_view values.now)) }
 {
     let mut commands = Vec::with_capacity(alloc, values.len())?;
     for value in values {
@@ -131,18 +166,10 @@ fn commands_in(alloc: Global, values: &[Value]) -> Result<Option<Vec<Command<'_>
     Ok(Some(commands))
 }
 
-/// The request that a text holds as a value; further members are not looked at. None where it holds none, or a number that is written
-/// with a point or an exponent.
-pub fn request_of<'a>(
-    alloc: Global,
-    text: &str,
-    value: &'a Value,
-) -> Result<Option<Request<'a>>, AllocError>
-    ensures { IfOk result (λ found. option_map request found ≡ request_of text.now (view value.now)) }
+/// The request that a value is, if it is one; further members are not looked at.
+pub fn request_of(alloc: Global, value: &Value) -> Result<Option<Request<'_>>, AllocError>
+    ensures { IfOk result (λ found. option_map request found ≡ request_of (view value.now)) }
 {
-    if has_float(value) && writes_float(text) {
-        return Ok(None);
-    }
     let word = value.get("edition").and_then(Value::as_str);
     let Some(edition) = word.and_then(edition_named) else {
         return Ok(None);

@@ -2,7 +2,7 @@
 ghost use Rattle.std.specs.Prelude.{◌≡◌};
 
 use crate::reply::Refusal;
-use rust_document::{CommitError, PayloadError, RecordError};
+use rust_document::{CommitError, EditError, PayloadError, RecordError};
 use std::alloc::AllocError;
 
 /// What kept a command from being done. The document is as before.
@@ -36,6 +36,20 @@ impl From<PayloadError> for Stop {
             }
             PayloadError::NoTreeNumber => Stop::Refused(Refusal::NoTreeNumber),
             PayloadError::NoMemory => Stop::NoMemory,
+        }
+    }
+}
+
+impl From<EditError> for Stop {
+    ghost use Rattle.document_requests.specs.Applied.{stop_of_edit};
+
+    ghost from_gives = { λ error stop. stop ≡ stop_of_edit error };
+
+    fn from(error: EditError) -> Stop {
+        match error {
+            EditError::TooLong => Stop::Refused(Refusal::TooLong),
+            EditError::NoTreeNumber => Stop::Refused(Refusal::NoTreeNumber),
+            EditError::NoMemory => Stop::NoMemory,
         }
     }
 }

@@ -4,10 +4,10 @@
 //! all that is dropped on it.
 mod comments;
 mod commits;
+mod edits;
 mod opening;
 mod payloads;
 mod recording;
-mod requests;
 mod trees;
 
 use parser_input::edition::Edition;

@@ -1,5 +1,5 @@
 -- A `;` in front of a text keeps its first lines from being read as a preface, and what the lexer says of it stays.
-use Rattle.std.proofs.Common.{◌≡◌, ℕ, ◌+◌, suc, pred, Bool, true, false, nat_lt, List, [], ◌∷◌, ◌++◌, length, map, take, drop, chars, refl, sym, ◌∙◌, ap, arith, Option, Some, None, is_some, Result, Ok, Err}
+use Rattle.std.proofs.Common.{◌≡◌, ℕ, ◌+◌, suc, pred, true, false, nat_lt, List, [], ◌∷◌, ◌++◌, length, map, take, drop, chars, refl, sym, ◌∙◌, ap, arith, Option, Some, None, is_some, Result}
 use Rattle.std.specs.Borrow.{Bor}
 use Rattle.std.specs.Iterator.{YieldsFirstBy}
 use Rattle.std.specs.Str.{IsUtf8}
@@ -9,9 +9,8 @@ use Rattle.std.proofs.lemmas.Bool.{lt-ltb}
 use Rattle.rustc_lexer.specs.Characters.{is_whitespace, size}
 use Rattle.rustc_lexer.specs.Lexeme.{Case, Single, case_of, sign, lexeme_in, lexeme}
 use Rattle.rustc_lexer.specs.Rows.{first_fit}
-use Rattle.rustc_lexer.specs.Scan.{Scan, give, skip, peek, look, ◌▸◌, begin, run_len}
+use Rattle.rustc_lexer.specs.Scan.{give, skip, peek, look, ◌▸◌, begin, run_len}
 use Rattle.rustc_lexer.specs.Shebang.{shebang}
-use Rattle.rustc_lexer.specs.Tokens as lexer
 use Rattle.rustc_lexer.specs.Tokens.{Lexeme, first_lexeme}
 use Rattle.rustc_lexer.specs.declared.token.TokenKind.TheVariants as tokens
 use Rattle.rustc_lexer.proofs.Cases.{single-case}
@@ -23,12 +22,12 @@ use Rattle.parser_input.specs.Lexed.{Lexed, lexed, cut, quiet, preface, content,
 use Rattle.parser_input.specs.Lines.{blank_len, dashes}
 use Rattle.parser_input.specs.Messages as messages
 use Rattle.parser_input.specs.Faults.{faults, fault_of}
-use Rattle.parser_input.specs.Preface.{Piece, Source, bare, behind_shebang, opening_line, shebang_piece, source}
+use Rattle.parser_input.specs.Preface.{Piece, Source, bare, opening_line, source}
 use Rattle.parser_input.specs.declared.edition.Edition.{Edition}
 use Rattle.parser_input.specs.declared.frontmatter_error.FrontmatterError.{FrontmatterError}
 use Rattle.parser_input.specs.declared.message.Message.{Message}
 use Rattle.parser_input.proofs.Prefaces.{behind-none, piece-none, source-bare}
-use Rattle.rust_document.specs.Reading.{OfLeaf, of_leaf, of_leaves}
+use Rattle.rust_document.specs.Reading.{OfLeaf, of_leaves}
 use Rattle.rust_document.specs.Payload.{lexer_messages}
 
 -- a text behind a `;`

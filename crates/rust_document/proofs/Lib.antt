@@ -1,9 +1,11 @@
 pub mod Sizes
+pub mod Boundaries
 pub mod Whole
 pub mod Bares
 pub mod Verdicts
 pub mod Places
 pub mod Recordings
+pub mod Targets
 pub mod Payloads
 pub mod Changes
 pub mod TreeTexts
@@ -11,3 +13,7 @@ pub mod Contents
 pub mod TreeSinks
 pub mod TreeRefusals
 pub mod Faults
+pub mod Shapes
+pub mod Shown
+pub mod Closed
+pub mod Silent

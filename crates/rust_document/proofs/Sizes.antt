@@ -1,11 +1,11 @@
 -- How many leaves a text has, and how many bytes these have.
-use Rattle.std.proofs.Common.{◌≡◌, ℕ, zero, suc, ◌≤◌, ◌<◌, ◌+◌, ◌-◌, ◌==◌, pred, true, false, List, [], ◌∷◌, length, take, drop, refl, sym, subst, ◌∙◌, ap, arith, chars, length-append, flat_map, ◌++◌, inl, inr, is_some, Option, Some, None, Result, Ok, Err}
+use Rattle.std.proofs.Common.{◌≡◌, ℕ, zero, suc, ◌≤◌, ◌+◌, ◌==◌, pred, true, false, List, [], ◌∷◌, length, drop, refl, sym, subst, ◌∙◌, ap, arith, chars, length-append, flat_map, ◌++◌, inl, inr, is_some, Option, None, Result, Ok, Err}
 use Rattle.std.specs.Str.{IsUtf8}
 use Rattle.std.proofs.Math.Utf8.{encodes}
 use Rattle.std.proofs.lemmas.Bool.{eqb-true}
 use Rattle.std.proofs.lemmas.List.{length-drop}
 use Rattle.std.proofs.lemmas.Str.{encodes-chars, length-le-encodes}
-use Rattle.rustc_lexer.specs.Shebang.{shebang, has_shebang, ends_line, line_len}
+use Rattle.rustc_lexer.specs.Shebang.{shebang, has_shebang, line_len}
 use Rattle.rustc_lexer.specs.Scan.{peek, run_len}
 use Rattle.rustc_lexer.specs.Tokens.{first_lexeme}
 use Rattle.rustc_lexer.proofs.Booleans.{bool_cases, and_left}

@@ -1,6 +1,6 @@
 -- The leaves of a text's tree are the text.
-use Rattle.std.proofs.Common.{◌≡◌, ℕ, Bool, true, false, not, ◌||◌, nat_lt, List, [], ◌∷◌, ◌++◌, length, take, drop, chars, refl, sym, ◌∙◌, ap, append-nil, eq-eqb}
-use Rattle.std.specs.Prelude.{Some}
+use Rattle.std.proofs.Common.{◌≡◌, ℕ, ◌+◌, ◌-◌, Bool, true, false, not, ◌||◌, nat_lt, List, [], ◌∷◌, ◌++◌, length, take, drop, chars, refl, sym, ◌∙◌, ap, append-nil, eq-eqb, arith}
+use Rattle.std.specs.Prelude.{Option, Some, slice_range}
 use Rattle.std.specs.Str.{IsUtf8}
 use Rattle.std.proofs.Math.Utf8.{encodes}
 use Rattle.std.proofs.lemmas.Str.{encodes-chars, encodes-append}
@@ -12,7 +12,8 @@ use Rattle.std.specs.List.{flat_map}
 use Rattle.rowan_green.specs.Leaf as green
 use Rattle.rowan_green.specs.Forest.{Forest, empty, node, Tree, forest_text, tree_text, same_tree}
 use Rattle.rowan_green.specs.Same.{same_tree-Decides}
-use Rattle.rowan_green.specs.declared.utility_types.NodeOrToken.TheVariants.{Node, Token}
+use Rattle.rowan_green.specs.declared.utility_types.NodeOrToken.TheVariants.{Token}
+use Rattle.rowan_green.specs.Term.{Term}
 use Rattle.parser_input.specs.Leaf as leaves
 use Rattle.parser_input.specs.declared.edition.Edition.{Edition}
 use Rattle.parser_events.specs.Forest as forest
@@ -21,9 +22,9 @@ use Rattle.parser_events.specs.Dressed.{Dressed, text_of}
 use Rattle.parser_input.specs.Kinds.{FIELD_EXPR}
 use Rattle.parser_events.specs.Dress.{Dressing, dress, dress_root, joined, as_dressed, put, put_each, put_pending, open_node, close_node, access, root}
 use Rattle.parser_events.proofs.Texts.{text-is-text}
-use Rattle.syntax_tree.specs.Path.{Path, at}
-use Rattle.syntax_tree.specs.Replacement.{start_of}
-use Rattle.syntax_tree.proofs.Slices.{text_from}
+use Rattle.rowan.specs.Place.{term_by, start_by, text_in}
+use Rattle.rowan.proofs.PlaceLaws.{texts-slices}
+use Rattle.syntax_tree.specs.Element.{Way}
 use Rattle.rust_document.specs.Open.{IsOpened}
 use Rattle.rust_document.specs.Reading.{terms_of, root_of, dressed_by, tree_by, tree, leaves_in}
 use Rattle.rust_grammar.specs.Rule.{Production, source_file}
@@ -84,9 +85,16 @@ tree-text = tree-text-by source_file
 pub present-text : (d : State) → IsUtf8 d.text → tree_text (present d) ≡ d.text
 present-text d u = tree-text d.edition (chars d.text) ∙ encodes-chars d.text u
 
-pub leaf-slice : (d : State) (path : Path) (l : green.Leaf) → IsUtf8 d.text → at (Node (present d)) path ≡ Some (Token l) → take (length l.text) (drop (start_of (Node (present d)) path) d.text) ≡ l.text
-leaf-slice d path l u h =
-    ap (λ (t : List ℕ). take (length l.text) (drop (start_of (Node (present d)) path) t)) (sym (present-text d u)) ∙ text_from (Node (present d)) path (Token l) h
+slice_there : (text : List ℕ) (start : ℕ) (o : Option Term) (l : green.Leaf) → o ≡ Some (Token l) → text_in o ≡ slice_range text start (start + length (text_in o)) → take (length l.text) (drop start text) ≡ l.text
+slice_there text start o l is h =
+    let len : start + length l.text - start ≡ length l.text = omega arith in
+    let there = ap text_in is in
+    sym (sym there ∙ h ∙ ap (λ (xs : List ℕ). slice_range text start (start + length xs)) there ∙ ap (λ (k : ℕ). take k (drop start text)) len)
+
+pub leaf-slice : (d : State) (way : Way) (l : green.Leaf) → IsUtf8 d.text → term_by (present d) way ≡ Some (Token l) → take (length l.text) (drop (start_by (present d) way) d.text) ≡ l.text
+leaf-slice d way l u h =
+    ap (λ (t : List ℕ). take (length l.text) (drop (start_by (present d) way) t)) (sym (present-text d u))
+    ∙ slice_there (tree_text (present d)) (start_by (present d) way) (term_by (present d) way) l h (texts-slices (record { root = present d; up = way }))
 
 same-itself : (t : Tree) → same_tree t t ≡ true
 same-itself t = (same_tree-Decides t t).1 refl

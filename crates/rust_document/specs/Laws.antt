@@ -1,14 +1,19 @@
 -- What holds of every document.
-use Rattle.std.specs.Prelude.{◌≡◌, ℕ, List, take, drop, length, encode_utf8_all, Some, None}
+use Rattle.std.specs.Prelude.{◌≡◌, ℕ, true, List, [], take, drop, length, encode_utf8_all, Some, None}
 use Rattle.std.specs.Str.{IsUtf8}
 use Rattle.rowan_green.specs.Leaf.{Leaf}
 use Rattle.rowan_green.specs.Forest.{tree_text}
-use Rattle.rowan_green.specs.declared.utility_types.NodeOrToken.TheVariants.{Node, Token}
+use Rattle.rowan_green.specs.declared.utility_types.NodeOrToken.TheVariants.{Token}
+use Rattle.parser_input.specs.Input.{input}
 use Rattle.parser_input.specs.declared.edition.Edition.{Edition}
-use Rattle.syntax_tree.specs.Path.{Path, at}
-use Rattle.syntax_tree.specs.Replacement.{start_of}
+use Rattle.rust_grammar.specs.Rule.{Production}
+use Rattle.rust_grammar.specs.Laws.{is_entry}
+use Rattle.rowan.specs.Place.{term_by, start_by}
+use Rattle.syntax_tree.specs.Element.{Way}
 use Rattle.rust_document.specs.Open.{IsOpened}
-use Rattle.rust_document.specs.Reading.{tree}
+use Rattle.rust_document.specs.Reading.{tree, tree_by, leaves_in, messages}
+use Rattle.rust_document.specs.Brackets.{are_token_trees_closed}
+use Rattle.rust_document.specs.Shape.{kinds_of, dots}
 use Rattle.rust_document.specs.Rewrite.{Editing, rewritten}
 use Rattle.rust_document.specs.Step.{State, present, verdict, Accepted}
 
@@ -19,7 +24,8 @@ TreesHaveTheirTexts = (edition : Edition) (text : List ℕ) → tree_text (tree 
 -- the text of a leaf is the slice of the document's text at the leaf's range
 abbrev pub LeavesAreSlices : Type 0
 LeavesAreSlices =
-    (d : State) (path : Path) (l : Leaf) → IsUtf8 d.text → at (Node (present d)) path ≡ Some (Token l) → take (length l.text) (drop (start_of (Node (present d)) path) d.text) ≡ l.text
+    (d : State) (way : Way) (l : Leaf) → IsUtf8 d.text → term_by (present d) way ≡ Some (Token l)
+    → take (length l.text) (drop (start_by (present d) way) d.text) ≡ l.text
 
 -- an editor of the present tree with nothing recorded
 abbrev pub untouched : State → Editing
@@ -32,3 +38,18 @@ pub record IsKept (d : State) : Type 0 where
 
 abbrev pub UntouchedIsKept : Type 0
 UntouchedIsKept = (d : State) → IsUtf8 d.text → IsOpened d.text → IsKept d
+
+-- Two texts with equal input, of whose floats those at equal places both hold a dot or both do not, have trees of equal kinds and
+-- nesting, white space and comments aside.
+abbrev pub KindsFollowInputs : Type 0
+KindsFollowInputs =
+    (x : Production) (first second : Edition) (a b : List ℕ)
+    → is_entry x ≡ true
+    → input first (leaves_in first a) ≡ input second (leaves_in second b)
+    → dots (leaves_in first a) ≡ dots (leaves_in second b)
+    → kinds_of (tree_by x first a) ≡ kinds_of (tree_by x second b)
+
+-- In a document without messages each token tree begins with an opening bracket and ends with its partner.
+abbrev pub TokenTreesAreClosed : Type 0
+TokenTreesAreClosed =
+    (edition : Edition) (text : List ℕ) → messages edition text ≡ [] → are_token_trees_closed (kinds_of (tree edition text)).forest ≡ true

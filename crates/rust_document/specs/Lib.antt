@@ -2,13 +2,17 @@ pub mod Reading
 pub mod Rewrite
 pub mod Step
 pub mod IsReading
+pub mod Costs
 pub mod Open
+pub mod Edit
 pub mod Bare
 pub mod Commit
 pub mod Placed
 pub mod Rewritten
 pub mod Record
 pub mod Payload
+pub mod Shape
+pub mod Brackets
 pub mod Tokens
 pub mod Committed
 pub mod Laws

@@ -9,7 +9,7 @@ use Rattle.parser_input.specs.Kinds.{TOMBSTONE}
 use Rattle.parser_input.specs.Lexed.{Lexed, cut}
 use Rattle.parser_input.specs.Single.{single}
 use Rattle.parser_input.specs.declared.edition.Edition.{Edition}
-use Rattle.syntax_tree.specs.Handle.{Handle}
+use Rattle.syntax_tree.specs.Element.{Element, element_at}
 use Rattle.syntax_tree.specs.declared.error.TreeError.{TreeError}
 use Rattle.syntax_tree.specs.declared.error.TreeError.TheVariants as trees
 use Rattle.rust_grammar.specs.Rule.{Production}
@@ -58,10 +58,10 @@ payload_of (entries.Top top) = entry_payload (production_of top)
 payload_of entries.Token = token_payload
 
 -- The tree has the number; a token stands in a tree of its own, as the only child of the root.
-abbrev pub IsDetached : ℕ → Payload → Handle → Type 0
-IsDetached number (Whole t) h = h ≡ record { number = number; root = t; path = [] }
-IsDetached number (One l) h = h ≡ record { number = number; root = tree_of TOMBSTONE (Token l ∷ []); path = 0 ∷ [] }
-IsDetached number p h = ⊥
+abbrev pub IsDetached : ℕ → Payload → Element → Type 0
+IsDetached number (Whole t) e = e ≡ element_at number t []
+IsDetached number (One l) e = e ≡ element_at number (tree_of TOMBSTONE (Token l ∷ [])) (0 ∷ [])
+IsDetached number p e = ⊥
 
 abbrev pub IsGiven : Payload → Type 0
 IsGiven (One l) = Unit {0}

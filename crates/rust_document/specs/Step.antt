@@ -3,8 +3,9 @@ use Rattle.std.specs.Prelude.{ℕ, ◌==◌, Bool, not, ◌||◌, nat_lt, List, 
 use Rattle.rustc_lexer.specs.Rows.{row, first_fit}
 use Rattle.rowan_green.specs.Forest.{Tree, tree_text, same_tree}
 use Rattle.parser_input.specs.declared.edition.Edition.{Edition}
-use Rattle.syntax_tree.specs.Handle.{Handle, placed_handle}
-use Rattle.syntax_tree.specs.Path.{first_of}
+use Rattle.syntax_tree.specs.Element.{Element, element_at}
+use Rattle.syntax_tree.specs.Handle.{element_of}
+use Rattle.syntax_tree.specs.Search.{first_of}
 use Rattle.rust_document.specs.Reading.{tree}
 use Rattle.rust_document.specs.Rewrite.{Editing, rewritten, bare}
 
@@ -24,12 +25,12 @@ abbrev pub present : State → Tree
 present d = tree d.edition (chars d.text)
 
 -- its root, as it is handed out
-abbrev pub root_handle : State → Handle
-root_handle d = record { number = d.number; root = present d; path = [] }
+abbrev pub root_element : State → Element
+root_element d = element_at d.number (present d) []
 
 -- the first element in preorder of a kind and a range of bytes, as it is handed out
-abbrev pub first_element : State → ℕ → ℕ → ℕ → Option Handle
-first_element d kind start end = option_map (placed_handle (root_handle d)) (first_of kind start end (present d))
+abbrev pub first_element : State → ℕ → ℕ → ℕ → Option Element
+first_element d kind start end = option_map element_of (first_of kind start end (root_element d))
 
 -- a tree without white space and comments
 abbrev pub bare_tree : Tree → Tree

@@ -1,18 +1,23 @@
 //! A text that is read.
-ghost use Rattle.std.specs.Prelude.{◌≡◌, ◌≤◌, ◌+◌, ◌==◌, ◌&&◌, [], None, chars, length, map, option_map, IfOk, IfErr, OnOk};
+ghost use Rattle.std.specs.Prelude.{◌≡◌, ◌≤◌, ◌+◌, ◌==◌, ◌&&◌, [], true, None, chars, length, map, option_map, string_bytes, IfOk, IfErr, OnOk};
 ghost use Rattle.parser_input.specs.Kind.{raw_of};
 ghost use Rattle.rowan_green.specs.Forest.{same_tree, tree_text};
-ghost use Rattle.syntax_tree.specs.Element.{handle_of};
+ghost use Rattle.syntax_tree.specs.Handle.{element_of};
+ghost use Rattle.syntax_tree.specs.Refusal.{RefusesTree};
 ghost use Rattle.rust_document.specs.Commit.{RefusesCommit};
 ghost use Rattle.rust_document.specs.Committed.{ends_of};
+ghost use Rattle.rust_document.specs.Costs.{most_steps};
+ghost use Rattle.rust_document.specs.Edit.{RefusesEdit, can_edit, edited};
 ghost use Rattle.rust_document.specs.Open.{IsOpened, RefusesOpen};
+ghost use Rattle.rust_document.specs.IsReading.{IsReading};
 ghost use Rattle.rust_document.specs.Seen.{told};
 ghost use Rattle.rust_document.specs.Reading.{messages};
 ghost use Rattle.rust_document.specs.Rewrite.{rewritten, changed};
-ghost use Rattle.rust_document.specs.Step.{MAX_TEXT, first_element, present, root_handle, verdict, Accepted};
+ghost use Rattle.rust_document.specs.Step.{MAX_TEXT, first_element, present, root_element, verdict, Accepted};
 ghost use Rattle.rust_document.specs.Tokens.{shown, tokens_of};
 
-use crate::error::{CommitError, OpenError};
+use crate::edit::edited;
+use crate::error::{CommitError, EditError, OpenError};
 use crate::read::{Reading, read};
 use crate::rewrite::{Rewritten, rewrite};
 use crate::syntax_editor::SyntaxEditor;
@@ -24,7 +29,7 @@ use ra_parser::TopEntryPoint;
 use rowan_green::TextRange;
 use std::alloc::{AllocError, Global};
 use std::marker::Model;
-use syntax_tree::{SyntaxElement, SyntaxNode, TreeIds};
+use syntax_tree::{SyntaxElement, SyntaxNode, TreeError, TreeIds};
 
 /// The most bytes that a text may have.
 pub const MAX_TEXT: usize = 16_777_216;
@@ -34,6 +39,15 @@ pub const MAX_TEXT: usize = 16_777_216;
 pub struct Committed {
     /// The bytes of the new text that were put in, from front to end.
     pub changed: Vec<TextRange>,
+    /// How many looks at the tokens of the new text the parser made.
+    pub steps: u64,
+}
+
+/// What an accepted edit tells.
+#[derive(Clone, Copy, Debug, PartialEq, Eq)]
+pub struct Edited {
+    /// How many looks at the tokens of the new text the parser made.
+    pub steps: u64,
 }
 
 /// A text with its edition, its tokens, its messages and its tree. A contract sees the edition, the text and the tree's number;
@@ -56,7 +70,7 @@ impl Model for Document {
 
     ghost view = { λ d. record { edition = d.edition; text = string_bytes d.text; number = d.root.number } };
 
-    ghost invariant = { λ d. (length (string_bytes d.text) ≤ MAX_TEXT) × (d.root.path ≡ []) × IsReading d.edition (chars (string_bytes d.text)) d.tokens.items d.root.root d.errors.items };
+    ghost invariant = { λ d. (length (string_bytes d.text) ≤ MAX_TEXT) × (d.root.place.up ≡ []) × IsReading d.edition (chars (string_bytes d.text)) d.tokens.items d.root.place.root d.errors.items };
 }
 
 impl Document {
@@ -82,6 +96,7 @@ impl Document {
             tokens,
             root,
             errors,
+            steps: _,
         } = read(alloc, TopEntryPoint::SourceFile, edition, text)?;
         let text = String::from_str(alloc, text)?;
         let root = SyntaxNode::new_root(alloc, root, ids)?;
@@ -111,7 +126,7 @@ impl Document {
 
     /// The root of the present tree.
     pub fn root(&self) -> &SyntaxNode
-        ensures { result.now ≡ root_handle self.now }
+        ensures { result.now ≡ root_element self.now }
     {
         &self.root
     }
@@ -130,6 +145,47 @@ impl Document {
         &self.errors
     }
 
+    /// Whether both ends of a range lie within the text, at boundaries of characters.
+    pub fn can_edit(&self, range: TextRange) -> bool
+        ensures { result ≡ can_edit self.now.text range.start.0 range.end.0 }
+    {
+        let text = self.text();
+        text.is_char_boundary(usize::from(range.start()))
+            && text.is_char_boundary(usize::from(range.end()))
+    }
+
+    /// Puts a text in the place of a range, reads the new text, and gives its tree the next number of `ids`.
+    ///
+    /// Refuses a new text of more than 16,777,216 bytes as too long, then for want of a tree number. A refusal changes nothing.
+    pub fn edit(
+        &mut self,
+        alloc: Global,
+        range: TextRange,
+        text: &str,
+        ids: &mut TreeIds,
+    ) -> Result<Edited, EditError>
+        requires { can_edit self.old.text range.start.0 range.end.0 ≡ true }
+        ensures accepted { OnOk result (IsOpened (edited self.old.text range.start.0 range.end.0 text.now)) }
+        ensures state { OnOk result (self.new ≡
+            record {
+              edition = self.old.edition;
+              text = edited self.old.text range.start.0 range.end.0 text.now;
+              number = ids.old;
+            }) }
+        ensures number { OnOk result (ids.new ≡ ids.old + 1) }
+        ensures steps { IfOk result (λ e. e.steps ≤ most_steps self.old.edition
+            (chars (edited self.old.text range.start.0 range.end.0 text.now))) }
+        ensures refused { IfErr result (RefusesEdit (edited self.old.text range.start.0 range.end.0 text.now) ids.old) }
+        ensures kept { IfErr result (λ _. (self.new ≡ self.old) × (ids.new ≡ ids.old)) }
+    {
+        let text = edited(alloc, self.text(), range, text)?;
+        let entry = TopEntryPoint::SourceFile;
+        let reading = read(alloc, entry, self.edition, text.as_str())?;
+        let steps = reading.steps;
+        self.renew(alloc, text, reading, ids)?;
+        Ok(Edited { steps })
+    }
+
     /// The first element in preorder that is of a kind and has a range: of several that have the range, the outermost.
     pub fn find(
         &self,
@@ -137,7 +193,7 @@ impl Document {
         kind: SyntaxKind,
         range: TextRange,
     ) -> Result<Option<SyntaxElement>, AllocError>
-        ensures { IfOk result (λ found. option_map handle_of found ≡ first_element self.now
+        ensures { IfOk result (λ found. option_map element_of found ≡ first_element self.now
             (raw_of kind) range.start.0 range.end.0) }
     {
         self.root.find(alloc, kind, range)
@@ -154,7 +210,8 @@ impl Document {
     fn is_of(&self, editor: &SyntaxEditor) -> bool
         ensures { result ≡ (editor.now.number == self.now.number && same_tree editor.now.root (present self.now)) }
     {
-        editor.root().tree() == self.root.tree() && *editor.root().green() == *self.root.green()
+        editor.root().tree() == self.root.tree()
+            && *editor.root().cursor().green() == *self.root.cursor().green()
     }
 
     /// Makes an editor's recorded change, where its text reads as the rewritten tree; the text is the rewritten tree's, and its
@@ -178,6 +235,7 @@ impl Document {
               number = ids.old;
             }) }
         ensures changed { IfOk result (λ c. map ends_of c.changed.items ≡ changed editor) }
+        ensures steps { IfOk result (λ c. c.steps ≤ most_steps self.old.edition (chars (tree_text (rewritten editor)))) }
         ensures number { OnOk result (ids.new ≡ ids.old + 1) }
         ensures refused { IfErr result (RefusesCommit (verdict self.old editor) ids.old) }
         ensures kept { IfErr result (λ _. (self.new ≡ self.old) × (ids.new ≡ ids.old)) }
@@ -186,16 +244,43 @@ impl Document {
             return Err(CommitError::Foreign);
         }
         let Rewritten { text, reading } = rewrite(alloc, self.edition, &editor)?;
+        let changed = editor.changed(alloc)?;
+        let steps = reading.steps;
+        self.renew(alloc, text, reading, ids)?;
+        Ok(Committed { changed, steps })
+    }
+
+    /// Takes a text with its reading in the place of the present ones, and gives its tree the next number of `ids`.
+    fn renew(
+        &mut self,
+        alloc: Global,
+        text: String,
+        reading: Reading,
+        ids: &mut TreeIds,
+    ) -> Result<(), TreeError>
+        requires fits { length (string_bytes text) ≤ MAX_TEXT }
+        requires is_reading { IsReading self.old.edition (chars (string_bytes text))
+            reading.tokens.items reading.root reading.errors.items }
+        ensures state { OnOk result (self.new ≡
+            record {
+              edition = self.old.edition;
+              text = string_bytes text;
+              number = ids.old;
+            }) }
+        ensures number { OnOk result (ids.new ≡ ids.old + 1) }
+        ensures refused { IfErr result (RefusesTree ids.old) }
+        ensures kept { IfErr result (λ _. (self.new ≡ self.old) × (ids.new ≡ ids.old)) }
+    {
         let Reading {
             tokens,
             root,
             errors,
+            steps: _,
         } = reading;
-        let changed = editor.changed(alloc)?;
         self.root = SyntaxNode::new_root(alloc, root, ids)?;
         self.text = text;
         self.tokens = tokens;
         self.errors = errors;
-        Ok(Committed { changed })
+        Ok(())
     }
 }

@@ -57,6 +57,59 @@ impl From<TreeError> for OpenError {
     }
 }
 
+/// A refusal of `Document::edit`. The document is as before.
+#[derive(Clone, Copy, Debug, PartialEq, Eq)]
+pub enum EditError {
+    /// The new text has more than 16,777,216 bytes.
+    TooLong = 1,
+    /// Each tree number was given.
+    NoTreeNumber = 2,
+    /// Memory was refused.
+    NoMemory = 3,
+}
+
+impl fmt::Display for EditError {
+    ghost use Rattle.std.specs.Prelude.{Some};
+    ghost use Rattle.rust_document.specs.Edit.{edit_message_of};
+
+    ghost output = { λ e. Some (edit_message_of e) };
+
+    fn fmt<W: fmt::Write>(&self, f: &mut fmt::Formatter<W>) -> fmt::Result {
+        match self {
+            EditError::TooLong => write!(f, "too long"),
+            EditError::NoTreeNumber => write!(f, "no tree number is left"),
+            EditError::NoMemory => write!(f, "out of memory"),
+        }
+    }
+}
+
+impl Error for EditError {}
+
+impl From<AllocError> for EditError {
+    ghost use Rattle.rust_document.specs.declared.error.EditError.TheVariants.{NoMemory};
+    ghost use Rattle.std.specs.Prelude.{◌≡◌};
+
+    ghost from_gives = { λ _ e. e ≡ NoMemory };
+
+    fn from(_e: AllocError) -> EditError {
+        EditError::NoMemory
+    }
+}
+
+impl From<TreeError> for EditError {
+    ghost use Rattle.rust_document.specs.Edit.{edit_error_of};
+    ghost use Rattle.std.specs.Prelude.{◌≡◌};
+
+    ghost from_gives = { λ t e. e ≡ edit_error_of t };
+
+    fn from(e: TreeError) -> EditError {
+        match e {
+            TreeError::Spent => EditError::NoTreeNumber,
+            TreeError::NoMemory => EditError::NoMemory,
+        }
+    }
+}
+
 /// A refusal of `Document::commit`. The document is as before.
 #[derive(Clone, Copy, Debug, PartialEq, Eq)]
 pub enum CommitError {
@@ -119,7 +172,7 @@ impl From<TreeError> for CommitError {
 /// A refusal of `SyntaxEditor::replace`. Nothing was recorded.
 #[derive(Clone, Copy, Debug, PartialEq, Eq)]
 pub enum RecordError {
-    /// The target has another tree number than the editor's tree, or its path leads to nothing of its kind there.
+    /// The target has another tree number than the editor's tree, or its way leads to nothing of its kind there.
     Foreign = 1,
     /// The root would be replaced by a token.
     BadTarget = 3,

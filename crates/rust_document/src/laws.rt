@@ -1,6 +1,6 @@
 //! Laws of the definitions. Each is the contract of a function that makes no call.
 
-ghost use Rattle.rust_document.specs.Laws.{TreesHaveTheirTexts, LeavesAreSlices, UntouchedIsKept};
+ghost use Rattle.rust_document.specs.Laws.{TreesHaveTheirTexts, LeavesAreSlices, UntouchedIsKept, KindsFollowInputs, TokenTreesAreClosed};
 
 /// The leaves of a text's tree, joined, are the text.
 pub fn trees_have_their_texts()
@@ -15,4 +15,15 @@ pub fn leaves_are_slices()
 /// An editor of the present tree with nothing recorded is accepted, and the text stays: so tokens, messages and tree do.
 pub fn untouched_is_kept()
     ensures { UntouchedIsKept }
+{}
+
+/// Two texts with equal input, of whose floats those at equal places both hold a dot or both do not, have trees of equal kinds and
+/// nesting, white space and comments aside.
+pub fn kinds_follow_inputs()
+    ensures { KindsFollowInputs }
+{}
+
+/// In a document without messages each token tree begins with an opening bracket and ends with its partner.
+pub fn token_trees_are_closed()
+    ensures { TokenTreesAreClosed }
 {}

@@ -5,6 +5,7 @@
 
 mod bare;
 pub mod document;
+mod edit;
 pub mod error;
 pub mod laws;
 mod leaf;
@@ -16,8 +17,8 @@ pub mod syntax_error;
 pub mod tokens;
 mod tree_sink;
 
-pub use document::{Committed, Document, MAX_TEXT};
-pub use error::{CommitError, OpenError, PayloadError, RecordError};
+pub use document::{Committed, Document, Edited, MAX_TEXT};
+pub use error::{CommitError, EditError, OpenError, PayloadError, RecordError};
 pub use payload_entry::{PayloadEntry, payload};
 pub use syntax_editor::SyntaxEditor;
 pub use syntax_error::{SyntaxError, SyntaxMessage};

@@ -1,6 +1,6 @@
 //! Texts that are put in the place of an element.
 ghost use Rattle.std.specs.Prelude.{◌≡◌, ◌+◌, ◌<◌, ◌^◌, ℕ, nat_lt, chars, length, IfOk, IfErr, OnOk};
-ghost use Rattle.syntax_tree.specs.Element.{handle_of};
+ghost use Rattle.syntax_tree.specs.Handle.{element_of};
 ghost use Rattle.ra_parser.specs.Entries.{production_of};
 ghost use Rattle.rust_document.specs.Payload.{entry_payload, lexer_messages, payload_of, token_payload, One, Whole, IsDetached, RefusesPayload};
 ghost use Rattle.rust_document.specs.Seen.{seen};
@@ -38,7 +38,7 @@ pub fn payload(
     text: &str,
     ids: &mut TreeIds,
 ) -> Result<SyntaxElement, PayloadError>
-    ensures given { IfOk result (λ e. IsDetached ids.old (payload_of entry edition text.now) (handle_of e)) }
+    ensures given { IfOk result (λ e. IsDetached ids.old (payload_of entry edition text.now) (element_of e)) }
     ensures number { OnOk result (ids.new ≡ ids.old + 1) }
     ensures refused { IfErr result (RefusesPayload ids.old (payload_of entry edition text.now)) }
     ensures kept { IfErr result (λ _. ids.new ≡ ids.old) }

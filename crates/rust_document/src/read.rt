@@ -5,6 +5,8 @@ ghost use Rattle.parser_events.specs.Dress.{joined};
 ghost use Rattle.parser_events.specs.Steps.{steps};
 ghost use Rattle.ra_parser.specs.Entries.{production_of};
 ghost use Rattle.rust_document.specs.IsReading.{IsReadingBy};
+ghost use Rattle.parser_input.specs.Input.{input};
+ghost use Rattle.rust_document.specs.Costs.{most_steps, steps_for};
 ghost use Rattle.rust_document.specs.Reading.{forest_by, of_leaf_at, of_leaves};
 ghost use Rattle.rust_document.specs.Seen.{told};
 ghost use Rattle.rust_document.specs.TreeBuilt.{IsBuilt};
@@ -18,21 +20,34 @@ use ra_parser::{ParseError, TopEntryPoint};
 use rowan_green::GreenNode;
 use std::alloc::{AllocError, Global};
 
-/// The tokens, the tree and the messages of a text.
+/// The tokens, the tree and the messages of a text, and how many looks at its tokens the parser made.
 #[derive(Drop)]
 pub struct Reading {
     pub tokens: Vec<LexedToken>,
     pub root: GreenNode,
     pub errors: Vec<SyntaxError>,
+    pub steps: u64,
+}
+
+/// A tree with its messages, and how many looks the parser made.
+#[derive(Drop)]
+struct ParsedTree {
+    built: Built,
+    steps: u64,
 }
 
 /// The tree and the messages that an entry reads of a text whose leaves are known.
-fn parsed(alloc: Global, entry: TopEntryPoint, lexed: &LexedStr<'_>) -> Result<Built, AllocError>
+fn parsed(
+    alloc: Global,
+    entry: TopEntryPoint,
+    lexed: &LexedStr<'_>,
+) -> Result<ParsedTree, AllocError>
     requires bytes { length (encode_utf8_all (joined (leaves_of lexed.now.leaves))) ≤ 16777216 }
     requires count { length lexed.now.leaves ≤ 16777216 }
-    ensures { IfOk result (λ b. IsBuilt
+    ensures built { IfOk result (λ p. IsBuilt
         (steps (forest_by (production_of entry) lexed.now.edition (leaves_of lexed.now.leaves)))
-        (leaves_of lexed.now.leaves) b.root b.errors.items) }
+        (leaves_of lexed.now.leaves) p.built.root p.built.errors.items) }
+    ensures steps { IfOk result (λ p. p.steps ≤ steps_for (input lexed.now.edition (leaves_of lexed.now.leaves))) }
 {
     let input = lexed.to_input(alloc)?;
     let output = match entry.parse(alloc, &input) {
@@ -41,7 +56,8 @@ fn parsed(alloc: Global, entry: TopEntryPoint, lexed: &LexedStr<'_>) -> Result<B
         Err(ParseError::TooLong) => unreachable!(),
     };
     let built = build(alloc, lexed, &output)?;
-    Ok(built)
+    let steps = output.steps();
+    Ok(ParsedTree { built, steps })
 }
 
 /// Appends the message of the lexer about a leaf, if there is one.
@@ -81,11 +97,12 @@ pub fn read(
     text: &str,
 ) -> Result<Reading, AllocError>
     requires { length text.now ≤ 16777216 }
-    ensures { IfOk result (λ r. IsReadingBy (production_of entry) edition (chars text.now)
+    ensures read { IfOk result (λ r. IsReadingBy (production_of entry) edition (chars text.now)
         r.tokens.items r.root r.errors.items) }
+    ensures steps { IfOk result (λ r. r.steps ≤ most_steps edition (chars text.now)) }
 {
     let lexed = LexedStr::new(alloc, edition, text)?;
-    let built = parsed(alloc, entry, &lexed)?;
+    let ParsedTree { built, steps } = parsed(alloc, entry, &lexed)?;
     let Built { root, mut errors } = built;
     append_faults(&lexed, &mut errors)?;
     let tokens = lexed_tokens(alloc, &lexed)?;
@@ -93,5 +110,6 @@ pub fn read(
         tokens,
         root,
         errors,
+        steps,
     })
 }

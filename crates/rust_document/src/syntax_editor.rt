@@ -1,23 +1,23 @@
 //! Records what is to become of a tree.
-ghost use Rattle.std.specs.Prelude.{◌≡◌, ◌<◌, ◌≤◌, ◌^◌, ◌&&◌, map, Some, None, [], length, IfOk, IfErr, OnOk};
+ghost use Rattle.std.specs.Prelude.{◌≡◌, ◌<◌, ◌≤◌, ◌^◌, ◌&&◌, map, is_some, Some, None, [], length, IfSome, IfOk, IfErr, OnOk};
 ghost use Rattle.rowan_green.specs.Forest.{tree_text};
 ghost use Rattle.rowan_green.specs.Refusal.{RefusesUnless};
-ghost use Rattle.syntax_tree.specs.Element.{handle_of};
+ghost use Rattle.syntax_tree.specs.Element.{element_at};
+ghost use Rattle.syntax_tree.specs.Handle.{element_of};
 ghost use Rattle.rust_document.specs.Record.{is_target, is_token, is_root, is_elsewhere, recording, Recorded, IsRecorded, RefusesRecord};
 ghost use Rattle.rust_document.specs.Rewrite.{rewritten, changed};
 ghost use Rattle.rust_document.specs.Committed.{ends_of};
 
 use crate::error::RecordError;
-use parser_input::syntax_kind::SyntaxKind;
-use rowan_green::{GreenElement, GreenError, GreenNode, NodeOrToken, TextRange, TextSize};
+use rowan_green::{GreenElement, GreenError, GreenNode, NodeOrToken, TextRange};
 use std::alloc::{AllocError, Global};
 use std::marker::Model;
-use syntax_tree::{SyntaxElement, SyntaxNode, element_at, replaced_at, start_of};
+use syntax_tree::{SyntaxElement, SyntaxNode};
 
-/// The element at a path becomes another one.
+/// An element of the tree becomes another one.
 #[derive(Drop)]
 struct Replacement {
-    path: Vec<usize>,
+    old: SyntaxElement,
     new: GreenElement,
 }
 
@@ -31,7 +31,7 @@ pub struct SyntaxEditor {
 impl Model for SyntaxEditor {
     ghost use Rattle.std.specs.Prelude.{◌≡◌, [], option_map};
     ghost use Rattle.rust_document.specs.Rewrite.{Editing};
-    ghost use Rattle.rust_document.specs.Placed.{IsPlacedIfAny};
+    ghost use Rattle.rust_document.specs.Placed.{IsPlacedIfAny, placed};
     ghost use Rattle.rowan_green.specs.Forest.{tree_code};
     ghost use Rattle.std.specs.Coded.{codes};
 
@@ -39,63 +39,67 @@ impl Model for SyntaxEditor {
 
     ghost coded = { Prim.hlevel (codes, tree_code) };
 
-    ghost view = { λ e. record { number = e.root.number; root = e.root.root; change = option_map (λ c. record { path = c.path.items; new = c.new }) e.change } };
+    ghost view = { λ e. record { number = e.root.number; root = e.root.place.root; change = option_map placed e.change } };
 
-    ghost invariant = { λ e. (e.root.path ≡ []) × IsPlacedIfAny e.root.root (option_map (λ c. record { path = c.path.items; new = c.new }) e.change) };
+    ghost invariant = { λ e. (e.root.place.up ≡ []) × IsPlacedIfAny e.root.place.root e.change };
 }
 
 /// Whether an element is a token, and would take the place of the root.
-fn is_token_for_root(new: &GreenElement, path: &[usize]) -> bool
-    ensures { result ≡ (is_token (Some new.now) && is_root path.now) }
+fn is_token_for_root(new: &GreenElement, way: &[usize]) -> bool
+    ensures { result ≡ (is_token (Some new.now) && is_root way.now) }
 {
     match new {
         NodeOrToken::Node(_) => false,
-        NodeOrToken::Token(_) => path.is_empty(),
+        NodeOrToken::Token(_) => way.is_empty(),
     }
 }
 
 impl SyntaxEditor {
     /// An editor of a tree, with nothing recorded.
     pub(crate) fn new(root: SyntaxNode) -> SyntaxEditor
-        requires { root.path ≡ [] }
-        ensures { result ≡ record { number = root.number; root = root.root; change = None } }
+        requires { root.place.up ≡ [] }
+        ensures { result ≡ record { number = root.number; root = root.place.root; change = None } }
     {
         SyntaxEditor { root, change: None }
     }
 
     /// The root of the tree as it was before the change.
     pub fn root(&self) -> &SyntaxNode
-        ensures { result.now ≡ record { number = self.now.number; root = self.now.root; path = [] } }
+        ensures { result.now ≡ element_at self.now.number self.now.root [] }
     {
         &self.root
     }
 
-    /// Whether a handle has the number of this tree, and its path leads to an element of its kind here.
-    fn is_target(&self, element: &SyntaxElement) -> bool
-        ensures { result ≡ is_target self.now (handle_of element.now) }
+    /// The element of this tree that a handle names: it has this tree's number, and its way leads to an element of its kind here.
+    fn target(
+        &self,
+        alloc: Global,
+        element: &SyntaxElement,
+    ) -> Result<Option<SyntaxElement>, AllocError>
+        ensures tested { IfOk result (λ t. is_some t ≡ is_target self.now (element_of element.now)) }
+        ensures stands { IfOk result (λ t. IfSome t (λ e. element_of e ≡
+            element_at self.now.number self.now.root (element_of element.now).place.up)) }
     {
         if element.tree() != self.root.tree() {
-            return false;
+            return Ok(None);
         }
-        let raw = match element_at(self.root.green(), element.path()) {
-            Some(NodeOrToken::Node(node)) => node.kind(),
-            Some(NodeOrToken::Token(token)) => token.kind(),
-            None => return false,
+        let way = element.way(alloc)?;
+        let Some(own) = self.root.element_at(alloc, &way)? else {
+            return Ok(None);
         };
-        let kind = match SyntaxKind::from_raw(raw.0) {
-            Some(kind) => kind,
-            None => SyntaxKind::ERROR,
-        };
-        kind.to_raw() == element.kind().to_raw()
+        if own.kind().to_raw() != element.kind().to_raw() {
+            return Ok(None);
+        }
+        Ok(Some(own))
     }
 
-    /// Whether another element than the one at a path is already to be replaced.
-    fn is_elsewhere(&self, path: &[usize]) -> bool
-        ensures { result ≡ is_elsewhere self.now.change path.now }
+    /// Whether another element than the one at a way is already to be replaced.
+    fn is_elsewhere(&self, alloc: Global, way: &[usize]) -> Result<bool, AllocError>
+        ensures { IfOk result (λ b. b ≡ is_elsewhere self.now.change way.now) }
     {
         match &self.change {
-            Some(change) => change.path.as_slice() != path,
-            None => false,
+            Some(change) => Ok(change.old.way(alloc)?.as_slice() != way),
+            None => Ok(false),
         }
     }
 
@@ -110,23 +114,23 @@ impl SyntaxEditor {
         old: &SyntaxElement,
         new: &SyntaxElement,
     ) -> Result<(), RecordError>
-        ensures accepted { OnOk result (recording self.old (handle_of old.now) (handle_of new.now) ≡ Recorded) }
-        ensures recorded { OnOk result (IsRecorded self.old (handle_of old.now) (handle_of new.now) self.new) }
-        ensures refused { IfErr result (RefusesRecord (recording self.old (handle_of old.now) (handle_of new.now))) }
+        ensures accepted { OnOk result (recording self.old (element_of old.now) (element_of new.now) ≡ Recorded) }
+        ensures recorded { OnOk result (IsRecorded self.old (element_of old.now) (element_of new.now) self.new) }
+        ensures refused { IfErr result (RefusesRecord (recording self.old (element_of old.now) (element_of new.now))) }
         ensures kept { IfErr result (λ _. self.new ≡ self.old) }
     {
-        if !self.is_target(old) {
+        let Some(old) = self.target(alloc, old)? else {
             return Err(RecordError::Foreign);
-        }
+        };
         let new = new.green()?;
-        if is_token_for_root(&new, old.path()) {
+        let way = old.way(alloc)?;
+        if is_token_for_root(&new, &way) {
             return Err(RecordError::BadTarget);
         }
-        if self.is_elsewhere(old.path()) {
+        if self.is_elsewhere(alloc, &way)? {
             return Err(RecordError::Later);
         }
-        let path = Vec::from_slice(alloc, old.path())?;
-        self.change = Some(Replacement { path, new });
+        self.change = Some(Replacement { old, new });
         Ok(())
     }
 
@@ -135,9 +139,12 @@ impl SyntaxEditor {
         ensures ok { IfOk result (λ t. t ≡ rewritten self.now) }
         ensures refused { IfErr result (RefusesUnless (length (tree_text (rewritten self.now)) < 2 ^ 32)) }
     {
-        match &self.change {
-            Some(change) => replaced_at(alloc, self.root.green(), &change.path, &change.new),
-            None => Ok(self.root.green().clone()?),
+        let Some(change) = &self.change else {
+            return Ok(self.root.cursor().green().clone()?);
+        };
+        match change.old.replaced_by(alloc, &change.new)? {
+            NodeOrToken::Node(node) => Ok(node),
+            NodeOrToken::Token(_) => unreachable!(),
         }
     }
 
@@ -149,7 +156,7 @@ impl SyntaxEditor {
         let Some(change) = &self.change else {
             return Ok(Vec::new(alloc));
         };
-        let start = TextSize::new(start_of(self.root.green(), &change.path) as u32);
+        let start = change.old.text_range().start();
         let range = TextRange::at(start, change.new.text_len());
         Ok(vec![in alloc; range]?)
     }

@@ -16,7 +16,7 @@ fn stands_at(
 ) -> Result<bool, AllocError> {
     let (kind, start, end) = place;
     match document.find(alloc, kind, range(start, end))? {
-        Some(element) => Ok(element.path() == path),
+        Some(element) => Ok(element.path(alloc)?.as_slice() == path),
         None => Ok(false),
     }
 }
@@ -240,7 +240,7 @@ fn texts_are_read(rt: HostRuntime) -> Result<(), Fail> {
 /// Whether the root of an empty text has no child.
 fn is_bare(alloc: Global) -> Result<bool, OpenError> {
     let document = open(alloc, "")?;
-    Ok(document.root().green().children().len() == 0)
+    Ok(document.root().cursor().green().children().len() == 0)
 }
 
 #[test]

@@ -20,7 +20,7 @@ fn seen(
         SyntaxElement::Token(token) => token.text() == text,
         SyntaxElement::Node(_) => false,
     };
-    let first = element.path() == [0].as_slice();
+    let first = element.path(alloc)?.as_slice() == [0].as_slice();
     let seen = (element.kind(), element.tree(), element.text_range());
     Ok((same_text & first).then_some(seen))
 }
@@ -40,7 +40,7 @@ fn read_as(
 ) -> Result<Option<(SyntaxKind, u32, TextRange)>, PayloadError> {
     let entry = PayloadEntry::Top(top);
     let element = payload(alloc, entry, Edition::Edition2021, text, ids)?;
-    let first = element.path() == [].as_slice();
+    let first = element.path(alloc)?.is_empty();
     let seen = (element.kind(), element.tree(), element.text_range());
     Ok(first.then_some(seen))
 }

@@ -1,11 +1,11 @@
 //! Trees with numbers, and the elements in them.
-use super::open;
+use super::{open, range};
 use parser_input::syntax_kind::SyntaxKind;
 use rowan_green::{GreenElement, GreenNode};
 use std::alloc::{AllocError, Global};
 use std::test::Fail;
 use syntax_tree::elements::{node, token};
-use syntax_tree::{SyntaxNode, SyntaxToken, TreeError, TreeIds, element_at, first_of, start_of};
+use syntax_tree::{SyntaxNode, SyntaxToken, TreeError, TreeIds};
 
 #[test]
 fn numbers(rt: HostRuntime) {
@@ -15,25 +15,21 @@ fn numbers(rt: HostRuntime) {
     assert!(rt; last.next() == Ok(u32::MAX) && last.next().is_err() && last.next().is_err());
 }
 
-/// Where the name of a tree of `struct S;` stands, if at this path there is an element and the name is nowhere else.
-fn place_of_name(alloc: Global, tree: &GreenNode) -> Result<(usize, usize, bool), AllocError> {
-    let path = first_of(alloc, tree, SyntaxKind::IDENT, 7, 8)?.unwrap_or(Vec::new(alloc));
-    Ok((
-        path.len(),
-        start_of(tree, &path),
-        element_at(tree, &path).is_some(),
-    ))
-}
-
-/// The same of a new document.
-fn name_of_struct(alloc: Global) -> Result<(usize, usize, bool), Fail> {
+/// Of the name of `struct S;` how deep it stands, where it begins, and whether it stands at its own way; none where it is not found.
+fn place_of_name(alloc: Global) -> Result<Option<(usize, u32, bool)>, Fail> {
     let document = open(alloc, "struct S;")?;
-    Ok(place_of_name(alloc, document.root().green())?)
+    let root = document.root();
+    let Some(name) = root.find(alloc, SyntaxKind::IDENT, range(7, 8))? else {
+        return Ok(None);
+    };
+    let way = name.way(alloc)?;
+    let again = root.element_at(alloc, &way)?.is_some();
+    Ok(Some((way.len(), name.text_range().start().0, again)))
 }
 
 #[test]
 fn a_name_in_its_tree(rt: HostRuntime) -> Result<(), Fail> {
-    assert!(rt; name_of_struct(rt.alloc())? == (3, 7, true));
+    assert!(rt; place_of_name(rt.alloc())? == Some((3, 7, true)));
     Ok(())
 }
 

@@ -29,8 +29,11 @@ build-requires c =
     (c.in-Ok.ensures.parsed ∙ ap (λ (ts : List Token). steps (entry whole (production_of c.args.entry) ts)) c.in_ok-input.ensures)
     c.requires.bytes c.requires.count
 
-pub returns : goal.returns
-returns c =
+pub returns-clause-steps : goal.returns-clause-steps
+returns-clause-steps c = omega (arith, c.steps-steps.ensures, c.in-Ok.ensures.looks, ap (λ (ts : List Token). length ts) c.in_ok-input.ensures)
+
+pub returns-clause-built : goal.returns-clause-built
+returns-clause-built c =
     subst (λ (ss : List Step). IsBuilt ss (leaves_of c.args.lexed.now.leaves) c.in_ok-built.built.root c.in_ok-built.built.errors.items)
     (c.in-Ok.ensures.parsed ∙ ap (λ (ts : List Token). steps (entry whole (production_of c.args.entry) ts)) c.in_ok-input.ensures)
     c.in_ok-built.ensures

@@ -1,6 +1,8 @@
 -- The leaves of a text are its bytes, and are read as the grammar says.
-use Rattle.std.proofs.Common.{◌++◌, chars, map, length, ap, sym, subst, ◌∙◌, arith}
+use Rattle.std.proofs.Common.{◌++◌, chars, map, length, ap, subst, ◌∙◌, arith, ◌≤◌}
 use Rattle.std.proofs.Math.Utf8.{encodes}
+use Rattle.parser_input.specs.Input.{input}
+use Rattle.rust_document.specs.Costs.{steps_for}
 use Rattle.parser_input.specs.Lexed.{leaves_of}
 use Rattle.parser_input.specs.Stored.{Whole}
 use Rattle.parser_events.specs.Dress.{joined}
@@ -26,9 +28,13 @@ pub lexed_tokens-requires : goal.lexed_tokens-requires
 lexed_tokens-requires c =
     omega (arith, ap (λ (w : Whole). length (encodes (joined (leaves_of w.leaves)))) c.in_ok-lexed.ensures, bytes-all c.args.edition c.args.text.now c.utf8.text, c.requires)
 
-pub returns : goal.returns
-returns c =
+pub returns-clause-steps : goal.returns-clause-steps
+returns-clause-steps c =
+    subst (λ (w : Whole). c.in_ok-built.field-0.steps ≤ steps_for (input w.edition (leaves_of w.leaves))) c.in_ok-lexed.ensures c.in_ok-built.ensures.steps
+
+pub returns-clause-read : goal.returns-clause-read
+returns-clause-read c =
     whole c.args.entry c.args.edition (chars c.args.text.now) _ _ _ _
-    (subst (λ (w : Whole). IsBuilt (steps (forest_by (production_of c.args.entry) w.edition (leaves_of w.leaves))) (leaves_of w.leaves) c.in_ok-built.built.root c.in_ok-built.built.errors.items) c.in_ok-lexed.ensures c.in_ok-built.ensures)
-    (c.in_ok-append_faults.ensures ∙ ap (λ (w : Whole). map told c.in_ok-built.built.errors.items ++ of_leaves 0 w.leaves) c.in_ok-lexed.ensures)
+    (subst (λ (w : Whole). IsBuilt (steps (forest_by (production_of c.args.entry) w.edition (leaves_of w.leaves))) (leaves_of w.leaves) c.in_ok-built.field-0.built.root c.in_ok-built.field-0.built.errors.items) c.in_ok-lexed.ensures c.in_ok-built.ensures.built)
+    (c.in_ok-append_faults.ensures ∙ ap (λ (w : Whole). map told c.in_ok-built.field-0.built.errors.items ++ of_leaves 0 w.leaves) c.in_ok-lexed.ensures)
     (c.in_ok-tokens.ensures ∙ ap (λ (w : Whole). spans_from 0 (map in_bytes (leaves_of w.leaves))) c.in_ok-lexed.ensures)

@@ -16,10 +16,10 @@ returns-in_err-text-clause-refused c =
     let p = err_from_is_err_and c.from_residual.result c.from_residual.ensures.1 in
     rw (p.1, p.2) (refused c.args.self.now c.args.editor _ _ _ _ c.is_of.ensures c.if-not-is_of.false (ap (λ (s : State). s.edition) c.self.view_is) c.in_err-text.ensures.refused)
 
-pub returns-in_err-self-inside-clause-refused : goal.returns-in_err-self-inside-clause-refused
-returns-in_err-self-inside-clause-refused c =
-    let p = err_from_is_err_and c.from_residual-in_err-self-inside.result c.from_residual-in_err-self-inside.ensures.1 in
+pub returns-in_err-renew-clause-refused : goal.returns-in_err-renew-clause-refused
+returns-in_err-renew-clause-refused c =
+    let p = err_from_is_err_and c.from_residual-in_err-renew.result c.from_residual-in_err-renew.ensures.1 in
     rw (p.1, p.2)
-    (without_tree _ c.args.ids.now c.in_err-self-inside.field-0.0
+    (without_tree _ c.args.ids.now c.in_err-renew.field-0.0
     (accepted c.args.self.now c.args.editor _ _ _ _ c.is_of.ensures c.if-not-is_of.false (ap (λ (s : State). s.edition) c.self.view_is) c.in_ok-text.ensures.ok)
-    c.in_err-self-inside.ensures.refused)
+    c.in_err-renew.ensures.refused)

@@ -182,15 +182,15 @@ fn commands_in_order(rt: HostRuntime) -> Result<(), Fail> {
 #[test]
 fn numbers_in_further_members(rt: HostRuntime) -> Result<(), Fail> {
     let alloc = rt.alloc();
-    let later = "{\"err\":\"Later\"}\n";
+    let float = "{\"err\":\"Float\"}\n";
     let cases = [
         ("-0", ";", 0),
         ("18446744073709551616", ";", 0),
         (r#""1.5""#, ";", 0),
         (r#"["\"1e5"]"#, ";", 0),
-        ("1.0", later, 1),
-        ("1e5", later, 1),
-        ("[0,2E1]", later, 1),
+        ("1.0", float, 1),
+        ("1e5", float, 1),
+        ("[0,2E1]", float, 1),
     ];
     for (number, expected, status) in &cases {
         let request = format!(in alloc;

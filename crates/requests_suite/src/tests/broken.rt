@@ -2,7 +2,9 @@
 use super::is_answered;
 use std::test::Fail;
 
-const LATER: &str = "{\"err\":\"Later\"}\n";
+const NO_REQUEST: &str = "{\"err\":\"Request\"}\n";
+
+const FLOAT: &str = "{\"err\":\"Float\"}\n";
 
 #[test]
 fn no_request(rt: HostRuntime) -> Result<(), Fail> {
@@ -17,7 +19,7 @@ fn no_request(rt: HostRuntime) -> Result<(), Fail> {
         br#"{"edition":"2021","text":"","commands":{}}"#,
     ];
     for request in &cases {
-        assert!(rt; is_answered(rt.alloc(), request, LATER, 1)?);
+        assert!(rt; is_answered(rt.alloc(), request, NO_REQUEST, 1)?);
     }
     Ok(())
 }
@@ -26,13 +28,17 @@ fn no_request(rt: HostRuntime) -> Result<(), Fail> {
 fn unknown_words(rt: HostRuntime) -> Result<(), Fail> {
     let alloc = rt.alloc();
     let cases = [
-        r#"{"do":"tree"}"#,
-        r#"{"do":"commit","changes":[]}"#,
+        r#"{"do":"trees"}"#,
+        r#"{"do":7}"#,
+        r#"{"do":"edit","start":0,"end":1}"#,
+        r#"{"do":"edit","start":0,"end":-1,"text":"T"}"#,
+        r#"{"do":"commit","changes":{}}"#,
+        r#"{"do":"commit"}"#,
+        r#"{"do":"commit","changes":[{"op":"delete"}]}"#,
         r#"{"do":"commit","changes":[{"op":"replace","at":["FOO",0,1],"with":["token","T"]}]}"#,
-        r#"{"do":"commit","changes":[{"op":"before","at":["IDENT",0,1],"with":["token","T"]}]}"#,
-        r#"{"do":"commit","changes":[{"op":"replace","at":["IDENT",0,1],"with":["item","T"]}]}"#,
+        r#"{"do":"commit","changes":[{"op":"beside","at":["IDENT",0,1],"with":["token","T"]}]}"#,
+        r#"{"do":"commit","changes":[{"op":"replace","at":["IDENT",0,1],"with":["items","T"]}]}"#,
         r#"{"do":"commit","changes":[{"op":"replace","at":["IDENT",-1,1],"with":["token","T"]}]}"#,
-        r#"{"do":"commit","changes":[{"op":"replace","at":["IDENT",0,1.0],"with":["token","T"]}]}"#,
         r#"{"do":"commit","changes":[{"op":"replace","at":["IDENT",0,1,2],"with":["token","T"]}]}"#,
         r#"{"do":"commit","changes":[{"op":"replace","at":["IDENT",0,1],"with":["token"]}]}"#,
         r#"{"do":"commit","changes":[{"op":"replace","at":["IDENT",0,1],"with":["token",7]}]}"#,
@@ -41,20 +47,29 @@ fn unknown_words(rt: HostRuntime) -> Result<(), Fail> {
         let request = format!(in alloc;
             r#"{{"edition":"2021","text":"S","commands":[{command}]}}"#
         )?;
-        assert!(rt; is_answered(alloc, request.as_bytes(), LATER, 1)?);
+        assert!(rt; is_answered(alloc, request.as_bytes(), NO_REQUEST, 1)?);
     }
     Ok(())
 }
 
 #[test]
-fn not_read_yet(rt: HostRuntime) -> Result<(), Fail> {
-    let cases: [&[u8]; 3] = [
-        br#"{"edition":"2019","text":"","commands":[]}"#,
+fn unknown_edition(rt: HostRuntime) -> Result<(), Fail> {
+    let request = br#"{"edition":"2019","text":"","commands":[]}"#;
+    assert!(rt; is_answered(rt.alloc(), request, NO_REQUEST, 1)?);
+    Ok(())
+}
+
+/// A number with a point or an exponent is told before the shape is looked at.
+#[test]
+fn floats(rt: HostRuntime) -> Result<(), Fail> {
+    let cases: [&[u8]; 4] = [
         br#"{"edition":"2021","text":"","commands":[],"x":[1.5]}"#,
         br#"{"edition":"2021","text":"","commands":[],"x":{"y":1e3}}"#,
+        br#"{"edition":"2021","text":"S","commands":[{"do":"edit","start":0.0,"end":1,"text":"T"}]}"#,
+        br#"{"edition":"2019","x":0.5}"#,
     ];
     for request in &cases {
-        assert!(rt; is_answered(rt.alloc(), request, LATER, 1)?);
+        assert!(rt; is_answered(rt.alloc(), request, FLOAT, 1)?);
     }
     Ok(())
 }
@@ -74,6 +89,6 @@ fn deep_lists(rt: HostRuntime) -> Result<(), Fail> {
         request.push(']')?;
     }
     request.push('}')?;
-    assert!(rt; is_answered(alloc, request.as_bytes(), LATER, 1)?);
+    assert!(rt; is_answered(alloc, request.as_bytes(), NO_REQUEST, 1)?);
     Ok(())
 }

@@ -1,5 +1,6 @@
 //! What no contract says: that runs succeed where memory is ample, and the worked cases.
 mod broken;
+mod commands;
 mod devices;
 mod lists;
 mod replies;

@@ -1,0 +1,5 @@
+//! Tests of trees and documents.
+#![tactic(auto)]
+
+#[cfg(test)]
+mod tests;
