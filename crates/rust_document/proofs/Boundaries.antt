@@ -1,6 +1,6 @@
 -- Boundaries of characters, as a test.
 use Rattle.std.proofs.Common.{◌≡◌, ℕ, zero, suc, ◌≤◌, Bool, true, false, ◌&&◌, nat_le, List, [], ◌∷◌, refl, sym, ◌∙◌, arith, rules}
-use Rattle.std.proofs.lemmas.Bool.{le-leb}
+use Rattle.std.proofs.lemmas.Bool.{le-leb, leb-true}
 use Rattle.std.specs.Prelude.{◌↔◌, IsTrue}
 use Rattle.std.specs.Str.{IsCharBoundary}
 use Rattle.rust_document.specs.Edit.{is_boundary, can_edit}
@@ -14,7 +14,7 @@ boundary-from (suc i) [] is = absurd (cc)
 boundary-from (suc i) (b ∷ bs) is = let h = boundary-from i bs is in (omega (arith, h.0), λ within high. h.1 (omega arith) high)
 
 -- and the other way round
-boundary-to : (i : ℕ) (bs : List ℕ) → IsCharBoundary bs i → is_boundary i bs ≡ true
+pub boundary-to : (i : ℕ) (bs : List ℕ) → IsCharBoundary bs i → is_boundary i bs ≡ true
 unfolding is_boundary
 boundary-to zero [] h = refl
 boundary-to zero (b ∷ bs) h = search (rules, arith)
@@ -56,3 +56,10 @@ told-by-end text start end b ordered first second = rw (le-leb start end ordered
 -- and one that does not can't
 pub told-by-start : (text : List ℕ) (start end : ℕ) → start ≤ end → is_boundary start text ≡ false → false ≡ can_edit text start end
 told-by-start text start end ordered first = rw (le-leb start end ordered, first) refl
+
+-- a range in order whose ends are boundaries
+pub editable : (text : List ℕ) (start end : ℕ) → start ≤ end → is_boundary start text ≡ true → is_boundary end text ≡ true → can_edit text start end ≡ true
+editable text start end ordered first second = rw (le-leb start end ordered, first) second
+
+pub in-order : (text : List ℕ) (start end : ℕ) → can_edit text start end ≡ true → start ≤ end
+in-order text start end can = leb-true start end (both (nat_le start end) (is_boundary start text) (both (nat_le start end && is_boundary start text) (is_boundary end text) can).0).0

@@ -1,5 +1,6 @@
 pub mod Sizes
 pub mod Boundaries
+pub mod Undone
 pub mod Whole
 pub mod Bares
 pub mod Verdicts

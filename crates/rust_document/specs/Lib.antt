@@ -5,6 +5,7 @@ pub mod IsReading
 pub mod Costs
 pub mod Open
 pub mod Edit
+pub mod EditLaws
 pub mod Bare
 pub mod Commit
 pub mod Placed

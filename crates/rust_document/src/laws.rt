@@ -1,5 +1,6 @@
 //! Laws of the definitions. Each is the contract of a function that makes no call.
 
+ghost use Rattle.rust_document.specs.EditLaws.{EditsAreUndone};
 ghost use Rattle.rust_document.specs.Laws.{TreesHaveTheirTexts, LeavesAreSlices, UntouchedIsKept, KindsFollowInputs, TokenTreesAreClosed};
 
 /// The leaves of a text's tree, joined, are the text.
@@ -26,4 +27,10 @@ pub fn kinds_follow_inputs()
 /// In a document without messages each token tree begins with an opening bracket and ends with its partner.
 pub fn token_trees_are_closed()
     ensures { TokenTreesAreClosed }
+{}
+
+/// After an edit, the one that puts the old bytes back can be made, and gives the old text: so tokens, messages and tree are the
+/// old ones.
+pub fn edits_are_undone()
+    ensures { EditsAreUndone }
 {}
