@@ -13,13 +13,14 @@ use Rattle.tree_rewrite.specs.Marked.{Marked, nothing, inner, token, join, fores
 use Rattle.tree_rewrite.specs.Pieces.{Around, outside, in_node, in_group, Stand, closed, after_piece, after}
 use Rattle.tree_rewrite.specs.declared.piece.Piece.{Piece}
 use Rattle.tree_rewrite.specs.declared.piece.Piece.TheVariants.{Whole, Open, Group, Close}
-use Rattle.tree_rewrite.specs.Fits.{AllFit, NewFit, IsNode, RefusesRewrite}
-use Rattle.tree_rewrite.specs.Growing.{IsAround, IsMade, AllFitAround, AllFitIn, NewFitAround, NewFitIn, RefusesUnless}
+use Rattle.tree_rewrite.specs.Fits.{new_fits, IsNode, RefusesRewrite}
+use Rattle.tree_rewrite.specs.Growing.{OwnFit, IsAround, IsMade, NewFit, NewFitAround, NewFitIn, RefusesUnless}
 use Rattle.tree_rewrite.specs.declared.green.Begun.{Begun}
 use Rattle.tree_rewrite.specs.declared.error.ExecuteError.{ExecuteError}
 use Rattle.tree_rewrite.specs.declared.error.ExecuteError.TheVariants.{TooLong, NoMemory, NotOneNode}
 use Rattle.tree_rewrite.proofs.MarkedLemmas.{forest_in-blank}
 use Rattle.tree_rewrite.proofs.FillLemmas.{drop_first}
+use Rattle.tree_rewrite.proofs.FitLemmas.{new-from, new-fails, fits-anyway}
 
 -- ---- terms of lists
 pub terms-join : (m n : Marked) → terms (forest_in (join m n)) ≡ terms (forest_in m) ++ terms (forest_in n)
@@ -37,15 +38,15 @@ whole_terms x (Node t) h = ap (λ o. terms (forest_in (read_from blank x o))) h 
 whole_terms x (Token l) h = ap (λ o. terms (forest_in (read_from blank x o))) h
 
 -- ---- which nodes may have their children
-all-join : (m n : Marked) → AllFit (join m n) → AllFit m × AllFit n
-all-join nothing n h = (tt, h)
-all-join (inner m k f r) n h = let rest = all-join r n h.2 in ((h.0, h.1, rest.0), rest.1)
-all-join (token m l r) n h = all-join r n h
+new-split : (m n : Marked) → NewFit (join m n) → NewFit m × NewFit n
+new-split nothing n h = (tt, h)
+new-split (inner m k f r) n h = let rest = new-split r n h.2 in ((h.0, h.1, rest.0), rest.1)
+new-split (token m l r) n h = new-split r n h
 
-all-with_put : (b : Bool) (m : Marked) → AllFit (with_put b m) → AllFit m
-all-with_put b nothing h = tt
-all-with_put b (inner m k f r) h = (h.0, h.1, all-with_put b r h.2)
-all-with_put b (token m l r) h = all-with_put b r h
+new-unput : (b : Bool) (m : Marked) → NewFit (with_put b m) → NewFit m
+new-unput b nothing h = tt
+new-unput b (inner m k f r) h = (h.0, h.1, new-unput b r h.2)
+new-unput b (token m l r) h = new-unput b r h
 
 new-join : (m n : Marked) → NewFit m → NewFit n → NewFit (join m n)
 new-join nothing n g h = h
@@ -96,9 +97,9 @@ around_more : (gs hs : List Begun) (g : Begun) (a : Around) → hs ≡ gs ++ g �
 around_more gs hs g a e h = subst (λ l. IsAround l a) (sym (ap reverse e ∙ reverse-append gs (g ∷ []))) h
 
 pub made-open : (es fs : List Term) (gs hs : List Begun) (g : Begun) (k : SyntaxKind) (x : Element) (s : Stand) → hs ≡ gs ++ g ∷ [] → g.kind ≡ Some k → k.0 ≡ kind_at x.place
-    → g.before.items ≡ es → fs ≡ [] → IsMade es gs s → IsMade fs hs (after_piece (Open x) s)
-made-open es fs gs hs g k x s e is same b f h =
-    record { done = f; around = around_more gs hs g (in_node s.done x s.around) e ((k, is, same), b ∙ h.done, h.around) }
+    → OwnFit x → g.before.items ≡ es → fs ≡ [] → IsMade es gs s → IsMade fs hs (after_piece (Open x) s)
+made-open es fs gs hs g k x s e is same own b f h =
+    record { done = f; around = around_more gs hs g (in_node s.done x s.around) e ((k, is, same), own, b ∙ h.done, h.around) }
 
 pub made-group : (es fs : List Term) (gs hs : List Begun) (g : Begun) (b : Bool) (s : Stand) → hs ≡ gs ++ g ∷ [] → g.kind ≡ None → g.before.items ≡ es → fs ≡ [] → IsMade es gs s
     → IsMade fs hs (after_piece (Group b) s)
@@ -125,6 +126,7 @@ pub record InNode (es : List Term) (hs : List Begun) (g : Begun) (k : SyntaxKind
   pub outer : Around
   pub is : s.around ≡ in_node before origin outer
   pub kind : k.0 ≡ kind_at origin.place
+  pub own : OwnFit origin
   pub terms_before : g.before.items ≡ terms (forest_in before)
   pub around : IsAround (reverse hs) outer
 
@@ -135,7 +137,7 @@ in_node-of es gs hs g k s e is h = by_around s.around refl (around_less gs hs g 
     by_around outside w i = absurd i
     by_around (in_node d x a) w i =
         let same : k ≡ i.0.0 = cc in
-        record { before = d; origin = x; outer = a; is = w; kind = ap (λ y. y.0) same ∙ i.0.2; terms_before = i.1; around = i.2 }
+        record { before = d; origin = x; outer = a; is = w; kind = ap (λ y. y.0) same ∙ i.0.2; own = i.1; terms_before = i.2; around = i.3 }
     by_around (in_group d b a) w i = absurd (cc)
 
 pub made-node : (es fs : List Term) (hs : List Begun) (g : Begun) (k : SyntaxKind) (t : Tree) (s : Stand) (n : InNode es hs g k s) → es ≡ terms (forest_in s.done) → t ≡ tree_of k.0 es
@@ -155,11 +157,13 @@ fits-node es hs g k s n d f h =
     let fits : FitsNode (terms (forest_in s.done)) = subst FitsNode d f in
     subst (λ a. NewFitIn (closed s.done a)) (sym n.is) (new-join n.before _ outer.0 (λ _. fits, h.0, tt), outer.1)
 
-pub all-node : (es : List Term) (hs : List Begun) (g : Begun) (k : SyntaxKind) (s : Stand) (n : InNode es hs g k s) → es ≡ terms (forest_in s.done) → AllFitIn (closed s.done s.around) → FitsNode es
-all-node es hs g k s n d h =
+pub new-node : (es : List Term) (hs : List Begun) (g : Begun) (k : SyntaxKind) (s : Stand) (n : InNode es hs g k s) → es ≡ terms (forest_in s.done) → NewFitIn (closed s.done s.around) → FitsNode es
+new-node es hs g k s n d h =
     let whole : Marked = inner (record { origin = n.origin; put = false }) (kind_at n.origin.place) s.done nothing in
-    let now : AllFitIn (closed s.done (in_node n.before n.origin n.outer)) = subst (λ a. AllFitIn (closed s.done a)) n.is h in
-    subst FitsNode (sym d) (all-join n.before whole now.0).1.0
+    let now : NewFitIn (closed s.done (in_node n.before n.origin n.outer)) = subst (λ a. NewFitIn (closed s.done a)) n.is h in
+    let tree : Tree = record { kind = kind_at n.origin.place; forest = forest_in s.done } in
+    let fits = fits-anyway (term_of n.origin ≡ Some (Node tree)) (terms (forest_in s.done)) (n.own tree) (new-split n.before whole now.0).1.0 in
+    subst FitsNode (sym d) fits
 
 -- the innermost is what a job puts in
 pub record InGroup (hs : List Begun) (g : Begun) (s : Stand) : Type 0 where
@@ -190,24 +194,24 @@ fits-ended hs g s n h =
     subst (λ a. NewFitIn (closed s.done a)) (sym n.is) (new-join n.before _ outer.0 (new-with_put n.top s.done h.0), outer.1)
 
 -- ---- what fits in the end fitted before
-all-closed : (d : Marked) (a : Around) → AllFitIn (closed d a) → AllFit d × AllFitAround a
-all-closed d outside h = h
-all-closed d (in_node before x a) h =
-    let both = all-join before (inner (record { origin = x; put = false }) (kind_at x.place) d nothing) h.0 in
+new-closed : (d : Marked) (a : Around) → NewFitIn (closed d a) → NewFit d × NewFitAround a
+new-closed d outside h = h
+new-closed d (in_node before x a) h =
+    let both = new-split before (inner (record { origin = x; put = false }) (kind_at x.place) d nothing) h.0 in
     (both.1.1, (both.0, h.1))
-all-closed d (in_group before b a) h =
-    let both = all-join before (with_put b d) h.0 in
-    (all-with_put b d both.1, (both.0, h.1))
+new-closed d (in_group before b a) h =
+    let both = new-split before (with_put b d) h.0 in
+    (new-unput b d both.1, (both.0, h.1))
 
-all-before : (p : Piece) (s : Stand) → AllFitIn (after_piece p s) → AllFitIn s
-all-before (Whole x) s h = ((all-join s.done (reading_of blank (element_of x)) h.0).0, h.1)
-all-before (Open x) s h = h.1
-all-before (Group b) s h = h.1
-all-before Close s h = all-closed s.done s.around h
+new-before : (p : Piece) (s : Stand) → NewFitIn (after_piece p s) → NewFitIn s
+new-before (Whole x) s h = ((new-split s.done (reading_of blank (element_of x)) h.0).0, h.1)
+new-before (Open x) s h = h.1
+new-before (Group b) s h = h.1
+new-before Close s h = new-closed s.done s.around h
 
-pub all-start : (ps : List Piece) (s : Stand) → AllFitIn (after ps s) → AllFitIn s
-all-start [] s h = h
-all-start (p ∷ ps) s h = all-before p s (all-start ps (after_piece p s) h)
+pub new-start : (ps : List Piece) (s : Stand) → NewFitIn (after ps s) → NewFitIn s
+new-start [] s h = h
+new-start (p ∷ ps) s h = new-before p s (new-start ps (after_piece p s) h)
 
 -- a refusal that a weaker fact forbids, a stronger one forbids
 pub refuses-more : (P Q : Type 0) (e : ExecuteError) → (Q → P) → RefusesUnless P e → RefusesUnless Q e
@@ -230,10 +234,10 @@ node_alone m es t e h = sym (forest_of-terms (forest_in m)) ∙ ap forest_of (sy
 pub terms_alone : (m : Marked) (es : List Term) (t : Tree) → es ≡ terms (forest_in m) → IsNode m t → es ≡ Node t ∷ []
 terms_alone m es t e h = e ∙ ap terms h
 
-pub rewrite_refused : {A : Type 0} (r : Result A ExecuteError) (d e : ExecuteError) (m : Marked) → r ≡ Err d → d ≡ e → RefusesUnless (AllFit m) e → IfErr r (RefusesRewrite m)
+pub rewrite_refused : {A : Type 0} (r : Result A ExecuteError) (d e : ExecuteError) (m : Marked) → r ≡ Err d → d ≡ e → RefusesUnless (NewFit m) e → IfErr r (RefusesRewrite m)
 rewrite_refused r d e m h k g = subst (λ x. IfErr x (RefusesRewrite m)) (sym (h ∙ ap Err k)) (by_error e g)
   where
-    by_error : (f : ExecuteError) → RefusesUnless (AllFit m) f → RefusesRewrite m f
-    by_error TooLong i = i
+    by_error : (f : ExecuteError) → RefusesUnless (NewFit m) f → RefusesRewrite m f
+    by_error TooLong i = new-fails m i
     by_error NoMemory i = tt
     by_error NotOneNode i = absurd i

@@ -1,25 +1,28 @@
 -- Which nodes of a rewritten tree may have their children, and why a rewrite is refused.
-use Rattle.std.specs.Prelude.{◌≡◌, ℕ, Some, List, codes}
-use Rattle.rowan_green.specs.Forest.{Tree, node, empty}
-use Rattle.rowan_green.specs.Term.{terms, FitsNode}
+use Rattle.std.specs.Prelude.{◌≡◌, ℕ, ◌^◌, Option, Some, List, length, codes, Bool, true, false, ◌&&◌, ◌||◌, nat_lt}
+use Rattle.rowan_green.specs.Forest.{Tree, node, empty, same_tree}
+use Rattle.rowan_green.specs.Term.{Term, terms, texts_of}
 use Rattle.rowan_green.specs.declared.utility_types.NodeOrToken.TheVariants.{Node}
 use Rattle.syntax_tree.specs.Element.{term_of}
 use Rattle.tree_rewrite.specs.Marked.{Marked, nothing, inner, token, forest_in}
 use Rattle.tree_rewrite.specs.declared.error.ExecuteError.{ExecuteError}
 use Rattle.tree_rewrite.specs.declared.error.ExecuteError.TheVariants.{TooLong, NoMemory, NotOneNode}
 
--- each node of the list may have its children
-abbrev pub AllFit : Marked → Type 0
-AllFit nothing = Unit {0}
-AllFit (inner m k f r) = FitsNode (terms (forest_in f)) × AllFit f × AllFit r
-AllFit (token m l r) = AllFit r
+-- a node may have these children
+abbrev pub fits_node : List Term → Bool
+fits_node es = nat_lt (length es) (2 ^ 32) && nat_lt (length (texts_of es)) (2 ^ 32)
 
--- the same of those that do not stand as they stood where they came from
-abbrev pub NewFit : Marked → Type 0
-NewFit nothing = Unit {0}
-NewFit (inner m k f r) =
-    ((term_of m.origin ≡ Some (Node (record { kind = k; forest = forest_in f })) → ⊥) → FitsNode (terms (forest_in f))) × NewFit f × NewFit r
-NewFit (token m l r) = NewFit r
+-- the term is this tree
+abbrev pub is_tree : Option Term → Tree → Bool
+is_tree (Some (Node t)) u = same_tree t u
+is_tree _ u = false
+
+-- each node of the list that does not stand as it stood where it came from may have its children; the others have them already
+abbrev pub new_fits : Marked → Bool
+new_fits nothing = true
+new_fits (inner m k f r) =
+    (is_tree (term_of m.origin) (record { kind = k; forest = forest_in f }) || fits_node (terms (forest_in f))) && (new_fits f && new_fits r)
+new_fits (token m l r) = new_fits r
 
 -- the list is this node alone
 abbrev pub IsNode : Marked → Tree → Type 0
@@ -27,7 +30,7 @@ IsNode m t = forest_in m ≡ node t.kind t.forest empty
 
 -- a rewrite is refused: a node of it may not have its children, or it is not one node; out of memory at any point
 abbrev pub RefusesRewrite : Marked → ExecuteError → Type 0
-RefusesRewrite m TooLong = AllFit m → ⊥
+RefusesRewrite m TooLong = new_fits m ≡ false
 RefusesRewrite m NoMemory = Unit {0}
 RefusesRewrite m NotOneNode = (t : Tree) → IsNode m t → ⊥
 

@@ -1,14 +1,21 @@
 -- Elements that are made of pieces, as the code has them.
 use Rattle.std.specs.Prelude.{◌≡◌, List, [], ◌∷◌, reverse, Some, None}
-use Rattle.rowan_green.specs.Term.{Term, terms}
+use Rattle.rowan_green.specs.Forest.{Tree}
+use Rattle.rowan_green.specs.Term.{Term, terms, FitsNode}
+use Rattle.rowan_green.specs.declared.utility_types.NodeOrToken.TheVariants.{Node}
 use Rattle.rowan_green.specs.declared.syntax_kind.SyntaxKind.{SyntaxKind}
 use Rattle.rowan.specs.Place.{kind_at}
-use Rattle.tree_rewrite.specs.Marked.{forest_in}
+use Rattle.syntax_tree.specs.Element.{Element, term_of}
+use Rattle.tree_rewrite.specs.Marked.{Marked, nothing, inner, token, forest_in}
 use Rattle.tree_rewrite.specs.Pieces.{Around, outside, in_node, in_group, Stand}
-use Rattle.tree_rewrite.specs.Fits.{AllFit, NewFit}
+use Rattle.tree_rewrite.specs.Fits.{new_fits}
 use Rattle.tree_rewrite.specs.declared.error.ExecuteError.{ExecuteError}
 use Rattle.tree_rewrite.specs.declared.error.ExecuteError.TheVariants.{TooLong, NoMemory, NotOneNode}
 use Rattle.tree_rewrite.specs.declared.green.Begun.{Begun}
+
+-- a node may have the children that it has
+abbrev pub OwnFit : Element → Type 0
+OwnFit e = (t : Tree) → term_of e ≡ Some (Node t) → FitsNode (terms t.forest)
 
 -- what was begun, the innermost first, with the terms before it
 abbrev pub IsAround : List Begun → Around → Type 0
@@ -17,7 +24,7 @@ IsAround [] (in_node d e a) = ⊥
 IsAround [] (in_group d b a) = ⊥
 IsAround (g ∷ gs) outside = ⊥
 IsAround (g ∷ gs) (in_node d e a) =
-    ((k : SyntaxKind) × (g.kind ≡ Some k) × (k.0 ≡ kind_at e.place)) × (g.before.items ≡ terms (forest_in d)) × IsAround gs a
+    ((k : SyntaxKind) × (g.kind ≡ Some k) × (k.0 ≡ kind_at e.place)) × OwnFit e × (g.before.items ≡ terms (forest_in d)) × IsAround gs a
 IsAround (g ∷ gs) (in_group d b a) = (g.kind ≡ None) × (g.before.items ≡ terms (forest_in d)) × IsAround gs a
 
 -- the terms that are made, and what they stand in, the outermost first
@@ -25,14 +32,12 @@ pub record IsMade (es : List Term) (gs : List Begun) (s : Stand) : Type 0 where
   pub done : es ≡ terms (forest_in s.done)
   pub around : IsAround (reverse gs) s.around
 
-abbrev pub AllFitAround : Around → Type 0
-AllFitAround outside = Unit {0}
-AllFitAround (in_node d e a) = AllFit d × AllFitAround a
-AllFitAround (in_group d b a) = AllFit d × AllFitAround a
-
--- each complete node may have its children
-abbrev pub AllFitIn : Stand → Type 0
-AllFitIn s = AllFit s.done × AllFitAround s.around
+-- each node of the list that does not stand as it stood where it came from may have its children
+abbrev pub NewFit : Marked → Type 0
+NewFit nothing = Unit {0}
+NewFit (inner m k f r) =
+    ((term_of m.origin ≡ Some (Node (record { kind = k; forest = forest_in f })) → ⊥) → FitsNode (terms (forest_in f))) × NewFit f × NewFit r
+NewFit (token m l r) = NewFit r
 
 abbrev pub NewFitAround : Around → Type 0
 NewFitAround outside = Unit {0}

@@ -5,8 +5,7 @@ ghost use Rattle.rowan_green.specs.Term.{terms, tree_of, FitsNode};
 ghost use Rattle.rowan_green.specs.declared.utility_types.NodeOrToken.TheVariants.{Node};
 ghost use Rattle.tree_rewrite.specs.Marked.{Marked, forest_in};
 ghost use Rattle.tree_rewrite.specs.Pieces.{Stand, closed, after_piece, Say};
-ghost use Rattle.tree_rewrite.specs.Fits.{AllFit, NewFit};
-ghost use Rattle.tree_rewrite.specs.Growing.{IsMade, AllFitIn, NewFitIn, RefusesUnless};
+ghost use Rattle.tree_rewrite.specs.Growing.{IsMade, NewFit, NewFitIn, RefusesUnless};
 
 use crate::error::ExecuteError;
 use crate::piece::Piece;
@@ -75,7 +74,7 @@ fn close(
     ensures fits { (s : Stand) → IsMade done.old.items around.old.items s → NewFitIn s → OnOk result
         (NewFitIn (closed s.done s.around)) }
     ensures refused { (s : Stand) → IsMade done.old.items around.old.items s → IfErr result
-        (RefusesUnless (AllFitIn (closed s.done s.around))) }
+        (RefusesUnless (NewFitIn (closed s.done s.around))) }
 {
     let Some(Begun { kind, before }) = around.pop() else {
         return Ok(());
@@ -103,13 +102,15 @@ fn step(
     ensures fits { (s : Stand) → IsMade done.old.items around.old.items s → NewFitIn s → OnOk result
         (NewFitIn (after_piece piece.now s)) }
     ensures refused { (s : Stand) → IsMade done.old.items around.old.items s → IfErr result
-        (RefusesUnless (AllFitIn (after_piece piece.now s))) }
+        (RefusesUnless (NewFitIn (after_piece piece.now s))) }
 {
     match piece {
         Piece::Whole(element) => done.push(element.green()?)?,
         Piece::Open(node) => {
-            let kind = node.cursor().green().kind();
-            begin(alloc, Some(kind), done, around)?;
+            let green = node.cursor().green();
+            let _count = green.children();
+            let _length = green.text_len();
+            begin(alloc, Some(green.kind()), done, around)?;
         }
         Piece::Group(_) => begin(alloc, None, done, around)?,
         Piece::Close => close(alloc, done, around)?,
@@ -121,7 +122,7 @@ fn step(
 pub fn green_of(alloc: Global, pieces: &[Piece]) -> Result<Vec<GreenElement>, ExecuteError>
     ensures elements { (m : Marked) → Say pieces.now m → IfOk result (λ v. v.items ≡ terms (forest_in m)) }
     ensures fits { (m : Marked) → Say pieces.now m → OnOk result (NewFit m) }
-    ensures refused { (m : Marked) → Say pieces.now m → IfErr result (RefusesUnless (AllFit m)) }
+    ensures refused { (m : Marked) → Say pieces.now m → IfErr result (RefusesUnless (NewFit m)) }
 {
     let mut done = Vec::new(alloc);
     let mut around = Vec::new(alloc);

@@ -10,7 +10,7 @@ ghost use Rattle.tree_rewrite.specs.Recorded.{recorded, IsOrdered};
 ghost use Rattle.tree_rewrite.specs.Plan.{RefusesPlan};
 ghost use Rattle.tree_rewrite.specs.Pieces.{Say};
 ghost use Rattle.tree_rewrite.specs.Changed.{AreChanged};
-ghost use Rattle.tree_rewrite.specs.Fits.{NewFit, IsNode, RefusesRewrite};
+ghost use Rattle.tree_rewrite.specs.Fits.{new_fits, IsNode, RefusesRewrite};
 
 use crate::change::Change;
 use crate::changed::changed_of;
@@ -119,7 +119,7 @@ impl Plan {
         ensures changed { IfOk result (λ r. AreChanged r.changed.items (rewritten self.now.top (reverse self.now.jobs))) }
         ensures origins { IfOk result (λ r. map element_of r.origins.items
             ≡ origins (rewritten self.now.top (reverse self.now.jobs))) }
-        ensures fits { OnOk result (NewFit (rewritten self.now.top (reverse self.now.jobs))) }
+        ensures fits { OnOk result (new_fits (rewritten self.now.top (reverse self.now.jobs)) ≡ true) }
         ensures refused { IfErr result (RefusesRewrite (rewritten self.now.top (reverse self.now.jobs))) }
     {
         let pieces = self.pieces(alloc, order)?;

@@ -3,8 +3,8 @@ use Rattle.std.proofs.lemmas.Result.{err_from_is_err_and}
 use Rattle.rowan_green.specs.Term.{tree_of, FitsNode}
 use Rattle.rowan_green.specs.declared.utility_types.NodeOrToken.TheVariants.{Node}
 use Rattle.tree_rewrite.specs.Pieces.{closed}
-use Rattle.tree_rewrite.specs.Growing.{AllFitIn}
-use Rattle.tree_rewrite.proofs.GreenLemmas.{popped, in_node-of, made-node, fits-node, all-node, in_group-of, made-ended, fits-ended, err_more}
+use Rattle.tree_rewrite.specs.Growing.{NewFitIn}
+use Rattle.tree_rewrite.proofs.GreenLemmas.{popped, in_node-of, made-node, fits-node, new-node, in_group-of, made-ended, fits-ended, err_more}
 use Rattle.tree_rewrite.proofs.green.close.Goals as goal
 
 pub returns-in_err-node-in-Some-kind-clause-refused : goal.returns-in_err-node-in-Some-kind-clause-refused
@@ -17,8 +17,8 @@ returns-in_err-node-in-Some-kind-clause-refused c = λ s h.
     let n = in_node-of es c.args.around.now.items c.pop.new.self.items g k s last kind h in
     let children : c.replace-children.result.items ≡ es = ap (λ v. v.items) c.replace-children.ensures.value in
     let p = err_from_is_err_and c.from_residual.result c.from_residual.ensures.1 in
-    err_more c.from_residual.result p.0 c.in_err-node-in-Some-kind.field-0.0 (FitsNode c.replace-children.result.items) (AllFitIn (closed s.done s.around)) p.1 p.2
-    (λ q. subst FitsNode (sym children) (all-node es c.pop.new.self.items g k s n h.done q)) c.in_err-node-in-Some-kind.ensures.refused
+    err_more c.from_residual.result p.0 c.in_err-node-in-Some-kind.field-0.0 (FitsNode c.replace-children.result.items) (NewFitIn (closed s.done s.around)) p.1 p.2
+    (λ q. subst FitsNode (sym children) (new-node es c.pop.new.self.items g k s n h.done q)) c.in_err-node-in-Some-kind.ensures.refused
 
 pub returns-in_ok-push-in-Some-kind-clause-made : goal.returns-in_ok-push-in-Some-kind-clause-made
 returns-in_ok-push-in-Some-kind-clause-made c = λ s h.

@@ -4,6 +4,7 @@ use Rattle.tree_rewrite.specs.Rewrite.{rewritten}
 use Rattle.tree_rewrite.specs.Pieces.{Say}
 use Rattle.tree_rewrite.proofs.GreenLemmas.{node_alone, rewrite_refused}
 use Rattle.tree_rewrite.proofs.ChangedLemmas.{bytes-fit}
+use Rattle.tree_rewrite.proofs.FitLemmas.{new-to}
 use Rattle.tree_rewrite.proofs.plan.Plan.execute.Goals as goal
 
 pub changed_of-requires : goal.changed_of-requires
@@ -23,7 +24,7 @@ returns-clause-green c =
 pub returns-clause-fits : goal.returns-clause-fits
 returns-clause-fits c =
     let m = rewritten c.args.self.now.top (reverse c.args.self.now.jobs) in
-    c.in_ok-elements.ensures.fits m (subst (λ l. Say l m) (sym c.deref.ensures.value) c.in_ok-pieces.ensures)
+    new-to m (c.in_ok-elements.ensures.fits m (subst (λ l. Say l m) (sym c.deref.ensures.value) c.in_ok-pieces.ensures))
 
 pub returns-clause-changed : goal.returns-clause-changed
 returns-clause-changed c =
