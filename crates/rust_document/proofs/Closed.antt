@@ -1,32 +1,31 @@
 -- In a document without messages token trees end as their first brackets ask.
-use Rattle.std.proofs.Common.{◌≡◌, ℕ, suc, ◌+◌, ◌⊎◌, Bool, true, false, ◌&&◌, ◌||◌, ◌==◌, [], refl, sym, ap, subst, ◌∙◌, arith, inl, inr, if◌then◌else◌, true≢false}
+use Rattle.std.proofs.Common.{◌≡◌, ℕ, ◌⊎◌, Bool, true, false, ◌&&◌, ◌||◌, ◌==◌, [], refl, sym, ap, subst, ◌∙◌, arith, inl, inr, if◌then◌else◌, true≢false}
 use Rattle.std.proofs.lemmas.Bool.{cases_Bool, eqb-true, eq-eqb, or_cases}
 use Rattle.rowan_green.specs.Forest.{Forest, empty, node, leaf}
 use Rattle.rowan_green.specs.Leaf as green
-use Rattle.parser_input.specs.Kinds.{EOF, ERROR, FIELD_EXPR, FLOAT_NUMBER, TOKEN_TREE, WHITESPACE, COMMENT, L_PAREN, L_CURLY, L_BRACK}
+use Rattle.parser_input.specs.Kinds.{EOF, FIELD_EXPR, TOKEN_TREE, WHITESPACE, COMMENT, L_PAREN, L_CURLY, L_BRACK}
+use Rattle.parser_input.specs.Input.{input}
 use Rattle.parser_events.specs.Forest as forest
 use Rattle.parser_events.specs.Forest.{Message, IllegalFloat}
 use Rattle.rust_grammar.specs.TokenTrees.{partner, is_opening, ends_with, is_bracketed, are_token_trees_bracketed}
+use Rattle.rust_grammar.specs.Rule.{source_file}
 use Rattle.rust_grammar.proofs.Plain.{and_l, and_r}
+use Rattle.rust_grammar.proofs.TokenTreesTable.{token-trees-bracketed}
+use Rattle.rust_document.specs.Laws.{TokenTreesAreClosed}
+use Rattle.rust_document.specs.Reading.{leaves_in}
 use Rattle.rust_document.specs.Brackets.{last_kind, is_closed, are_token_trees_closed}
 use Rattle.rust_document.proofs.Shapes.{beside}
 use Rattle.rust_document.proofs.Shown.{Shows, kind_before, parted, accessed, wronged, dot_before, number_shown}
-
--- how many messages the trees of the parser have
-unfoldable pub told : forest.Forest → ℕ
-told forest.End = 0
-told (forest.Leaf k n f) = told f
-told (forest.Said m f) = suc (told f)
-told (forest.ErrorLeaf m k f) = suc (told f)
-told (forest.Node k c f) = told c + told f
-told (forest.Float b c f) = told c + told f
+use Rattle.rust_document.proofs.Silent.{told}
+use Rattle.rust_document.proofs.Kept.{Kept, parted-kept, accessed-kept, wronged-kept}
+use Rattle.rust_document.proofs.Carried.{Carried, document-holds}
 
 both-true : (a b : Bool) → a ≡ true → b ≡ true → (a && b) ≡ true
 both-true true true p q = refl
 both-true true false p q = q
 both-true false b p q = p
 
-pub closed-beside : (a b : Forest) → are_token_trees_closed a ≡ true → are_token_trees_closed b ≡ true → are_token_trees_closed (beside a b) ≡ true
+closed-beside : (a b : Forest) → are_token_trees_closed a ≡ true → are_token_trees_closed b ≡ true → are_token_trees_closed (beside a b) ≡ true
 unfolding are_token_trees_closed beside
 closed-beside empty b p q = q
 closed-beside (leaf l r) b p q = closed-beside r b p q
@@ -159,52 +158,32 @@ node-closed j i r p q o = both-true (own && are_token_trees_closed i) (are_token
     own : Bool
     own = if j == TOKEN_TREE then is_closed i else true
 
-pub other-closed : (i r : Forest) → are_token_trees_closed i ≡ true → are_token_trees_closed r ≡ true → are_token_trees_closed (node FIELD_EXPR i r) ≡ true
-other-closed i r p q = node-closed FIELD_EXPR i r refl p q
-
 tree-closed : (b : Bool) (c : forest.Forest) (i : Forest) → Shows c i → told c ≡ 0 → (if b then is_bracketed c else true) ≡ true → (if b then is_closed i else true) ≡ true
 tree-closed true c i h t e = bracketed-shown c i h t e
 tree-closed false c i h t e = refl
 
-nothing-closed : are_token_trees_closed empty ≡ true
-unfolding are_token_trees_closed
-nothing-closed = refl
-
-number-closed : are_token_trees_closed number_shown ≡ true
+token-trees-kept : Kept are_token_trees_closed
 unfolding are_token_trees_closed number_shown
-number-closed = refl
+token-trees-kept = record {
+  nothing = refl;
+  both = closed-beside;
+  one = λ l. refl;
+  number = refl;
+  wrong = refl;
+  field = λ f p. node-closed FIELD_EXPR f empty refl p refl;
+}
 
-dot-closed : (r : Forest) → are_token_trees_closed r ≡ true → are_token_trees_closed (dot_before r) ≡ true
-unfolding are_token_trees_closed dot_before
-dot-closed r e = e
-
-parted-closed : (i r : Forest) → are_token_trees_closed i ≡ true → are_token_trees_closed r ≡ true → are_token_trees_closed (parted i r) ≡ true
-unfolding parted
-parted-closed i r p q = other-closed (beside i number_shown) (dot_before r) (closed-beside i number_shown p number-closed) (dot-closed r q)
-
-accessed-closed : (i r : Forest) → are_token_trees_closed i ≡ true → are_token_trees_closed r ≡ true → are_token_trees_closed (accessed i r) ≡ true
-unfolding accessed
-accessed-closed i r p q = other-closed (node FIELD_EXPR (beside i number_shown) (dot_before number_shown)) r (other-closed (beside i number_shown) (dot_before number_shown) (closed-beside i number_shown p number-closed) (dot-closed number_shown number-closed)) q
-
-wrong-closed : are_token_trees_closed (node ERROR (leaf (record { kind = FLOAT_NUMBER; text = [] }) empty) empty) ≡ true
-unfolding are_token_trees_closed
-wrong-closed = refl
-
-wronged-closed : (i r : Forest) → are_token_trees_closed i ≡ true → are_token_trees_closed r ≡ true → are_token_trees_closed (wronged i r) ≡ true
-unfolding wronged
-wronged-closed i r p q = other-closed (node FIELD_EXPR (beside i (node ERROR (leaf (record { kind = FLOAT_NUMBER; text = [] }) empty) empty)) empty) r (other-closed (beside i (node ERROR (leaf (record { kind = FLOAT_NUMBER; text = [] }) empty) empty)) empty (closed-beside i _ p wrong-closed) nothing-closed) q
-
-pub shown-closed : (f : forest.Forest) (k : Forest) → Shows f k → told f ≡ 0 → are_token_trees_bracketed f ≡ true → are_token_trees_closed k ≡ true
+shown-closed : (f : forest.Forest) (k : Forest) → Shows f k → told f ≡ 0 → are_token_trees_bracketed f ≡ true → are_token_trees_closed k ≡ true
 unfolding told are_token_trees_bracketed
-shown-closed forest.End k h t e = subst (λ (g : Forest). are_token_trees_closed g ≡ true) (sym h) nothing-closed
+shown-closed forest.End k h t e = subst (λ (g : Forest). are_token_trees_closed g ≡ true) (sym h) token-trees-kept.nothing
 shown-closed (forest.Leaf j n f) k h t e = subst (λ (g : Forest). are_token_trees_closed g ≡ true) (sym h.1.1) (closed-before j h.0 (shown-closed f h.0 h.1.0 t e))
 shown-closed (forest.Said m f) k h t e = absurd (omega (arith, t))
 shown-closed (forest.ErrorLeaf m j f) k h t e = absurd (omega (arith, t))
 shown-closed (forest.Node j c f) k h t e =
     let i = h.0 in
     let r = h.1.0 in
-    let own = and_l _ _ (and_l _ _ e) in
     let one : told c ≡ 0 = omega (arith, t) in
+    let own = and_l _ _ (and_l _ _ e) in
     subst (λ (g : Forest). are_token_trees_closed g ≡ true) (sym h.1.1.1.1)
     (node-closed j i r (tree-closed (j == TOKEN_TREE) c i h.1.1.0 one own) (shown-closed c i h.1.1.0 one (and_r _ _ (and_l _ _ e))) (shown-closed f r h.1.1.1.0 (omega (arith, t)) (and_r _ _ e)))
 shown-closed (forest.Float b c f) k h t e =
@@ -213,9 +192,24 @@ shown-closed (forest.Float b c f) k h t e =
     let inner = shown-closed c i h.1.1.0 (omega (arith, t)) (and_l _ _ e) in
     let rest = shown-closed f r h.1.1.1.0 (omega (arith, t)) (and_r _ _ e) in
     elim h.1.1.1.1 [
-      | inl p ↦ subst (λ (g : Forest). are_token_trees_closed g ≡ true) (sym p) (parted-closed i r inner rest)
+      | inl p ↦ subst (λ (g : Forest). are_token_trees_closed g ≡ true) (sym p) (parted-kept are_token_trees_closed token-trees-kept i r inner rest)
       | inr p ↦ elim p [
-        | inl q ↦ subst (λ (g : Forest). are_token_trees_closed g ≡ true) (sym q) (accessed-closed i r inner rest)
-        | inr q ↦ subst (λ (g : Forest). are_token_trees_closed g ≡ true) (sym q) (wronged-closed i r inner rest)
+        | inl q ↦ subst (λ (g : Forest). are_token_trees_closed g ≡ true) (sym q) (accessed-kept are_token_trees_closed token-trees-kept i r inner rest)
+        | inr q ↦ subst (λ (g : Forest). are_token_trees_closed g ≡ true) (sym q) (wronged-kept are_token_trees_closed token-trees-kept i r inner rest)
       ]
     ]
+
+token-trees-carried : Carried are_token_trees_bracketed are_token_trees_closed
+unfolding are_token_trees_bracketed
+token-trees-carried = record {
+  kept = token-trees-kept;
+  node = λ k c e. and_r _ (are_token_trees_bracketed c) (and_l _ true e);
+  receiver = λ b c e. and_l (are_token_trees_bracketed c) true e;
+  shown = shown-closed;
+}
+
+-- THE law of token trees.
+pub document-closed : TokenTreesAreClosed
+document-closed edition text none =
+    document-holds are_token_trees_bracketed are_token_trees_closed token-trees-carried edition text none
+    (token-trees-bracketed source_file (input edition (leaves_in edition text)))

@@ -16,5 +16,9 @@ pub mod TreeRefusals
 pub mod Faults
 pub mod Shapes
 pub mod Shown
-pub mod Closed
 pub mod Silent
+pub mod Kept
+pub mod Carried
+pub mod Closed
+pub mod Solid
+pub mod Bound

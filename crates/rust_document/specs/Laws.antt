@@ -13,6 +13,7 @@ use Rattle.syntax_tree.specs.Element.{Way}
 use Rattle.rust_document.specs.Open.{IsOpened}
 use Rattle.rust_document.specs.Reading.{tree, tree_by, leaves_in, messages}
 use Rattle.rust_document.specs.Brackets.{are_token_trees_closed}
+use Rattle.rust_document.specs.Operators.{are_operators_placed}
 use Rattle.rust_document.specs.Shape.{kinds_of, dots}
 use Rattle.rust_document.specs.Rewrite.{Editing, rewritten}
 use Rattle.rust_document.specs.Step.{State, present, verdict, Accepted}
@@ -53,3 +54,8 @@ KindsFollowInputs =
 abbrev pub TokenTreesAreClosed : Type 0
 TokenTreesAreClosed =
     (edition : Edition) (text : List ℕ) → messages edition text ≡ [] → are_token_trees_closed (kinds_of (tree edition text)).forest ≡ true
+
+-- In a document without messages each binary expression has operands that its operator's power allows.
+abbrev pub OperatorsBindByPower : Type 0
+OperatorsBindByPower =
+    (edition : Edition) (text : List ℕ) → messages edition text ≡ [] → are_operators_placed (kinds_of (tree edition text)).forest ≡ true

@@ -14,6 +14,9 @@ pub mod Record
 pub mod Payload
 pub mod Shape
 pub mod Brackets
+pub mod Operators
+pub mod OperatorExamples
+pub mod WithoutMessages
 pub mod Tokens
 pub mod Committed
 pub mod Laws

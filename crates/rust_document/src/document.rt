@@ -15,6 +15,7 @@ ghost use Rattle.rust_document.specs.Reading.{messages};
 ghost use Rattle.rust_document.specs.Rewrite.{rewritten, changed};
 ghost use Rattle.rust_document.specs.Step.{MAX_TEXT, first_element, present, root_element, verdict, Accepted};
 ghost use Rattle.rust_document.specs.Tokens.{shown, tokens_of};
+ghost use Rattle.rust_document.specs.WithoutMessages.{HasPairedBrackets, HasPlacedOperators};
 
 use crate::edit::edited;
 use crate::error::{CommitError, EditError, OpenError};
@@ -86,6 +87,8 @@ impl Document {
         ensures opened { IfOk result (λ d. d ≡ record { edition = edition; text = text.now; number = ids.old }) }
         ensures number { OnOk result (ids.new ≡ ids.old + 1) }
         ensures is_read { OnOk result (IsOpened text.now) }
+        ensures brackets { IfOk result (λ d. HasPairedBrackets d) }
+        ensures operators { IfOk result (λ d. HasPlacedOperators d) }
         ensures refused { IfErr result (RefusesOpen text.now ids.old) }
         ensures kept { IfErr result (λ _. ids.new ≡ ids.old) }
     {
@@ -173,6 +176,8 @@ impl Document {
               number = ids.old;
             }) }
         ensures number { OnOk result (ids.new ≡ ids.old + 1) }
+        ensures brackets { OnOk result (HasPairedBrackets self.new) }
+        ensures operators { OnOk result (HasPlacedOperators self.new) }
         ensures steps { IfOk result (λ e. e.steps ≤ most_steps self.old.edition
             (chars (edited self.old.text range.start.0 range.end.0 text.now))) }
         ensures refused { IfErr result (RefusesEdit (edited self.old.text range.start.0 range.end.0 text.now) ids.old) }
@@ -234,6 +239,8 @@ impl Document {
                   (rewritten editor);
               number = ids.old;
             }) }
+        ensures brackets { OnOk result (HasPairedBrackets self.new) }
+        ensures operators { OnOk result (HasPlacedOperators self.new) }
         ensures changed { IfOk result (λ c. map ends_of c.changed.items ≡ changed editor) }
         ensures steps { IfOk result (λ c. c.steps ≤ most_steps self.old.edition (chars (tree_text (rewritten editor)))) }
         ensures number { OnOk result (ids.new ≡ ids.old + 1) }
@@ -267,6 +274,8 @@ impl Document {
               text = string_bytes text;
               number = ids.old;
             }) }
+        ensures brackets { OnOk result (HasPairedBrackets self.new) }
+        ensures operators { OnOk result (HasPlacedOperators self.new) }
         ensures number { OnOk result (ids.new ≡ ids.old + 1) }
         ensures refused { IfErr result (RefusesTree ids.old) }
         ensures kept { IfErr result (λ _. (self.new ≡ self.old) × (ids.new ≡ ids.old)) }

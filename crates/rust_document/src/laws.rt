@@ -1,7 +1,8 @@
 //! Laws of the definitions. Each is the contract of a function that makes no call.
 
 ghost use Rattle.rust_document.specs.EditLaws.{EditsAreUndone};
-ghost use Rattle.rust_document.specs.Laws.{TreesHaveTheirTexts, LeavesAreSlices, UntouchedIsKept, KindsFollowInputs, TokenTreesAreClosed};
+ghost use Rattle.rust_document.specs.Laws.{TreesHaveTheirTexts, LeavesAreSlices, UntouchedIsKept, KindsFollowInputs, OperatorsBindByPower, TokenTreesAreClosed};
+ghost use Rattle.rust_document.specs.OperatorExamples.{PlacedOperatorsAreTold};
 
 /// The leaves of a text's tree, joined, are the text.
 pub fn trees_have_their_texts()
@@ -27,6 +28,14 @@ pub fn kinds_follow_inputs()
 /// In a document without messages each token tree begins with an opening bracket and ends with its partner.
 pub fn token_trees_are_closed()
     ensures { TokenTreesAreClosed }
+{}
+
+/// In a document without messages a right operand that is a binary expression binds more tightly than the operator before it,
+/// unless that is an assignment; a left one binds no less tightly than the operator behind it, and is no assignment. Some trees
+/// where that is so are told from some where it is not.
+pub fn operators_bind_by_power()
+    ensures documents { OperatorsBindByPower }
+    ensures told { PlacedOperatorsAreTold }
 {}
 
 /// After an edit, the one that puts the old bytes back can be made, and gives the old text: so tokens, messages and tree are the

@@ -1,5 +1,5 @@
 -- The law is a lemma on the definitions.
-use Rattle.rust_document.proofs.Silent.{document-closed}
+use Rattle.rust_document.proofs.Closed.{document-closed}
 use Rattle.rust_document.proofs.laws.token_trees_are_closed.Goals as goal
 
 pub returns : goal.returns

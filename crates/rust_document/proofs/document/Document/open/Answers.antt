@@ -1,0 +1,10 @@
+-- What holds of a document without messages is a law.
+use Rattle.rust_document.proofs.Closed.{document-closed}
+use Rattle.rust_document.proofs.Bound.{document-bound}
+use Rattle.rust_document.proofs.document.Document.open.Goals as goal
+
+pub returns-clause-brackets : goal.returns-clause-brackets
+returns-clause-brackets c = document-closed _ _
+
+pub returns-clause-operators : goal.returns-clause-operators
+returns-clause-operators c = document-bound _ _
