@@ -14,6 +14,7 @@ pub mod FillLemmas
 pub mod FitLemmas
 pub mod GreenLemmas
 pub mod ExecuteLemmas
+pub mod RootLemmas
 pub mod CameLemmas
 pub mod ChangedLemmas
 pub mod RangeLemmas

@@ -10,7 +10,7 @@ use Rattle.tree_rewrite.specs.Marked.{Marked, nothing, inner, token, forest_in}
 use Rattle.tree_rewrite.specs.Pieces.{Around, outside, in_node, in_group, Stand}
 use Rattle.tree_rewrite.specs.Fits.{new_fits}
 use Rattle.tree_rewrite.specs.declared.error.ExecuteError.{ExecuteError}
-use Rattle.tree_rewrite.specs.declared.error.ExecuteError.TheVariants.{TooLong, NoMemory, NotOneNode}
+use Rattle.tree_rewrite.specs.declared.error.ExecuteError.TheVariants.{TooLong, NoMemory}
 use Rattle.tree_rewrite.specs.declared.green.Begun.{Begun}
 
 -- a node may have the children that it has
@@ -52,4 +52,3 @@ NewFitIn s = NewFit s.done × NewFitAround s.around
 abbrev pub RefusesUnless : Type 0 → ExecuteError → Type 0
 RefusesUnless Fits TooLong = Fits → ⊥
 RefusesUnless Fits NoMemory = Unit {0}
-RefusesUnless Fits NotOneNode = ⊥
