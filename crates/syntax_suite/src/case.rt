@@ -1,7 +1,10 @@
 //! A case: changes recorded on a tree, and what becomes of it.
-ghost use Rattle.std.specs.Prelude.{◌≡◌, [], IfOk};
+ghost use Rattle.std.specs.Prelude.{◌≡◌, [], map, is_none, IfOk};
+ghost use Rattle.std.specs.Bool.{OnTrue};
 ghost use Rattle.std.specs.List.{All};
-ghost use Rattle.tree_rewrite.specs.Recorded.{IsOrdered};
+ghost use Rattle.tree_rewrite.specs.Recorded.{IsOrdered, KeepsOneRoot};
+ghost use Rattle.tree_rewrite.specs.Change.{IsOneNode};
+ghost use Rattle.syntax_tree.specs.Handle.{element_of, parent_of};
 
 use anyhow::{Context, bail};
 use rowan_green::{GreenNode, GreenNodeBuilder, SyntaxKind, TextRange};
@@ -159,6 +162,23 @@ fn number(value: &Value, name: &str) -> anyhow::Result<usize> {
     Ok(number.context("a member is no number")? as usize)
 }
 
+/// Whether these are one node.
+fn is_one_node(elements: &[SyntaxElement]) -> bool
+    ensures { OnTrue result (IsOneNode (map element_of elements.now)) }
+{
+    match elements {
+        [element] => element.is_node(),
+        _ => false,
+    }
+}
+
+/// Whether an element is a root.
+fn is_root(element: &SyntaxElement) -> anyhow::Result<bool>
+    ensures { IfOk result (λ b. b ≡ is_none (parent_of (element_of element.now))) }
+{
+    Ok(element.parent()?.is_none())
+}
+
 /// A recorded replacement.
 fn replacement(
     alloc: Global,
@@ -166,12 +186,16 @@ fn replacement(
     trees: &[SyntaxNode],
     change: &Value,
 ) -> anyhow::Result<Change>
-    ensures { IfOk result (λ c. IsOrdered c) }
+    ensures ordered { IfOk result (λ c. IsOrdered c) }
+    ensures root { IfOk result (λ c. KeepsOneRoot c) }
 {
     let single = member(change, "single")?.as_bool().context("no truth")?;
     let new = payload(alloc, trees, change)?;
     let path = member(change, "parent")?;
     if path.is_null() {
+        if !is_one_node(&new) {
+            bail!("the root is replaced by something else than one node")
+        }
         let first = SyntaxElement::Node(root.clone()?);
         let last = first.clone()?;
         return Ok(Change::Replace {
@@ -186,6 +210,9 @@ fn replacement(
     let last = child(alloc, &parent, number(change, "last")?)?;
     if last.index() < first.index() {
         bail!("a row of children is turned around")
+    }
+    if is_root(&first)? {
+        bail!("a child is a root")
     }
     Ok(Change::Replace {
         first,
@@ -202,7 +229,8 @@ fn change(
     trees: &[SyntaxNode],
     value: &Value,
 ) -> anyhow::Result<Change>
-    ensures { IfOk result (λ c. IsOrdered c) }
+    ensures ordered { IfOk result (λ c. IsOrdered c) }
+    ensures root { IfOk result (λ c. KeepsOneRoot c) }
 {
     let Some(insert) = value.get("insert") else {
         return replacement(alloc, root, trees, member(value, "replace")?);
@@ -222,7 +250,8 @@ fn changes(
     trees: &[SyntaxNode],
     case: &Value,
 ) -> anyhow::Result<Vec<Change>>
-    ensures { IfOk result (λ v. All IsOrdered v.items) }
+    ensures ordered { IfOk result (λ v. All IsOrdered v.items) }
+    ensures root { IfOk result (λ v. All KeepsOneRoot v.items) }
 {
     let mut changes = Vec::new(alloc);
     for value in list(member(case, "changes")?)? {

@@ -17,7 +17,7 @@ use Rattle.tree_rewrite.specs.Fits.{AllFit, NewFit, IsNode, RefusesRewrite}
 use Rattle.tree_rewrite.specs.Growing.{IsAround, IsMade, AllFitAround, AllFitIn, NewFitAround, NewFitIn, RefusesUnless}
 use Rattle.tree_rewrite.specs.declared.green.Begun.{Begun}
 use Rattle.tree_rewrite.specs.declared.error.ExecuteError.{ExecuteError}
-use Rattle.tree_rewrite.specs.declared.error.ExecuteError.TheVariants.{TooLong, NoMemory, NotOneNode}
+use Rattle.tree_rewrite.specs.declared.error.ExecuteError.TheVariants.{TooLong, NoMemory}
 use Rattle.tree_rewrite.proofs.MarkedLemmas.{forest_in-blank}
 use Rattle.tree_rewrite.proofs.FillLemmas.{drop_first}
 
@@ -213,7 +213,6 @@ all-start (p ∷ ps) s h = all-before p s (all-start ps (after_piece p s) h)
 pub refuses-more : (P Q : Type 0) (e : ExecuteError) → (Q → P) → RefusesUnless P e → RefusesUnless Q e
 refuses-more P Q TooLong f h = λ q. h (f q)
 refuses-more P Q NoMemory f h = tt
-refuses-more P Q NotOneNode f h = h
 
 pub err_more : {A : Type 0} (r : Result A ExecuteError) (d e : ExecuteError) (P Q : Type 0) → r ≡ Err d → d ≡ e → (Q → P) → RefusesUnless P e → IfErr r (RefusesUnless Q)
 err_more r d e P Q h k f g = subst (λ x. IfErr x (RefusesUnless Q)) (sym (h ∙ ap Err k)) (refuses-more P Q e f g)
@@ -236,4 +235,3 @@ rewrite_refused r d e m h k g = subst (λ x. IfErr x (RefusesRewrite m)) (sym (h
     by_error : (f : ExecuteError) → RefusesUnless (AllFit m) f → RefusesRewrite m f
     by_error TooLong i = i
     by_error NoMemory i = tt
-    by_error NotOneNode i = absurd i

@@ -126,7 +126,7 @@ moved_meet top cs ms u c1 c2 d1 d2 w o1 o2 (Some b) e1 e2 h1 h2 = by_climb (way_
     by_climb None f1 f2 = absurd (false≢true (sym (ap is_none f1)))
     by_climb (Some to) f1 f2 = placed_meet top.place.root cs u b to c1 c2 d1 d2 w o1 o2 f1 f2 h1 h2
 
-job_parts : (o : Option Change) (n own : Option Way) (j : Job) → option_map (λ d. record { sheet = n; change = d; own = own }) o ≡ Some j
+pub job_parts : (o : Option Change) (n own : Option Way) (j : Job) → option_map (λ d. record { sheet = n; change = d; own = own }) o ≡ Some j
     → (o ≡ Some j.change) × (n ≡ j.sheet) × (own ≡ j.own)
 job_parts None n own j e = absurd (false≢true (sym (ap is_none e)))
 job_parts (Some d) n own j e =

@@ -13,6 +13,7 @@ pub mod SheetLemmas
 pub mod FillLemmas
 pub mod GreenLemmas
 pub mod ExecuteLemmas
+pub mod RootLemmas
 pub mod CameLemmas
 pub mod ChangedLemmas
 pub mod RangeLemmas

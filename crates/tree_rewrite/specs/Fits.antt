@@ -6,7 +6,7 @@ use Rattle.rowan_green.specs.declared.utility_types.NodeOrToken.TheVariants.{Nod
 use Rattle.syntax_tree.specs.Element.{term_of}
 use Rattle.tree_rewrite.specs.Marked.{Marked, nothing, inner, token, forest_in}
 use Rattle.tree_rewrite.specs.declared.error.ExecuteError.{ExecuteError}
-use Rattle.tree_rewrite.specs.declared.error.ExecuteError.TheVariants.{TooLong, NoMemory, NotOneNode}
+use Rattle.tree_rewrite.specs.declared.error.ExecuteError.TheVariants.{TooLong, NoMemory}
 
 -- each node of the list may have its children
 abbrev pub AllFit : Marked → Type 0
@@ -25,13 +25,11 @@ NewFit (token m l r) = NewFit r
 abbrev pub IsNode : Marked → Tree → Type 0
 IsNode m t = forest_in m ≡ node t.kind t.forest empty
 
--- a rewrite is refused: a node of it may not have its children, or it is not one node; out of memory at any point
+-- a rewrite is refused: a node of it may not have its children; out of memory at any point
 abbrev pub RefusesRewrite : Marked → ExecuteError → Type 0
 RefusesRewrite m TooLong = AllFit m → ⊥
 RefusesRewrite m NoMemory = Unit {0}
-RefusesRewrite m NotOneNode = (t : Tree) → IsNode m t → ⊥
 
 abbrev pub execute_message : ExecuteError → List ℕ
 execute_message TooLong = codes "too long"
 execute_message NoMemory = codes "out of memory"
-execute_message NotOneNode = codes "what replaces the root is not one node"

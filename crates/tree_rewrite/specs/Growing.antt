@@ -7,7 +7,7 @@ use Rattle.tree_rewrite.specs.Marked.{forest_in}
 use Rattle.tree_rewrite.specs.Pieces.{Around, outside, in_node, in_group, Stand}
 use Rattle.tree_rewrite.specs.Fits.{AllFit, NewFit}
 use Rattle.tree_rewrite.specs.declared.error.ExecuteError.{ExecuteError}
-use Rattle.tree_rewrite.specs.declared.error.ExecuteError.TheVariants.{TooLong, NoMemory, NotOneNode}
+use Rattle.tree_rewrite.specs.declared.error.ExecuteError.TheVariants.{TooLong, NoMemory}
 use Rattle.tree_rewrite.specs.declared.green.Begun.{Begun}
 
 -- what was begun, the innermost first, with the terms before it
@@ -47,4 +47,3 @@ NewFitIn s = NewFit s.done × NewFitAround s.around
 abbrev pub RefusesUnless : Type 0 → ExecuteError → Type 0
 RefusesUnless Fits TooLong = Fits → ⊥
 RefusesUnless Fits NoMemory = Unit {0}
-RefusesUnless Fits NotOneNode = ⊥

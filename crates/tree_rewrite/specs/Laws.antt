@@ -1,8 +1,9 @@
 -- Laws of rewrites.
 use Rattle.std.specs.Prelude.{◌≡◌, ℕ, List, map, true}
+use Rattle.std.specs.List.{All}
 use Rattle.rowan_green.specs.Forest.{Tree}
-use Rattle.syntax_tree.specs.Element.{Element}
-use Rattle.tree_rewrite.specs.Change.{Change}
+use Rattle.syntax_tree.specs.Element.{Element, is_node, term_of}
+use Rattle.tree_rewrite.specs.Change.{Change, KeepsRoot}
 use Rattle.syntax_tree.specs.Mapping.{Mapping}
 use Rattle.tree_rewrite.specs.Rewrite.{jobs, or_no_jobs, is_placeable, rewrite}
 use Rattle.tree_rewrite.specs.Marked.{Marked, changed}
@@ -14,6 +15,11 @@ use Rattle.tree_rewrite.specs.Orders.{is_order, put_in_order}
 abbrev pub OrdersAgree : Type 0
 OrdersAgree = (top : Element) (cs : List Change) (ms : Mapping) (os : List ℕ) → is_placeable top cs ms ≡ true → is_order (or_no_jobs (jobs top cs ms)) os ≡ true
     → put_in_order top (or_no_jobs (jobs top cs ms)) os ≡ rewrite top cs ms
+
+-- where changes put one node alone in the root's place, if they replace it, the tree with all made at once is one node
+abbrev pub RootStays : Type 0
+RootStays = (top : Element) (cs : List Change) (ms : Mapping) → is_node (term_of top) ≡ true → All KeepsRoot cs
+    → (t : Tree) × IsNode (rewrite top cs ms) t
 
 -- the ranges of what was put in are those of the ways of what was put in
 abbrev pub RangesAgree : Type 0

@@ -4,7 +4,7 @@ use Rattle.std.specs.Global.{Vec}
 use Rattle.rowan.specs.Place.{index_of}
 use Rattle.syntax_tree.specs.Element.{Way, Element}
 use Rattle.syntax_tree.specs.Handle.{element_of}
-use Rattle.tree_rewrite.specs.Change.{Change, insert, replace}
+use Rattle.tree_rewrite.specs.Change.{Change, insert, replace, KeepsRoot}
 use Rattle.tree_rewrite.specs.declared.change.Change as declared
 use Rattle.tree_rewrite.specs.declared.change.Change.TheVariants.{Insert, Replace}
 use Rattle.tree_rewrite.specs.declared.tree_change.Target.{Target}
@@ -33,3 +33,7 @@ recorded (Replace first last new single) = replace (element_of first).place.up (
 abbrev pub IsOrdered : declared.Change → Type 0
 IsOrdered (Insert p new) = Unit {0}
 IsOrdered (Replace first last new single) = index_of (element_of first).place ≤ index_of (element_of last).place
+
+-- the change puts one node alone in the root's place, if it replaces the root
+abbrev pub KeepsOneRoot : declared.Change → Type 0
+KeepsOneRoot c = KeepsRoot (recorded c)

@@ -65,8 +65,6 @@ pub enum ExecuteError {
     TooLong = 1,
     /// Memory was refused.
     NoMemory = 2,
-    /// What replaces the root is not one node.
-    NotOneNode = 3,
 }
 
 impl fmt::Display for ExecuteError {
@@ -79,7 +77,6 @@ impl fmt::Display for ExecuteError {
         match self {
             ExecuteError::TooLong => write!(f, "too long"),
             ExecuteError::NoMemory => write!(f, "out of memory"),
-            ExecuteError::NotOneNode => write!(f, "what replaces the root is not one node"),
         }
     }
 }

@@ -1,12 +1,13 @@
 //! The plan of a rewrite: which changes are made where, and in which orders.
 ghost use Rattle.std.specs.Prelude.{◌≡◌, List, [], true, false, map, length, reverse, Some, IfOk, IfErr, OnOk, ◌++◌};
 ghost use Rattle.std.specs.List.{All};
+ghost use Rattle.rowan_green.specs.Forest.{Tree};
 ghost use Rattle.syntax_tree.specs.Handle.{element_of};
 ghost use Rattle.tree_rewrite.specs.Change.{has_collision};
 ghost use Rattle.tree_rewrite.specs.Marked.{origins};
 ghost use Rattle.tree_rewrite.specs.Rewrite.{jobs, rewritten};
 ghost use Rattle.tree_rewrite.specs.Orders.{is_order};
-ghost use Rattle.tree_rewrite.specs.Recorded.{recorded, IsOrdered};
+ghost use Rattle.tree_rewrite.specs.Recorded.{recorded, IsOrdered, KeepsOneRoot};
 ghost use Rattle.tree_rewrite.specs.Plan.{RefusesPlan};
 ghost use Rattle.tree_rewrite.specs.Pieces.{Say};
 ghost use Rattle.tree_rewrite.specs.Changed.{AreChanged};
@@ -50,7 +51,8 @@ pub struct Rewritten {
 impl Model for Plan {
     ghost use Rattle.std.specs.Coded.{codes};
     ghost use Rattle.rowan_green.specs.Forest.{tree_code};
-    ghost use Rattle.tree_rewrite.specs.Plan.{Plan, AreDeeper, AreApart};
+    ghost use Rattle.tree_rewrite.specs.Plan.{Plan, AreDeeper, AreApart, KeepsTop};
+    ghost use Rattle.std.specs.List.{All};
 
     ghost Value = { Plan };
 
@@ -58,12 +60,13 @@ impl Model for Plan {
 
     ghost view = { λ p. record { top = p.top; jobs = p.jobs.items } };
 
-    ghost invariant = { λ p. AreDeeper p.jobs.items × AreApart p.jobs.items };
+    ghost invariant = { λ p. AreDeeper p.jobs.items × AreApart p.jobs.items × All KeepsTop p.jobs.items };
 }
 
 impl Plan {
     /// The plan of changes recorded on the tree of a root. Refuses as `Intersecting` where two of them replace one element, be they
-    /// dropped or not, else as `MissingMapping` where one that is not dropped has no place.
+    /// dropped or not, else as `MissingMapping` where one that is not dropped has no place. A change that replaces the root puts one
+    /// node alone in its place.
     pub fn build(
         alloc: Global,
         root: &SyntaxNode,
@@ -72,6 +75,7 @@ impl Plan {
     ) -> Result<Plan, PlanError>
         requires top { root.now.place.up ≡ [] }
         requires ordered { All IsOrdered changes.items }
+        requires root { All KeepsOneRoot changes.items }
         ensures top { IfOk result (λ p. p.top ≡ root.now) }
         ensures jobs { IfOk result (λ p. jobs root.now (map recorded changes.items) mapping.now ≡ Some p.jobs) }
         ensures apart { OnOk result (has_collision (map recorded changes.items) ≡ false) }
@@ -111,8 +115,7 @@ impl Plan {
     }
 
     /// The tree with all changes made at once: they are made one by one, in any order in which they may. Refuses as `TooLong` where a
-    /// node of the tree would have a text of 2^32 bytes or more, or so many children; as `NotOneNode` where the root is replaced by
-    /// something else than one node.
+    /// node of the tree would have a text of 2^32 bytes or more, or so many children.
     pub fn execute(&self, alloc: Global, order: &[usize]) -> Result<Rewritten, ExecuteError>
         requires { is_order self.now.jobs order.now ≡ true }
         ensures green { IfOk result (λ r. IsNode (rewritten self.now.top (reverse self.now.jobs)) r.green) }
@@ -125,7 +128,7 @@ impl Plan {
         let pieces = self.pieces(alloc, order)?;
         let elements = green_of(alloc, &pieces)?;
         let Some(green) = one_node(elements) else {
-            return Err(ExecuteError::NotOneNode);
+            unreachable!()
         };
         let _fits = green.text_len();
         let changed = changed_of(alloc, &pieces)?;
@@ -140,10 +143,12 @@ impl Plan {
     /// The tree with all changes made at once, piece by piece: they are made one by one, in any order in which they may.
     fn pieces(&self, alloc: Global, order: &[usize]) -> Result<Vec<Piece>, AllocError>
         requires { is_order self.now.jobs order.now ≡ true }
-        ensures { IfOk result (λ v. Say v.items (rewritten self.now.top (reverse self.now.jobs))) }
+        ensures says { IfOk result (λ v. Say v.items (rewritten self.now.top (reverse self.now.jobs))) }
+        ensures node { OnOk result ((t : Tree) × IsNode (rewritten self.now.top (reverse self.now.jobs)) t) }
     {
         let made = make_all(alloc, &self.jobs, order)?;
         let mut pieces = Vec::new(alloc);
+        let _stands = self.top.cursor().green();
         let top = SyntaxElement::Node(self.top.clone()?);
         push_standing(alloc, &self.jobs, &made, &None, top, &[], &mut pieces)?;
         Ok(pieces)

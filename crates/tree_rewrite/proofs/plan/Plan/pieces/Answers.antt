@@ -1,15 +1,19 @@
 -- The jobs are made one by one, and every admitted order of them ends in the rewritten element.
 use Rattle.std.proofs.Common.{[], None, reverse, refl, subst, sym, ap, ◌∙◌}
-use Rattle.syntax_tree.specs.Element.{term_of}
+use Rattle.rowan_green.specs.Forest.{Tree}
+use Rattle.rowan.specs.Place.{term_at}
+use Rattle.syntax_tree.specs.Element.{term_of, is_node}
 use Rattle.tree_rewrite.specs.Rewrite.{puts, rewritten}
 use Rattle.tree_rewrite.specs.Orders.{picked, is_order}
 use Rattle.tree_rewrite.specs.Fill.{HavePut, standing}
 use Rattle.tree_rewrite.proofs.SheetLemmas.{adds-from}
 use Rattle.tree_rewrite.proofs.ExecuteLemmas.{standing-top, any_order}
+use Rattle.tree_rewrite.specs.Fits.{IsNode}
+use Rattle.tree_rewrite.proofs.RootLemmas.{root_node}
 use Rattle.tree_rewrite.proofs.plan.Plan.pieces.Goals as goal
 
-pub returns : goal.returns
-returns c =
+pub returns-clause-says : goal.returns-clause-says
+returns-clause-says c =
     let js = c.self.inside.jobs.items in
     let os = c.args.order.now in
     let e = c.self.inside.top in
@@ -21,3 +25,10 @@ returns c =
     let order = any_order e js os c.self.invariant.0 c.self.invariant.1 (ap (λ p. is_order p.jobs os) c.self.view_is ∙ c.requires) in
     let whole = ap (λ y. standing s e [] (term_of y)) same ∙ standing-top s e (term_of e) refl ∙ order ∙ ap (λ p. rewritten p.top (reverse p.jobs)) c.self.view_is in
     adds-from _ _ _ _ (rewritten c.args.self.now.top (reverse c.args.self.now.jobs)) c.new-pieces.ensures.items whole (c.in_ok-push_standing.ensures made e given same)
+
+pub returns-clause-node : goal.returns-clause-node
+returns-clause-node c =
+    let js = c.self.inside.jobs.items in
+    let e = c.self.inside.top in
+    let node = root_node e js (ap is_node (ap term_at (sym c.cursor.ensures) ∙ c.green-stands.ensures)) c.self.invariant.2 in
+    subst (λ p. (t : Tree) × IsNode (rewritten p.top (reverse p.jobs)) t) c.self.view_is node
