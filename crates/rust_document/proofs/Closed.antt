@@ -10,6 +10,7 @@ use Rattle.parser_events.specs.Forest.{Message, IllegalFloat}
 use Rattle.rust_grammar.specs.TokenTrees.{partner, is_opening, ends_with, is_bracketed, are_token_trees_bracketed}
 use Rattle.rust_grammar.specs.Rule.{source_file}
 use Rattle.rust_grammar.proofs.Plain.{and_l, and_r}
+use Rattle.rust_grammar.proofs.Spelling.{both-true}
 use Rattle.rust_grammar.proofs.TokenTreesTable.{token-trees-bracketed}
 use Rattle.rust_document.specs.Laws.{TokenTreesAreClosed}
 use Rattle.rust_document.specs.Reading.{leaves_in}
@@ -19,11 +20,6 @@ use Rattle.rust_document.proofs.Shown.{Shows, kind_before, parted, accessed, wro
 use Rattle.rust_document.proofs.Silent.{told}
 use Rattle.rust_document.proofs.Kept.{Kept, parted-kept, accessed-kept, wronged-kept}
 use Rattle.rust_document.proofs.Carried.{Carried, document-holds}
-
-both-true : (a b : Bool) → a ≡ true → b ≡ true → (a && b) ≡ true
-both-true true true p q = refl
-both-true true false p q = q
-both-true false b p q = p
 
 closed-beside : (a b : Forest) → are_token_trees_closed a ≡ true → are_token_trees_closed b ≡ true → are_token_trees_closed (beside a b) ≡ true
 unfolding are_token_trees_closed beside
