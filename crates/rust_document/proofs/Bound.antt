@@ -3,7 +3,7 @@ use Rattle.std.proofs.Common.{◌≡◌, ℕ, ◌<◌, Bool, true, false, not, �
 use Rattle.std.proofs.lemmas.Bool.{cases_Bool, eqb-true, ltb-true}
 use Rattle.rowan_green.specs.Forest.{Forest, empty, node, leaf}
 use Rattle.rowan_green.specs.Leaf as green
-use Rattle.parser_input.specs.Kinds.{BIN_EXPR, FIELD_EXPR, WHITESPACE, COMMENT}
+use Rattle.parser_input.specs.Kinds.{BIN_EXPR, FIELD_EXPR, SOURCE_FILE, WHITESPACE, COMMENT}
 use Rattle.parser_input.specs.Input.{input}
 use Rattle.parser_events.specs.Forest as forest
 use Rattle.rust_grammar.specs.Meaning.{is_end}
@@ -270,6 +270,7 @@ operators-kept = record {
   number = refl;
   wrong = refl;
   field = λ f p. node-bound FIELD_EXPR f empty refl p refl;
+  file = λ f p. node-bound SOURCE_FILE f empty refl p refl;
 }
 
 shown-bound : (f : forest.Forest) (k : Forest) → Shows f k → told f ≡ 0 → has_solid_leaves f ≡ true → grammar.are_operators_placed f ≡ true → are_operators_placed k ≡ true

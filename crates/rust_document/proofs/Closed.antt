@@ -3,7 +3,7 @@ use Rattle.std.proofs.Common.{◌≡◌, ℕ, ◌⊎◌, Bool, true, false, ◌&
 use Rattle.std.proofs.lemmas.Bool.{cases_Bool, eqb-true, eq-eqb, or_cases}
 use Rattle.rowan_green.specs.Forest.{Forest, empty, node, leaf}
 use Rattle.rowan_green.specs.Leaf as green
-use Rattle.parser_input.specs.Kinds.{EOF, FIELD_EXPR, TOKEN_TREE, WHITESPACE, COMMENT, L_PAREN, L_CURLY, L_BRACK}
+use Rattle.parser_input.specs.Kinds.{EOF, FIELD_EXPR, SOURCE_FILE, TOKEN_TREE, WHITESPACE, COMMENT, L_PAREN, L_CURLY, L_BRACK}
 use Rattle.parser_input.specs.Input.{input}
 use Rattle.parser_events.specs.Forest as forest
 use Rattle.parser_events.specs.Forest.{Message, IllegalFloat}
@@ -167,6 +167,7 @@ token-trees-kept = record {
   number = refl;
   wrong = refl;
   field = λ f p. node-closed FIELD_EXPR f empty refl p refl;
+  file = λ f p. node-closed SOURCE_FILE f empty refl p refl;
 }
 
 shown-closed : (f : forest.Forest) (k : Forest) → Shows f k → told f ≡ 0 → are_token_trees_bracketed f ≡ true → are_token_trees_closed k ≡ true

@@ -1,8 +1,8 @@
--- A fact of elements that holds side by side, and around a field access, holds around a float behind a dot.
+-- A fact of elements that holds side by side, in a file and in a field access, holds around a float behind a dot.
 use Rattle.std.proofs.Common.{◌≡◌, Bool, true, []}
 use Rattle.rowan_green.specs.Forest.{Forest, empty, node, leaf}
 use Rattle.rowan_green.specs.Leaf as green
-use Rattle.parser_input.specs.Kinds.{ERROR, FIELD_EXPR, FLOAT_NUMBER}
+use Rattle.parser_input.specs.Kinds.{ERROR, FIELD_EXPR, FLOAT_NUMBER, SOURCE_FILE}
 use Rattle.rust_document.proofs.Shapes.{beside}
 use Rattle.rust_document.proofs.Shown.{number_shown, dot_before, parted, accessed, wronged}
 
@@ -17,6 +17,7 @@ pub record Kept (holds : Forest → Bool) : Type 0 where
   pub number : holds number_shown ≡ true
   pub wrong : holds wrong_shown ≡ true
   pub field : (f : Forest) → holds f ≡ true → holds (node FIELD_EXPR f empty) ≡ true
+  pub file : (f : Forest) → holds f ≡ true → holds (node SOURCE_FILE f empty) ≡ true
 
 module _ (holds : Forest → Bool) (kept : Kept holds) where
   pub leaf-kept : (l : green.Leaf) (r : Forest) → holds r ≡ true → holds (leaf l r) ≡ true

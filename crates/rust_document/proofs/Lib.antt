@@ -17,6 +17,7 @@ pub mod Faults
 pub mod Shapes
 pub mod Shown
 pub mod Silent
+pub mod SourceFiles
 pub mod Kept
 pub mod Carried
 pub mod Closed

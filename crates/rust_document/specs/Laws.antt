@@ -14,7 +14,7 @@ use Rattle.rust_document.specs.Open.{IsOpened}
 use Rattle.rust_document.specs.Reading.{tree, tree_by, leaves_in, messages}
 use Rattle.rust_document.specs.Brackets.{are_token_trees_closed}
 use Rattle.rust_document.specs.Operators.{are_operators_placed}
-use Rattle.rust_document.specs.Shape.{kinds_of, dots}
+use Rattle.rust_document.specs.Shape.{kinds_of, kinds_from, dots}
 use Rattle.rust_document.specs.Rewrite.{Editing, rewritten}
 use Rattle.rust_document.specs.Step.{State, present, verdict, Accepted}
 
@@ -53,9 +53,9 @@ KindsFollowInputs =
 -- In a document without messages each token tree begins with an opening bracket and ends with its partner.
 abbrev pub TokenTreesAreClosed : Type 0
 TokenTreesAreClosed =
-    (edition : Edition) (text : List ℕ) → messages edition text ≡ [] → are_token_trees_closed (kinds_of (tree edition text)).forest ≡ true
+    (edition : Edition) (text : List ℕ) → messages edition text ≡ [] → are_token_trees_closed (kinds_from (tree edition text)) ≡ true
 
 -- In a document without messages each binary expression has operands that its operator's power allows.
 abbrev pub OperatorsBindByPower : Type 0
 OperatorsBindByPower =
-    (edition : Edition) (text : List ℕ) → messages edition text ≡ [] → are_operators_placed (kinds_of (tree edition text)).forest ≡ true
+    (edition : Edition) (text : List ℕ) → messages edition text ≡ [] → are_operators_placed (kinds_from (tree edition text)) ≡ true

@@ -15,6 +15,10 @@ kinds_in (leaf l r) = let rest = kinds_in r in if l.kind == WHITESPACE || l.kind
 abbrev pub kinds_of : Tree → Tree
 kinds_of t = record { kind = t.kind; forest = kinds_in t.forest }
 
+-- the same as the only element of a forest
+abbrev pub kinds_from : Tree → Forest
+kinds_from t = node t.kind (kinds_in t.forest) empty
+
 unfoldable pub has_dot : List ℕ → Bool
 has_dot text = not (is_empty (from_dot text))
 
