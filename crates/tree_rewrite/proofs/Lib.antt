@@ -11,6 +11,7 @@ pub mod KeptLemmas
 pub mod MovedLemmas
 pub mod SheetLemmas
 pub mod FillLemmas
+pub mod BelowLemmas
 pub mod GreenLemmas
 pub mod ExecuteLemmas
 pub mod RootLemmas
