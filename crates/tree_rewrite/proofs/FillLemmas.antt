@@ -13,8 +13,8 @@ use Rattle.syntax_tree.specs.declared.element.SyntaxElement.{SyntaxElement}
 use Rattle.syntax_tree.specs.declared.element.SyntaxElement.TheVariants as elements
 use Rattle.tree_rewrite.specs.Change.{is_within, covers}
 use Rattle.tree_rewrite.specs.Marked.{Marked, nothing, inner, token, join, with_put, origin_at, gap, slot, Sheet, blank, or_own, filled, read_from, reading_of}
-use Rattle.tree_rewrite.specs.Rewrite.{Job, puts}
-use Rattle.tree_rewrite.specs.Fill.{IsBlankBelow, inside, node_in, standing}
+use Rattle.tree_rewrite.specs.Below.{AgreeBelow, AgreeChild}
+use Rattle.tree_rewrite.specs.Fill.{Given, laid, at_gap, IsBlankBelow, inside, node_in, standing}
 use Rattle.tree_rewrite.specs.Pieces.{added, after, after_piece, in_node, in_group, Adds}
 use Rattle.tree_rewrite.specs.declared.piece.Piece.{Piece}
 use Rattle.tree_rewrite.specs.declared.piece.Piece.TheVariants.{Whole, Open, Group, Close}
@@ -47,20 +47,20 @@ within_own [] = refl
 within_own (i ∷ w) = or_left (covers (i ∷ w) 0 (i ∷ w)) _ (and_from _ _ (same_way-own w) (and_from _ _ (le-leb i i (omega arith)) (le-leb i (i + 0) (omega arith))))
 
 -- the element at `w` of a sheet that says nothing of it
-pub standing-whole : (js : List Job) (n : Option Way) (e : Element) (w : Way) (o : Option Term) → term_of (origin_at e w).origin ≡ o → puts js n (slot w) ≡ None → IsBlankBelow js n w
-    → reading_of blank (origin_at e w).origin ≡ standing (puts js n) e w o
-standing-whole js n e w None t h b = ap (read_from blank (origin_at e w).origin) t
-standing-whole js n e w (Some (Node g)) t h b =
-    let same = filled_agree (puts js n) blank e w 0 g.forest (agree_from (puts js n) blank w b w (within_own w) 0 g.forest) ∙ filled-shift e [] w 0 g.forest in
+pub standing-whole : (gs : List Given) (n : Option Way) (e : Element) (w : Way) (o : Option Term) → term_of (origin_at e w).origin ≡ o → laid gs n (slot w) ≡ None → IsBlankBelow gs n w
+    → reading_of blank (origin_at e w).origin ≡ standing (laid gs n) e w o
+standing-whole gs n e w None t h b = ap (read_from blank (origin_at e w).origin) t
+standing-whole gs n e w (Some (Node g)) t h b =
+    let same = filled_agree (laid gs n) blank e w 0 g.forest (agree_from (laid gs n) blank w b w (within_own w) 0 g.forest) ∙ filled-shift e [] w 0 g.forest in
     ap (read_from blank (origin_at e w).origin) t
     ∙ ap (λ f. inner (origin_at e w) g.kind f nothing) (sym same)
-    ∙ ap (λ x. or_own x (node_in (puts js n) e w (Some (Node g)))) (sym h)
-standing-whole js n e w (Some (Token l)) t h b =
+    ∙ ap (λ x. or_own x (node_in (laid gs n) e w (Some (Node g)))) (sym h)
+standing-whole gs n e w (Some (Token l)) t h b =
     ap (read_from blank (origin_at e w).origin) t ∙ ap (λ x. or_own x (token (origin_at e w) l nothing)) (sym h)
 
-pub standing-token : (js : List Job) (n : Option Way) (e : Element) (w : Way) (l : Leaf) → term_of (origin_at e w).origin ≡ Some (Token l) → puts js n (slot w) ≡ None
-    → reading_of blank (origin_at e w).origin ≡ standing (puts js n) e w (Some (Token l))
-standing-token js n e w l t h =
+pub standing-token : (gs : List Given) (n : Option Way) (e : Element) (w : Way) (l : Leaf) → term_of (origin_at e w).origin ≡ Some (Token l) → laid gs n (slot w) ≡ None
+    → reading_of blank (origin_at e w).origin ≡ standing (laid gs n) e w (Some (Token l))
+standing-token gs n e w l t h =
     ap (read_from blank (origin_at e w).origin) t ∙ ap (λ x. or_own x (token (origin_at e w) l nothing)) (sym h)
 
 -- an element that is replaced
@@ -79,6 +79,27 @@ standing-replaced s e w o (Token l) h r = by_slot (s (slot w)) r ∙ ap (standin
 -- a node that is not replaced
 pub standing-node : (s : Sheet) (e : Element) (w : Way) (o : Option Term) (t : Tree) → o ≡ Some (Node t) → s (slot w) ≡ None → node_in s e w o ≡ standing s e w o
 standing-node s e w o t h r = ap (node_in s e w) h ∙ ap (λ x. or_own x (node_in s e w (Some (Node t)))) (sym r) ∙ ap (standing s e w) (sym h)
+
+-- ---- a child reads alike on sheets that say the same of it
+standing-agree : (s t : Sheet) (e : Element) (w : Way) (o : Option Term) → s (slot w) ≡ t (slot w) → AgreeBelow s t w → standing s e w o ≡ standing t e w o
+standing-agree s t e w None h b = refl
+standing-agree s t e w (Some (Node g)) h b =
+    let below = filled_agree s t e w 0 g.forest (agree_from s t w b w (within_own w) 0 g.forest) in
+    λ j. or_own (h j) (inner (origin_at e w) g.kind (below j) nothing)
+standing-agree s t e w (Some (Token l)) h b = ap (λ x. or_own x (token (origin_at e w) l nothing)) h
+
+pub child-agree : (s t : Sheet) (e : Element) (w : Way) (i : ℕ) (o : Option Term) → AgreeChild s t w i
+    → join (or_own (s (gap w i)) nothing) (standing s e (i ∷ w) o) ≡ join (or_own (t (gap w i)) nothing) (standing t e (i ∷ w) o)
+child-agree s t e w i o h =
+    let own = standing-agree s t e (i ∷ w) o h.1 h.2 in
+    λ j. join (or_own (h.0 j) nothing) (own j)
+
+-- a child of which nothing is said
+pub child-whole : (gs : List Given) (n : Option Way) (e : Element) (w : Way) (i : ℕ) (x : Element) → gs ≡ [] → x ≡ (origin_at e (i ∷ w)).origin
+    → reading_of blank x ≡ join (at_gap gs n w i) (standing (laid gs n) e (i ∷ w) (term_of x))
+child-whole gs n e w i x h o =
+    ap (reading_of blank) o ∙ standing-whole [] n e (i ∷ w) (term_of x) (ap term_of (sym o)) refl (λ p t k. (refl, refl))
+    ∙ ap (λ l. join (at_gap l n w i) (standing (laid l n) e (i ∷ w) (term_of x))) (sym h)
 
 -- ---- what is added for a whole element
 pub adds-whole : (ps qs : List Piece) (x : SyntaxElement) → qs ≡ ps ++ Whole x ∷ [] → Adds ps qs (reading_of blank (element_of x))

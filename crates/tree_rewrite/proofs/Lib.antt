@@ -12,6 +12,7 @@ pub mod MovedLemmas
 pub mod SheetLemmas
 pub mod FillLemmas
 pub mod FitLemmas
+pub mod BelowLemmas
 pub mod GreenLemmas
 pub mod ExecuteLemmas
 pub mod RootLemmas

@@ -9,6 +9,7 @@ use Rattle.std.proofs.lemmas.Bool.{false≢true, and_parts}
 use Rattle.tree_rewrite.specs.Change.{Change, insert, replace, is_within, covers}
 use Rattle.tree_rewrite.specs.Rewrite.{Job, same_sheet, sets, set_by, written}
 use Rattle.tree_rewrite.specs.Plan.{sets_on}
+use Rattle.tree_rewrite.specs.Below.{AgreeBelow}
 use Rattle.tree_rewrite.specs.Marked.{Marked, nothing, inner, token, join, forest_in, origins, origin_at, gap, slot, Sheet, blank, or_own, filled}
 
 abbrev pub forest_join : Forest → Forest → Forest
@@ -47,10 +48,6 @@ filled_agree s t e w i (node k f r) h =
 filled_agree s t e w i (leaf l r) h =
     let rest = filled_agree s t e w (i + 1) r h.2 in
     λ j. join (or_own (h.0 j) nothing) (join (or_own (h.1 j) (token (origin_at e (i ∷ w)) l nothing)) (rest j))
-
--- two sheets agree at the gaps and slots whose parent is v or lies below it
-abbrev pub AgreeBelow : Sheet → Sheet → Way → Type 0
-AgreeBelow s t v = (p : Way) → is_within v 0 p ≡ true → (i : ℕ) → (s (gap p i) ≡ t (gap p i)) × (s (slot (i ∷ p)) ≡ t (slot (i ∷ p)))
 
 pub agree_from : (s t : Sheet) (v : Way) → AgreeBelow s t v → (w : Way) → is_within v 0 w ≡ true → (i : ℕ) (f : Forest) → Agree s t w i f
 agree_from s t v h w b i empty = (h w b i).0

@@ -6,7 +6,7 @@ use Rattle.rowan_green.specs.declared.utility_types.NodeOrToken.TheVariants.{Nod
 use Rattle.syntax_tree.specs.Element.{Way, Element}
 use Rattle.tree_rewrite.specs.Change.{is_within}
 use Rattle.tree_rewrite.specs.Marked.{Marked, nothing, inner, token, gap, slot, Sheet, or_own, origin_at, filled}
-use Rattle.tree_rewrite.specs.Rewrite.{Job, puts, terms_of}
+use Rattle.tree_rewrite.specs.Rewrite.{Job, Sheets, blank_sheets, write, puts, terms_of}
 use Rattle.tree_rewrite.specs.Pieces.{Say}
 use Rattle.tree_rewrite.specs.declared.piece.Put.{Put}
 
@@ -21,17 +21,44 @@ AreTerms all (p ∷ ps) (j ∷ js) = (slice_get all p.number ≡ Some j) × Say 
 abbrev pub HavePut : List Job → List Put → List Job → Type 0
 HavePut all ps js = AreTerms all (reverse ps) js
 
--- what stands at a gap after these jobs
-abbrev pub at_gap : List Job → Option Way → Way → ℕ → Marked
-at_gap js n w i = or_own (puts js n (gap w i)) nothing
+-- ---- some of what was put in
+
+-- a job, and the terms that it puts in
+abbrev pub Given : Type 0
+Given = Job × Marked
+
+-- the sheets after jobs that put in these terms; the one made last is the first of the list
+abbrev pub laid : List Given → Sheets
+laid [] = blank_sheets
+laid (g ∷ gs) = write g.0 g.1 (laid gs)
+
+-- this is of one of these jobs, numbered as in all of them, and has put in these terms
+abbrev pub IsGiven : List Job → Option Put → Given → Type 0
+IsGiven all None g = ⊥
+IsGiven all (Some p) g = (slice_get all p.number ≡ Some g.0) × Say p.pieces.items g.1
+
+-- so is each of what was put in, by its number
+abbrev pub AreGiven : List Job → List Put → List ℕ → List Given → Type 0
+AreGiven all ps [] [] = Unit {0}
+AreGiven all ps [] (g ∷ gs) = ⊥
+AreGiven all ps (a ∷ ns) [] = ⊥
+AreGiven all ps (a ∷ ns) (g ∷ gs) = IsGiven all (slice_get ps a) g × AreGiven all ps ns gs
+
+-- the same where the last number is of the first job
+abbrev pub HaveGiven : List Job → List Put → List ℕ → List Given → Type 0
+HaveGiven all ps ns gs = AreGiven all ps (reverse ns) gs
+
+-- what stands at a gap after these
+abbrev pub at_gap : List Given → Option Way → Way → ℕ → Marked
+at_gap gs n w i = or_own (laid gs n (gap w i)) nothing
 
 -- what stands in the place of an element that was replaced
-abbrev pub at_slot : List Job → Option Way → Way → Marked
-at_slot js n w = or_own (puts js n (slot w)) nothing
+abbrev pub at_slot : List Given → Option Way → Way → Marked
+at_slot gs n w = or_own (laid gs n (slot w)) nothing
 
--- these jobs say nothing of what stands below the element at `v` of a sheet
-abbrev pub IsBlankBelow : List Job → Option Way → Way → Type 0
-IsBlankBelow js n v = (p : Way) → is_within v 0 p ≡ true → (i : ℕ) → (puts js n (gap p i) ≡ None) × (puts js n (slot (i ∷ p)) ≡ None)
+-- these say nothing of what stands below the element at `v` of a sheet
+abbrev pub IsBlankBelow : List Given → Option Way → Way → Type 0
+IsBlankBelow gs n v = (p : Way) → is_within v 0 p ≡ true → (i : ℕ) → (laid gs n (gap p i) ≡ None) × (laid gs n (slot (i ∷ p)) ≡ None)
 
 -- ---- elements as they stand
 

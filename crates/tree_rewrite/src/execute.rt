@@ -11,6 +11,7 @@ ghost use Rattle.tree_rewrite.specs.Pieces.{Adds, Say};
 
 use crate::fill::{push_standing, push_whole};
 use crate::job::Job;
+use crate::lists::on_sheet;
 use crate::piece::{Piece, Put};
 use std::alloc::{AllocError, Global};
 use syntax_tree::SyntaxElement;
@@ -31,7 +32,10 @@ fn push_payload(
     let copy = element.clone()?;
     match own {
         None => push_whole(copy, pieces)?,
-        Some(_) => push_standing(alloc, jobs, made, own, copy, &[], pieces)?,
+        Some(_) => {
+            let numbers = on_sheet(alloc, jobs, made, own)?;
+            push_standing(alloc, jobs, made, &numbers, own, copy, &[], pieces)?;
+        }
     }
     Ok(())
 }

@@ -1,14 +1,14 @@
 //! Elements of a sheet as they stand after some jobs. What no job touches is shared.
-ghost use Rattle.std.specs.Prelude.{◌≡◌, List, IfOk, OnOk};
+ghost use Rattle.std.specs.Prelude.{◌≡◌, ◌∷◌, List, IfOk, OnOk};
 ghost use Rattle.syntax_tree.specs.Element.{Element, term_of};
 ghost use Rattle.syntax_tree.specs.Handle.{element_of};
-ghost use Rattle.tree_rewrite.specs.Marked.{origin_at, filled, blank, reading_of};
-ghost use Rattle.tree_rewrite.specs.Rewrite.{Job, puts};
+ghost use Rattle.tree_rewrite.specs.Marked.{join, origin_at, filled, blank, reading_of};
 ghost use Rattle.tree_rewrite.specs.Recorded.{way_of};
-ghost use Rattle.tree_rewrite.specs.Fill.{HavePut, standing, node_in, inside};
+ghost use Rattle.tree_rewrite.specs.Fill.{Given, laid, HaveGiven, at_gap, standing, node_in, inside};
 ghost use Rattle.tree_rewrite.specs.Pieces.{Adds};
 
 use crate::job::Job;
+use crate::lists::{list_at, lists_below};
 use crate::moved::with_number;
 use crate::piece::{Piece, Put};
 use crate::sheet::{is_touched, push_gap, push_slot};
@@ -30,16 +30,17 @@ pub fn push_standing(
     alloc: Global,
     jobs: &[Job],
     made: &[Put],
+    numbers: &[usize],
     sheet: &Option<Vec<usize>>,
     element: SyntaxElement,
     way: &[usize],
     pieces: &mut Vec<Piece>,
 ) -> Result<(), AllocError>
-    ensures { (js : List Job) (e : Element) → HavePut jobs.now made.now js → element_of element ≡ (origin_at e way.now).origin → OnOk result
+    ensures { (gs : List Given) (e : Element) → HaveGiven jobs.now made.now numbers.now gs → element_of element ≡ (origin_at e way.now).origin → OnOk result
         (Adds pieces.old.items pieces.new.items
-        (standing (puts js (way_of sheet.now)) e way.now (term_of (element_of element)))) }
+        (standing (laid gs (way_of sheet.now)) e way.now (term_of (element_of element)))) }
 {
-    if push_slot(jobs, made, sheet, way, pieces)? {
+    if push_slot(jobs, made, numbers, sheet, way, pieces)? {
         return Ok(());
     }
     match element {
@@ -49,8 +50,8 @@ pub fn push_standing(
         }
         SyntaxElement::Node(node) => {
             let _stands = node.cursor().green();
-            if is_touched(jobs, made, sheet, way) {
-                push_node(alloc, jobs, made, sheet, &node, way, pieces)
+            if is_touched(jobs, made, numbers, sheet, way) {
+                push_node(alloc, jobs, made, numbers, sheet, &node, way, pieces)
             } else {
                 push_whole(SyntaxElement::Node(node), pieces)
             }
@@ -64,18 +65,19 @@ fn push_node(
     alloc: Global,
     jobs: &[Job],
     made: &[Put],
+    numbers: &[usize],
     sheet: &Option<Vec<usize>>,
     node: &SyntaxNode,
     way: &[usize],
     pieces: &mut Vec<Piece>,
 ) -> Result<(), AllocError>
-    ensures { (js : List Job) (e : Element) → HavePut jobs.now made.now js → node.now ≡ (origin_at e way.now).origin → OnOk result
+    ensures { (gs : List Given) (e : Element) → HaveGiven jobs.now made.now numbers.now gs → node.now ≡ (origin_at e way.now).origin → OnOk result
         (Adds pieces.old.items pieces.new.items
-        (node_in (puts js (way_of sheet.now)) e way.now (term_of node.now))) }
+        (node_in (laid gs (way_of sheet.now)) e way.now (term_of node.now))) }
 {
     let _stands = node.cursor().green();
     pieces.push(Piece::Open(node.clone()?))?;
-    fill(alloc, jobs, made, sheet, node, way, pieces)?;
+    fill(alloc, jobs, made, numbers, sheet, node, way, pieces)?;
     pieces.push(Piece::Close)?;
     Ok(())
 }
@@ -86,26 +88,55 @@ fn fill(
     alloc: Global,
     jobs: &[Job],
     made: &[Put],
+    numbers: &[usize],
     sheet: &Option<Vec<usize>>,
     node: &SyntaxNode,
     way: &[usize],
     pieces: &mut Vec<Piece>,
 ) -> Result<(), AllocError>
-    ensures { (js : List Job) (e : Element) → HavePut jobs.now made.now js → node.now ≡ (origin_at e way.now).origin → OnOk result
+    ensures { (gs : List Given) (e : Element) → HaveGiven jobs.now made.now numbers.now gs → node.now ≡ (origin_at e way.now).origin → OnOk result
         (Adds pieces.old.items pieces.new.items
-        (filled (puts js (way_of sheet.now)) e way.now 0 (inside (term_of node.now)))) }
+        (filled (laid gs (way_of sheet.now)) e way.now 0 (inside (term_of node.now)))) }
 {
     let count = node.cursor().green().children().len();
+    let lists = lists_below(alloc, jobs, made, numbers, way.len(), count + 1)?;
     let mut children = node.children_with_tokens(alloc)?;
     let mut index = 0;
     while let Some(child) = children.next() {
         let child = child?;
-        push_gap(jobs, made, sheet, way, index, pieces)?;
-        let below = with_number(alloc, index, way)?;
-        push_standing(alloc, jobs, made, sheet, child, &below, pieces)?;
         prove!(index < count);
+        let own = list_at(&lists, index);
+        push_child(alloc, jobs, made, own, sheet, child, way, index, pieces)?;
         index += 1;
     }
-    push_gap(jobs, made, sheet, way, index, pieces)?;
+    let last = list_at(&lists, index);
+    push_gap(jobs, made, last, sheet, way, index, pieces)?;
     Ok(())
+}
+
+/// Adds what stands at the gap before a child, and the child as it stands.
+#[cycle(fill)]
+fn push_child(
+    alloc: Global,
+    jobs: &[Job],
+    made: &[Put],
+    numbers: &[usize],
+    sheet: &Option<Vec<usize>>,
+    child: SyntaxElement,
+    way: &[usize],
+    index: usize,
+    pieces: &mut Vec<Piece>,
+) -> Result<(), AllocError>
+    ensures { (gs : List Given) (e : Element) → HaveGiven jobs.now made.now numbers.now gs
+        → element_of child ≡ (origin_at e (index ∷ way.now)).origin → OnOk result
+        (Adds pieces.old.items pieces.new.items
+        (join (at_gap gs (way_of sheet.now) way.now index)
+        (standing (laid gs (way_of sheet.now)) e (index ∷ way.now) (term_of (element_of child))))) }
+{
+    if numbers.is_empty() {
+        return push_whole(child, pieces);
+    }
+    push_gap(jobs, made, numbers, sheet, way, index, pieces)?;
+    let below = with_number(alloc, index, way)?;
+    push_standing(alloc, jobs, made, numbers, sheet, child, &below, pieces)
 }

@@ -1,14 +1,15 @@
 //! Changes where they are made, and the orders in which they may be made one by one.
-ghost use Rattle.std.specs.Prelude.{◌≡◌, ◌&&◌, Some, is_none, map};
+ghost use Rattle.std.specs.Prelude.{◌≡◌, ◌&&◌, Some, ℕ, length, is_none, map};
 ghost use Rattle.std.specs.List.{list_all};
 ghost use Rattle.tree_rewrite.specs.Rewrite.{same_sheet, sets, first_way, payload_of};
 ghost use Rattle.tree_rewrite.specs.Marked.{gap, slot};
 ghost use Rattle.tree_rewrite.specs.Reach.{reaches};
-ghost use Rattle.syntax_tree.specs.Element.{same_way};
+ghost use Rattle.syntax_tree.specs.Element.{Way, same_way};
 ghost use Rattle.syntax_tree.specs.Handle.{element_of};
 ghost use Rattle.tree_rewrite.specs.Orders.{is_owned, same_gap, may_follow, in_order, is_order};
 ghost use Rattle.tree_rewrite.specs.Recorded.{way_of, level_of};
 ghost use Rattle.tree_rewrite.specs.Plan.{depth_of};
+ghost use Rattle.tree_rewrite.specs.Below.{IsBeyond, LeavesChild};
 
 use crate::tree_change::TreeChange;
 use std::marker::Model;
@@ -114,6 +115,20 @@ impl Job {
         ensures { result ≡ same_way (first_way self.now.change) way.now }
     {
         self.change.begins_at(way)
+    }
+
+    /// Whether it is made on a sheet.
+    pub(crate) fn is_on(&self, sheet: &Option<Vec<usize>>) -> bool
+        ensures { result ≡ same_sheet self.now.sheet (way_of sheet.now) }
+    {
+        same_sheet(&self.sheet, sheet)
+    }
+
+    /// The first child, and how many more, of a node so deep that it may concern, if it is made in that node.
+    pub(crate) fn row_below(&self, depth: usize) -> Option<(usize, usize)>
+        ensures { (w : Way) (i : ℕ) → length w ≡ depth → IsBeyond result i → LeavesChild self.now.change w i }
+    {
+        self.change.row_below(depth)
     }
 
     /// Whether another job is made in this one's payload.

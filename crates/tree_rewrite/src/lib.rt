@@ -16,6 +16,7 @@ pub mod green;
 pub mod job;
 pub mod kept;
 pub mod laws;
+pub mod lists;
 pub mod moved;
 pub mod nesting;
 pub mod origins;

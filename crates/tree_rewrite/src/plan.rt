@@ -22,6 +22,7 @@ use crate::fill::push_standing;
 use crate::green::{green_of, one_node};
 use crate::job::{Job, is_order};
 use crate::kept::jobs_of;
+use crate::lists::on_sheet;
 use crate::nesting::has_collision;
 use crate::origins::origins_of;
 use crate::piece::Piece;
@@ -150,7 +151,17 @@ impl Plan {
         let mut pieces = Vec::new(alloc);
         let _stands = self.top.cursor().green();
         let top = SyntaxElement::Node(self.top.clone()?);
-        push_standing(alloc, &self.jobs, &made, &None, top, &[], &mut pieces)?;
+        let numbers = on_sheet(alloc, &self.jobs, &made, &None)?;
+        push_standing(
+            alloc,
+            &self.jobs,
+            &made,
+            &numbers,
+            &None,
+            top,
+            &[],
+            &mut pieces,
+        )?;
         Ok(pieces)
     }
 }

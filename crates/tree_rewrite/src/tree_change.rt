@@ -1,10 +1,12 @@
 //! Recorded changes, by the ways of what they change.
-ghost use Rattle.std.specs.Prelude.{◌≡◌, List, map, IfOk};
+ghost use Rattle.std.specs.Prelude.{◌≡◌, ◌∷◌, List, ℕ, length, false, map, IfOk};
 ghost use Rattle.syntax_tree.specs.Element.{Element};
 ghost use Rattle.syntax_tree.specs.Handle.{element_of};
-ghost use Rattle.syntax_tree.specs.Element.{same_way};
+ghost use Rattle.syntax_tree.specs.Element.{Way, same_way};
 ghost use Rattle.tree_rewrite.specs.Marked.{gap};
 ghost use Rattle.tree_rewrite.specs.Reach.{reaches};
+ghost use Rattle.tree_rewrite.specs.Change.{is_within};
+ghost use Rattle.tree_rewrite.specs.Below.{IsBeyond, LeavesChild};
 ghost use Rattle.tree_rewrite.specs.Rewrite.{payload_of, sets, first_way};
 ghost use Rattle.tree_rewrite.specs.Orders.{same_gap_at};
 ghost use Rattle.tree_rewrite.specs.Recorded.{change_of};
@@ -62,6 +64,16 @@ fn copies(alloc: Global, elements: &[SyntaxElement]) -> Result<Vec<SyntaxElement
         copies.push(element.clone()?)?;
     }
     Ok(copies)
+}
+
+/// The child through which a way leads on below a node so deep, alone in its row.
+fn row_through(way: &[usize], depth: usize) -> Option<(usize, usize)>
+    ensures { (w : Way) (i : ℕ) → length w ≡ depth → IsBeyond result i → is_within (i ∷ w) 0 way.now ≡ false }
+{
+    if depth >= way.len() {
+        return None;
+    }
+    Some((way[way.len() - 1 - depth], 0))
 }
 
 /// A change of a tree, whose elements it names by their ways.
@@ -153,6 +165,27 @@ impl TreeChange {
         match &self.target {
             Target::Gap { .. } => way.is_empty(),
             Target::Slots { first, .. } => first.as_slice() == way,
+        }
+    }
+
+    /// The first child, and how many more, of a node so deep that it may concern, if it is made in that node.
+    pub(crate) fn row_below(&self, depth: usize) -> Option<(usize, usize)>
+        ensures { (w : Way) (i : ℕ) → length w ≡ depth → IsBeyond result i → LeavesChild self.now w i }
+    {
+        match &self.target {
+            Target::Gap { parent, index } => {
+                if parent.len() == depth {
+                    return Some((*index, 0));
+                }
+                row_through(parent, depth)
+            }
+            Target::Slots { first, more, .. } => {
+                let (start, above) = first.split_first()?;
+                if above.len() == depth {
+                    return Some((*start, *more));
+                }
+                row_through(above, depth)
+            }
         }
     }
 

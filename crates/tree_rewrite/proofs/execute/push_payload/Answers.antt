@@ -1,10 +1,10 @@
-use Rattle.std.proofs.Common.{[], refl, sym, ap, ◌∙◌}
+use Rattle.std.proofs.Common.{[], refl, sym, ap, ◌∙◌, subst}
 use Rattle.syntax_tree.specs.Element.{term_of}
 use Rattle.syntax_tree.specs.Handle.{element_of}
 use Rattle.tree_rewrite.specs.Marked.{reading_of}
 use Rattle.tree_rewrite.specs.Rewrite.{puts, sheet_of}
 use Rattle.tree_rewrite.specs.Recorded.{way_of}
-use Rattle.tree_rewrite.specs.Fill.{standing}
+use Rattle.tree_rewrite.specs.Fill.{HaveGiven, standing}
 use Rattle.tree_rewrite.proofs.SheetLemmas.{adds-same}
 use Rattle.tree_rewrite.proofs.ExecuteLemmas.{standing-top, sheet_some}
 use Rattle.tree_rewrite.proofs.execute.push_payload.Goals as goal
@@ -15,4 +15,6 @@ returns-in_ok-push_standing-in-Some c = λ js h.
     let n = way_of c.args.own.now in
     let same = ap element_of c.in_ok-copy.ensures.cases in
     let read = ap (λ y. standing (puts js n) e [] (term_of y)) same ∙ standing-top (puts js n) e (term_of e) refl ∙ ap (λ s. reading_of s e) (sym (sheet_some (puts js) c.args.own.now _ c.in-Some.is)) in
-    adds-same _ _ _ (reading_of (sheet_of (puts js) n) e) read (c.in_ok-push_standing-in-Some.ensures js e h same)
+    let on = c.in_ok-numbers-in-Some.ensures js h in
+    let sheet = ap (λ s. standing s e [] (term_of (element_of c.in_ok-copy.copy))) on.2 in
+    adds-same _ _ _ (reading_of (sheet_of (puts js) n) e) (sheet ∙ read) (c.in_ok-push_standing-in-Some.ensures on.0 e (subst (λ l. HaveGiven c.args.jobs.now c.args.made.now l on.0) (sym c.deref.ensures.value) on.1) same)

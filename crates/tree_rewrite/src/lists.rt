@@ -1,0 +1,150 @@
+//! What was put in, by the children of a node that it concerns: each child is handed its own, so that no other is looked at there.
+ghost use Rattle.std.specs.Prelude.{◌≡◌, ◌∷◌, ◌<◌, ℕ, List, [], Some, Option, length, slice_get, IfOk, OnOk};
+ghost use Rattle.std.specs.List.{All};
+ghost use Rattle.std.specs.Global.{Vec};
+ghost use Rattle.syntax_tree.specs.Element.{Way};
+ghost use Rattle.tree_rewrite.specs.Rewrite.{Job, same_sheet, puts, terms_of};
+ghost use Rattle.tree_rewrite.specs.Recorded.{way_of};
+ghost use Rattle.tree_rewrite.specs.Fill.{Given, IsGiven, HaveGiven, HavePut};
+ghost use Rattle.tree_rewrite.specs.Below.{IsBeyond, LeavesChild, with_row, lists_of, AreLists, OnSheet};
+
+use crate::job::Job;
+use crate::piece::Put;
+use crate::sheet::job_of;
+use std::alloc::{AllocError, Global};
+
+/// So many empty lists.
+fn empty_lists(alloc: Global, count: usize) -> Result<Vec<Vec<usize>>, AllocError>
+    ensures empty { IfOk result (λ v. All (λ u. u.items ≡ []) v.items) }
+    ensures count { IfOk result (λ v. length v.items ≡ count) }
+{
+    let mut lists = Vec::new(alloc);
+    for _ in 0..count {
+        lists.push(Vec::new(alloc))?;
+    }
+    Ok(lists)
+}
+
+/// Adds a number to a list and to so many after it, as far as there are.
+fn push_row(
+    number: usize,
+    start: usize,
+    more: usize,
+    lists: &mut Vec<Vec<usize>>,
+) -> Result<(), AllocError>
+    ensures { OnOk result (lists_of lists.new.items ≡ with_row number start more (lists_of lists.old.items)) }
+{
+    let mut index = start;
+    let mut left = more;
+    while index < lists.len() {
+        lists[index].push(number)?;
+        if left == 0 {
+            return Ok(());
+        }
+        left -= 1;
+        index += 1;
+    }
+    Ok(())
+}
+
+/// The first child, and how many more, of a node so deep that what has this number may concern, if it lies in that node.
+fn row_of(jobs: &[Job], made: &[Put], number: usize, depth: usize) -> Option<(usize, usize)>
+    ensures { (g : Given) (w : Way) (i : ℕ) → IsGiven jobs.now (slice_get made.now number) g → length w ≡ depth
+        → IsBeyond result i → LeavesChild g.0.change w i }
+{
+    let job = job_of(jobs, made, number)?;
+    job.row_below(depth)
+}
+
+/// Adds a number to the lists of the children that it concerns.
+fn push_number(
+    jobs: &[Job],
+    made: &[Put],
+    number: usize,
+    depth: usize,
+    lists: &mut Vec<Vec<usize>>,
+) -> Result<(), AllocError>
+    ensures lists { (gs : List Given) (g : Given) (n : Option Way) (w : Way) → IsGiven jobs.now (slice_get made.now number) g
+        → length w ≡ depth → AreLists jobs.now made.now (lists_of lists.old.items) n w gs
+        → OnOk result (AreLists jobs.now made.now (lists_of lists.new.items) n w (g ∷ gs)) }
+    ensures count { OnOk result (length lists.new.items ≡ length lists.old.items) }
+{
+    match row_of(jobs, made, number, depth) {
+        Some((start, more)) => push_row(number, start, more, lists),
+        None => Ok(()),
+    }
+}
+
+/// The numbers among these by the children, so many, of a node so deep: in each list those that concern the gap before the child, its
+/// place or what stands below it.
+pub fn lists_below(
+    alloc: Global,
+    jobs: &[Job],
+    made: &[Put],
+    numbers: &[usize],
+    depth: usize,
+    count: usize,
+) -> Result<Vec<Vec<usize>>, AllocError>
+    ensures count { IfOk result (λ v. length v.items ≡ count) }
+    ensures lists { (gs : List Given) (n : Option Way) (w : Way) → HaveGiven jobs.now made.now numbers.now gs → length w ≡ depth
+        → IfOk result (λ v. AreLists jobs.now made.now (lists_of v.items) n w gs) }
+{
+    let mut lists = empty_lists(alloc, count)?;
+    for number in numbers {
+        push_number(jobs, made, *number, depth, &mut lists)?;
+    }
+    Ok(lists)
+}
+
+/// The list of a child.
+pub fn list_at(lists: &[Vec<usize>], index: usize) -> &[usize]
+    requires { index < length lists.now }
+    ensures { slice_get (lists_of lists.now) index ≡ Some result.now }
+{
+    lists[index].as_slice()
+}
+
+/// Whether the job that has put this in is made on a sheet.
+fn is_on(jobs: &[Job], made: &[Put], number: usize, sheet: &Option<Vec<usize>>) -> bool
+    ensures { (g : Given) → IsGiven jobs.now (slice_get made.now number) g → result ≡ same_sheet g.0.sheet (way_of sheet.now) }
+{
+    match job_of(jobs, made, number) {
+        Some(job) => job.is_on(sheet),
+        None => false,
+    }
+}
+
+/// Adds a number, if the job that has put this in is made on a sheet.
+fn push_on(
+    jobs: &[Job],
+    made: &[Put],
+    number: usize,
+    sheet: &Option<Vec<usize>>,
+    numbers: &mut Vec<usize>,
+) -> Result<(), AllocError>
+    ensures { (j : Job) (js : List Job) → IsGiven jobs.now (slice_get made.now number) (j, terms_of (puts js) j)
+        → OnSheet jobs.now made.now numbers.old.items (way_of sheet.now) js
+        → OnOk result (OnSheet jobs.now made.now numbers.new.items (way_of sheet.now) (j ∷ js)) }
+{
+    if is_on(jobs, made, number, sheet) {
+        numbers.push(number)?;
+    }
+    Ok(())
+}
+
+/// The numbers of what was put in on a sheet.
+pub fn on_sheet(
+    alloc: Global,
+    jobs: &[Job],
+    made: &[Put],
+    sheet: &Option<Vec<usize>>,
+) -> Result<Vec<usize>, AllocError>
+    ensures { (js : List Job) → HavePut jobs.now made.now js → IfOk result
+        (λ v. OnSheet jobs.now made.now v.items (way_of sheet.now) js) }
+{
+    let mut numbers = Vec::new(alloc);
+    for number in 0..made.len() {
+        push_on(jobs, made, number, sheet, &mut numbers)?;
+    }
+    Ok(numbers)
+}
