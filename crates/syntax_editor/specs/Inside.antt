@@ -1,0 +1,55 @@
+-- Recorded changes, as the code has them.
+use Rattle.std.specs.Prelude.{◌≡◌, ℕ, suc, List, [], ◌∷◌, map, Option, option_map, true, if◌then◌else◌}
+use Rattle.syntax_tree.specs.Element.{Way, Element, term_of}
+use Rattle.syntax_tree.specs.Mapping.{Mapping}
+use Rattle.syntax_tree.specs.Handle.{element_of}
+use Rattle.syntax_tree.specs.declared.element.SyntaxElement.{SyntaxElement}
+use Rattle.tree_rewrite.specs.Change.{Change}
+use Rattle.tree_rewrite.specs.Recorded.{recorded, IsOrdered, KeepsOneRoot}
+use Rattle.tree_rewrite.specs.declared.change.Change as declared
+use Rattle.tree_rewrite.specs.declared.change.Change.TheVariants.{Insert, Replace}
+use Rattle.syntax_editor.specs.Editing.{Editing, Annotated}
+use Rattle.syntax_editor.specs.Recording.{is_single_at, are_in_order, Recording, and_then, row_becomes, ranging}
+use Rattle.syntax_editor.specs.declared.annotation.SyntaxAnnotation.{SyntaxAnnotation}
+
+-- the element is one of the tree of this root
+abbrev pub IsOf : Element → Element → Type 0
+IsOf top e = (e.number ≡ top.number) × (e.place.root ≡ top.place.root)
+
+-- what the change names is of this tree
+abbrev pub IsOwn : Element → declared.Change → Type 0
+IsOwn top (Insert p new) = IsOf top p.parent
+IsOwn top (Replace first last new single) = IsOf top (element_of first) × IsOf top (element_of last)
+
+-- the change is one that may be recorded on this tree
+pub record IsSound (top : Element) (c : declared.Change) : Type 0 where
+  pub own : IsOwn top c
+  pub ordered : IsOrdered c
+  pub keeps : KeepsOneRoot c
+
+-- the number of the first change of the element there that was named alone; how many changes there are, where there is none
+abbrev pub single_number : Way → List Change → ℕ
+single_number w [] = 0
+single_number w (c ∷ cs) = if is_single_at w c then 0 else suc (single_number w cs)
+
+abbrev pub annotated : SyntaxElement × SyntaxAnnotation → Annotated
+annotated a = record { annotation = a.1.number; element = element_of a.0 }
+
+-- the element, if anything stands there
+abbrev pub standing : Element → Option Element
+standing e = option_map (λ _. e) (term_of e)
+
+-- the ends of a row of siblings of this tree
+pub record IsOwnRow (top first last : Element) : Type 0 where
+  pub first_own : IsOf top first
+  pub last_own : IsOf top last
+  pub in_order : are_in_order first.place.up last.place.up ≡ true
+
+-- these are the ends, in the edited tree, of the row that two handles name
+pub record IsRow (e : Editing) (a b first last : Element) : Type 0 where
+  pub own : IsOwnRow e.top first last
+  pub becomes : (new : List Element) (alone : Recording) → ranging e a b new alone ≡ and_then e (row_becomes first last new)
+
+-- what is seen of these changes of a tree
+abbrev pub editing_of : Element → List declared.Change → Mapping → Editing
+editing_of top cs ms = record { top = top; changes = map recorded cs; mapping = ms; annotations = [] }

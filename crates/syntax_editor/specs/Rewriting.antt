@@ -1,0 +1,60 @@
+-- The edited tree with all recorded changes made, and why it is refused.
+use Rattle.std.specs.Prelude.{◌≡◌, ℕ, ◌^◌, [], map, None, true, false}
+use Rattle.rowan_green.specs.Forest.{Tree}
+use Rattle.syntax_tree.specs.Element.{element_at}
+use Rattle.syntax_tree.specs.Handle.{element_of}
+use Rattle.tree_rewrite.specs.Change.{has_collision}
+use Rattle.tree_rewrite.specs.Changed.{AreChanged}
+use Rattle.tree_rewrite.specs.Fits.{new_fits, IsNode}
+use Rattle.tree_rewrite.specs.Marked.{Marked, origins}
+use Rattle.tree_rewrite.specs.Rewrite.{jobs, is_placeable, rewrite}
+use Rattle.syntax_editor.specs.Editing.{Editing}
+use Rattle.syntax_editor.specs.declared.rewriting.SyntaxEdit.{SyntaxEdit}
+use Rattle.syntax_editor.specs.declared.error.RewriteError.{RewriteError}
+use Rattle.syntax_editor.specs.declared.error.RewriteError.TheVariants as rewrites
+use Rattle.syntax_editor.specs.declared.error.FinishError.{FinishError}
+use Rattle.syntax_editor.specs.declared.error.FinishError.TheVariants as finishes
+
+-- the tree with all changes made at once
+abbrev pub rewriting : Editing → Marked
+rewriting e = rewrite e.top e.changes e.mapping
+
+-- two changes replace one element
+abbrev pub IsIntersecting : Editing → Type 0
+IsIntersecting e = has_collision e.changes ≡ true
+
+-- no two do, and a change in a node that is replaced by a node has no place in that
+abbrev pub MissesMapping : Editing → Type 0
+MissesMapping e = (has_collision e.changes ≡ false) × (jobs e.top e.changes e.mapping ≡ None)
+
+-- each change has a place, no two collide
+abbrev pub IsPlaceable : Editing → Type 0
+IsPlaceable e = is_placeable e.top e.changes e.mapping ≡ true
+
+-- all that holds, and a node of the new tree may not have its children
+abbrev pub IsTooLong : Editing → Type 0
+IsTooLong e = IsPlaceable e × (new_fits (rewriting e) ≡ false)
+
+-- the first case that fits; out of memory at any point
+abbrev pub RefusesRewriting : Editing → RewriteError → Type 0
+RefusesRewriting e rewrites.Intersecting = IsIntersecting e
+RefusesRewriting e rewrites.MissingMapping = MissesMapping e
+RefusesRewriting e rewrites.TooLong = IsTooLong e
+RefusesRewriting e rewrites.NoMemory = Unit {0}
+
+-- the same, and that no number is left
+abbrev pub RefusesFinish : Editing → ℕ → FinishError → Type 0
+RefusesFinish e number finishes.Intersecting = IsIntersecting e
+RefusesFinish e number finishes.MissingMapping = MissesMapping e
+RefusesFinish e number finishes.TooLong = IsTooLong e
+RefusesFinish e number finishes.NoTreeNumber = IsPlaceable e × (number ≡ 2 ^ 32)
+RefusesFinish e number finishes.NoMemory = Unit {0}
+
+-- the old tree; the new one, under this number; what changed; and where each element came from
+pub record IsFinished (e : Editing) (number : ℕ) (r : SyntaxEdit) : Type 0 where
+  pub tree : Tree
+  pub rewritten : IsNode (rewriting e) tree
+  pub old_root : r.old_root ≡ e.top
+  pub new_root : r.new_root ≡ element_at number tree []
+  pub changed : AreChanged r.changed.items (rewriting e)
+  pub origins : map element_of r.origins.items ≡ origins (rewriting e)

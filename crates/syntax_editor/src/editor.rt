@@ -1,0 +1,187 @@
+//! Editors: what is recorded on a tree.
+ghost use Rattle.std.specs.Prelude.{◌≡◌, ◌≤◌, ◌<◌, ◌+◌, length, get_or, set, ◌++◌, ◌∷◌, [], map, IfOk, IfErr, OnOk, OnErr};
+ghost use Rattle.std.specs.Borrow.{sem};
+ghost use Rattle.syntax_tree.specs.Element.{Element};
+ghost use Rattle.syntax_tree.specs.Handle.{element_of};
+ghost use Rattle.syntax_tree.specs.Refusal.{RefusesTree};
+ghost use Rattle.tree_rewrite.specs.Change.{IsOneNode};
+ghost use Rattle.tree_rewrite.specs.Recorded.{recorded};
+ghost use Rattle.syntax_editor.specs.Editing.{untouched, with_changes, IsEdited, next_number};
+ghost use Rattle.syntax_editor.specs.Recording.{over, with_single, is_deleted};
+ghost use Rattle.syntax_editor.specs.Inside.{IsOf, IsSound, annotated};
+ghost use Rattle.syntax_editor.specs.Lending.{LendsMapping};
+
+use crate::annotation::SyntaxAnnotation;
+use crate::recorded::{has_deletion_at, puts_nothing, single_number};
+use crate::target::target;
+use std::alloc::{AllocError, Global};
+use std::marker::Model;
+use std::mem;
+use syntax_tree::{SyntaxElement, SyntaxMapping, SyntaxNode, TreeError, TreeIds};
+use tree_rewrite::change::Change;
+
+/// What is recorded on a tree. A contract sees the root of the tree; and the changes, the mapped nodes and the annotated elements in
+/// the order in which they were recorded.
+#[derive(Drop)]
+pub struct SyntaxEditor {
+    pub(crate) root: SyntaxNode,
+    pub(crate) changes: Vec<Change>,
+    pub(crate) mapping: SyntaxMapping,
+    pub(crate) annotations: Vec<(SyntaxElement, SyntaxAnnotation)>,
+}
+
+impl Model for SyntaxEditor {
+    ghost use Rattle.std.specs.Prelude.{◌≡◌, [], map};
+    ghost use Rattle.std.specs.List.{All};
+    ghost use Rattle.std.specs.Coded.{codes};
+    ghost use Rattle.rowan_green.specs.Forest.{tree_code};
+    ghost use Rattle.tree_rewrite.specs.Change.{IsOneNode};
+    ghost use Rattle.tree_rewrite.specs.Recorded.{recorded};
+    ghost use Rattle.syntax_editor.specs.Editing.{Editing};
+    ghost use Rattle.syntax_editor.specs.Inside.{IsSound, annotated};
+
+    ghost Value = { Editing };
+
+    ghost coded = { Prim.hlevel (codes, tree_code) };
+
+    ghost view = { λ e.
+        record {
+          top = e.root;
+          changes = map recorded e.changes.items;
+          mapping = e.mapping;
+          annotations = map annotated e.annotations.items;
+        } };
+
+    ghost invariant = { λ e. (e.root.place.up ≡ []) × All (IsSound e.root) e.changes.items };
+}
+
+impl SyntaxEditor {
+    /// An editor of the tree of a root, with nothing recorded.
+    pub fn of_root(alloc: Global, root: SyntaxNode) -> SyntaxEditor
+        requires { root.place.up ≡ [] }
+        ensures { result ≡ untouched root }
+    {
+        SyntaxEditor {
+            root,
+            changes: Vec::new(alloc),
+            mapping: SyntaxMapping::new(alloc),
+            annotations: Vec::new(alloc),
+        }
+    }
+
+    /// An editor of the tree of a node, with nothing recorded, and the root of that. A root is edited in its own tree; an inner node is
+    /// cloned into a tree of its own, which gets the next number of `ids`. A refusal may have taken that number.
+    pub fn new(
+        alloc: Global,
+        node: SyntaxNode,
+        ids: &mut TreeIds,
+    ) -> Result<(SyntaxEditor, SyntaxNode), TreeError>
+        ensures editor { IfOk result (λ r. r.0 ≡ untouched r.1) }
+        ensures root { IfOk result (λ r. IsEdited node ids.old r.1) }
+        ensures number { OnOk result (ids.new ≡ next_number node.place.up ids.old) }
+        ensures refused { IfErr result (RefusesTree ids.old) }
+        ensures moved { IfErr result (λ _. (ids.old ≤ ids.new) × (ids.new ≤ ids.old + 1)) }
+    {
+        let root = match node.parent()? {
+            None => node,
+            Some(_) => node.clone_subtree(alloc, ids)?,
+        };
+        let copy = root.clone()?;
+        Ok((SyntaxEditor::of_root(alloc, root), copy))
+    }
+
+    /// The root of the tree, which stays as it is.
+    pub fn root(&self) -> &SyntaxNode
+        ensures root { result.now ≡ self.now.top }
+        ensures top { result.now.place.up ≡ [] }
+    {
+        &self.root
+    }
+
+    /// What nodes of replaced trees are mapped to.
+    pub fn mappings(&mut self) -> &mut SyntaxMapping
+        ensures* writes_back { sem 𝓛 (LendsMapping self.entry result) }
+        ensures value { result.now ≡ self.old.mapping }
+    {
+        &mut self.mapping
+    }
+
+    /// Marks an element, of any tree. A refusal marks nothing.
+    pub fn add_annotation(
+        &mut self,
+        element: &SyntaxElement,
+        annotation: SyntaxAnnotation,
+    ) -> Result<(), AllocError>
+        ensures ok { OnOk result (self.new ≡
+            record self.old {
+              annotations = self.old.annotations ++ (record { annotation = annotation.number; element = element_of element.now }) ∷ [];
+            }) }
+        ensures err { OnErr result (self.new ≡ self.old) }
+    {
+        let element = element.clone()?;
+        self.annotations.push((element, annotation))?;
+        Ok(())
+    }
+
+    /// Whether a deletion of just this element is recorded.
+    pub fn deleted(&self, alloc: Global, element: &SyntaxElement) -> Result<bool, AllocError>
+        ensures { IfOk result (λ b. b ≡ is_deleted self.now (element_of element.now)) }
+    {
+        if target(alloc, &self.root, element)?.is_none() {
+            return Ok(false);
+        }
+        let way = element.way(alloc)?;
+        has_deletion_at(alloc, &way, &self.changes)
+    }
+
+    /// Adds a change behind all.
+    pub(crate) fn push(&mut self, change: Change) -> Result<(), AllocError>
+        requires { IsSound self.old.top change }
+        ensures ok { OnOk result (self.new ≡ with_changes self.old (self.old.changes ++ recorded change ∷ [])) }
+        ensures err { OnErr result (self.new ≡ self.old) }
+    {
+        self.changes.push(change)?;
+        Ok(())
+    }
+
+    /// An element of the tree, named alone, becomes these: in the place of what was recorded for it alone, unless that is a deletion.
+    pub(crate) fn put_alone(
+        &mut self,
+        alloc: Global,
+        old: SyntaxElement,
+        new: Vec<SyntaxElement>,
+    ) -> Result<(), AllocError>
+        requires own { IsOf self.old.top (element_of old) }
+        requires keeps { (element_of old).place.up ≡ [] → IsOneNode (map element_of new.items) }
+        ensures ok { OnOk result (self.new ≡ with_changes self.old
+            (with_single self.old.changes (element_of old).place.up (map element_of new.items))) }
+        ensures err { OnErr result (self.new ≡ self.old) }
+    {
+        let way = old.way(alloc)?;
+        let number = single_number(alloc, &way, &self.changes)?;
+        let last = old.clone()?;
+        let change = Change::Replace {
+            first: old,
+            last,
+            new,
+            single: true,
+        };
+        if number == self.changes.len() {
+            return self.push(change);
+        }
+        self.put_over(number, change);
+        Ok(())
+    }
+
+    /// Puts a change in the place of the one of a number, unless that deletes.
+    fn put_over(&mut self, number: usize, change: Change)
+        requires within { number < length self.old.changes }
+        requires sound { IsSound self.old.top change }
+        ensures { self.new ≡ with_changes self.old
+            (set self.old.changes number (over (get_or self.old.changes number (recorded change)) (recorded change))) }
+    {
+        if !puts_nothing(&self.changes[number]) {
+            drop(mem::replace(&mut self.changes[number], change));
+        }
+    }
+}

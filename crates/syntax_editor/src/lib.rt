@@ -1,0 +1,17 @@
+//! Changes recorded on a numbered tree, and the tree with all of them made at once.
+//!
+//! An editor only records: its tree stays as it is. What is put in may be of any tree, and is taken as it stands there.
+#![tactic(auto)]
+
+pub mod annotation;
+pub mod editor;
+pub mod error;
+pub mod recorded;
+pub mod recording;
+pub mod rewriting;
+pub mod target;
+
+pub use annotation::{Annotations, SyntaxAnnotation};
+pub use editor::SyntaxEditor;
+pub use error::{FinishError, RecordError, RewriteError};
+pub use rewriting::SyntaxEdit;

@@ -1,0 +1,128 @@
+//! Changes that were recorded before.
+ghost use Rattle.std.specs.Prelude.{◌≡◌, ◌≤◌, map, length, IfOk};
+ghost use Rattle.std.specs.List.{All, list_any};
+ghost use Rattle.syntax_tree.specs.Handle.{element_of};
+ghost use Rattle.tree_rewrite.specs.Recorded.{recorded, IsOrdered};
+ghost use Rattle.tree_rewrite.specs.Rewrite.{payload_of};
+ghost use Rattle.syntax_editor.specs.Recording.{is_single_at, is_deletion_at, is_empty};
+ghost use Rattle.syntax_editor.specs.Inside.{single_number};
+
+use std::alloc::{AllocError, Global};
+use syntax_tree::{Position, SyntaxElement};
+use tree_rewrite::change::Change;
+
+/// Whether a change puts in nothing.
+pub(crate) fn puts_nothing(change: &Change) -> bool
+    ensures { result ≡ is_empty (payload_of (recorded change.now)) }
+{
+    match change {
+        Change::Insert { new, .. } => new.is_empty(),
+        Change::Replace { new, .. } => new.is_empty(),
+    }
+}
+
+/// Whether a change is one of the element at a way, named alone.
+pub(crate) fn is_single_at(
+    alloc: Global,
+    way: &[usize],
+    change: &Change,
+) -> Result<bool, AllocError>
+    ensures { IfOk result (λ b. b ≡ is_single_at way.now (recorded change.now)) }
+{
+    match change {
+        Change::Insert { .. } => Ok(false),
+        Change::Replace { first, single, .. } => {
+            Ok(*single && first.way(alloc)?.as_slice() == way)
+        }
+    }
+}
+
+/// The number of the first such change; how many changes there are, where there is none.
+pub(crate) fn single_number(
+    alloc: Global,
+    way: &[usize],
+    changes: &[Change],
+) -> Result<usize, AllocError>
+    ensures number { IfOk result (λ n. n ≡ single_number way.now (map recorded changes.now)) }
+    ensures within { IfOk result (λ n. n ≤ length changes.now) }
+{
+    let mut number = 0;
+    for change in changes {
+        if is_single_at(alloc, way, change)? {
+            return Ok(number);
+        }
+        number += 1;
+    }
+    Ok(number)
+}
+
+/// Whether a deletion of the element at a way, named alone, is among the changes.
+pub(crate) fn has_deletion_at(
+    alloc: Global,
+    way: &[usize],
+    changes: &[Change],
+) -> Result<bool, AllocError>
+    ensures { IfOk result (λ b. b ≡ list_any (is_deletion_at way.now) (map recorded changes.now)) }
+{
+    for change in changes {
+        if puts_nothing(change) && is_single_at(alloc, way, change)? {
+            return Ok(true);
+        }
+    }
+    Ok(false)
+}
+
+/// These elements again.
+pub(crate) fn copies(
+    alloc: Global,
+    elements: &[SyntaxElement],
+) -> Result<Vec<SyntaxElement>, AllocError>
+    ensures { IfOk result (λ v. v.items ≡ elements.now) }
+{
+    let mut copies = Vec::new(alloc);
+    for element in elements {
+        copies.push(element.clone()?)?;
+    }
+    Ok(copies)
+}
+
+/// The same change again.
+fn copy(alloc: Global, change: &Change) -> Result<Change, AllocError>
+    ensures same { IfOk result (λ c. recorded c ≡ recorded change.now) }
+    ensures ordered { IfOk result (λ c. IsOrdered change.now → IsOrdered c) }
+{
+    match change {
+        Change::Insert { place, new } => {
+            let place = Position {
+                parent: place.parent.clone()?,
+                index: place.index,
+            };
+            let new = copies(alloc, new)?;
+            Ok(Change::Insert { place, new })
+        }
+        Change::Replace {
+            first,
+            last,
+            new,
+            single,
+        } => Ok(Change::Replace {
+            first: first.clone()?,
+            last: last.clone()?,
+            new: copies(alloc, new)?,
+            single: *single,
+        }),
+    }
+}
+
+/// The same changes again.
+pub(crate) fn copied(alloc: Global, changes: &[Change]) -> Result<Vec<Change>, AllocError>
+    requires { All IsOrdered changes.now }
+    ensures same { IfOk result (λ v. map recorded v.items ≡ map recorded changes.now) }
+    ensures ordered { IfOk result (λ v. All IsOrdered v.items) }
+{
+    let mut copies = Vec::new(alloc);
+    for change in changes {
+        copies.push(copy(alloc, change)?)?;
+    }
+    Ok(copies)
+}

@@ -1,0 +1,247 @@
+//! Changes that are asked for.
+ghost use Rattle.std.specs.Prelude.{◌≡◌, ◌++◌, [], ◌∷◌, List, map, None, IfOk, IfErr, OnOk, OnErr, IfSome};
+ghost use Rattle.syntax_tree.specs.Element.{Element};
+ghost use Rattle.syntax_tree.specs.Handle.{element_of};
+ghost use Rattle.syntax_editor.specs.Editing.{with_changes};
+ghost use Rattle.syntax_editor.specs.Recording.{Recording, Recorded, row_becomes, inserting, replacing, replacing_many, ranging, replacing_all, deleting_all};
+ghost use Rattle.syntax_editor.specs.Inside.{IsOwnRow, IsRow};
+ghost use Rattle.syntax_editor.specs.Refusal.{RefusesRecord};
+
+use crate::editor::SyntaxEditor;
+use crate::error::RecordError;
+use crate::target::{are_in_order, gap, is_one_node, target};
+use std::alloc::{AllocError, Global};
+use syntax_tree::{Position, SyntaxElement};
+use tree_rewrite::change::Change;
+
+/// A row of siblings of the edited tree.
+#[derive(Drop)]
+struct Row {
+    first: SyntaxElement,
+    last: SyntaxElement,
+}
+
+impl SyntaxEditor {
+    /// Records that an element comes into a gap, before what was put there earlier. Refuses a position that is none of the edited tree
+    /// as `Foreign`, and records nothing then.
+    pub fn insert(
+        &mut self,
+        alloc: Global,
+        position: Position,
+        new: &SyntaxElement,
+    ) -> Result<(), RecordError>
+        ensures recorded { OnOk result (inserting self.old position.parent position.index (element_of new.now ∷ [])
+            ≡ Recorded self.new.changes) }
+        ensures rest { OnOk result (self.new ≡ with_changes self.old self.new.changes) }
+        ensures refused { IfErr result (RefusesRecord
+            (inserting self.old position.parent position.index (element_of new.now ∷ []))) }
+        ensures kept { IfErr result (λ _. self.new ≡ self.old) }
+    {
+        let new = vec![in alloc; new.clone()?]?;
+        self.insert_all(alloc, position, new)
+    }
+
+    /// Records that elements come into a gap, in this order, before what was put there earlier. Refuses a position that is none of the
+    /// edited tree as `Foreign`, and records nothing then.
+    pub fn insert_all(
+        &mut self,
+        alloc: Global,
+        position: Position,
+        new: Vec<SyntaxElement>,
+    ) -> Result<(), RecordError>
+        ensures recorded { OnOk result (inserting self.old position.parent position.index (map element_of new.items)
+            ≡ Recorded self.new.changes) }
+        ensures rest { OnOk result (self.new ≡ with_changes self.old self.new.changes) }
+        ensures refused { IfErr result (RefusesRecord
+            (inserting self.old position.parent position.index (map element_of new.items))) }
+        ensures kept { IfErr result (λ _. self.new ≡ self.old) }
+    {
+        let Some(parent) = gap(alloc, &self.root, &position)? else {
+            return Err(RecordError::Foreign);
+        };
+        let place = Position {
+            parent,
+            index: position.index,
+        };
+        self.push(Change::Insert { place, new })?;
+        Ok(())
+    }
+
+    /// Records that an element is deleted, in the place of its replacement by one element, if one is recorded. Refuses an element of
+    /// another tree as `Foreign`, then the root as `BadTarget`. A refusal records nothing.
+    pub fn delete(&mut self, alloc: Global, element: &SyntaxElement) -> Result<(), RecordError>
+        ensures recorded { OnOk result (replacing self.old (element_of element.now) [] ≡ Recorded self.new.changes) }
+        ensures rest { OnOk result (self.new ≡ with_changes self.old self.new.changes) }
+        ensures refused { IfErr result (RefusesRecord (replacing self.old (element_of element.now) [])) }
+        ensures kept { IfErr result (λ _. self.new ≡ self.old) }
+    {
+        self.put_for(alloc, element, Vec::new(alloc))
+    }
+
+    /// Records that an element is replaced by another one, in the place of its earlier replacement by one element, if one is recorded; a
+    /// recorded deletion stays. Refuses an element of another tree as `Foreign`, then a token for the root as `BadTarget`. A refusal
+    /// records nothing.
+    pub fn replace(
+        &mut self,
+        alloc: Global,
+        old: &SyntaxElement,
+        new: &SyntaxElement,
+    ) -> Result<(), RecordError>
+        ensures recorded { OnOk result (replacing self.old (element_of old.now) (element_of new.now ∷ [])
+            ≡ Recorded self.new.changes) }
+        ensures rest { OnOk result (self.new ≡ with_changes self.old self.new.changes) }
+        ensures refused { IfErr result (RefusesRecord (replacing self.old (element_of old.now) (element_of new.now ∷ []))) }
+        ensures kept { IfErr result (λ _. self.new ≡ self.old) }
+    {
+        let new = vec![in alloc; new.clone()?]?;
+        self.put_for(alloc, old, new)
+    }
+
+    /// Records that an element, named alone, becomes these, at most one.
+    fn put_for(
+        &mut self,
+        alloc: Global,
+        old: &SyntaxElement,
+        new: Vec<SyntaxElement>,
+    ) -> Result<(), RecordError>
+        ensures recorded { OnOk result (replacing self.old (element_of old.now) (map element_of new.items)
+            ≡ Recorded self.new.changes) }
+        ensures rest { OnOk result (self.new ≡ with_changes self.old self.new.changes) }
+        ensures refused { IfErr result (RefusesRecord (replacing self.old (element_of old.now) (map element_of new.items))) }
+        ensures kept { IfErr result (λ _. self.new ≡ self.old) }
+    {
+        let Some(own) = target(alloc, &self.root, old)? else {
+            return Err(RecordError::Foreign);
+        };
+        let way = own.way(alloc)?;
+        if way.is_empty() && !is_one_node(&new) {
+            return Err(RecordError::BadTarget);
+        }
+        self.put_alone(alloc, own, new)?;
+        Ok(())
+    }
+
+    /// Records that an element is replaced by elements, or by none. Refuses an element of another tree as `Foreign`, then the root as
+    /// `BadTarget`. A refusal records nothing.
+    pub fn replace_with_many(
+        &mut self,
+        alloc: Global,
+        old: &SyntaxElement,
+        new: Vec<SyntaxElement>,
+    ) -> Result<(), RecordError>
+        ensures recorded { OnOk result (replacing_many self.old (element_of old.now) (map element_of new.items)
+            ≡ Recorded self.new.changes) }
+        ensures rest { OnOk result (self.new ≡ with_changes self.old self.new.changes) }
+        ensures refused { IfErr result (RefusesRecord
+            (replacing_many self.old (element_of old.now) (map element_of new.items))) }
+        ensures kept { IfErr result (λ _. self.new ≡ self.old) }
+    {
+        let Some(first) = target(alloc, &self.root, old)? else {
+            return Err(RecordError::Foreign);
+        };
+        let way = first.way(alloc)?;
+        if way.is_empty() {
+            return Err(RecordError::BadTarget);
+        }
+        let last = first.clone()?;
+        self.push(Change::Replace {
+            first,
+            last,
+            new,
+            single: false,
+        })?;
+        Ok(())
+    }
+
+    /// The row of siblings of the edited tree from one to another, none where both are one. Refuses an element of another tree as
+    /// `Foreign`, then what is no row as `BadRange`.
+    fn row(
+        &self,
+        alloc: Global,
+        first: &SyntaxElement,
+        last: &SyntaxElement,
+    ) -> Result<Option<Row>, RecordError>
+        ensures one { IfOk result (λ r. r ≡ None → (new : List Element) (alone : Recording) →
+            ranging self.now (element_of first.now) (element_of last.now) new alone ≡ alone) }
+        ensures many { IfOk result (λ r. IfSome r (λ row.
+            IsRow self.now (element_of first.now) (element_of last.now) (element_of row.first) (element_of row.last))) }
+        ensures refused { (new : List Element) (alone : Recording) → IfErr result (RefusesRecord
+            (ranging self.now (element_of first.now) (element_of last.now) new alone)) }
+    {
+        let Some(own) = target(alloc, &self.root, first)? else {
+            return Err(RecordError::Foreign);
+        };
+        let Some(end) = target(alloc, &self.root, last)? else {
+            return Err(RecordError::Foreign);
+        };
+        let way = own.way(alloc)?;
+        let end_way = end.way(alloc)?;
+        if way.as_slice() == end_way.as_slice() {
+            return Ok(None);
+        }
+        if !are_in_order(&way, &end_way) {
+            return Err(RecordError::BadRange);
+        }
+        Ok(Some(Row {
+            first: own,
+            last: end,
+        }))
+    }
+
+    /// A row of siblings becomes these.
+    fn put_row(&mut self, row: Row, new: Vec<SyntaxElement>) -> Result<(), AllocError>
+        requires { IsOwnRow self.old.top (element_of row.first) (element_of row.last) }
+        ensures ok { OnOk result (self.new ≡ with_changes self.old
+            (self.old.changes ++ row_becomes (element_of row.first) (element_of row.last) (map element_of new.items) ∷ [])) }
+        ensures err { OnErr result (self.new ≡ self.old) }
+    {
+        self.push(Change::Replace {
+            first: row.first,
+            last: row.last,
+            new,
+            single: false,
+        })
+    }
+
+    /// Records that a row of siblings is replaced by elements, or by none; where both ends are one, as `replace_with_many` does. Refuses an
+    /// element of another tree as `Foreign`, then what is no row as `BadRange`. A refusal records nothing.
+    pub fn replace_all(
+        &mut self,
+        alloc: Global,
+        first: &SyntaxElement,
+        last: &SyntaxElement,
+        new: Vec<SyntaxElement>,
+    ) -> Result<(), RecordError>
+        ensures recorded { OnOk result (replacing_all self.old (element_of first.now) (element_of last.now) (map element_of new.items)
+            ≡ Recorded self.new.changes) }
+        ensures rest { OnOk result (self.new ≡ with_changes self.old self.new.changes) }
+        ensures refused { IfErr result (RefusesRecord
+            (replacing_all self.old (element_of first.now) (element_of last.now) (map element_of new.items))) }
+        ensures kept { IfErr result (λ _. self.new ≡ self.old) }
+    {
+        match self.row(alloc, first, last)? {
+            None => self.replace_with_many(alloc, first, new),
+            Some(row) => Ok(self.put_row(row, new)?),
+        }
+    }
+
+    /// Records that a row of siblings is deleted; where both ends are one, as `delete` does. Refuses an element of another tree as
+    /// `Foreign`, then what is no row as `BadRange`. A refusal records nothing.
+    pub fn delete_all(
+        &mut self,
+        alloc: Global,
+        first: &SyntaxElement,
+        last: &SyntaxElement,
+    ) -> Result<(), RecordError>
+        ensures recorded { OnOk result (deleting_all self.old (element_of first.now) (element_of last.now)
+            ≡ Recorded self.new.changes) }
+        ensures rest { OnOk result (self.new ≡ with_changes self.old self.new.changes) }
+        ensures refused { IfErr result (RefusesRecord (deleting_all self.old (element_of first.now) (element_of last.now))) }
+        ensures kept { IfErr result (λ _. self.new ≡ self.old) }
+    {
+        match self.row(alloc, first, last)? {
+            None => self.delete(alloc, first),
+            Some(row) => Ok(self.put_row(row, Vec::new(alloc))?),
+        }
+    }
+}
