@@ -1,5 +1,0 @@
-//! Editors are tried here.
-#![tactic(auto)]
-
-#[cfg(test)]
-mod tests;
