@@ -4,3 +4,6 @@ pub mod Rewriting
 pub mod Refusal
 pub mod Inside
 pub mod Lending
+pub mod Making
+pub mod Indent
+pub mod Found

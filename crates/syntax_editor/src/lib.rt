@@ -6,6 +6,10 @@
 pub mod annotation;
 pub mod editor;
 pub mod error;
+pub mod factory;
+pub mod find;
+pub mod indent_level;
+pub mod make_error;
 pub mod recorded;
 pub mod recording;
 pub mod rewriting;
@@ -14,4 +18,7 @@ pub mod target;
 pub use annotation::{Annotations, SyntaxAnnotation};
 pub use editor::SyntaxEditor;
 pub use error::{FinishError, RecordError, RewriteError};
+pub use factory::SyntaxFactory;
+pub use indent_level::IndentLevel;
+pub use make_error::MakeError;
 pub use rewriting::SyntaxEdit;

@@ -1,0 +1,5 @@
+//! Editors are tried here.
+#![tactic(auto)]
+
+#[cfg(test)]
+mod tests;

@@ -1,0 +1,278 @@
+//! What no contract says: that calls succeed where memory is ample. A row edits a tree that is built by hand, and says what must come of it.
+mod copy;
+mod doing;
+mod tree;
+
+use crate::tests::copy::edited_copy;
+use crate::tests::doing::{Do, Gap, answer, found_text};
+use crate::tests::tree::Tree;
+use parser_input::SyntaxKind;
+use std::alloc::Global;
+use std::test::Fail;
+use syntax_editor::{IndentLevel, SyntaxFactory};
+use syntax_tree::TreeIds;
+
+#[derive(Clone, Copy)]
+struct Row<'a> {
+    tree: Tree,
+    doings: &'a [Do<'a>],
+    answer: &'static str,
+}
+
+fn tried<'a>(tree: Tree, doings: &'a [Do<'a>], answer: &'static str) -> Row<'a> {
+    Row {
+        tree,
+        doings,
+        answer,
+    }
+}
+
+fn passes(alloc: Global, row: &Row<'_>) -> Result<bool, Fail> {
+    let answer = answer(alloc, row.tree, row.doings)?;
+    Ok(answer.as_str() == row.answer)
+}
+
+/// Before the child of this number of the root.
+fn gap(index: usize) -> Gap<'static> {
+    Gap { parent: &[], index }
+}
+
+#[test]
+fn one_payload_serves_twice(rt: HostRuntime) -> Result<(), Fail> {
+    for row in [
+        tried(
+            Tree::Args,
+            &[
+                Do::Replace(&[1], "LITERAL 3"),
+                Do::Replace(&[4], "LITERAL 3"),
+            ],
+            "(3, 3) 1..2 4..5",
+        ),
+        tried(
+            Tree::Args,
+            &[Do::Replace(&[1], "_"), Do::Replace(&[4], "_")],
+            "(_, _) 1..2 4..5",
+        ),
+        tried(
+            Tree::Args,
+            &[Do::Insert(gap(1), &["()"]), Do::Insert(gap(4), &["()"])],
+            "(()1, ()2) 1..3 6..8",
+        ),
+    ] {
+        assert!(rt; passes(rt.alloc(), &row)?);
+    }
+    Ok(())
+}
+
+#[test]
+fn gaps_have_the_last_first(rt: HostRuntime) -> Result<(), Fail> {
+    for row in [
+        tried(
+            Tree::Args,
+            &[Do::Insert(gap(1), &["A"]), Do::Insert(gap(1), &["B"])],
+            "(BA1, 2) 1..2 2..3",
+        ),
+        tried(
+            Tree::Args,
+            &[Do::Insert(gap(1), &["A", "B"])],
+            "(AB1, 2) 1..2 2..3",
+        ),
+        tried(
+            Tree::Args,
+            &[Do::Insert(gap(6), &["A"]), Do::Insert(gap(7), &["B"])],
+            "Foreign (1, 2)A 6..7",
+        ),
+    ] {
+        assert!(rt; passes(rt.alloc(), &row)?);
+    }
+    Ok(())
+}
+
+#[test]
+fn deletions_stay(rt: HostRuntime) -> Result<(), Fail> {
+    for row in [
+        tried(
+            Tree::Args,
+            &[Do::Delete(&[1]), Do::Replace(&[1], "3"), Do::Deleted(&[1])],
+            "true (, 2)",
+        ),
+        tried(
+            Tree::Args,
+            &[Do::Replace(&[1], "3"), Do::Delete(&[1]), Do::Deleted(&[1])],
+            "true (, 2)",
+        ),
+        tried(
+            Tree::Args,
+            &[
+                Do::Replace(&[1], "3"),
+                Do::Replace(&[1], "4"),
+                Do::Deleted(&[1]),
+            ],
+            "false (4, 2) 1..2",
+        ),
+    ] {
+        assert!(rt; passes(rt.alloc(), &row)?);
+    }
+    Ok(())
+}
+
+#[test]
+fn a_second_change_is_one_more(rt: HostRuntime) -> Result<(), Fail> {
+    for row in [
+        tried(Tree::Args, &[Do::Delete(&[1]), Do::Delete(&[1])], "(, 2)"),
+        tried(
+            Tree::Args,
+            &[Do::Remove(&[1]), Do::Deleted(&[1])],
+            "false (, 2)",
+        ),
+        tried(
+            Tree::Args,
+            &[Do::Remove(&[1]), Do::Delete(&[1])],
+            "Intersecting",
+        ),
+    ] {
+        assert!(rt; passes(rt.alloc(), &row)?);
+    }
+    Ok(())
+}
+
+#[test]
+fn rows_are_changed(rt: HostRuntime) -> Result<(), Fail> {
+    for row in [
+        tried(
+            Tree::Args,
+            &[Do::DeleteAll(&[1], &[1]), Do::Delete(&[1])],
+            "(, 2)",
+        ),
+        tried(
+            Tree::Args,
+            &[Do::ReplaceAll(&[1], &[4], &["a", "b"])],
+            "(ab) 1..2 2..3",
+        ),
+        tried(
+            Tree::Args,
+            &[
+                Do::DeleteAll(&[2], &[3]),
+                Do::Insert(gap(2), &["+"]),
+                Do::Insert(gap(3), &["-"]),
+            ],
+            "(1+2) 2..3",
+        ),
+    ] {
+        assert!(rt; passes(rt.alloc(), &row)?);
+    }
+    Ok(())
+}
+
+#[test]
+fn changes_are_refused(rt: HostRuntime) -> Result<(), Fail> {
+    for row in [
+        tried(Tree::Args, &[Do::DeleteAll(&[4], &[1])], "BadRange (1, 2)"),
+        tried(
+            Tree::Args,
+            &[Do::DeleteAll(&[1], &[0, 1])],
+            "BadRange (1, 2)",
+        ),
+        tried(Tree::Args, &[Do::Delete(&[])], "BadTarget (1, 2)"),
+        tried(Tree::Args, &[Do::DeleteAll(&[], &[])], "BadTarget (1, 2)"),
+        tried(Tree::Args, &[Do::Replace(&[], "_")], "BadTarget (1, 2)"),
+        tried(
+            Tree::Args,
+            &[Do::Many(&[], &["LITERAL 3"])],
+            "BadTarget (1, 2)",
+        ),
+        tried(Tree::Args, &[Do::Replace(&[], "LITERAL 3")], "3 0..1"),
+        tried(Tree::Args, &[Do::Foreign(&[1])], "Foreign (1, 2)"),
+    ] {
+        assert!(rt; passes(rt.alloc(), &row)?);
+    }
+    Ok(())
+}
+
+#[test]
+fn nested_changes_move(rt: HostRuntime) -> Result<(), Fail> {
+    for row in [
+        tried(
+            Tree::Nested,
+            &[
+                Do::Wrap(true),
+                Do::Insert(
+                    Gap {
+                        parent: &[0],
+                        index: 0,
+                    },
+                    &["b"],
+                ),
+            ],
+            "(ba) 0..4",
+        ),
+        tried(
+            Tree::Nested,
+            &[
+                Do::Wrap(false),
+                Do::Insert(
+                    Gap {
+                        parent: &[0],
+                        index: 0,
+                    },
+                    &["b"],
+                ),
+            ],
+            "MissingMapping",
+        ),
+        tried(
+            Tree::Nested,
+            &[
+                Do::Delete(&[0]),
+                Do::Insert(
+                    Gap {
+                        parent: &[0],
+                        index: 0,
+                    },
+                    &["b"],
+                ),
+            ],
+            "",
+        ),
+    ] {
+        assert!(rt; passes(rt.alloc(), &row)?);
+    }
+    Ok(())
+}
+
+#[test]
+fn nodes_are_found_again(rt: HostRuntime) -> Result<(), Fail> {
+    let text = found_text(rt.alloc())?;
+    assert!(rt; text.as_str() == "3");
+    Ok(())
+}
+
+#[test]
+fn copies_are_edited(rt: HostRuntime) -> Result<(), Fail> {
+    let text = edited_copy(rt.alloc())?;
+    assert!(rt; text.as_str() == "2 -2 3 -2 0..1");
+    Ok(())
+}
+
+#[test]
+fn tokens_are_made(rt: HostRuntime) -> Result<(), Fail> {
+    let alloc = rt.alloc();
+    let mut ids = TreeIds::new();
+    let token = SyntaxFactory.whitespace(alloc, "\n", &mut ids)?;
+    assert!(rt; token.kind() == SyntaxKind::WHITESPACE && token.text() == "\n");
+    let token = SyntaxFactory.token(alloc, SyntaxKind::COMMA, ",", &mut ids)?;
+    assert!(rt; token.kind() == SyntaxKind::COMMA && token.text() == ",");
+    Ok(())
+}
+
+#[test]
+fn levels_stop_at_255(rt: HostRuntime) -> Result<(), Fail> {
+    let mut level = IndentLevel(250) + 10;
+    assert!(rt; level == IndentLevel(255));
+    assert!(rt; IndentLevel::zero().is_zero());
+    level = IndentLevel::from(1);
+    level += 1;
+    let spaces = format!(in rt.alloc(); "{level}")?;
+    assert!(rt; !level.is_zero() && spaces.as_str() == "        ");
+    Ok(())
+}

@@ -1,0 +1,273 @@
+//! What is recorded, and what comes of it.
+use crate::tests::tree::{Tree, payload, root};
+use std::alloc::Global;
+use std::test::Fail;
+use syntax_editor::{FinishError, RecordError, SyntaxEdit, SyntaxEditor};
+use syntax_tree::{Position, SyntaxElement, SyntaxMappingBuilder, SyntaxNode, TreeIds};
+
+/// Before the child of this number.
+#[derive(Clone, Copy)]
+pub struct Gap<'a> {
+    pub parent: &'a [usize],
+    pub index: usize,
+}
+
+/// Elements are named by their ways, payloads by their texts. `Remove` replaces one by none; `Wrap` replaces the path by one in
+/// parentheses, mapped to or not.
+#[derive(Clone, Copy)]
+pub enum Do<'a> {
+    Insert(Gap<'a>, &'a [&'static str]),
+    Replace(&'a [usize], &'static str),
+    Delete(&'a [usize]),
+    Many(&'a [usize], &'a [&'static str]),
+    Remove(&'a [usize]),
+    DeleteAll(&'a [usize], &'a [usize]),
+    ReplaceAll(&'a [usize], &'a [usize], &'a [&'static str]),
+    Deleted(&'a [usize]),
+    Foreign(&'a [usize]),
+    Wrap(bool),
+}
+
+/// An editor, the numbers of its payloads' trees, and the payloads by their texts.
+#[derive(Drop)]
+struct Bench {
+    alloc: Global,
+    ids: TreeIds,
+    editor: SyntaxEditor,
+    payloads: Vec<(&'static str, SyntaxElement)>,
+    out: String,
+}
+
+impl Bench {
+    fn element(&self, way: &[usize]) -> Result<SyntaxElement, Fail> {
+        match self.editor.root().element_at(self.alloc, way)? {
+            Some(element) => Ok(element),
+            None => Err(Fail::new("no such element")),
+        }
+    }
+
+    /// The payload of a text, one for all its uses.
+    fn payload(&mut self, text: &'static str) -> Result<SyntaxElement, Fail> {
+        for (known, element) in &self.payloads {
+            if *known == text {
+                return Ok(element.clone()?);
+            }
+        }
+        let element = payload(self.alloc, text, &mut self.ids)?;
+        let copy = element.clone()?;
+        self.payloads.push((text, copy))?;
+        Ok(element)
+    }
+
+    fn all(&mut self, texts: &[&'static str]) -> Result<Vec<SyntaxElement>, Fail> {
+        let mut all = Vec::new(self.alloc);
+        for text in texts {
+            let element = self.payload(*text)?;
+            all.push(element)?;
+        }
+        Ok(all)
+    }
+
+    fn insert(&mut self, gap: Gap<'_>, texts: &[&'static str]) -> Result<(), Fail> {
+        let SyntaxElement::Node(parent) = self.element(gap.parent)? else {
+            return Err(Fail::new("a token has no gaps"));
+        };
+        let place = Position {
+            parent,
+            index: gap.index,
+        };
+        let new = self.all(texts)?;
+        let recorded = match new.as_slice() {
+            [one] => self.editor.insert(self.alloc, place, one),
+            _ => self.editor.insert_all(self.alloc, place, new),
+        };
+        self.tell(recorded)
+    }
+
+    /// What was recorded in a tree of another number.
+    fn foreign(&mut self, way: &[usize]) -> Result<(), Fail> {
+        let other = root(self.alloc, Tree::Args, &mut self.ids)?;
+        match other.element_at(self.alloc, way)? {
+            Some(element) => {
+                let recorded = self.editor.delete(self.alloc, &element);
+                self.tell(recorded)
+            }
+            None => Err(Fail::new("no such element")),
+        }
+    }
+
+    /// The path in the file becomes one in parentheses, to which it is mapped or not.
+    fn wrap(&mut self, is_mapped: bool) -> Result<(), Fail> {
+        let old = self.element(&[0])?;
+        let parens = root(self.alloc, Tree::Wrapped, &mut self.ids)?;
+        if is_mapped {
+            let mut builder = SyntaxMappingBuilder::new(self.alloc, parens.clone()?)?;
+            builder.map_node(
+                self.alloc,
+                path(self.alloc, self.editor.root())?,
+                path(self.alloc, &parens)?,
+            )?;
+            builder.finish(self.editor.mappings())?;
+        }
+        let recorded = self
+            .editor
+            .replace(self.alloc, &old, &SyntaxElement::Node(parens));
+        self.tell(recorded)
+    }
+
+    fn deleted(&mut self, way: &[usize]) -> Result<(), Fail> {
+        let element = self.element(way)?;
+        let is_deleted = self.editor.deleted(self.alloc, &element)?;
+        let word = if is_deleted { "true " } else { "false " };
+        Ok(self.out.push_str(word)?)
+    }
+
+    fn replace(&mut self, way: &[usize], text: &'static str) -> Result<(), Fail> {
+        let old = self.element(way)?;
+        let new = self.payload(text)?;
+        let recorded = self.editor.replace(self.alloc, &old, &new);
+        self.tell(recorded)
+    }
+
+    fn delete(&mut self, way: &[usize]) -> Result<(), Fail> {
+        let old = self.element(way)?;
+        let recorded = self.editor.delete(self.alloc, &old);
+        self.tell(recorded)
+    }
+
+    fn many(&mut self, way: &[usize], texts: &[&'static str]) -> Result<(), Fail> {
+        let old = self.element(way)?;
+        let new = self.all(texts)?;
+        let recorded = self.editor.replace_with_many(self.alloc, &old, new);
+        self.tell(recorded)
+    }
+
+    /// An element is replaced by none.
+    fn remove(&mut self, way: &[usize]) -> Result<(), Fail> {
+        let old = self.element(way)?;
+        let none = Vec::new(self.alloc);
+        let recorded = self.editor.replace_with_many(self.alloc, &old, none);
+        self.tell(recorded)
+    }
+
+    fn delete_all(&mut self, from: &[usize], to: &[usize]) -> Result<(), Fail> {
+        let first = self.element(from)?;
+        let last = self.element(to)?;
+        let recorded = self.editor.delete_all(self.alloc, &first, &last);
+        self.tell(recorded)
+    }
+
+    fn replace_all(
+        &mut self,
+        from: &[usize],
+        to: &[usize],
+        texts: &[&'static str],
+    ) -> Result<(), Fail> {
+        let first = self.element(from)?;
+        let last = self.element(to)?;
+        let new = self.all(texts)?;
+        let recorded = self.editor.replace_all(self.alloc, &first, &last, new);
+        self.tell(recorded)
+    }
+
+    fn run(&mut self, doing: Do<'_>) -> Result<(), Fail> {
+        match doing {
+            Do::Insert(gap, texts) => self.insert(gap, texts),
+            Do::Replace(way, text) => self.replace(way, text),
+            Do::Delete(way) => self.delete(way),
+            Do::Many(way, texts) => self.many(way, texts),
+            Do::Remove(way) => self.remove(way),
+            Do::DeleteAll(from, to) => self.delete_all(from, to),
+            Do::ReplaceAll(from, to, texts) => self.replace_all(from, to, texts),
+            Do::Deleted(way) => self.deleted(way),
+            Do::Foreign(way) => self.foreign(way),
+            Do::Wrap(is_mapped) => self.wrap(is_mapped),
+        }
+    }
+
+    fn tell(&mut self, recorded: Result<(), RecordError>) -> Result<(), Fail> {
+        let word = match recorded {
+            Ok(()) => "",
+            Err(RecordError::Foreign) => "Foreign ",
+            Err(RecordError::BadRange) => "BadRange ",
+            Err(RecordError::BadTarget) => "BadTarget ",
+            Err(RecordError::NoMemory) => return Err(Fail::new("out of memory")),
+        };
+        Ok(self.out.push_str(word)?)
+    }
+}
+
+/// The first child that is a node.
+fn path(alloc: Global, root: &SyntaxNode) -> Result<SyntaxNode, Fail> {
+    match root.children(alloc)?.next() {
+        Some(node) => Ok(node?),
+        None => Err(Fail::new("no child")),
+    }
+}
+
+/// The refusals, then the new text with the bytes that changed, or why there is none.
+pub fn answer(alloc: Global, tree: Tree, doings: &[Do<'_>]) -> Result<String, Fail> {
+    let mut ids = TreeIds::new();
+    let root = root(alloc, tree, &mut ids)?;
+    let (editor, _root) = SyntaxEditor::new(alloc, root, &mut ids)?;
+    let mut bench = Bench {
+        alloc,
+        ids,
+        editor,
+        payloads: Vec::new(alloc),
+        out: String::new(alloc),
+    };
+    for doing in doings {
+        bench.run(*doing)?;
+    }
+    let Bench {
+        mut ids,
+        editor,
+        mut out,
+        ..
+    } = bench;
+    match editor.finish(alloc, &mut ids) {
+        Ok(edit) => show(alloc, &mut out, &edit)?,
+        Err(refusal) => out.push_str(name_of(refusal)?)?,
+    }
+    Ok(out)
+}
+
+/// The new text, and the bytes of it that changed.
+pub fn show(alloc: Global, out: &mut String, edit: &SyntaxEdit) -> Result<(), Fail> {
+    let text = edit.new_root().cursor().text()?;
+    let text = format!(in alloc; "{text}")?;
+    out.push_str(&text)?;
+    for range in edit.changed() {
+        let range = format!(in alloc; " {}..{}", range.start().0, range.end().0)?;
+        out.push_str(&range)?;
+    }
+    Ok(())
+}
+
+fn name_of(refusal: FinishError) -> Result<&'static str, Fail> {
+    match refusal {
+        FinishError::Intersecting => Ok("Intersecting"),
+        FinishError::MissingMapping => Ok("MissingMapping"),
+        FinishError::TooLong => Ok("TooLong"),
+        FinishError::NoTreeNumber => Ok("NoTreeNumber"),
+        FinishError::NoMemory => Err(Fail::new("out of memory")),
+    }
+}
+
+/// The text of what stands, once the second literal is replaced, where that stood.
+pub fn found_text(alloc: Global) -> Result<String, Fail> {
+    let mut ids = TreeIds::new();
+    let root = root(alloc, Tree::Args, &mut ids)?;
+    let Some(SyntaxElement::Node(old)) = root.element_at(alloc, &[4])? else {
+        return Err(Fail::new("no literal"));
+    };
+    let new = payload(alloc, "LITERAL 3", &mut ids)?;
+    let mut editor = SyntaxEditor::of_root(alloc, root);
+    editor.replace(alloc, &SyntaxElement::Node(old.clone()?), &new)?;
+    let edit = editor.finish(alloc, &mut ids)?;
+    match edit.find_element(alloc, &old)? {
+        Some(node) => Ok(format!(in alloc; "{}", node.cursor().text()?)?),
+        None => Err(Fail::new("nothing is found")),
+    }
+}

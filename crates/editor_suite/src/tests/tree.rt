@@ -1,0 +1,100 @@
+//! Trees that are built by hand. Texts stand for leaves.
+use parser_input::SyntaxKind;
+use rowan_green::{GreenNode, GreenNodeBuilder, GreenToken};
+use std::alloc::Global;
+use std::test::Fail;
+use syntax_tree::{SyntaxElement, SyntaxNode, SyntaxToken, TreeIds};
+
+#[derive(Clone, Copy)]
+pub enum Tree {
+    /// `(1, 2)`: an argument list, whose elements 1 and 4 are literals.
+    Args,
+    /// `a`: a path in a file.
+    Nested,
+    /// `(a)`: a path in parentheses, its element 1.
+    Wrapped,
+    /// `3`: a literal.
+    Literal,
+}
+
+#[derive(Clone, Copy)]
+enum Step {
+    Open(SyntaxKind),
+    Leaf(SyntaxKind, &'static str),
+    Close,
+}
+
+fn raw(kind: SyntaxKind) -> rowan_green::SyntaxKind {
+    rowan_green::SyntaxKind(kind.to_raw())
+}
+
+const LITERAL: Step = Step::Open(SyntaxKind::LITERAL);
+
+fn steps(tree: Tree) -> &'static [Step] {
+    match tree {
+        Tree::Args => &[
+            Step::Open(SyntaxKind::ARG_LIST),
+            Step::Leaf(SyntaxKind::L_PAREN, "("),
+            LITERAL,
+            Step::Leaf(SyntaxKind::INT_NUMBER, "1"),
+            Step::Close,
+            Step::Leaf(SyntaxKind::COMMA, ","),
+            Step::Leaf(SyntaxKind::WHITESPACE, " "),
+            LITERAL,
+            Step::Leaf(SyntaxKind::INT_NUMBER, "2"),
+            Step::Close,
+            Step::Leaf(SyntaxKind::R_PAREN, ")"),
+            Step::Close,
+        ],
+        Tree::Nested => &[
+            Step::Open(SyntaxKind::SOURCE_FILE),
+            Step::Open(SyntaxKind::PATH),
+            Step::Leaf(SyntaxKind::IDENT, "a"),
+            Step::Close,
+            Step::Close,
+        ],
+        Tree::Wrapped => &[
+            Step::Open(SyntaxKind::PAREN_EXPR),
+            Step::Leaf(SyntaxKind::L_PAREN, "("),
+            Step::Open(SyntaxKind::PATH),
+            Step::Leaf(SyntaxKind::IDENT, "a"),
+            Step::Close,
+            Step::Leaf(SyntaxKind::R_PAREN, ")"),
+            Step::Close,
+        ],
+        Tree::Literal => &[
+            LITERAL,
+            Step::Leaf(SyntaxKind::INT_NUMBER, "3"),
+            Step::Close,
+        ],
+    }
+}
+
+fn green(alloc: Global, tree: Tree) -> Result<GreenNode, Fail> {
+    let mut builder = GreenNodeBuilder::new(alloc);
+    for step in steps(tree) {
+        match *step {
+            Step::Open(kind) => builder.start_node(raw(kind))?,
+            Step::Leaf(kind, text) => builder.token(raw(kind), text)?,
+            Step::Close => builder.finish_node()?,
+        }
+    }
+    match builder.finish() {
+        Ok(node) => Ok(node),
+        Err(unfinished) => Err(Fail::from(unfinished.error)),
+    }
+}
+
+/// Its root, under the next number.
+pub fn root(alloc: Global, tree: Tree, ids: &mut TreeIds) -> Result<SyntaxNode, Fail> {
+    Ok(SyntaxNode::new_root(alloc, green(alloc, tree)?, ids)?)
+}
+
+/// A literal, or a token of this text.
+pub fn payload(alloc: Global, text: &str, ids: &mut TreeIds) -> Result<SyntaxElement, Fail> {
+    if text == "LITERAL 3" {
+        return Ok(SyntaxElement::Node(root(alloc, Tree::Literal, ids)?));
+    }
+    let green = GreenToken::new(alloc, raw(SyntaxKind::IDENT), text)?;
+    Ok(SyntaxElement::Token(SyntaxToken::detached(alloc, green, ids)?))
+}

@@ -1,0 +1,62 @@
+//! Elements that have no place in a tree yet.
+ghost use Rattle.std.specs.Prelude.{◌≡◌, ◌+◌, [], ◌∷◌, IfOk, IfErr, OnOk};
+ghost use Rattle.parser_input.specs.Kind.{raw_of};
+ghost use Rattle.parser_input.specs.Kinds.{TOMBSTONE, WHITESPACE};
+ghost use Rattle.rowan_green.specs.Term.{tree_of};
+ghost use Rattle.rowan_green.specs.declared.utility_types.NodeOrToken.TheVariants.{Token};
+ghost use Rattle.syntax_tree.specs.Element.{element_at};
+ghost use Rattle.syntax_editor.specs.Making.{RefusesMake};
+
+use crate::make_error::MakeError;
+use parser_input::SyntaxKind;
+use rowan_green::{GreenError, GreenToken};
+use std::alloc::Global;
+use syntax_tree::{SyntaxToken, TreeIds};
+
+/// Makes tokens to put into trees.
+#[derive(Debug, Drop)]
+pub struct SyntaxFactory;
+
+impl SyntaxFactory {
+    /// White space in a tree of its own, whose number is the next of `ids`. Refuses a text of 2^32 bytes or more as too long, then for
+    /// want of a number. A refusal takes no number.
+    pub fn whitespace(
+        &self,
+        alloc: Global,
+        text: &str,
+        ids: &mut TreeIds,
+    ) -> Result<SyntaxToken, MakeError>
+        ensures ok { IfOk result (λ t. t ≡ element_at ids.old
+            (tree_of TOMBSTONE (Token (record { kind = WHITESPACE; text = text.now }) ∷ [])) (0 ∷ [])) }
+        ensures number { OnOk result (ids.new ≡ ids.old + 1) }
+        ensures refused { IfErr result (RefusesMake text.now ids.old) }
+        ensures kept { IfErr result (λ _. ids.new ≡ ids.old) }
+    {
+        self.token(alloc, SyntaxKind::WHITESPACE, text, ids)
+    }
+
+    /// A token in a tree of its own, whose number is the next of `ids`. Refuses a text of 2^32 bytes or more as too long, then for want of
+    /// a number. A refusal takes no number.
+    pub fn token(
+        &self,
+        alloc: Global,
+        kind: SyntaxKind,
+        text: &str,
+        ids: &mut TreeIds,
+    ) -> Result<SyntaxToken, MakeError>
+        ensures ok { IfOk result (λ t. t ≡ element_at ids.old
+            (tree_of TOMBSTONE (Token (record { kind = raw_of kind; text = text.now }) ∷ [])) (0 ∷ [])) }
+        ensures number { OnOk result (ids.new ≡ ids.old + 1) }
+        ensures refused { IfErr result (RefusesMake text.now ids.old) }
+        ensures kept { IfErr result (λ _. ids.new ≡ ids.old) }
+    {
+        let raw = rowan_green::SyntaxKind(kind.to_raw());
+        let green = match GreenToken::new(alloc, raw, text) {
+            Ok(green) => green,
+            Err(GreenError::NoMemory) => return Err(MakeError::NoMemory),
+            Err(GreenError::TooLong) => return Err(MakeError::TooLong),
+            Err(GreenError::Unbalanced) => unreachable!(),
+        };
+        Ok(SyntaxToken::detached(alloc, green, ids)?)
+    }
+}

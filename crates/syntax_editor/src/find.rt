@@ -1,0 +1,38 @@
+//! Nodes that are found again in the new tree.
+ghost use Rattle.std.specs.Prelude.{◌≡◌, ◌==◌, ◌&&◌, option_map, IfOk};
+ghost use Rattle.rowan.specs.Place.{kind_at, start_of};
+ghost use Rattle.syntax_tree.specs.declared.element.SyntaxElement.TheVariants.{Node};
+ghost use Rattle.syntax_editor.specs.Found.{found};
+
+use crate::rewriting::SyntaxEdit;
+use std::alloc::{AllocError, Global};
+use syntax_tree::{SyntaxElement, SyntaxNode};
+
+/// Whether two nodes have one kind and begin at one byte of their texts.
+fn is_like(node: &SyntaxNode, old: &SyntaxNode) -> bool
+    ensures { result ≡ (kind_at node.now.place == kind_at old.now.place
+        && start_of node.now.place == start_of old.now.place) }
+{
+    node.cursor().green().kind().0 == old.cursor().green().kind().0
+        && node.text_range().start().0 == old.text_range().start().0
+}
+
+impl SyntaxEdit {
+    /// The first node of the new tree in preorder that has an old node's kind and begins where that does.
+    pub fn find_element(
+        &self,
+        alloc: Global,
+        old: &SyntaxNode,
+    ) -> Result<Option<SyntaxNode>, AllocError>
+        ensures { IfOk result (λ r. option_map Node r ≡ found self.now.new_root old.now) }
+    {
+        for element in self.new_root().descendants_with_tokens(alloc)? {
+            if let SyntaxElement::Node(node) = element?
+                && is_like(&node, old)
+            {
+                return Ok(Some(node));
+            }
+        }
+        Ok(None)
+    }
+}

@@ -1,0 +1,46 @@
+//! Why a token was not made.
+use std::error::Error;
+use std::fmt;
+use syntax_tree::TreeError;
+
+/// Why a token was not made. It took no tree number.
+#[derive(Clone, Copy, Debug, PartialEq, Eq)]
+pub enum MakeError {
+    /// Memory was refused.
+    NoMemory = 4,
+    /// Each tree number was given.
+    NoTreeNumber = 5,
+    /// The text has 2^32 bytes or more.
+    TooLong = 6,
+}
+
+impl fmt::Display for MakeError {
+    ghost use Rattle.std.specs.Prelude.{Some};
+    ghost use Rattle.syntax_editor.specs.Making.{make_message};
+
+    ghost output = { λ e. Some (make_message e) };
+
+    fn fmt<W: fmt::Write>(&self, f: &mut fmt::Formatter<W>) -> fmt::Result {
+        match self {
+            MakeError::NoMemory => write!(f, "out of memory"),
+            MakeError::NoTreeNumber => write!(f, "no tree number is left"),
+            MakeError::TooLong => write!(f, "too long"),
+        }
+    }
+}
+
+impl Error for MakeError {}
+
+impl From<TreeError> for MakeError {
+    ghost use Rattle.syntax_editor.specs.Making.{of_tree};
+    ghost use Rattle.std.specs.Prelude.{◌≡◌};
+
+    ghost from_gives = { λ f e. e ≡ of_tree f };
+
+    fn from(e: TreeError) -> MakeError {
+        match e {
+            TreeError::Spent => MakeError::NoTreeNumber,
+            TreeError::NoMemory => MakeError::NoMemory,
+        }
+    }
+}
