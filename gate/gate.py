@@ -5,8 +5,9 @@
     ./test --whole       tries every edit and does not read the ledger
     ./test --record      as ./test, with no sample; where all passed, writes the ledger
     ./test --share 2/3   with any of these: tries, of the edits, those of the second of three shares of the crates alone
-    ./test --edits NAME  with any of these: tries the edits of one crate alone, and none of the tests and programs; a share is
-                         then one of this crate's edits, so that a crate with many can be tried side by side
+    ./test --edits NAME  with any of these: tries the edits of one crate alone, and none of the tests and programs, over the
+                         libraries that checks have built here from the sources as they are; a share is then one of this crate's
+                         edits, so that a crate with many can be tried side by side
     ./test --list        with any of these: prints the edits that it would try, and runs nothing
 
 Its last line is 'N passed, M failed', as of 'rt ci'. Only edits rest on the ledger, and on a run without --whole alone.
@@ -66,12 +67,15 @@ def chosen(sums, asked):
     return share(sums, number, of)
 
 
-def copy(to):
-    """Copies the working tree, but for what was built: what is proved is one state, whatever is edited meanwhile."""
+def copy(to, built):
+    """Copies the working tree, but for what was built: what is proved is one state, whatever is edited meanwhile. Of what was built
+    come the given folders; 'rt' builds a library anew where its sources are others than the folder's stamp says."""
 
     def left_out(at, names):
+        if os.path.basename(at) == "out" and os.path.dirname(os.path.dirname(at)) == f"{TOP}/crates":
+            return [name for name in names if name not in built]
         is_crate = os.path.dirname(at) == f"{TOP}/crates"
-        return [name for name in names if name == ".git" and at == TOP or name == "out" and is_crate]
+        return [name for name in names if name == ".git" and at == TOP or name == "out" and is_crate and not built]
 
     shutil.copytree(TOP, to, symlinks=True, ignore=left_out)
     # (rt ci wants to stand at the top of a repository)
@@ -144,7 +148,7 @@ def main():
         stop("the Rattle kit's command 'rt' is not on the PATH")
     with tempfile.TemporaryDirectory(prefix="gate-") as room:
         copied = f"{room}/repository"
-        copy(copied)
+        copy(copied, ("rlib",) if asked.edits else ())
         try:
             sums = ledger.Sums(copied).edits()
             before = {} if asked.whole else ledger.recorded(copied)

@@ -11,6 +11,7 @@ HERE = os.path.dirname(os.path.realpath(__file__))
 # FAIL and MISS turn its answer.
 STAND_IN = """#!/usr/bin/env bash
 ls crates/*/must-fail/*.edit > "$TRIED" 2> /dev/null
+find crates -path '*/out/*' -type f > "$TRIED.built"
 if [ "$1" = must-fail ]; then
     for edit in $(tail -n +$((${MISS:-0} + 1)) "$TRIED"); do echo "rt: must-fail $2/$(basename "$edit"): refused, as it must be: .."; done
     exit "${FAIL:-0}"
@@ -174,6 +175,17 @@ class Gate(unittest.TestCase):
         self.assertEqual((self.status, self.said[-1]), (0, "5 passed, 0 failed"))
         self.assertEqual((shares[0] | shares[1], shares[0] & shares[1]), (of("apart"), set()))
         self.assertEqual(self.run_gate("--record"), of("low", "middle"))
+
+    def test_edits_of_one_crate_are_tried_over_built_libraries_and_all_else_is_not(self):
+        for path in ("rlib/stamp", "rlib/low.rlib/format", "incremental/mine", "low"):
+            write(f"{self.top}/crates/low/out/{path}", "built")
+        built = f"{self.room}/tried.built"
+        self.run_gate("--edits", "apart", "--record")
+        with open(built) as file:
+            self.assertEqual(sorted(file.read().split()), [f"crates/low/out/rlib/{name}" for name in ("low.rlib/format", "stamp")])
+        self.run_gate()
+        with open(built) as file:
+            self.assertEqual(file.read(), "")
 
     def test_a_record_keeps_what_others_recorded(self):
         self.record()
