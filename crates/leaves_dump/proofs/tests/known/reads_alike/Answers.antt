@@ -7,7 +7,7 @@ use Rattle.parser_input.specs.Lexed.{content, content_of, is_guard, is_split}
 use Rattle.parser_input.specs.Preface.{Source, source}
 use Rattle.parser_input.specs.declared.edition.Edition.TheVariants.{Edition2024}
 use Rattle.parser_input.specs.declared.frontmatter_error.FrontmatterError.{FrontmatterError}
-use Rattle.leaves_dump.proofs.tests.reads_alike.Goals as goal
+use Rattle.leaves_dump.proofs.tests.known.reads_alike.Goals as goal
 
 never_split : (kind : TokenKind) → is_split Edition2024 kind ≡ false
 unfolding is_split

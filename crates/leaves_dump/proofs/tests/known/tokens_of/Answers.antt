@@ -2,7 +2,7 @@ use Rattle.std.proofs.lemmas.Iterator.{items_from_collect}
 use Rattle.std.proofs.lemmas.Iterator.Consumers.{YieldsList-from_first}
 use Rattle.rustc_lexer.specs.Tokens.{token_list}
 use Rattle.std.proofs.Common.{chars}
-use Rattle.leaves_dump.proofs.tests.tokens_of.Goals as goal
+use Rattle.leaves_dump.proofs.tests.known.tokens_of.Goals as goal
 
 pub returns : goal.returns
 returns c =
