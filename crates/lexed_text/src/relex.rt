@@ -1,0 +1,106 @@
+//! Which tokens stay, and the lexing of the others.
+
+ghost use Rattle.std.specs.Prelude.{◌≡◌, ◌+◌, ◌-◌, ◌<◌, ◌≤◌, chars, take, drop, length, IfOk, MatchOption, OnErr};
+ghost use Rattle.rustc_lexer.specs.Characters.{size};
+ghost use Rattle.rustc_lexer.specs.Tokens.{token_list};
+ghost use Rattle.lexed_text.specs.Inside.{left, EndsWithin, Meets, Passes};
+
+use rustc_lexer::{Cursor, Token};
+use std::alloc::{AllocError, Global};
+
+/// A boundary of a list of tokens.
+#[derive(Clone, Copy)]
+pub(crate) struct Place {
+    /// The tokens before it.
+    pub(crate) count: usize,
+
+    /// Bytes: those before it, or those behind it.
+    pub(crate) bytes: usize,
+}
+
+/// The bytes of a text without its last two characters; None where it has fewer.
+pub(crate) fn without_two(text: &str) -> Option<usize>
+    ensures { MatchOption result (length (chars text.now) < 2) (λ n. (2 ≤ length (chars text.now)) × (n ≡ size (take (length (chars text.now) - 2) (chars text.now)))) }
+{
+    let mut rest = text.chars();
+    rest.next_back()?;
+    rest.next_back()?;
+    Some(rest.as_str().len())
+}
+
+/// The last boundary that has no more than so many bytes before it.
+pub(crate) fn ends_within(tokens: &[Token], limit: usize) -> Place
+    ensures { EndsWithin tokens.now limit result.count result.bytes }
+{
+    let mut end = Place { count: 0, bytes: 0 };
+    for token in tokens {
+        if token.len > limit - end.bytes {
+            return end;
+        }
+        end.count += 1;
+        end.bytes += token.len;
+    }
+    end
+}
+
+/// The first boundary from `from` on that has no more than `most` bytes behind it; a place counts the bytes behind it.
+fn pass(tokens: &[Token], from: Place, most: usize) -> Place
+    requires within { from.count ≤ length tokens.now }
+    requires is_left { from.bytes ≡ left from.count tokens.now }
+    ensures { Passes tokens.now from.count most result.count result.bytes }
+{
+    let mut at = from;
+    'tokens: while at.bytes > most {
+        at.bytes -= tokens[at.count].len;
+        at.count += 1;
+    }
+    at
+}
+
+/// Tokens of a new text, up to where it meets the old one.
+#[derive(Drop)]
+pub(crate) struct Lexing {
+    pub(crate) tokens: Vec<Token>,
+
+    /// How many of them were taken from the cursor.
+    pub(crate) lexed: usize,
+
+    /// The old tokens before the boundary at which it meets.
+    pub(crate) stop: usize,
+}
+
+/// Lexes a text up to the first boundary with no more than `most` bytes behind it that has as many as one of the old tokens, from
+/// the front's end on.
+pub(crate) fn lex(
+    alloc: Global,
+    old: &[Token],
+    front: Place,
+    text: &str,
+    most: usize,
+) -> Result<Lexing, AllocError>
+    requires within { front.count ≤ length old.now }
+    requires is_left { front.bytes ≡ left front.count old.now }
+    ensures tokens { IfOk result (λ l. l.tokens.items ≡ take l.lexed (token_list (chars text.now))) }
+    ensures meets { IfOk result (λ l. Meets old.now (token_list (chars text.now)) front.count most l.lexed l.stop) }
+{
+    let mut cursor = Cursor::new(text);
+    let mut tokens = Vec::new(alloc);
+    let mut lexed = 0;
+    let mut at = front;
+    'lexing: loop {
+        let behind = cursor.remaining();
+        if behind <= most {
+            at = pass(old, at, behind);
+            if at.bytes == behind {
+                break;
+            }
+        }
+        tokens.push(cursor.advance_token())?;
+        lexed += 1;
+    }
+    Ok(Lexing {
+        tokens,
+        lexed,
+        stop: at.count,
+    })
+}
