@@ -1,4 +1,2 @@
 pub mod Ends
 pub mod Fronts
-pub mod Backs
-pub mod Ones
