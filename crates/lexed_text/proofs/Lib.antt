@@ -1,2 +1,4 @@
 pub mod Ends
 pub mod Fronts
+pub mod Backs
+pub mod Ones
