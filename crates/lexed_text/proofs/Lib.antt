@@ -2,3 +2,4 @@ pub mod Ends
 pub mod Fronts
 pub mod Backs
 pub mod Ones
+pub mod Sums

@@ -1,6 +1,8 @@
 -- How code finds the boundaries of a list of tokens: by the bytes that stand before and behind them.
-use Rattle.std.specs.Prelude.{◌≡◌, ℕ, ◌+◌, ◌<◌, ◌≤◌, List, take, drop, length}
+use Rattle.std.specs.Prelude.{◌≡◌, ℕ, ◌-◌, ◌<◌, ◌≤◌, List, [], ◌∷◌, ◌++◌, take, drop, length}
 use Rattle.std.specs.List.{sum_by}
+use Rattle.std.specs.Str.{chars, IsUtf8}
+use Rattle.rustc_lexer.specs.Characters.{size}
 use Rattle.rustc_lexer.specs.declared.token.Token.{Token}
 
 -- the bytes of the first k tokens
@@ -35,3 +37,14 @@ pub record Meets (old new : List Token) (front most k j : ℕ) : Type 0 where
   pub low : left k new ≤ most
   pub same : left k new ≡ left j old
   pub first : (i n : ℕ) → i < k → front ≤ n → n ≤ length old → left i new ≤ most → left i new ≡ left n old → ⊥
+
+-- a text without its last character
+pub record LacksLast (text rest : List ℕ) : Type 0 where
+  pub is_text : IsUtf8 rest
+  pub last : ℕ
+  pub whole : chars text ≡ chars rest ++ last ∷ []
+
+-- the bytes of a text without its last two characters
+pub record LacksTwo (text : List ℕ) (bytes : ℕ) : Type 0 where
+  pub two : 2 ≤ length (chars text)
+  pub is_size : bytes ≡ size (take (length (chars text) - 2) (chars text))

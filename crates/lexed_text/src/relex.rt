@@ -1,9 +1,8 @@
 //! Which tokens stay, and the lexing of the others.
 
-ghost use Rattle.std.specs.Prelude.{◌≡◌, ◌+◌, ◌-◌, ◌<◌, ◌≤◌, chars, take, drop, length, IfOk, MatchOption, OnErr};
-ghost use Rattle.rustc_lexer.specs.Characters.{size};
+ghost use Rattle.std.specs.Prelude.{◌≡◌, ◌<◌, ◌≤◌, [], chars, take, length, IfOk, MatchOption};
 ghost use Rattle.rustc_lexer.specs.Tokens.{token_list};
-ghost use Rattle.lexed_text.specs.Inside.{left, EndsWithin, Meets, Passes};
+ghost use Rattle.lexed_text.specs.Inside.{left, EndsWithin, LacksLast, LacksTwo, Meets, Passes};
 
 use rustc_lexer::{Cursor, Token};
 use std::alloc::{AllocError, Global};
@@ -18,14 +17,28 @@ pub(crate) struct Place {
     pub(crate) bytes: usize,
 }
 
-/// The bytes of a text without its last two characters; None where it has fewer.
-pub(crate) fn without_two(text: &str) -> Option<usize>
-    ensures { MatchOption result (length (chars text.now) < 2) (λ n. (2 ≤ length (chars text.now)) × (n ≡ size (take (length (chars text.now) - 2) (chars text.now)))) }
+/// A text without its last character; None where it has none.
+fn without_last(text: &str) -> Option<&str>
+    ensures { MatchOption result (chars text.now ≡ []) (λ rest. LacksLast text.now rest.now) }
 {
     let mut rest = text.chars();
-    rest.next_back()?;
-    rest.next_back()?;
-    Some(rest.as_str().len())
+    match rest.next_back() {
+        Some(_) => Some(rest.as_str()),
+        None => None,
+    }
+}
+
+/// The bytes of a text without its last two characters; None where it has fewer.
+pub(crate) fn without_two(text: &str) -> Option<usize>
+    ensures { MatchOption result (length (chars text.now) < 2) (LacksTwo text.now) }
+{
+    match without_last(text) {
+        Some(one) => match without_last(one) {
+            Some(two) => Some(two.len()),
+            None => None,
+        },
+        None => None,
+    }
 }
 
 /// The last boundary that has no more than so many bytes before it.
