@@ -3,3 +3,5 @@ pub mod Fronts
 pub mod Backs
 pub mod Ones
 pub mod Sums
+pub mod Texts
+pub mod Turns

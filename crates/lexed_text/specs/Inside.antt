@@ -1,9 +1,10 @@
 -- How code finds the boundaries of a list of tokens: by the bytes that stand before and behind them.
-use Rattle.std.specs.Prelude.{◌≡◌, ℕ, ◌-◌, ◌<◌, ◌≤◌, List, [], ◌∷◌, ◌++◌, take, drop, length}
+use Rattle.std.specs.Prelude.{◌≡◌, ◌⊎◌, ℕ, ◌+◌, ◌-◌, ◌<◌, ◌≤◌, List, [], ◌∷◌, ◌++◌, take, drop, length}
 use Rattle.std.specs.List.{sum_by}
 use Rattle.std.specs.Str.{chars, IsUtf8}
 use Rattle.rustc_lexer.specs.Characters.{size}
 use Rattle.rustc_lexer.specs.declared.token.Token.{Token}
+use Rattle.lexed_text.specs.declared.kept.Kept.{Kept}
 
 -- the bytes of the first k tokens
 abbrev pub taken : ℕ → List Token → ℕ
@@ -48,3 +49,18 @@ pub record LacksLast (text rest : List ℕ) : Type 0 where
 pub record LacksTwo (text : List ℕ) (bytes : ℕ) : Type 0 where
   pub two : 2 ≤ length (chars text)
   pub is_size : bytes ≡ size (take (length (chars text) - 2) (chars text))
+
+-- The first k tokens, which end behind `end` bytes, are the front of an edit behind these characters: those that end within all
+-- but two of them.
+abbrev pub FrontFound : List Token → List ℕ → ℕ → ℕ → Type 0
+FrontFound tokens before k end =
+    ((length before < 2) × (k ≡ 0) × (end ≡ 0))
+    ⊎ ((2 ≤ length before) × EndsWithin tokens (size (take (length before - 2) before)) k end)
+
+-- the front of the old tokens, those of the new text behind it, `fresh`, up to where they meet, and the old ones from there on
+pub record Renewed (old fresh : List Token) (front most : ℕ) (new : List Token) (kept : Kept) : Type 0 where
+  pub front_is : kept.front ≡ front
+  pub stop : ℕ
+  pub back : stop + kept.back ≡ length old
+  pub meets : Meets old fresh front most kept.lexed stop
+  pub tokens : new ≡ take front old ++ (take kept.lexed fresh ++ drop stop old)

@@ -6,7 +6,7 @@ ghost use Rattle.lexed_text.specs.Edit.{CanEdit, edited, edit_of};
 ghost use Rattle.lexed_text.specs.Kept.{IsKept};
 
 use crate::kept::Kept;
-use crate::relex::{Place, ends_within, lex, without_two};
+use crate::relex::{Place, find_front, renew};
 use rustc_lexer::{Token, tokenize};
 use std::alloc::{AllocError, Global};
 use std::marker::Model;
@@ -73,6 +73,38 @@ impl LexedText {
         }
         let kept = text.len() - (range.end - range.start);
         new_len <= usize::MAX - kept
+    }
+
+    /// Puts a text in the place of a range of bytes, and lexes what has to be lexed again; how many tokens were kept and lexed.
+    /// Fails for want of memory alone, and then changes nothing.
+    pub fn edit(&mut self, range: Range<usize>, replacement: &str) -> Result<Kept, AllocError>
+        requires { CanEdit self.old range.start range.end (length replacement.now) }
+        ensures text { OnOk result (self.new ≡ edited self.old range.start range.end replacement.now) }
+        ensures kept { IfOk result (IsKept (edit_of self.old range.start range.end replacement.now)) }
+        ensures refused { OnErr result (self.new ≡ self.old) }
+    {
+        let start = range.start;
+        let end = range.end;
+        let old = self.text.as_str();
+        let removed = String::from_str(self.alloc, &old[start..end])?;
+        let front = find_front(self.tokens.as_slice(), &old[..start]);
+        let most = old.len() - end;
+        let behind_front = Place {
+            count: front.count,
+            bytes: old.len() - front.bytes,
+        };
+        self.text.try_reserve(replacement.len())?;
+        self.text.replace_range(start..end, replacement)?;
+        let rest = &self.text.as_str()[front.bytes..];
+        match renew(self.alloc, &mut self.tokens, behind_front, rest, most) {
+            Ok(kept) => Ok(kept),
+            Err(error) => {
+                // (there is room, since the old text was no longer than what was reserved)
+                let put = start..start + replacement.len();
+                let _restored = self.text.replace_range(put, removed.as_str());
+                Err(error)
+            }
+        }
     }
 
     /// Equal to this one. Fails for want of memory alone.

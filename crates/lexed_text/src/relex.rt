@@ -1,9 +1,10 @@
 //! Which tokens stay, and the lexing of the others.
 
-ghost use Rattle.std.specs.Prelude.{◌≡◌, ◌<◌, ◌≤◌, [], chars, take, length, IfOk, MatchOption};
+ghost use Rattle.std.specs.Prelude.{◌≡◌, ◌<◌, ◌≤◌, [], chars, take, length, IfOk, MatchOption, OnErr};
 ghost use Rattle.rustc_lexer.specs.Tokens.{token_list};
-ghost use Rattle.lexed_text.specs.Inside.{left, EndsWithin, LacksLast, LacksTwo, Meets, Passes};
+ghost use Rattle.lexed_text.specs.Inside.{left, EndsWithin, FrontFound, LacksLast, LacksTwo, Meets, Passes, Renewed};
 
+use crate::kept::Kept;
 use rustc_lexer::{Cursor, Token};
 use std::alloc::{AllocError, Global};
 
@@ -29,7 +30,7 @@ fn without_last(text: &str) -> Option<&str>
 }
 
 /// The bytes of a text without its last two characters; None where it has fewer.
-pub(crate) fn without_two(text: &str) -> Option<usize>
+fn without_two(text: &str) -> Option<usize>
     ensures { MatchOption result (length (chars text.now) < 2) (LacksTwo text.now) }
 {
     match without_last(text) {
@@ -42,7 +43,7 @@ pub(crate) fn without_two(text: &str) -> Option<usize>
 }
 
 /// The last boundary that has no more than so many bytes before it.
-pub(crate) fn ends_within(tokens: &[Token], limit: usize) -> Place
+fn ends_within(tokens: &[Token], limit: usize) -> Place
     ensures { EndsWithin tokens.now limit result.count result.bytes }
 {
     let mut end = Place { count: 0, bytes: 0 };
@@ -54,6 +55,16 @@ pub(crate) fn ends_within(tokens: &[Token], limit: usize) -> Place
         end.bytes += token.len;
     }
     end
+}
+
+/// The front of an edit behind these characters, and the bytes before its end.
+pub(crate) fn find_front(tokens: &[Token], before: &str) -> Place
+    ensures { FrontFound tokens.now (chars before.now) result.count result.bytes }
+{
+    match without_two(before) {
+        Some(limit) => ends_within(tokens, limit),
+        None => Place { count: 0, bytes: 0 },
+    }
 }
 
 /// The first boundary from `from` on that has no more than `most` bytes behind it; a place counts the bytes behind it.
@@ -72,19 +83,19 @@ fn pass(tokens: &[Token], from: Place, most: usize) -> Place
 
 /// Tokens of a new text, up to where it meets the old one.
 #[derive(Drop)]
-pub(crate) struct Lexing {
-    pub(crate) tokens: Vec<Token>,
+struct Lexing {
+    tokens: Vec<Token>,
 
     /// How many of them were taken from the cursor.
-    pub(crate) lexed: usize,
+    lexed: usize,
 
     /// The old tokens before the boundary at which it meets.
-    pub(crate) stop: usize,
+    stop: usize,
 }
 
 /// Lexes a text up to the first boundary with no more than `most` bytes behind it that has as many as one of the old tokens, from
 /// the front's end on.
-pub(crate) fn lex(
+fn lex(
     alloc: Global,
     old: &[Token],
     front: Place,
@@ -115,5 +126,29 @@ pub(crate) fn lex(
         tokens,
         lexed,
         stop: at.count,
+    })
+}
+
+/// Lexes a new text from the front's end on, and puts its tokens into the place of those that it has no more. The front's end and
+/// the edit's count the bytes behind them. A refusal leaves the tokens as they are.
+pub(crate) fn renew(
+    alloc: Global,
+    tokens: &mut Vec<Token>,
+    front: Place,
+    text: &str,
+    most: usize,
+) -> Result<Kept, AllocError>
+    requires within { front.count ≤ length tokens.old.items }
+    requires is_left { front.bytes ≡ left front.count tokens.old.items }
+    ensures renewed { IfOk result (Renewed tokens.old.items (token_list (chars text.now)) front.count most tokens.new.items) }
+    ensures refused { OnErr result (tokens.new.items ≡ tokens.old.items) }
+{
+    let lexing = lex(alloc, tokens.as_slice(), front, text, most)?;
+    let back = tokens.len() - lexing.stop;
+    tokens.splice(front.count..lexing.stop, lexing.tokens)?;
+    Ok(Kept {
+        front: front.count,
+        lexed: lexing.lexed,
+        back,
     })
 }
