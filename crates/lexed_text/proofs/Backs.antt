@@ -1,8 +1,8 @@
 -- The back: how code finds it, and that it stays.
-use Rattle.std.proofs.Common.{◌≡◌, ℕ, zero, suc, ◌+◌, ◌-◌, ◌<◌, ◌≤◌, ◌⊎◌, inl, inr, List, [], ◌∷◌, ◌++◌, length, take, drop, map, refl, sym, ◌∙◌, ap, subst, arith, length-append, length-drop}
-use Rattle.std.proofs.lemmas.List.{append_assoc, drop_at, drop-drop, drop-map, take-map, take-append-drop, length-map}
+use Rattle.std.proofs.Common.{◌≡◌, ℕ, ◌+◌, ◌-◌, ◌≤◌, inl, inr, List, ◌++◌, length, take, drop, map, sym, ◌∙◌, ap, arith, length-append, length-drop}
+use Rattle.std.proofs.lemmas.List.{append_assoc, drop_at, drop-drop, drop-map, take-append-drop}
 use Rattle.rustc_lexer.specs.Characters.{size}
-use Rattle.rustc_lexer.specs.Tokens.{Lexeme, tokens, joined, token, token_list}
+use Rattle.rustc_lexer.specs.Tokens.{Lexeme, tokens, token, token_list}
 use Rattle.rustc_lexer.proofs.Agree.{lt_or_ge}
 use Rattle.rustc_lexer.proofs.Cutting.{tokens-behind}
 use Rattle.rustc_lexer.proofs.Sizes.{size-drop}
@@ -10,8 +10,8 @@ use Rattle.lexed_text.specs.declared.kept.Kept.{Kept}
 use Rattle.lexed_text.specs.Edit.{Edit, old_text, new_text}
 use Rattle.lexed_text.specs.Kept.{end_of, IsFront, IsShared, IsKept}
 use Rattle.lexed_text.specs.Inside.{left, Meets}
-use Rattle.lexed_text.proofs.Ends.{end-less, end-one, end-within, left-one, left-size, list-length, size-left}
-use Rattle.lexed_text.proofs.Fronts.{front-tokens, front-end, front-within, front-before}
+use Rattle.lexed_text.proofs.Ends.{end-less, end-within, left-one, left-size, list-length, size-left}
+use Rattle.lexed_text.proofs.Fronts.{front-tokens, front-within, front-before}
 
 -- behind the edit both texts go on alike
 behind_at : (xs ys zs : List ℕ) → drop (length xs + length ys) (xs ++ (ys ++ zs)) ≡ zs

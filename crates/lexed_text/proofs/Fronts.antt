@@ -1,5 +1,5 @@
 -- The front: how code finds it, and that it stays.
-use Rattle.std.proofs.Common.{◌≡◌, ◌↔◌, ℕ, zero, suc, ◌+◌, ◌-◌, ◌<◌, ◌≤◌, ◌⊎◌, inl, inr, List, [], ◌∷◌, ◌++◌, length, take, drop, refl, sym, ◌∙◌, ap, subst, arith, length-append}
+use Rattle.std.proofs.Common.{◌≡◌, ℕ, zero, suc, ◌-◌, ◌<◌, ◌≤◌, inl, inr, ◌++◌, length, take, refl, sym, ◌∙◌, ap, arith, length-append}
 use Rattle.std.proofs.lemmas.List.{length-take-le, length-take, take_at, take-append-le}
 use Rattle.rustc_lexer.specs.Characters.{size}
 use Rattle.rustc_lexer.specs.Tokens.{tokens, joined, token_list}
@@ -8,7 +8,7 @@ use Rattle.rustc_lexer.proofs.Cutting.{front-kept}
 use Rattle.lexed_text.specs.Edit.{Edit, old_text, new_text}
 use Rattle.lexed_text.specs.Kept.{end_of, IsFront}
 use Rattle.lexed_text.specs.Inside.{taken, EndsWithin}
-use Rattle.lexed_text.proofs.Ends.{end-less, end-mono, end-within, size-less, size-mono, taken-size, list-length}
+use Rattle.lexed_text.proofs.Ends.{end-mono, end-within, size-less, size-mono, taken-size, list-length}
 
 -- the first characters of the old text, before the edit
 first-same : (p : ℕ) (e : Edit) → p ≤ length e.before → take p e.before ≡ take p (old_text e)

@@ -5,3 +5,4 @@ pub mod Ones
 pub mod Sums
 pub mod Texts
 pub mod Turns
+pub mod Edits

@@ -1,5 +1,5 @@
 -- An edit has one triple of counts.
-use Rattle.std.proofs.Common.{◌≡◌, ℕ, zero, suc, ◌+◌, ◌-◌, ◌<◌, ◌≤◌, ◌⊎◌, inl, inr, List, length, refl, sym, ◌∙◌, ap, subst, arith}
+use Rattle.std.proofs.Common.{◌≡◌, ℕ, zero, suc, ◌+◌, ◌≤◌, inl, inr, length, sym, ◌∙◌, ap, arith}
 use Rattle.rustc_lexer.specs.Tokens.{tokens}
 use Rattle.rustc_lexer.proofs.Agree.{lt_or_ge}
 use Rattle.lexed_text.specs.declared.kept.Kept.{Kept}

@@ -1,13 +1,13 @@
 -- The bytes before and behind a boundary, a token more.
-use Rattle.std.proofs.Common.{◌≡◌, ℕ, zero, suc, ◌+◌, ◌-◌, ◌<◌, ◌≤◌, List, [], ◌∷◌, ◌++◌, length, take, drop, get_or, refl, sym, ◌∙◌, ap, subst, arith, length-append}
+use Rattle.std.proofs.Common.{◌≡◌, ℕ, zero, suc, ◌+◌, ◌-◌, ◌<◌, ◌≤◌, List, [], ◌∷◌, ◌++◌, length, take, drop, get_or, sym, ◌∙◌, ap, arith, length-append}
 use Rattle.std.proofs.lemmas.List.{append_assoc, drop_more, drop_all, take_at}
 use Rattle.std.proofs.lemmas.List.Sums.{fold_more, sum_by-cons, sum_by-take-drop}
 use Rattle.std.specs.List.{sum_by}
-use Rattle.std.specs.Str.{chars, IsUtf8}
+use Rattle.std.specs.Str.{chars}
 use Rattle.rustc_lexer.specs.Characters.{size}
 use Rattle.rustc_lexer.proofs.Sizes.{size-chars}
 use Rattle.rustc_lexer.specs.declared.token.Token.{Token}
-use Rattle.lexed_text.specs.Inside.{taken, left, EndsWithin, Passes, LacksLast, LacksTwo}
+use Rattle.lexed_text.specs.Inside.{taken, left, EndsWithin, LacksLast, LacksTwo}
 
 pub taken-more : (tokens : List Token) (i : ℕ) (d : Token) → i < length tokens → taken (i + 1) tokens ≡ taken i tokens + (get_or tokens i d).len
 taken-more tokens i d h = fold_more (λ a (t : Token). a + t.len) 0 tokens i d h

@@ -1,7 +1,7 @@
 -- Bytes and characters of a text, at a place of it.
-use Rattle.std.proofs.Common.{◌≡◌, ℕ, zero, suc, ◌+◌, ◌-◌, ◌<◌, ◌≤◌, List, [], ◌∷◌, ◌++◌, length, take, drop, refl, sym, ◌∙◌, ap, subst, arith, length-append, length-drop}
+use Rattle.std.proofs.Common.{◌≡◌, ℕ, ◌+◌, ◌-◌, ◌≤◌, List, [], ◌∷◌, ◌++◌, length, take, drop, refl, sym, ◌∙◌, ap, subst, arith, length-append, length-drop}
 use Rattle.std.proofs.lemmas.List.{append-nil, append_assoc, length-take-le, take_at, drop_at, drop-drop, take-append-drop}
-use Rattle.std.proofs.lemmas.Str.{chars-nil, chars-append, chars_past_char, encodes-chars, encodes-append, IsUtf8-take, IsUtf8-drop, IsUtf8-between, IsCharBoundary-from_take}
+use Rattle.std.proofs.lemmas.Str.{chars-nil, chars-append, chars_past_char, encodes-append, IsUtf8-take, IsUtf8-drop, IsUtf8-between, IsCharBoundary-from_take}
 use Rattle.std.proofs.Math.Utf8.{encodes, encode}
 use Rattle.std.specs.Str.{chars, IsUtf8, IsCharBoundary}
 use Rattle.rustc_lexer.specs.Characters.{size}

@@ -1,6 +1,6 @@
 -- The loop that lexes behind the front, a turn of it.
-use Rattle.std.proofs.Common.{◌≡◌, ◌≢◌, ℕ, zero, suc, ◌+◌, ◌-◌, ◌<◌, ◌≤◌, ◌⊎◌, inl, inr, List, [], ◌∷◌, ◌++◌, length, take, drop, refl, sym, ◌∙◌, ap, subst, arith, length-append}
-use Rattle.std.proofs.lemmas.List.{append_assoc, take_at, drop_at}
+use Rattle.std.proofs.Common.{◌≡◌, ◌≢◌, ℕ, ◌+◌, ◌<◌, ◌≤◌, inl, inr, List, [], ◌∷◌, ◌++◌, length, drop, sym, ◌∙◌, ap, subst, arith, length-append}
+use Rattle.std.proofs.lemmas.List.{append_assoc, drop_at}
 use Rattle.std.proofs.lemmas.List.Elements.{All-head}
 use Rattle.std.proofs.lemmas.List.Sums.{sum_by-cons}
 use Rattle.std.specs.List.{All, sum_by}
@@ -9,7 +9,6 @@ use Rattle.rustc_lexer.specs.Tokens.{next_lexeme, token, token_list}
 use Rattle.rustc_lexer.specs.declared.token.Token.{Token}
 use Rattle.rustc_lexer.proofs.Agree.{lt_or_ge}
 use Rattle.rustc_lexer.proofs.Cutting.{each-length, lengths-sum, list-cons}
-use Rattle.rustc_lexer.proofs.Sizes.{size-parts}
 use Rattle.lexed_text.specs.Inside.{left, Meets, Passes}
 use Rattle.lexed_text.proofs.Sums.{left-mono}
 

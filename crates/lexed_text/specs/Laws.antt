@@ -1,5 +1,5 @@
 -- What holds of every edit and its counts.
-use Rattle.std.specs.Prelude.{◌≡◌, ℕ, ◌+◌, List, take, drop, length}
+use Rattle.std.specs.Prelude.{◌≡◌, ℕ, ◌+◌, take, drop, length}
 use Rattle.rustc_lexer.specs.Tokens.{tokens}
 use Rattle.lexed_text.specs.Edit.{Edit, old_text, new_text}
 use Rattle.lexed_text.specs.Kept.{IsKept}

@@ -1,8 +1,7 @@
-use Rattle.std.proofs.Common.{◌≡◌, ◌≢◌, ◌<◌, ◌≤◌, ◌+◌, ℕ, length, chars, refl, sym, ◌∙◌, ap, arith}
+use Rattle.std.proofs.Common.{chars, ap, arith}
 use Rattle.rustc_lexer.specs.Characters.{size}
 use Rattle.rustc_lexer.proofs.Sizes.{size-chars}
-use Rattle.lexed_text.specs.Inside.{left}
-use Rattle.lexed_text.proofs.Turns.{turn-none, turn-meets, turn-taken, turn-next, shorter, Turned, turned-passed, turned-kept}
+use Rattle.lexed_text.proofs.Turns.{turn-none, turn-meets, turn-next, shorter, Turned, turned-passed, turned-kept}
 use Rattle.lexed_text.proofs.relex.lex.Goals as goal
 use Rattle.lexed_text.proofs.relex.lex.Goals.{then-behind-most+else-at-behind, else-behind-most}
 

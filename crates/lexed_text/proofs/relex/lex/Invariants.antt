@@ -1,7 +1,5 @@
-use Rattle.std.proofs.Common.{◌≡◌, ◌+◌, ◌<◌, ◌≤◌, ◌++◌, ℕ, length, chars}
+use Rattle.std.proofs.Common.{◌+◌, ◌≤◌, length, chars}
 use Rattle.rustc_lexer.specs.Characters.{size}
-use Rattle.rustc_lexer.specs.Tokens.{token_list}
-use Rattle.lexed_text.specs.Inside.{left}
 use Rattle.lexed_text.proofs.Turns.{Turn}
 use Rattle.lexed_text.proofs.relex.lex.Given as goal
 
