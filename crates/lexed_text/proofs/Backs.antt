@@ -65,12 +65,12 @@ shared-left e k j s =
 past-edit : (xs ys zs : List ℕ) (p : ℕ) → p ≤ length (xs ++ (ys ++ zs)) → size (drop p (xs ++ (ys ++ zs))) ≤ size zs → length xs + length ys ≤ p
 past-edit xs ys zs p w low =
     elim (lt_or_ge p (length xs + length ys)) [
-      inl less ↦
-        let all = length_parts xs ys zs in
-        let l = size-left p (length xs + length ys) (xs ++ (ys ++ zs)) less (omega arith) in
-        let e = ap size (behind_at xs ys zs) in
-        absurd (omega arith)
-    | inr more ↦ more
+      | inl less ↦
+          let all = length_parts xs ys zs in
+          let l = size-left p (length xs + length ys) (xs ++ (ys ++ zs)) less (omega arith) in
+          let e = ap size (behind_at xs ys zs) in
+          absurd (omega arith)
+      | inr more ↦ more
     ]
 
 -- and where both texts have as many, the boundary is shared
@@ -125,20 +125,21 @@ kept-found e front lexed stop back f parts m =
       front = f;
       stop = (stop, parts, left-shared e (front + lexed) stop (omega arith) (omega arith) (omega arith) (sym at ∙ m.same));
       first = λ k j from upto s.
-        let shared = shared-left e k j s in
-        let there : front + (k - front) ≡ k = omega arith in
-        let at_k : left (k - front) (token_list (drop (end_of front new) new)) ≡ left k (token_list new) = left-behind front (k - front) new ∙ ap (λ n. left n (token_list new)) there in
-        let low_k : left k (token_list new) ≤ size e.behind = shared.0 in
-        let j_in : j ≤ length (tokens old) = s.within_old in
-        let f_old : front ≤ length (tokens old) = f.within in
-        let onward : front ≤ j = elim (lt_or_ge j front) [
-          inl less ↦
-            let l = end-less j front old less f_old in
-            let b = front-before e front f in
-            let o : end_of j old ≡ length e.before + length e.removed + (end_of k new - (length e.before + length e.put)) = (rest-of e k j s).old_at in
-            absurd (omega arith)
-          | inr more ↦ more ] in
-        m.first (k - front) j (omega arith) onward (omega arith) (omega arith) (at_k ∙ shared.1);
+          let shared = shared-left e k j s in
+          let there : front + (k - front) ≡ k = omega arith in
+          let at_k : left (k - front) (token_list (drop (end_of front new) new)) ≡ left k (token_list new) = left-behind front (k - front) new ∙ ap (λ n. left n (token_list new)) there in
+          let low_k : left k (token_list new) ≤ size e.behind = shared.0 in
+          let j_in : j ≤ length (tokens old) = s.within_old in
+          let f_old : front ≤ length (tokens old) = f.within in
+          let onward : front ≤ j = elim (lt_or_ge j front) [
+            | inl less ↦
+                let l = end-less j front old less f_old in
+                let b = front-before e front f in
+                let o : end_of j old ≡ length e.before + length e.removed + (end_of k new - (length e.before + length e.put)) = (rest-of e k j s).old_at in
+                absurd (omega arith)
+            | inr more ↦ more
+          ] in
+          m.first (k - front) j (omega arith) onward (omega arith) (omega arith) (at_k ∙ shared.1);
     }
 
 -- the shared boundary at which the back begins

@@ -32,11 +32,11 @@ front-at text start end put tokens before k bytes u can is cut found =
     let at : FrontFound (token_list (old_text e)) e.before k bytes =
     subst (λ (z : List Token). FrontFound z e.before k bytes) list (subst (λ (z : List ℕ). FrontFound tokens (chars z) k bytes) cut found) in
     elim at [
-      inl few ↦ record {
+      | inl few ↦ record {
         front = subst (λ n. IsFront e n) (sym few.1) (front-none e few.0);
         is_taken = few.2 ∙ sym (ap (λ n. taken n (token_list (chars text))) few.1);
       }
-    | inr two ↦ record {
+      | inr two ↦ record {
         front = front-found e (size (take (length e.before - 2) e.before)) k bytes two.0 refl two.1;
         is_taken = two.1.is_end ∙ ap (λ z. taken k (token_list z)) whole;
       }
@@ -157,9 +157,10 @@ renewed-all text start end put new rest k bytes most old list kept u v can f is 
     let news : new_text e ≡ chars new = new-chars text start end (length put) put u v can ∙ ap chars (sym is) in
     let behind = size-behind text start end (length put) put u can in
     let rests = ap chars left_is ∙ seam.left in
-    let whole = subst (λ (z : List Token). Renewed z (token_list (chars rest)) k most list kept) old_is r in
-    (renewed-kept e text new rest k most list kept olds news f.front (most_is ∙ sym behind) rests whole,
-      renewed-list e text new rest k most list kept olds news f.front (most_is ∙ sym behind) rests whole)
+    let whole = subst (λ (z : List Token). Renewed z (token_list (chars rest)) k most list kept) old_is r in (
+      renewed-kept e text new rest k most list kept olds news f.front (most_is ∙ sym behind) rests whole,
+      renewed-list e text new rest k most list kept olds news f.front (most_is ∙ sym behind) rests whole,
+    )
 
 -- a call that had room succeeded
 pub had-room : {T E : Type 0} (r : Result T E) (P Q : Type 0) → OnOk r P → OnErr r Q → (Q → ⊥) → P

@@ -54,18 +54,18 @@ pub end-less : (i j : ℕ) (text : List ℕ) → i < j → j ≤ length (tokens 
 end-less i j text h w = joined-less (tokens text) (each-takes text) i j h w
 
 pub end-mono : (i j : ℕ) (text : List ℕ) → i ≤ j → j ≤ length (tokens text) → end_of i text ≤ end_of j text
-end-mono i j text h w = 
+end-mono i j text h w =
     elim (lt_or_ge i j) [
-      inl less ↦ let e = end-less i j text less w in omega arith
-    | inr more ↦ let same : i ≡ j = omega arith in let e = ap (λ n. end_of n text) same in omega arith
+      | inl less ↦ let e = end-less i j text less w in omega arith
+      | inr more ↦ let same : i ≡ j = omega arith in let e = ap (λ n. end_of n text) same in omega arith
     ]
 
 -- two counts with one end are one
 pub end-one : (i j : ℕ) (text : List ℕ) → i ≤ length (tokens text) → j ≤ length (tokens text) → end_of i text ≡ end_of j text → i ≡ j
-end-one i j text wi wj e = 
+end-one i j text wi wj e =
     elim (lt_or_ge i j) [
-      inl less ↦ let l = end-less i j text less wj in absurd (omega arith)
-    | inr more ↦ elim (lt_or_ge j i) [ inl less ↦ let l = end-less j i text less wi in absurd (omega arith) | inr other ↦ omega arith ]
+      | inl less ↦ let l = end-less i j text less wj in absurd (omega arith)
+      | inr more ↦ elim (lt_or_ge j i) [ inl less ↦ let l = end-less j i text less wi in absurd (omega arith) | inr other ↦ omega arith ]
     ]
 
 -- more characters take more bytes
@@ -77,10 +77,10 @@ size-less zero (suc q) (x ∷ xs) h w = let one = (len_utf8_bounds x).0 in omega
 size-less (suc p) (suc q) (x ∷ xs) h w = let ih = size-less p q xs (omega arith) (omega arith) in omega arith
 
 pub size-mono : (p q : ℕ) (xs : List ℕ) → p ≤ q → q ≤ length xs → size (take p xs) ≤ size (take q xs)
-size-mono p q xs h w = 
+size-mono p q xs h w =
     elim (lt_or_ge p q) [
-      inl less ↦ let e = size-less p q xs less w in omega arith
-    | inr more ↦ let same : p ≡ q = omega arith in let e = ap (λ n. size (take n xs)) same in omega arith
+      | inl less ↦ let e = size-less p q xs less w in omega arith
+      | inr more ↦ let same : p ≡ q = omega arith in let e = ap (λ n. size (take n xs)) same in omega arith
     ]
 
 -- and leave fewer
@@ -88,10 +88,10 @@ pub size-left : (p q : ℕ) (xs : List ℕ) → p < q → q ≤ length xs → si
 size-left p q xs h w = omega (arith, size-less p q xs h w, size-parts p xs, size-parts q xs)
 
 pub left-one : (p q : ℕ) (xs : List ℕ) → p ≤ length xs → q ≤ length xs → size (drop p xs) ≡ size (drop q xs) → p ≡ q
-left-one p q xs wp wq e = 
+left-one p q xs wp wq e =
     elim (lt_or_ge p q) [
-      inl less ↦ let l = size-left p q xs less wq in absurd (omega arith)
-    | inr more ↦ elim (lt_or_ge q p) [ inl less ↦ let l = size-left q p xs less wp in absurd (omega arith) | inr other ↦ omega arith ]
+      | inl less ↦ let l = size-left p q xs less wq in absurd (omega arith)
+      | inr more ↦ elim (lt_or_ge q p) [ inl less ↦ let l = size-left q p xs less wp in absurd (omega arith) | inr other ↦ omega arith ]
     ]
 
 -- tokens in bytes

@@ -29,18 +29,21 @@ front-found e limit k end two is ends =
       within = inside;
       just = λ i pos w. (
         (λ h. elim (lt_or_ge (b - 2) (end_of i old)) [
-          inl far ↦
-            let m = end-mono i k old h inside in
-            let l = size-less (b - 2) (end_of k old) old (omega arith) (end-within k old) in
-            absurd (omega arith)
-        | inr near ↦ omega arith ]),
+          | inl far ↦
+              let m = end-mono i k old h inside in
+              let l = size-less (b - 2) (end_of k old) old (omega arith) (end-within k old) in
+              absurd (omega arith)
+          | inr near ↦ omega arith
+        ]),
         (λ h. elim (lt_or_ge k i) [
-          inl far ↦
-            let past : limit < taken i (token_list old) = ends.high i far (omega arith) in
-            let ti = taken-size i old in
-            let m = size-mono (end_of i old) (b - 2) old (omega arith) (omega arith) in
-            absurd (omega arith)
-        | inr near ↦ near ]));
+          | inl far ↦
+              let past : limit < taken i (token_list old) = ends.high i far (omega arith) in
+              let ti = taken-size i old in
+              let m = size-mono (end_of i old) (b - 2) old (omega arith) (omega arith) in
+              absurd (omega arith)
+          | inr near ↦ near
+        ]),
+      );
     }
 
 -- an edit behind fewer than two characters has no front

@@ -20,10 +20,10 @@ front-one e k n f g = let a = front_low e k n f g in let b = front_low e n k g f
 lexed_low : (e : Edit) (one other : Kept) → IsKept e one → IsKept e other → one.front ≡ other.front → one.lexed ≤ other.lexed
 lexed_low e one other a b same =
     elim (lt_or_ge other.lexed one.lexed) [
-      inl less ↦
-        let s : IsShared e (other.front + other.lexed) b.stop.0 = b.stop.2 in
-        absurd (a.first (other.front + other.lexed) b.stop.0 (omega arith) (omega arith) s)
-    | inr more ↦ more
+      | inl less ↦
+          let s : IsShared e (other.front + other.lexed) b.stop.0 = b.stop.2 in
+          absurd (a.first (other.front + other.lexed) b.stop.0 (omega arith) (omega arith) s)
+      | inr more ↦ more
     ]
 
 -- a boundary of the new text is one of the old one

@@ -64,8 +64,8 @@ lacks-two text one two a b =
     record {
       two = omega arith;
       is_size =
-        size-chars two b.is_text
-        ∙ ap size (sym (take_at (chars two) (b.last ∷ a.last ∷ []) (length (chars text) - 2) n) ∙ ap (λ z. take (length (chars text) - 2) z) (sym whole));
+          size-chars two b.is_text
+          ∙ ap size (sym (take_at (chars two) (b.last ∷ a.last ∷ []) (length (chars text) - 2) n) ∙ ap (λ z. take (length (chars text) - 2) z) (sym whole));
     }
 
 pub lacks-one : (text one : List ℕ) → LacksLast text one → chars one ≡ [] → length (chars text) < 2

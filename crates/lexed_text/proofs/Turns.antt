@@ -66,9 +66,9 @@ turn-taken old text front most rest done k j behind n m here t at p other = reco
   within = p.within;
   is_left = p.is_left;
   passed = λ i from upto. elim (lt_or_ge i j) [
-      inl less ↦ t.passed i from less
+    | inl less ↦ t.passed i from less
     | inr more ↦ let h : here < left i old = p.high i more upto in omega arith
-    ];
+  ];
   first = t.first;
 }
 
@@ -76,14 +76,14 @@ turn-taken old text front most rest done k j behind n m here t at p other = reco
 pub apart : (old : List Token) (text : List ℕ) (front most : ℕ) (rest : List ℕ) (done : List Token) (k j behind n m here : ℕ) → Turn old text front most rest done k j behind → here ≡ size rest → Passes old j here n m → m ≢ here → (i : ℕ) → front ≤ i → i ≤ length old → size rest ≡ left i old → ⊥
 apart old text front most rest done k j behind n m here t at p other i from upto same =
     elim (lt_or_ge i j) [
-      inl less ↦ let h : size rest < left i old = t.passed i from less in omega arith
-    | inr more ↦ elim (lt_or_ge i n) [
-        inl less ↦ let h : here < left i old = p.high i more less in omega arith
-      | inr far ↦
-          let low : m ≤ here = p.low in
-          let is : m ≡ left n old = p.is_left in
-          let l = left-mono old n i far in
-          other (omega arith)
+      | inl less ↦ let h : size rest < left i old = t.passed i from less in omega arith
+      | inr more ↦ elim (lt_or_ge i n) [
+        | inl less ↦ let h : here < left i old = p.high i more less in omega arith
+        | inr far ↦
+            let low : m ≤ here = p.low in
+            let is : m ≡ left n old = p.is_left in
+            let l = left-mono old n i far in
+            other (omega arith)
       ]
     ]
 
@@ -121,12 +121,12 @@ turn-next old text front most rest done k j behind t some none next after more i
       is_left = t.is_left;
       passed = λ i from upto. let h : size rest < left i old = t.passed i from upto in omega arith;
       first = λ i n less from upto low same. elim (lt_or_ge i k) [
-          inl before ↦ t.first i n before from upto low same
+        | inl before ↦ t.first i n before from upto low same
         | inr at ↦
             let e : i ≡ k = omega arith in
             let l = ap (λ z. left z (token_list text)) e in
             none n from upto (omega arith) (omega arith)
-        ];
+      ];
     }
 
 -- text is left, and no boundary is shared here

@@ -49,14 +49,14 @@ impl LexedText {
     pub fn text(&self) -> &str
         ensures { result.now ≡ self.now }
     {
-        self.text.as_str()
+        &self.text
     }
 
     /// The tokens of the text, from front to end.
     pub fn tokens(&self) -> &[Token]
         ensures { result.now ≡ token_list (chars self.now) }
     {
-        self.tokens.as_slice()
+        &self.tokens
     }
 
     /// Whether a text of so many bytes can be put in the place of a range of bytes: the range is in order, within the text, and
@@ -95,7 +95,8 @@ impl LexedText {
         };
         self.text.try_reserve(replacement.len())?;
         self.text.replace_range(start..end, replacement)?;
-        let rest = &self.text.as_str()[front.bytes..];
+        let new = self.text.as_str();
+        let rest = &new[front.bytes..];
         match renew(self.alloc, &mut self.tokens, behind_front, rest, most) {
             Ok(kept) => Ok(kept),
             Err(error) => {

@@ -15,10 +15,10 @@ lexing-init c = record {
 turned : (c : goal.In_ok-push) → Turned c.args.old.now (chars c.args.text.now) c.args.front.count c.args.most c.lexing.cursor c.lexing.tokens.items c.lexing.lexed c.if-behind-most.at.count c.if-behind-most.at.bytes
 turned c =
     elim c.if-behind-most.branch [
-      then-behind-most+else-at-behind w ↦
-        turned-passed _ _ _ _ _ _ _ _ _ _ _ _ _ _ c.lexing.invariant.turn c.remaining-behind.ensures w.pass-at.ensures w.if-at-behind.false (ap (λ p. p.count) w.at-is) (ap (λ p. p.bytes) w.at-is)
-    | else-behind-most w ↦
-        turned-kept _ _ _ _ _ _ _ _ _ _ _ _ c.lexing.invariant.turn c.remaining-behind.ensures w.if-behind-most.false (ap (λ p. p.count) w.at-is) (ap (λ p. p.bytes) w.at-is)
+      | then-behind-most+else-at-behind w ↦
+          turned-passed _ _ _ _ _ _ _ _ _ _ _ _ _ _ c.lexing.invariant.turn c.remaining-behind.ensures w.pass-at.ensures w.if-at-behind.false (ap (λ p. p.count) w.at-is) (ap (λ p. p.bytes) w.at-is)
+      | else-behind-most w ↦
+          turned-kept _ _ _ _ _ _ _ _ _ _ _ _ c.lexing.invariant.turn c.remaining-behind.ensures w.if-behind-most.false (ap (λ p. p.count) w.at-is) (ap (λ p. p.bytes) w.at-is)
     ]
 
 pub lexing-smaller : goal.lexing-smaller

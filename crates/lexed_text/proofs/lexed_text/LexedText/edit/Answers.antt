@@ -38,7 +38,7 @@ range_from-rest-requires c =
     edited-is text (string_bytes c.try_reserve.new.self) new put start end (c.in_ok-try_reserve.ensures.bytes ∙ c.self.view_is) c.in_ok-replace_range.ensures.bytes in
     let w = IsUtf8-string_bytes c.replace_range.new.self in
     let seam = front-seam text start end put _ _ u c.utf8.replacement c.requires f new is w in
-    λ _. subst (λ (z : List ℕ). IsCharBoundary z c.find_front-front.result.bytes) (sym c.as_str.ensures.value) seam.boundary
+    λ _. subst (λ (z : List ℕ). IsCharBoundary z c.find_front-front.result.bytes) (sym c.as_str-new.ensures.value) seam.boundary
 
 pub renew-requires-clause-is_left : goal.renew-requires-clause-is_left
 renew-requires-clause-is_left c =
@@ -68,7 +68,7 @@ invariant_of-self-in-Ok c =
     edited-is text (string_bytes c.try_reserve.new.self) new put start end (c.in_ok-try_reserve.ensures.bytes ∙ c.self.view_is) c.in_ok-replace_range.ensures.bytes in
     let w = IsUtf8-string_bytes c.replace_range.new.self in
     let rest : c.range_from-rest.result.now ≡ drop c.find_front-front.result.bytes new =
-    c.range_from-rest.ensures.value ∙ ap (λ (z : List ℕ). drop c.find_front-front.result.bytes z) c.as_str.ensures.value in
+    c.range_from-rest.ensures.value ∙ ap (λ (z : List ℕ). drop c.find_front-front.result.bytes z) c.as_str-new.ensures.value in
     let most = ap (λ (z : List ℕ). length z - end) old in
     (renewed-all text start end put new _ _ _ _ _ _ _ u c.utf8.replacement c.requires f is w rest most list c.in-Ok.ensures.renewed).1
 
@@ -87,7 +87,7 @@ returns-in-Ok-clause-kept c =
     edited-is text (string_bytes c.try_reserve.new.self) new put start end (c.in_ok-try_reserve.ensures.bytes ∙ c.self.view_is) c.in_ok-replace_range.ensures.bytes in
     let w = IsUtf8-string_bytes c.replace_range.new.self in
     let rest : c.range_from-rest.result.now ≡ drop c.find_front-front.result.bytes new =
-    c.range_from-rest.ensures.value ∙ ap (λ (z : List ℕ). drop c.find_front-front.result.bytes z) c.as_str.ensures.value in
+    c.range_from-rest.ensures.value ∙ ap (λ (z : List ℕ). drop c.find_front-front.result.bytes z) c.as_str-new.ensures.value in
     let most = ap (λ (z : List ℕ). length z - end) old in
     (renewed-all text start end put new _ _ _ _ _ _ _ u c.utf8.replacement c.requires f is w rest most list c.in-Ok.ensures.renewed).0
 
@@ -130,12 +130,12 @@ invariant_of-self-in-Err c =
     let is : new ≡ edited text start end put =
     edited-is text (string_bytes c.try_reserve.new.self) new put start end (c.in_ok-try_reserve.ensures.bytes ∙ c.self.view_is) c.in_ok-replace_range.ensures.bytes in
     let w = IsUtf8-string_bytes c.replace_range.new.self in
-    let removed = c.as_str-in-Err.result.now in
+    let removed = c.as_str.result.now in
     let old = c.as_str-old.ensures.value ∙ c.self.view_is in
     let cut : removed ≡ take (end - start) (drop start text) =
-    c.as_str-in-Err.ensures.value ∙ c.in_ok-removed.ensures.ok ∙ c.range.ensures.value ∙ ap (λ (z : List ℕ). take (end - start) (drop start z)) old in
+    c.as_str.ensures.value ∙ c.in_ok-removed.ensures.ok ∙ c.range.ensures.value ∙ ap (λ (z : List ℕ). take (end - start) (drop start z)) old in
     let restored = string_bytes c.replace_range-restored.new.self in
-    let len = ap length (c.as_str-in-Err.ensures.value ∙ c.in_ok-removed.ensures.ok) in
+    let len = ap length (c.as_str.ensures.value ∙ c.in_ok-removed.ensures.ok) in
     let back : restored ≡ (take start new ++ removed) ++ drop (start + length put) new =
     had-room c.replace_range-restored.result _ _ c.replace_range-restored.ensures.bytes c.replace_range-restored.ensures.full (λ full. omega (arith, full, len, c.range.ensures.len, c.in_ok-try_reserve.ensures.ok, c.in_ok-replace_range.ensures.len)) in
     let same = restored-is text put new removed restored start end c.requires is cut back in
@@ -153,12 +153,12 @@ returns-clause-refused c =
     let is : new ≡ edited text start end put =
     edited-is text (string_bytes c.try_reserve.new.self) new put start end (c.in_ok-try_reserve.ensures.bytes ∙ c.self.view_is) c.in_ok-replace_range.ensures.bytes in
     let w = IsUtf8-string_bytes c.replace_range.new.self in
-    let removed = c.as_str-in-Err.result.now in
+    let removed = c.as_str.result.now in
     let old = c.as_str-old.ensures.value ∙ c.self.view_is in
     let cut : removed ≡ take (end - start) (drop start text) =
-    c.as_str-in-Err.ensures.value ∙ c.in_ok-removed.ensures.ok ∙ c.range.ensures.value ∙ ap (λ (z : List ℕ). take (end - start) (drop start z)) old in
+    c.as_str.ensures.value ∙ c.in_ok-removed.ensures.ok ∙ c.range.ensures.value ∙ ap (λ (z : List ℕ). take (end - start) (drop start z)) old in
     let restored = string_bytes c.replace_range-restored.new.self in
-    let len = ap length (c.as_str-in-Err.ensures.value ∙ c.in_ok-removed.ensures.ok) in
+    let len = ap length (c.as_str.ensures.value ∙ c.in_ok-removed.ensures.ok) in
     let back : restored ≡ (take start new ++ removed) ++ drop (start + length put) new =
     had-room c.replace_range-restored.result _ _ c.replace_range-restored.ensures.bytes c.replace_range-restored.ensures.full (λ full. omega (arith, full, len, c.range.ensures.len, c.in_ok-try_reserve.ensures.ok, c.in_ok-replace_range.ensures.len)) in
     let same = restored-is text put new removed restored start end c.requires is cut back in
