@@ -1,0 +1,135 @@
+//! What no clause says: that calls succeed where memory is ample, and the worked edits.
+
+use lexed_text::{Kept, LexedText, laws};
+use rustc_lexer::tokenize;
+use std::alloc::{AllocError, Global};
+use std::ops::Range;
+use std::process::Abort;
+
+/// An edit's counts: the tokens kept in front, those lexed, and those kept behind.
+type Counts = (usize, usize, usize);
+
+/// Edits a text, and looks at the counts.
+fn expect(
+    rt: &impl Abort,
+    alloc: Global,
+    text: &str,
+    range: Range<usize>,
+    put: &str,
+    counts: Counts,
+) -> Result<(), AllocError> {
+    let (front, lexed, back) = counts;
+    let start = range.start;
+    let end = range.end;
+    let mut found = LexedText::new(alloc, text)?;
+    let mut agrees = false;
+    if found.can_edit(start..end, put.len()) {
+        let kept = found.edit(start..end, put)?;
+        agrees = kept == Kept { front, lexed, back };
+    }
+    assert!(rt; agrees, "the edit of {text}");
+    Ok(())
+}
+
+#[test]
+fn edits_are_counted(rt: HostRuntime) -> Result<(), AllocError> {
+    let alloc = rt.alloc();
+    expect(&rt, alloc, "", 0..0, "", (0, 0, 0))?;
+    expect(&rt, alloc, "a b", 0..0, "", (0, 0, 3))?;
+    expect(&rt, alloc, "a b c d", 2..3, "bb", (0, 3, 4))?;
+    expect(&rt, alloc, "1.x", 2..3, "5", (0, 1, 0))?;
+    expect(&rt, alloc, "struct S; struct T;", 9..9, "//", (2, 3, 0))?;
+    expect(&rt, alloc, "a\u{2028}x", 4..5, "y", (0, 3, 0))?;
+    expect(&rt, alloc, "fn f() { x.0.1; }", 13..14, "", (10, 1, 3))
+}
+
+/// Whether a text can be put in the place of a range of `aé\u{2028}b`, in which characters begin at 0, 1, 3 and 6.
+fn can_edit(alloc: Global, range: Range<usize>, new_len: usize) -> Result<bool, AllocError> {
+    let text = LexedText::new(alloc, "aé\u{2028}b")?;
+    Ok(text.can_edit(range, new_len))
+}
+
+#[test]
+fn ranges_are_edits_or_none(rt: HostRuntime) -> Result<(), AllocError> {
+    let alloc = rt.alloc();
+    let whole = can_edit(alloc, 0..7, 3)?;
+    let empty = can_edit(alloc, 7..7, 0)?;
+    let longest = can_edit(alloc, 1..6, usize::MAX - 2)?;
+    assert!(rt; whole && empty && longest, "an edit is refused");
+    let reversed = can_edit(alloc, 3..1, 0)?;
+    let past = can_edit(alloc, 7..8, 0)?;
+    let far = can_edit(alloc, 0..usize::MAX, 0)?;
+    assert!(rt; !reversed && !past && !far, "a range is taken");
+    let cut_start = can_edit(alloc, 2..3, 0)?;
+    let cut_end = can_edit(alloc, 3..5, 0)?;
+    assert!(rt; !cut_start && !cut_end, "a character is cut");
+    let too_long = can_edit(alloc, 1..6, usize::MAX - 1)?;
+    assert!(rt; !too_long, "a text that is too long is taken");
+    Ok(())
+}
+
+/// Whether a text holds the tokens of its text.
+fn is_lexed(text: &LexedText) -> bool {
+    let mut wanted = tokenize(text.text());
+    for token in text.tokens() {
+        if wanted.next() != Some(*token) {
+            return false;
+        }
+    }
+    wanted.next().is_none()
+}
+
+#[test]
+fn copies_are_apart(rt: HostRuntime) -> Result<(), AllocError> {
+    let alloc = rt.alloc();
+    let mut text = LexedText::new(alloc, "let x = 1;")?;
+    let copy = text.try_clone(alloc)?;
+    if text.can_edit(8..9, 3) {
+        text.edit(8..9, "2.5")?;
+    }
+    assert!(rt;
+        text.text() == "let x = 2.5;" && is_lexed(&text),
+        "the edited text"
+    );
+    assert!(rt; copy.text() == "let x = 1;" && is_lexed(&copy), "its copy");
+    Ok(())
+}
+
+/// What is put in at random: whatever opens, closes or joins tokens.
+const PIECES: [&str; 16] = [
+    "", " ", "\n", "a", "é", "1", ".", "'", "\"", "/", "/*", "*/", "//", "r#\"", "#", "\u{2028}",
+];
+
+/// The next of some numbers without order.
+fn next(state: &mut u64) -> usize {
+    let new = state.wrapping_mul(6_364_136_223_846_793_005);
+    *state = new.wrapping_add(1_442_695_040_888_963_407);
+    (*state >> 33) as usize
+}
+
+#[test]
+fn a_thousand_edits_end_in_the_texts_tokens(rt: HostRuntime) -> Result<(), AllocError> {
+    let mut text = LexedText::new(rt.alloc(), "fn f(x: &str) { x.0.1; /* é */ }\n")?;
+    let mut state = 1;
+    let mut made = 0u32;
+    for _ in 0..1000 {
+        let start = next(&mut state) % (text.text().len() + 1);
+        let end = start.saturating_add(next(&mut state) % 4);
+        let put = PIECES[next(&mut state) % 16];
+        if text.can_edit(start..end, put.len()) {
+            text.edit(start..end, put)?;
+            made = made.saturating_add(1);
+        }
+    }
+    assert!(rt; made > 500, "most of the ranges are edits");
+    assert!(rt; is_lexed(&text), "the tokens after {made} edits");
+    Ok(())
+}
+
+#[test]
+fn laws_are_called(_rt: HostRuntime) {
+    laws::front_stays();
+    laws::back_stays();
+    laws::counts_sum();
+    laws::counts_are_one();
+}

@@ -1,0 +1,4 @@
+pub mod Edit
+pub mod Kept
+pub mod Inside
+pub mod Laws

@@ -1,0 +1,123 @@
+//! A text and its tokens, over edits.
+
+ghost use Rattle.std.specs.Prelude.{◌≡◌, ◌↔◌, IsTrue, chars, length, IfOk, OnOk, OnErr};
+ghost use Rattle.rustc_lexer.specs.Tokens.{token_list};
+ghost use Rattle.lexed_text.specs.Edit.{CanEdit, edited, edit_of};
+ghost use Rattle.lexed_text.specs.Kept.{IsKept};
+
+use crate::kept::Kept;
+use crate::relex::{Place, find_front, renew};
+use rustc_lexer::{Token, tokenize};
+use std::alloc::{AllocError, Global};
+use std::marker::Model;
+use std::ops::Range;
+
+/// A text that keeps its tokens over edits. Contracts see it as the bytes of the text; its tokens are always those of the text.
+#[derive(Drop)]
+pub struct LexedText {
+    alloc: Global,
+    text: String,
+    tokens: Vec<Token>,
+}
+
+impl Model for LexedText {
+    ghost use Rattle.std.specs.Prelude.{◌≡◌, List, ℕ, chars, string_bytes};
+    ghost use Rattle.rustc_lexer.specs.Tokens.{token_list};
+
+    ghost Value = { List ℕ };
+
+    ghost view = { λ l. string_bytes l.text };
+
+    ghost invariant = { λ l. l.tokens.items ≡ token_list (chars (string_bytes l.text)) };
+}
+
+impl LexedText {
+    /// Copies a text, and lexes it. Fails for want of memory alone.
+    pub fn new(alloc: Global, text: &str) -> Result<LexedText, AllocError>
+        ensures { IfOk result (λ lexed. lexed ≡ text.now) }
+    {
+        let tokens = tokenize(text).collect(alloc)?;
+        let text = String::from_str(alloc, text)?;
+        Ok(LexedText {
+            alloc,
+            text,
+            tokens,
+        })
+    }
+
+    /// The text.
+    pub fn text(&self) -> &str
+        ensures { result.now ≡ self.now }
+    {
+        &self.text
+    }
+
+    /// The tokens of the text, from front to end.
+    pub fn tokens(&self) -> &[Token]
+        ensures { result.now ≡ token_list (chars self.now) }
+    {
+        &self.tokens
+    }
+
+    /// Whether a text of so many bytes can be put in the place of a range of bytes: the range is in order, within the text, and
+    /// cuts no character, and the new length fits a `usize`.
+    pub fn can_edit(&self, range: Range<usize>, new_len: usize) -> bool
+        ensures { IsTrue result ↔ CanEdit self.now range.start range.end new_len }
+    {
+        let text = self.text.as_str();
+        if range.start > range.end {
+            return false;
+        }
+        if !text.is_char_boundary(range.start) || !text.is_char_boundary(range.end) {
+            return false;
+        }
+        let kept = text.len() - (range.end - range.start);
+        new_len <= usize::MAX - kept
+    }
+
+    /// Puts a text in the place of a range of bytes, and lexes what has to be lexed again; how many tokens were kept and lexed.
+    /// Fails for want of memory alone, and then changes nothing.
+    pub fn edit(&mut self, range: Range<usize>, replacement: &str) -> Result<Kept, AllocError>
+        requires { CanEdit self.old range.start range.end (length replacement.now) }
+        ensures text { OnOk result (self.new ≡ edited self.old range.start range.end replacement.now) }
+        ensures kept { IfOk result (IsKept (edit_of self.old range.start range.end replacement.now)) }
+        ensures refused { OnErr result (self.new ≡ self.old) }
+    {
+        let start = range.start;
+        let end = range.end;
+        let old = self.text.as_str();
+        let removed = String::from_str(self.alloc, &old[start..end])?;
+        let front = find_front(self.tokens.as_slice(), &old[..start]);
+        let most = old.len() - end;
+        let behind_front = Place {
+            count: front.count,
+            bytes: old.len() - front.bytes,
+        };
+        self.text.try_reserve(replacement.len())?;
+        self.text.replace_range(start..end, replacement)?;
+        let new = self.text.as_str();
+        let rest = &new[front.bytes..];
+        match renew(self.alloc, &mut self.tokens, behind_front, rest, most) {
+            Ok(kept) => Ok(kept),
+            Err(error) => {
+                // (there is room, since the old text was no longer than what was reserved)
+                let put = start..start + replacement.len();
+                let _restored = self.text.replace_range(put, removed.as_str());
+                Err(error)
+            }
+        }
+    }
+
+    /// Equal to this one. Fails for want of memory alone.
+    pub fn try_clone(&self, alloc: Global) -> Result<LexedText, AllocError>
+        ensures { IfOk result (λ copy. copy ≡ self.now) }
+    {
+        let text = String::from_str(alloc, self.text.as_str())?;
+        let tokens = Vec::from_slice(alloc, self.tokens.as_slice())?;
+        Ok(LexedText {
+            alloc,
+            text,
+            tokens,
+        })
+    }
+}

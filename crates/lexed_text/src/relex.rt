@@ -1,0 +1,154 @@
+//! Which tokens stay, and the lexing of the others.
+
+ghost use Rattle.std.specs.Prelude.{◌≡◌, ◌<◌, ◌≤◌, [], chars, take, length, IfOk, MatchOption, OnErr};
+ghost use Rattle.rustc_lexer.specs.Tokens.{token_list};
+ghost use Rattle.lexed_text.specs.Inside.{left, EndsWithin, FrontFound, LacksLast, LacksTwo, Meets, Passes, Renewed};
+
+use crate::kept::Kept;
+use rustc_lexer::{Cursor, Token};
+use std::alloc::{AllocError, Global};
+
+/// A boundary of a list of tokens.
+#[derive(Clone, Copy)]
+pub(crate) struct Place {
+    /// The tokens before it.
+    pub(crate) count: usize,
+
+    /// Bytes: those before it, or those behind it.
+    pub(crate) bytes: usize,
+}
+
+/// A text without its last character; None where it has none.
+fn without_last(text: &str) -> Option<&str>
+    ensures { MatchOption result (chars text.now ≡ []) (λ rest. LacksLast text.now rest.now) }
+{
+    let mut rest = text.chars();
+    match rest.next_back() {
+        Some(_) => Some(rest.as_str()),
+        None => None,
+    }
+}
+
+/// The bytes of a text without its last two characters; None where it has fewer.
+fn without_two(text: &str) -> Option<usize>
+    ensures { MatchOption result (length (chars text.now) < 2) (LacksTwo text.now) }
+{
+    match without_last(text) {
+        Some(one) => match without_last(one) {
+            Some(two) => Some(two.len()),
+            None => None,
+        },
+        None => None,
+    }
+}
+
+/// The last boundary that has no more than so many bytes before it.
+fn ends_within(tokens: &[Token], limit: usize) -> Place
+    ensures { EndsWithin tokens.now limit result.count result.bytes }
+{
+    let mut end = Place { count: 0, bytes: 0 };
+    for token in tokens {
+        if token.len > limit - end.bytes {
+            return end;
+        }
+        end.count += 1;
+        end.bytes += token.len;
+    }
+    end
+}
+
+/// The front of an edit behind these characters, and the bytes before its end.
+pub(crate) fn find_front(tokens: &[Token], before: &str) -> Place
+    ensures { FrontFound tokens.now (chars before.now) result.count result.bytes }
+{
+    match without_two(before) {
+        Some(limit) => ends_within(tokens, limit),
+        None => Place { count: 0, bytes: 0 },
+    }
+}
+
+/// The first boundary from `from` on that has no more than `most` bytes behind it; a place counts the bytes behind it.
+fn pass(tokens: &[Token], from: Place, most: usize) -> Place
+    requires within { from.count ≤ length tokens.now }
+    requires is_left { from.bytes ≡ left from.count tokens.now }
+    ensures { Passes tokens.now from.count most result.count result.bytes }
+{
+    let mut at = from;
+    'tokens: while at.bytes > most {
+        at.bytes -= tokens[at.count].len;
+        at.count += 1;
+    }
+    at
+}
+
+/// Tokens of a new text, up to where it meets the old one.
+#[derive(Drop)]
+struct Lexing {
+    tokens: Vec<Token>,
+
+    /// How many of them were taken from the cursor.
+    lexed: usize,
+
+    /// The old tokens before the boundary at which it meets.
+    stop: usize,
+}
+
+/// Lexes a text up to the first boundary with no more than `most` bytes behind it that has as many as one of the old tokens, from
+/// the front's end on.
+fn lex(
+    alloc: Global,
+    old: &[Token],
+    front: Place,
+    text: &str,
+    most: usize,
+) -> Result<Lexing, AllocError>
+    requires within { front.count ≤ length old.now }
+    requires is_left { front.bytes ≡ left front.count old.now }
+    ensures tokens { IfOk result (λ l. l.tokens.items ≡ take l.lexed (token_list (chars text.now))) }
+    ensures meets { IfOk result (λ l. Meets old.now (token_list (chars text.now)) front.count most l.lexed l.stop) }
+{
+    let mut cursor = Cursor::new(text);
+    let mut tokens = Vec::new(alloc);
+    let mut lexed = 0;
+    let mut at = front;
+    'lexing: loop {
+        let behind = cursor.remaining();
+        if behind <= most {
+            at = pass(old, at, behind);
+            if at.bytes == behind {
+                break;
+            }
+        }
+        tokens.push(cursor.advance_token())?;
+        lexed += 1;
+    }
+    Ok(Lexing {
+        tokens,
+        lexed,
+        stop: at.count,
+    })
+}
+
+/// Lexes a new text from the front's end on, and puts its tokens into the place of those that it has no more. The front's end and
+/// the edit's count the bytes behind them. A refusal leaves the tokens as they are.
+pub(crate) fn renew(
+    alloc: Global,
+    tokens: &mut Vec<Token>,
+    front: Place,
+    text: &str,
+    most: usize,
+) -> Result<Kept, AllocError>
+    requires within { front.count ≤ length tokens.old.items }
+    requires is_left { front.bytes ≡ left front.count tokens.old.items }
+    ensures renewed { IfOk result (Renewed tokens.old.items (token_list (chars text.now)) front.count most tokens.new.items) }
+    ensures refused { OnErr result (tokens.new.items ≡ tokens.old.items) }
+{
+    let lexing = lex(alloc, tokens.as_slice(), front, text, most)?;
+    let back = tokens.len() - lexing.stop;
+    tokens.splice(front.count..lexing.stop, lexing.tokens)?;
+    Ok(Kept {
+        front: front.count,
+        lexed: lexing.lexed,
+        back,
+    })
+}
