@@ -62,7 +62,7 @@ pub fn rename(
         return Err(RenameError::NoName);
     };
     let new = payload(alloc, PayloadEntry::Token, document.edition(), name, ids)?;
-    let mut editor = document.editor()?;
+    let mut editor = document.editor(alloc)?;
     editor.replace(alloc, &old, &new)?;
     document.commit(alloc, editor, ids)?;
     Ok(())

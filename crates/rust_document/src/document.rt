@@ -1,7 +1,8 @@
 //! A text that is read.
-ghost use Rattle.std.specs.Prelude.{◌≡◌, ◌≤◌, ◌+◌, ◌==◌, ◌&&◌, [], true, None, chars, length, map, option_map, string_bytes, IfOk, IfErr, OnOk};
+ghost use Rattle.std.specs.Prelude.{◌≡◌, ◌≤◌, ◌+◌, [], true, not, chars, length, map, option_map, string_bytes, IfOk, IfErr, OnOk};
 ghost use Rattle.parser_input.specs.Kind.{raw_of};
-ghost use Rattle.rowan_green.specs.Forest.{same_tree, tree_text};
+ghost use Rattle.rowan_green.specs.Forest.{tree_text};
+ghost use Rattle.syntax_editor.specs.Editing.{untouched};
 ghost use Rattle.syntax_tree.specs.Handle.{element_of};
 ghost use Rattle.syntax_tree.specs.Refusal.{RefusesTree};
 ghost use Rattle.rust_document.specs.Commit.{RefusesCommit};
@@ -13,7 +14,7 @@ ghost use Rattle.rust_document.specs.IsReading.{IsReading};
 ghost use Rattle.rust_document.specs.Seen.{told};
 ghost use Rattle.rust_document.specs.Reading.{messages};
 ghost use Rattle.rust_document.specs.Rewrite.{rewritten, changed};
-ghost use Rattle.rust_document.specs.Step.{MAX_TEXT, first_element, present, root_element, verdict, Accepted};
+ghost use Rattle.rust_document.specs.Step.{MAX_TEXT, first_element, is_foreign, root_element, verdict, Accepted};
 ghost use Rattle.rust_document.specs.Tokens.{shown, tokens_of};
 ghost use Rattle.rust_document.specs.WithoutMessages.{HasPairedBrackets, HasPlacedOperators};
 
@@ -21,7 +22,6 @@ use crate::edit::edited;
 use crate::error::{CommitError, EditError, OpenError};
 use crate::read::{Reading, read};
 use crate::rewrite::{Rewritten, rewrite};
-use crate::syntax_editor::SyntaxEditor;
 use crate::syntax_error::SyntaxError;
 use crate::tokens::{LexedToken, Tokens};
 use parser_input::edition::Edition;
@@ -30,6 +30,7 @@ use ra_parser::TopEntryPoint;
 use rowan_green::TextRange;
 use std::alloc::{AllocError, Global};
 use std::marker::Model;
+use syntax_editor::SyntaxEditor;
 use syntax_tree::{SyntaxElement, SyntaxNode, TreeError, TreeIds};
 
 /// The most bytes that a text may have.
@@ -205,25 +206,26 @@ impl Document {
     }
 
     /// An editor of the present tree, with nothing recorded.
-    pub fn editor(&self) -> Result<SyntaxEditor, AllocError>
-        ensures { IfOk result (λ e. e ≡ record { number = self.now.number; root = present self.now; change = None }) }
+    pub fn editor(&self, alloc: Global) -> Result<SyntaxEditor, AllocError>
+        ensures { IfOk result (λ e. e ≡ untouched (root_element self.now)) }
     {
-        Ok(SyntaxEditor::new(self.root.clone()?))
+        Ok(SyntaxEditor::of_root(alloc, self.root.clone()?))
     }
 
     /// Whether an editor is one of the present tree.
     fn is_of(&self, editor: &SyntaxEditor) -> bool
-        ensures { result ≡ (editor.now.number == self.now.number && same_tree editor.now.root (present self.now)) }
+        ensures { result ≡ not (is_foreign self.now editor.now) }
     {
         editor.root().tree() == self.root.tree()
             && *editor.root().cursor().green() == *self.root.cursor().green()
     }
 
-    /// Makes an editor's recorded change, where its text reads as the rewritten tree; the text is the rewritten tree's, and its
-    /// tree gets the next number of `ids`.
+    /// Makes all changes of an editor at once, where the new text reads as the rewritten tree; the text is the rewritten tree's, and
+    /// its tree gets the next number of `ids`.
     ///
-    /// Refuses, in this order, an editor of another tree, a new text of more than 16,777,216 bytes, and one that does not read
-    /// as the rewritten tree, white space and comments aside; and for want of a tree number. A refusal changes nothing. The
+    /// Refuses, in this order, an editor of another tree, two changes that replace one element, a change in a replaced node that has
+    /// no place in what replaces it, a new text of more than 16,777,216 bytes (or a node of 2^32 children), and a text that does not
+    /// read as the rewritten tree, white space and comments aside; and for want of a tree number. A refusal changes nothing. The
     /// editor is spent.
     pub fn commit(
         &mut self,
@@ -250,8 +252,11 @@ impl Document {
         if !self.is_of(&editor) {
             return Err(CommitError::Foreign);
         }
-        let Rewritten { text, reading } = rewrite(alloc, self.edition, &editor)?;
-        let changed = editor.changed(alloc)?;
+        let Rewritten {
+            text,
+            reading,
+            changed,
+        } = rewrite(alloc, self.edition, &editor)?;
         let steps = reading.steps;
         self.renew(alloc, text, reading, ids)?;
         Ok(Committed { changed, steps })
