@@ -9,4 +9,5 @@ pub mod Fronts
 pub mod Named
 pub mod Rows
 pub mod Ranges
-pub mod Puts
+pub mod Taken
+pub mod Prepared

@@ -2,6 +2,7 @@
 use Rattle.std.specs.Prelude.{ℕ, ◌+◌, ◌^◌, ◌==◌, ◌&&◌, Bool, true, false, nat_lt, nat_le, List, [], ◌∷◌, length, map, chars, Option, Some, None, option_map, if◌then◌else◌}
 use Rattle.parser_input.specs.Kind.{raw_of}
 use Rattle.parser_input.specs.Kinds.{TOMBSTONE}
+use Rattle.parser_input.specs.declared.edition.Edition.{Edition}
 use Rattle.rowan_green.specs.Forest.{Tree, tree_text}
 use Rattle.rowan_green.specs.Leaf.{Leaf}
 use Rattle.rowan_green.specs.Term.{tree_of}
@@ -32,6 +33,7 @@ use Rattle.document_requests.specs.declared.reply.Refusal.{Refusal}
 use Rattle.document_requests.specs.declared.reply.Refusal.TheVariants as refusals
 use Rattle.document_requests.specs.declared.request.Entry.{Entry}
 use Rattle.document_requests.specs.declared.request.Entry.TheVariants as entries
+use Rattle.document_requests.specs.declared.request.Op.{Op}
 use Rattle.document_requests.specs.declared.request.Op.TheVariants as ops
 use Rattle.document_requests.specs.declared.request.Target.{Target}
 

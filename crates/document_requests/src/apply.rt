@@ -15,7 +15,7 @@ use ra_parser::TopEntryPoint;
 use rowan_green::{TextRange, TextSize};
 use rust_document::{Document, PayloadEntry, SyntaxEditor, payload};
 use std::alloc::{AllocError, Global};
-use syntax_tree::{Position, SyntaxElement, TreeIds};
+use syntax_tree::{Position, SyntaxElement, SyntaxNode, TreeIds};
 
 /// The element of the present tree that a target names. None where the target's start is not before its end, or its end lies
 /// behind the text.
@@ -55,17 +55,29 @@ fn is_only_child(entry: Entry) -> bool
     matches!(entry, Entry::Item | Entry::Stmt)
 }
 
-/// The only child of an element, tokens counted too.
-fn only_child(alloc: Global, element: &SyntaxElement) -> Result<Option<SyntaxElement>, AllocError>
-    ensures { IfOk result (λ child. option_map element_of child ≡ only_child (element_of element.now)) }
+/// The only child of a node, tokens counted too.
+fn only_child_of(alloc: Global, node: &SyntaxNode) -> Result<Option<SyntaxElement>, AllocError>
+    ensures { IfOk result (λ child. option_map element_of child ≡ only_child node.now) }
 {
-    let SyntaxElement::Node(node) = element else {
-        return Ok(None);
-    };
     if node.cursor().green().children().len() != 1 {
         return Ok(None);
     }
-    node.element_at(alloc, &[0])
+    let mut way = node.way(alloc)?;
+    way.insert(0, 0)?;
+    node.element_at(alloc, &way)
+}
+
+/// The only child of an element; a token has none.
+fn only_child(alloc: Global, element: &SyntaxElement) -> Result<Option<SyntaxElement>, AllocError>
+    ensures { IfOk result (λ child. option_map element_of child ≡ only_child (element_of element.now)) }
+{
+    match element {
+        SyntaxElement::Node(node) => only_child_of(alloc, node),
+        SyntaxElement::Token(token) => {
+            let _leaf = token.cursor().green();
+            Ok(None)
+        }
+    }
 }
 
 /// What a text is, read as an entry.
@@ -105,11 +117,10 @@ fn put_element(
         → IsUnprepared (put_element op (element_of old.now) editor.old next (element_of new.now)) next stop) }
 {
     match op {
-        Op::Replace => editor.replace(alloc, old, new)?,
-        Op::Before => editor.insert(alloc, Position::before(old)?, new)?,
-        Op::After => editor.insert(alloc, Position::after(old)?, new)?,
+        Op::Replace => Ok(editor.replace(alloc, old, new)?),
+        Op::Before => Ok(editor.insert(alloc, Position::before(old)?, new)?),
+        Op::After => Ok(editor.insert(alloc, Position::after(old)?, new)?),
     }
-    Ok(())
 }
 
 /// Records a change of a commit.
@@ -120,8 +131,8 @@ fn prepare(
     change: Change<'_>,
     ids: &mut TreeIds,
 ) -> Result<(), Stop>
-    ensures done { OnOk result (prepared_by (change_in change) document.now editor.old ids.old ≡ Ready editor.new ids.new) }
-    ensures stopped { IfErr result (IsUnprepared (prepared_by (change_in change) document.now editor.old ids.old) ids.new) }
+    ensures done { OnOk result (prepared_by (change_in change.entry) document.now editor.old ids.old ≡ Ready editor.new ids.new) }
+    ensures stopped { IfErr result (IsUnprepared (prepared_by (change_in change.entry) document.now editor.old ids.old) ids.new) }
 {
     match change {
         Change::Put {

@@ -182,6 +182,15 @@ fn changes_of_the_root(rt: HostRuntime) -> Result<(), Fail> {
     Ok(())
 }
 
+/// White space and comments are elements too.
+#[test]
+fn a_comment_is_an_item(rt: HostRuntime) -> Result<(), Fail> {
+    let change = r#"{"op":"after","at":["STRUCT",0,9],"with":["item","// c"]}"#;
+    let expected = "{\"changed\":[[9,13]],\"ok\":\"commit\"}\nstruct S;// c";
+    assert!(rt; is_committed(rt.alloc(), "struct S;", change, expected)?);
+    Ok(())
+}
+
 /// An item or a statement is one element and nothing beside it.
 #[test]
 fn what_is_no_item(rt: HostRuntime) -> Result<(), Fail> {
