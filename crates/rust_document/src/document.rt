@@ -72,7 +72,9 @@ impl Model for Document {
 
     ghost view = { λ d. record { edition = d.edition; text = string_bytes d.text; number = d.root.number } };
 
-    ghost invariant = { λ d. (length (string_bytes d.text) ≤ MAX_TEXT) × (d.root.place.up ≡ []) × IsReading d.edition (chars (string_bytes d.text)) d.tokens.items d.root.place.root d.errors.items };
+    ghost invariant = { λ d. (length (string_bytes d.text) ≤ MAX_TEXT)
+        × (d.root.place.up ≡ [])
+        × IsReading d.edition (chars (string_bytes d.text)) d.tokens.items d.root.place.root d.errors.items };
 }
 
 impl Document {
@@ -237,8 +239,7 @@ impl Document {
         ensures state { OnOk result (self.new ≡
             record {
               edition = self.old.edition;
-              text = tree_text
-                  (rewritten editor);
+              text = tree_text (rewritten editor);
               number = ids.old;
             }) }
         ensures brackets { OnOk result (HasPairedBrackets self.new) }
