@@ -1,15 +1,14 @@
 -- How many leaves the preface of a text is, and how many stand behind it.
-use Rattle.std.proofs.Common.{◌≡◌, ℕ, ◌+◌, ◌-◌, ◌≤◌, Bool, true, false, List, [], ◌∷◌, ◌++◌, length, take, Option, None, Some, is_some, option_map, if◌then◌else◌, Ok, refl, sym, ap, ◌∙◌, arith}
+use Rattle.std.proofs.Common.{◌≡◌, ℕ, ◌+◌, Bool, true, false, List, ◌++◌, length, None, Some, is_some, if◌then◌else◌, refl, ap, ◌∙◌}
 use Rattle.std.proofs.lemmas.List.{length-append}
 use Rattle.rustc_lexer.specs.Shebang.{shebang, line_len}
-use Rattle.parser_input.specs.Kinds.{FRONTMATTER}
-use Rattle.parser_input.specs.Lexed.{Lexed, quiet, shebang_leaf, frontmatter_leaf, preface, content, cut, lexed}
-use Rattle.parser_input.specs.Preface.{Piece, Source, piece, behind_shebang, shebang_piece, source}
+use Rattle.parser_input.specs.Lexed.{shebang_leaf, frontmatter_leaf, preface, content, cut, lexed}
+use Rattle.parser_input.specs.Preface.{piece, shebang_piece, source}
 use Rattle.parser_input.specs.declared.edition.Edition.{Edition}
 use Rattle.rust_document.specs.Reading.{behind_preface}
 
 -- one leaf, or none
-one_if : Bool → ℕ
+abbrev pub one_if : Bool → ℕ
 one_if b = if b then 1 else 0
 
 -- a shebang is one
@@ -21,24 +20,11 @@ shebang-len text = by-case (is_some (shebang text))
     by-case true = refl
     by-case false = refl
 
-held : (o : Option Piece) (l : Lexed) → length (elim o [ None ↦ [] | Some p ↦ l ∷ [] ]) ≡ one_if (is_some o)
-held None l = refl
-held (Some p) l = refl
-
--- so is a frontmatter
-pub frontmatter-len : (text : List ℕ) (s : Source) → length (frontmatter_leaf text (Ok s)) ≡ one_if (is_some s.closing)
-frontmatter-len text s =
-    held s.closing (quiet FRONTMATTER (take (length (behind_shebang text) - length s.content.text) (behind_shebang text)))
-
-pub is_some-mapped : {A B : Type 0} (f : A → B) (o : Option A) → is_some (option_map f o) ≡ is_some o
-is_some-mapped f None = refl
-is_some-mapped f (Some a) = refl
-
 -- the leaves of a text are its preface's and those behind it
 pub parts-len : (edition : Edition) (text : List ℕ) →
     length (lexed edition text)
     ≡ (length (shebang_leaf (shebang_piece text)) + length (frontmatter_leaf text (source text))) + length (behind_preface edition text)
-unfolding lexed, preface
+unfolding lexed preface
 parts-len edition text =
     length-append (shebang_leaf (shebang_piece text) ++ frontmatter_leaf text (source text)) (cut edition 0 (content text))
     ∙ ap (λ (n : ℕ). n + length (behind_preface edition text)) (length-append (shebang_leaf (shebang_piece text)) (frontmatter_leaf text (source text)))
