@@ -5,10 +5,22 @@ use Rattle.rust_document.proofs.read.behind_preface.Goals as goal
 
 pub overflow_sub-result : goal.overflow_sub-result
 overflow_sub-result c =
-    omega (arith, c.len.ensures, c.shebang_len.ensures, c.frontmatter_len.ensures,
-      ap (λ (w : Whole). length w.leaves) c.requires, parts-len c.args.lexed.now.edition (chars c.args.text.now))
+    omega (
+      arith,
+      c.len.ensures,
+      c.shebang_len.ensures,
+      c.frontmatter_len.ensures,
+      ap (λ (w : Whole). length w.leaves) c.requires,
+      parts-len c.args.lexed.now.edition (chars c.args.text.now),
+    )
 
 pub returns : goal.returns
 returns c =
-    omega (arith, c.len.ensures, c.shebang_len.ensures, c.frontmatter_len.ensures,
-      ap (λ (w : Whole). length w.leaves) c.requires, parts-len c.args.lexed.now.edition (chars c.args.text.now))
+    omega (
+      arith,
+      c.len.ensures,
+      c.shebang_len.ensures,
+      c.frontmatter_len.ensures,
+      ap (λ (w : Whole). length w.leaves) c.requires,
+      parts-len c.args.lexed.now.edition (chars c.args.text.now),
+    )

@@ -39,10 +39,10 @@ returns-clause-read c =
     (c.in_ok-append_faults.ensures ∙ ap (λ (w : Whole). map told c.in_ok-built.field-0.built.errors.items ++ of_leaves 0 w.leaves) c.in_ok-lexed.ensures)
     (c.in_ok-tokens.ensures ∙ ap (λ (w : Whole). spans_from 0 (map in_bytes (leaves_of w.leaves))) c.in_ok-lexed.ensures)
 
-pub behind_preface-requires : goal.behind_preface-requires
-behind_preface-requires c =
+pub behind_preface-lexed-requires : goal.behind_preface-lexed-requires
+behind_preface-lexed-requires c =
     subst (λ (w : Whole). w ≡ whole_of w.edition (chars c.args.text.now)) (sym c.in_ok-lexed.ensures) refl
 
 pub returns-clause-lexed : goal.returns-clause-lexed
 returns-clause-lexed c =
-    c.behind_preface.ensures ∙ ap (λ (w : Whole). length (behind_preface w.edition (chars c.args.text.now))) c.in_ok-lexed.ensures
+    c.behind_preface-lexed.ensures ∙ ap (λ (w : Whole). length (behind_preface w.edition (chars c.args.text.now))) c.in_ok-lexed.ensures
