@@ -21,3 +21,4 @@ pub mod Carried
 pub mod Closed
 pub mod Solid
 pub mod Bound
+pub mod Behind

@@ -12,7 +12,7 @@ ghost use Rattle.rust_document.specs.Edit.{RefusesEdit, can_edit, edited};
 ghost use Rattle.rust_document.specs.Open.{IsOpened, RefusesOpen};
 ghost use Rattle.rust_document.specs.IsReading.{IsReading};
 ghost use Rattle.rust_document.specs.Seen.{told};
-ghost use Rattle.rust_document.specs.Reading.{messages};
+ghost use Rattle.rust_document.specs.Reading.{behind_preface, messages};
 ghost use Rattle.rust_document.specs.Rewrite.{rewritten, changed};
 ghost use Rattle.rust_document.specs.Step.{MAX_TEXT, first_element, is_foreign, root_element, verdict, Accepted};
 ghost use Rattle.rust_document.specs.Tokens.{shown, tokens_of};
@@ -45,9 +45,15 @@ pub struct Committed {
     pub steps: u64,
 }
 
-/// What an accepted edit tells.
+/// What an accepted edit tells. So far the new text is lexed whole, so no token is kept.
 #[derive(Clone, Copy, Debug, PartialEq, Eq)]
 pub struct Edited {
+    /// How many tokens before the edit were kept.
+    pub front: usize,
+    /// How many tokens behind the preface were lexed.
+    pub lexed: usize,
+    /// How many tokens behind the edit were kept.
+    pub back: usize,
     /// How many looks at the tokens of the new text the parser made.
     pub steps: u64,
 }
@@ -72,7 +78,9 @@ impl Model for Document {
 
     ghost view = { λ d. record { edition = d.edition; text = string_bytes d.text; number = d.root.number } };
 
-    ghost invariant = { λ d. (length (string_bytes d.text) ≤ MAX_TEXT) × (d.root.place.up ≡ []) × IsReading d.edition (chars (string_bytes d.text)) d.tokens.items d.root.place.root d.errors.items };
+    ghost invariant = { λ d. (length (string_bytes d.text) ≤ MAX_TEXT)
+        × (d.root.place.up ≡ [])
+        × IsReading d.edition (chars (string_bytes d.text)) d.tokens.items d.root.place.root d.errors.items };
 }
 
 impl Document {
@@ -100,6 +108,7 @@ impl Document {
             tokens,
             root,
             errors,
+            lexed: _,
             steps: _,
         } = read(alloc, TopEntryPoint::SourceFile, edition, text)?;
         let text = String::from_str(alloc, text)?;
@@ -179,6 +188,10 @@ impl Document {
         ensures number { OnOk result (ids.new ≡ ids.old + 1) }
         ensures brackets { OnOk result (HasPairedBrackets self.new) }
         ensures operators { OnOk result (HasPlacedOperators self.new) }
+        ensures front { IfOk result (λ e. e.front ≡ 0) }
+        ensures lexed { IfOk result (λ e. e.lexed ≡ length (behind_preface self.old.edition
+            (chars (edited self.old.text range.start.0 range.end.0 text.now)))) }
+        ensures back { IfOk result (λ e. e.back ≡ 0) }
         ensures steps { IfOk result (λ e. e.steps ≤ most_steps self.old.edition
             (chars (edited self.old.text range.start.0 range.end.0 text.now))) }
         ensures refused { IfErr result (RefusesEdit (edited self.old.text range.start.0 range.end.0 text.now) ids.old) }
@@ -187,9 +200,14 @@ impl Document {
         let text = edited(alloc, self.text(), range, text)?;
         let entry = TopEntryPoint::SourceFile;
         let reading = read(alloc, entry, self.edition, text.as_str())?;
-        let steps = reading.steps;
+        let Reading { lexed, steps, .. } = reading;
         self.renew(alloc, text, reading, ids)?;
-        Ok(Edited { steps })
+        Ok(Edited {
+            front: 0,
+            lexed,
+            back: 0,
+            steps,
+        })
     }
 
     /// The first element in preorder that is of a kind and has a range: of several that have the range, the outermost.
@@ -237,8 +255,7 @@ impl Document {
         ensures state { OnOk result (self.new ≡
             record {
               edition = self.old.edition;
-              text = tree_text
-                  (rewritten editor);
+              text = tree_text (rewritten editor);
               number = ids.old;
             }) }
         ensures brackets { OnOk result (HasPairedBrackets self.new) }
@@ -289,6 +306,7 @@ impl Document {
             tokens,
             root,
             errors,
+            lexed: _,
             steps: _,
         } = reading;
         self.root = SyntaxNode::new_root(alloc, root, ids)?;
