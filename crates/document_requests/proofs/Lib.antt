@@ -9,5 +9,3 @@ pub mod Fronts
 pub mod Named
 pub mod Rows
 pub mod Ranges
-pub mod Taken
-pub mod Prepared

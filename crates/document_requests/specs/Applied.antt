@@ -1,5 +1,5 @@
 -- What code tells of commands.
-use Rattle.std.specs.Prelude.{◌≡◌, ℕ, List, ◌++◌, map, take}
+use Rattle.std.specs.Prelude.{◌≡◌, ℕ, List, ◌++◌, take}
 use Rattle.rust_document.specs.Step.{State}
 use Rattle.rust_document.specs.declared.error.CommitError.{CommitError}
 use Rattle.rust_document.specs.declared.error.CommitError.TheVariants as commits

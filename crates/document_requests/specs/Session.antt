@@ -1,9 +1,9 @@
 -- What commands make of a document, and what they are answered.
-use Rattle.std.specs.Prelude.{ℕ, ◌+◌, ◌^◌, ◌==◌, ◌&&◌, Bool, true, false, nat_lt, nat_le, List, [], ◌∷◌, length, map, chars, Option, Some, None, option_map, if◌then◌else◌}
+use Rattle.std.specs.Prelude.{ℕ, ◌+◌, ◌^◌, ◌==◌, ◌&&◌, Bool, true, false, nat_lt, nat_le, List, [], ◌∷◌, length, map, chars, Option, Some, None, if◌then◌else◌}
 use Rattle.parser_input.specs.Kind.{raw_of}
 use Rattle.parser_input.specs.Kinds.{TOMBSTONE}
 use Rattle.parser_input.specs.declared.edition.Edition.{Edition}
-use Rattle.rowan_green.specs.Forest.{Tree, tree_text}
+use Rattle.rowan_green.specs.Forest.{tree_text}
 use Rattle.rowan_green.specs.Leaf.{Leaf}
 use Rattle.rowan_green.specs.Term.{tree_of}
 use Rattle.rowan_green.specs.declared.utility_types.NodeOrToken.TheVariants as terms
