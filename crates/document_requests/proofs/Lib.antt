@@ -9,4 +9,3 @@ pub mod Fronts
 pub mod Named
 pub mod Rows
 pub mod Ranges
-pub mod Puts

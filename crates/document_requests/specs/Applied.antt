@@ -1,6 +1,5 @@
 -- What code tells of commands.
-use Rattle.std.specs.Prelude.{◌≡◌, ℕ, List, ◌++◌, map, take}
-use Rattle.rowan_green.specs.declared.text_range.TextRange.{TextRange}
+use Rattle.std.specs.Prelude.{◌≡◌, ℕ, List, ◌++◌, take}
 use Rattle.rust_document.specs.Step.{State}
 use Rattle.rust_document.specs.declared.error.CommitError.{CommitError}
 use Rattle.rust_document.specs.declared.error.CommitError.TheVariants as commits
@@ -8,12 +7,13 @@ use Rattle.rust_document.specs.declared.error.EditError.{EditError}
 use Rattle.rust_document.specs.declared.error.EditError.TheVariants as edits
 use Rattle.rust_document.specs.declared.error.PayloadError.{PayloadError}
 use Rattle.rust_document.specs.declared.error.PayloadError.TheVariants as payloads
-use Rattle.rust_document.specs.declared.error.RecordError.{RecordError}
-use Rattle.rust_document.specs.declared.error.RecordError.TheVariants as records
-use Rattle.document_requests.specs.Answered.{ends_of}
+use Rattle.syntax_editor.specs.declared.error.RecordError.{RecordError}
+use Rattle.syntax_editor.specs.declared.error.RecordError.TheVariants as records
+use Rattle.syntax_tree.specs.declared.error.PositionError.{PositionError}
+use Rattle.syntax_tree.specs.declared.error.PositionError.TheVariants as positions
 use Rattle.document_requests.specs.Reply as answered
 use Rattle.document_requests.specs.Request.{Command}
-use Rattle.document_requests.specs.Session.{Session, Answer, run}
+use Rattle.document_requests.specs.Session.{Session, Answer, Taken, Withheld, Prepared, Stopped, run}
 use Rattle.document_requests.specs.declared.stop.Stop.{Stop}
 use Rattle.document_requests.specs.declared.stop.Stop.TheVariants.{Refused, NoMemory}
 use Rattle.document_requests.specs.declared.reply.Refusal.TheVariants as refusals
@@ -21,9 +21,14 @@ use Rattle.document_requests.specs.declared.reply.Refusal.TheVariants as refusal
 abbrev pub session : State → ℕ → Session
 session document next = record { document = document; next = next }
 
--- The answer is that these ranges were put in, and this is what it leaves.
-abbrev pub IsChanged : Answer → List TextRange → Session → Type 0
-IsChanged a ranges after = a ≡ record { reply = answered.Changed (map ends_of ranges); after = after }
+-- What was taken of a text, or a change that was prepared, was refused so, and this number is next. Out of memory is no answer.
+abbrev pub IsWithheld : Taken → ℕ → Stop → Type 0
+IsWithheld t next (Refused refusal) = t ≡ Withheld refusal next
+IsWithheld t next NoMemory = Unit {0}
+
+abbrev pub IsUnprepared : Prepared → ℕ → Stop → Type 0
+IsUnprepared p next (Refused refusal) = p ≡ Stopped refusal next
+IsUnprepared p next NoMemory = Unit {0}
 
 -- The answer is this refusal, and this is what it leaves. Want of memory is no answer.
 abbrev pub IsStopped : Answer → Session → Stop → Type 0
@@ -54,10 +59,16 @@ abbrev pub stop_of_record : RecordError → Stop
 stop_of_record records.Foreign = Refused refusals.NoTarget
 stop_of_record records.BadTarget = Refused refusals.BadTarget
 stop_of_record records.NoMemory = NoMemory
-stop_of_record records.Later = Refused refusals.Later
+stop_of_record records.BadRange = Refused refusals.BadTarget
+
+abbrev pub stop_of_position : PositionError → Stop
+stop_of_position positions.NoParent = Refused refusals.NoParent
+stop_of_position positions.NoMemory = NoMemory
 
 abbrev pub stop_of_commit : CommitError → Stop
 stop_of_commit commits.Foreign = Refused refusals.NoTarget
+stop_of_commit commits.Intersecting = Refused refusals.Intersecting
+stop_of_commit commits.MissingMapping = Refused refusals.MissingMapping
 stop_of_commit commits.TooLong = Refused refusals.TooLong
 stop_of_commit commits.Unfaithful = Refused refusals.Unfaithful
 stop_of_commit commits.NoTreeNumber = Refused refusals.NoTreeNumber

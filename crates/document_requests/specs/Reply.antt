@@ -5,7 +5,7 @@ use Rattle.serde_json.specs.Data.{Data, number, unsigned, string, array, object,
 use Rattle.serde_json.specs.View.{items_of}
 use Rattle.serde_json.specs.Written.{compact_text}
 use Rattle.document_requests.specs.declared.reply.Refusal.{Refusal}
-use Rattle.document_requests.specs.declared.reply.Refusal.TheVariants.{Request, Float, Range, TooLong, NoTarget, Payload, BadTarget, Unfaithful, NoTreeNumber, Later}
+use Rattle.document_requests.specs.declared.reply.Refusal.TheVariants.{Request, Float, Range, TooLong, NoTarget, Payload, NoParent, BadTarget, Intersecting, MissingMapping, Unfaithful, NoTreeNumber}
 
 -- an edit was made; the ranges of the new text that a commit put in; the tree's lines; messages, each with its place; why nothing was
 -- done
@@ -23,10 +23,12 @@ refusal_name Range = codes "Range"
 refusal_name TooLong = codes "TooLong"
 refusal_name NoTarget = codes "NoTarget"
 refusal_name Payload = codes "Payload"
+refusal_name NoParent = codes "NoParent"
 refusal_name BadTarget = codes "BadTarget"
+refusal_name Intersecting = codes "Intersecting"
+refusal_name MissingMapping = codes "MissingMapping"
 refusal_name Unfaithful = codes "Unfaithful"
 refusal_name NoTreeNumber = codes "NoTreeNumber"
-refusal_name Later = codes "Later"
 
 abbrev pub range_data : ℕ × ℕ → Data
 range_data range = array (item (number (unsigned range.0)) (item (number (unsigned range.1)) no_items))

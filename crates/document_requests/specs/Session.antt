@@ -1,24 +1,28 @@
 -- What commands make of a document, and what they are answered.
-use Rattle.std.specs.Prelude.{ℕ, ◌+◌, ◌^◌, ◌==◌, ◌&&◌, nat_lt, nat_le, List, [], ◌∷◌, length, map, chars, Option, Some, None, option_map, if◌then◌else◌}
+use Rattle.std.specs.Prelude.{ℕ, ◌+◌, ◌^◌, ◌==◌, ◌&&◌, Bool, true, false, nat_lt, nat_le, List, [], ◌∷◌, length, map, chars, Option, Some, None, if◌then◌else◌}
 use Rattle.parser_input.specs.Kind.{raw_of}
 use Rattle.parser_input.specs.Kinds.{TOMBSTONE}
-use Rattle.rowan_green.specs.Forest.{Tree, tree_text}
+use Rattle.parser_input.specs.declared.edition.Edition.{Edition}
+use Rattle.rowan_green.specs.Forest.{tree_text}
 use Rattle.rowan_green.specs.Leaf.{Leaf}
 use Rattle.rowan_green.specs.Term.{tree_of}
 use Rattle.rowan_green.specs.declared.utility_types.NodeOrToken.TheVariants as terms
-use Rattle.syntax_tree.specs.Element.{Element, element_at, term_of}
+use Rattle.rowan.specs.Place.{index_of, terms_below}
+use Rattle.syntax_tree.specs.Element.{Element, element_at}
+use Rattle.syntax_tree.specs.Handle.{parent_of}
 use Rattle.rust_document.specs.Payload as payload
 use Rattle.rust_document.specs.Payload.{Payload, payload_of}
 use Rattle.ra_parser.specs.declared.entry_points.TopEntryPoint.TheVariants as tops
 use Rattle.rust_document.specs.declared.payload_entry.PayloadEntry.{PayloadEntry}
 use Rattle.rust_document.specs.declared.payload_entry.PayloadEntry.TheVariants as payloads
-use Rattle.rust_document.specs.Record as record_of
-use Rattle.rust_document.specs.Record.{Recording, recording}
-use Rattle.rust_document.specs.Rewrite.{Editing, rewritten, changed}
+use Rattle.rust_document.specs.Rewrite.{rewritten, changed}
+use Rattle.syntax_editor.specs.Editing.{Editing, untouched, with_changes}
+use Rattle.syntax_editor.specs.Recording as records
+use Rattle.syntax_editor.specs.Recording.{Recording, inserting, replacing}
 use Rattle.rust_document.specs.Step as step
 use Rattle.rust_document.specs.Edit.{can_edit, edited}
 use Rattle.rust_document.specs.Reading.{messages}
-use Rattle.rust_document.specs.Step.{MAX_TEXT, State, first_element, present, Verdict, verdict}
+use Rattle.rust_document.specs.Step.{MAX_TEXT, State, first_element, present, root_element, Verdict, verdict}
 use Rattle.document_requests.specs.Reply as reply
 use Rattle.document_requests.specs.Reply.{Reply, Edited, Changed, Refused}
 use Rattle.document_requests.specs.Lines.{tree_lines}
@@ -29,6 +33,7 @@ use Rattle.document_requests.specs.declared.reply.Refusal.{Refusal}
 use Rattle.document_requests.specs.declared.reply.Refusal.TheVariants as refusals
 use Rattle.document_requests.specs.declared.request.Entry.{Entry}
 use Rattle.document_requests.specs.declared.request.Entry.TheVariants as entries
+use Rattle.document_requests.specs.declared.request.Op.{Op}
 use Rattle.document_requests.specs.declared.request.Op.TheVariants as ops
 use Rattle.document_requests.specs.declared.request.Target.{Target}
 
@@ -54,14 +59,6 @@ abbrev pub found : State → Target → Option Element
 found d t =
     if nat_lt t.start t.stop && nat_le t.stop (length d.text) then first_element d (raw_of t.kind) t.start t.stop else None
 
--- the present tree with nothing recorded
-abbrev pub editor_of : State → Editing
-editor_of d = record { number = d.number; root = present d; change = None }
-
--- and with one element in the place of another
-abbrev pub editor_with : State → Element → Element → Editing
-editor_with d old new = record { number = d.number; root = present d; change = option_map (λ element. record { way = old.place.up; new = element }) (term_of new) }
-
 -- The rewritten tree's text becomes the document's.
 abbrev pub accepted : Session → Editing → Answer
 accepted s e =
@@ -71,63 +68,118 @@ accepted s e =
 -- An editor of the present tree is never foreign.
 abbrev pub judged : Verdict → Session → Editing → Answer
 judged step.Foreign s e = refused refusals.NoTarget s
+judged step.Intersecting s e = refused refusals.Intersecting s
+judged step.MissingMapping s e = refused refusals.MissingMapping s
 judged step.TooLong s e = refused refusals.TooLong s
 judged step.Unfaithful s e = refused refusals.Unfaithful s
 judged step.Accepted s e = accepted s e
 
-abbrev pub recorded : Recording → Session → Element → Element → Answer
-recorded record_of.Foreign s old new = refused refusals.NoTarget s
-recorded record_of.BadTarget s old new = refused refusals.BadTarget s
-recorded record_of.Later s old new = refused refusals.Later s
-recorded record_of.Recorded s old new = let e = editor_with s.document old new in judged (verdict s.document e) s e
+-- ---- what is put
 
--- one element is put in the place of another, and that is the whole commit
-abbrev pub replaced : Session → Element → Element → Answer
-replaced s old new = recorded (recording (editor_of s.document) old new) s old new
+-- what a word has a text read as
+abbrev pub payload_entry : Entry → PayloadEntry
+payload_entry entries.Token = payloads.Token
+payload_entry entries.Expr = payloads.Top tops.Expr
+payload_entry entries.Ty = payloads.Top tops.Ty
+payload_entry entries.Pattern = payloads.Top tops.Pattern
+payload_entry entries.Item = payloads.Top tops.SourceFile
+payload_entry entries.Stmt = payloads.Top tops.MacroStmts
+
+-- an item or a statement is the only child of what is read, tokens counted too
+abbrev pub is_only_child : Entry → Bool
+is_only_child entries.Item = true
+is_only_child entries.Stmt = true
+is_only_child _ = false
+
+abbrev pub only_child : Element → Option Element
+only_child e = if length (terms_below e.place) == 1 then Some (element_at e.number e.place.root (0 ∷ e.place.up)) else None
 
 -- the token in a tree of its own
 abbrev pub detached : ℕ → Leaf → Element
 detached number l = element_at number (tree_of TOMBSTONE (terms.Token l ∷ [])) (0 ∷ [])
 
--- what a word has a text read as; items and statements are not done yet
-abbrev pub payload_entry : Entry → Option PayloadEntry
-payload_entry entries.Token = Some payloads.Token
-payload_entry entries.Expr = Some (payloads.Top tops.Expr)
-payload_entry entries.Ty = Some (payloads.Top tops.Ty)
-payload_entry entries.Pattern = Some (payloads.Top tops.Pattern)
-payload_entry entries.Item = None
-payload_entry entries.Stmt = None
+-- the payload as an element of a tree of this number, if it is one
+abbrev pub numbered_payload : ℕ → Payload → Option Element
+numbered_payload number (payload.One l) = Some (detached number l)
+numbered_payload number (payload.Whole t) = Some (element_at number t [])
+numbered_payload number p = None
 
--- the root of a tree
-abbrev pub root_of : ℕ → Tree → Element
-root_of number t = element_at number t []
+-- what is put, and the number that the next tree gets then; or why nothing is
+pub data Taken : Type 0 where
+  Given : Element → ℕ → Taken
+  Withheld : Refusal → ℕ → Taken
 
--- an element takes the place of another, if a number is left for its tree
-abbrev pub put_element : Element → Session → Element → Answer
-put_element new s old = if s.next == 2 ^ 32 then refused refusals.NoTreeNumber s else replaced (numbered s) old new
+abbrev pub if_any : Option Element → ℕ → Taken
+if_any None next = Withheld refusals.Payload next
+if_any (Some e) next = Given e next
 
-abbrev pub put : Payload → Session → Element → Answer
-put payload.TooLong s old = refused refusals.Payload s
-put payload.NotOneToken s old = refused refusals.Payload s
-put payload.Message s old = refused refusals.Payload s
-put (payload.One l) s old = put_element (detached s.next l) s old
-put (payload.Whole t) s old = put_element (root_of s.next t) s old
+abbrev pub part_of : Entry → Element → ℕ → Taken
+part_of entry e next = if_any (if is_only_child entry then only_child e else Some e) next
+
+abbrev pub taken_of : Entry → Option Element → ℕ → Taken
+taken_of entry None next = Withheld refusals.Payload next
+taken_of entry (Some e) next = if next == 2 ^ 32 then Withheld refusals.NoTreeNumber next else part_of entry e (next + 1)
+
+-- what a text is, read as an entry
+abbrev pub taken : Entry → Edition → List ℕ → ℕ → Taken
+taken entry edition text next = taken_of entry (numbered_payload next (payload_of (payload_entry entry) edition text)) next
+
+-- ---- what is recorded
+
+-- an editor with what was recorded so far, and the number that the next tree gets; or why a change is refused
+pub data Prepared : Type 0 where
+  Ready : Editing → ℕ → Prepared
+  Stopped : Refusal → ℕ → Prepared
+
+abbrev pub recorded : Editing → ℕ → Recording → Prepared
+recorded e next records.Foreign = Stopped refusals.NoTarget next
+recorded e next records.BadRange = Stopped refusals.BadTarget next
+recorded e next records.BadTarget = Stopped refusals.BadTarget next
+recorded e next (records.Recorded changes) = Ready (with_changes e changes) next
+
+-- an element comes into the gap of this number of a parent, if there is one
+abbrev pub inserted_at : Option Element → ℕ → Editing → ℕ → Element → Prepared
+inserted_at None i e next new = Stopped refusals.NoParent next
+inserted_at (Some parent) i e next new = recorded e next (inserting e parent i (new ∷ []))
+
+abbrev pub put_element : Op → Element → Editing → ℕ → Element → Prepared
+put_element ops.Replace old e next new = recorded e next (replacing e old (new ∷ []))
+put_element ops.Before old e next new = inserted_at (parent_of old) (index_of old.place) e next new
+put_element ops.After old e next new = inserted_at (parent_of old) (index_of old.place + 1) e next new
+
+abbrev pub put_taken : Op → Element → Editing → Taken → Prepared
+put_taken op old e (Given new next) = put_element op old e next new
+put_taken op old e (Withheld refusal next) = Stopped refusal next
 
 -- The target comes first, then the text, then the recording.
-abbrev pub put_at : Option Element → Session → PayloadEntry → List ℕ → Answer
-put_at None s entry text = refused refusals.NoTarget s
-put_at (Some old) s entry text = put (payload_of entry s.document.edition text) s old
+abbrev pub put_at : Op → Option Element → Entry → List ℕ → State → Editing → ℕ → Prepared
+put_at op None entry text d e next = Stopped refusals.NoTarget next
+put_at op (Some old) entry text d e next = put_taken op old e (taken entry d.edition text next)
 
-abbrev pub put_as : Option PayloadEntry → Target → List ℕ → Session → Answer
-put_as None target text s = refused refusals.Later s
-put_as (Some entry) target text s = put_at (found s.document target) s entry text
+abbrev pub deleted_at : Option Element → Editing → ℕ → Prepared
+deleted_at None e next = Stopped refusals.NoTarget next
+deleted_at (Some old) e next = recorded e next (replacing e old [])
 
--- So far a commit replaces one element.
-abbrev pub changed_by : Change → Session → Answer
-changed_by (Put ops.Replace target entry text) s = put_as (payload_entry entry) target text s
-changed_by (Put ops.Before target entry text) s = refused refusals.Later s
-changed_by (Put ops.After target entry text) s = refused refusals.Later s
-changed_by (Delete target) s = refused refusals.Later s
+abbrev pub prepared_by : Change → State → Editing → ℕ → Prepared
+prepared_by (Put op target entry text) d e next = put_at op (found d target) entry text d e next
+prepared_by (Delete target) d e next = deleted_at (found d target) e next
+
+abbrev pub and_then : (Editing → ℕ → Prepared) → Prepared → Prepared
+and_then more (Ready e next) = more e next
+and_then more (Stopped refusal next) = Stopped refusal next
+
+-- changes are prepared in order, up to the first that is refused
+abbrev pub prepared : List Change → State → Editing → ℕ → Prepared
+prepared [] d e next = Ready e next
+prepared (c ∷ cs) d e next = and_then (prepared cs d) (prepared_by c d e next)
+
+abbrev pub settled : State → Prepared → Answer
+settled d (Ready e next) = judged (verdict d e) (record { document = d; next = next }) e
+settled d (Stopped refusal next) = refused refusal (record { document = d; next = next })
+
+-- all changes of a commit are made at once
+abbrev pub committed : List Change → Session → Answer
+committed changes s = settled s.document (prepared changes s.document (untouched (root_element s.document)) s.next)
 
 -- the text becomes this one
 abbrev pub read_anew : Session → List ℕ → Answer
@@ -139,10 +191,6 @@ read_anew s text =
 -- A text takes the place of the bytes from `start` to just before `stop`.
 abbrev pub edited_by : ℕ → ℕ → List ℕ → Session → Answer
 edited_by start stop text s = if can_edit s.document.text start stop then read_anew s (edited s.document.text start stop text) else refused refusals.Range s
-
-abbrev pub committed : List Change → Session → Answer
-committed (change ∷ []) s = changed_by change s
-committed _ s = refused refusals.Later s
 
 abbrev pub answer : Command → Session → Answer
 answer (asked.Edit start stop text) s = edited_by start stop text s

@@ -1,11 +1,11 @@
 //! Commands are done one after another.
-ghost use Rattle.std.specs.Prelude.{◌≡◌, map, option_map, is_some, IfOk, IfErr, OnOk, OnErr, IfSome};
+ghost use Rattle.std.specs.Prelude.{◌≡◌, ℕ, map, option_map, is_some, IfOk, IfErr, OnOk, OnErr, IfSome};
 ghost use Rattle.syntax_tree.specs.Handle.{element_of};
 ghost use Rattle.rust_document.specs.Edit.{can_edit};
 ghost use Rattle.document_requests.specs.Answered.{reply as answered};
-ghost use Rattle.document_requests.specs.Applied.{session, IsChanged, IsStopped, Runs, RunsFront};
+ghost use Rattle.document_requests.specs.Applied.{session, IsStopped, IsUnprepared, IsWithheld, Runs, RunsFront};
 ghost use Rattle.document_requests.specs.Asked.{change as change_in, command as command_in};
-ghost use Rattle.document_requests.specs.Session.{answer, changed_by, committed, edited_by, found, payload_entry, put_at, replaced, run};
+ghost use Rattle.document_requests.specs.Session.{Given, Ready, answer, committed, edited_by, found, is_only_child, only_child, payload_entry, prepared, prepared_by, put_element, run, taken};
 
 use crate::lines::tree_lines;
 use crate::reply::{Refusal, Reply};
@@ -13,9 +13,9 @@ use crate::request::{Change, Command, Entry, Op, Target};
 use crate::stop::Stop;
 use ra_parser::TopEntryPoint;
 use rowan_green::{TextRange, TextSize};
-use rust_document::{Document, PayloadEntry, payload};
+use rust_document::{Document, PayloadEntry, SyntaxEditor, payload};
 use std::alloc::{AllocError, Global};
-use syntax_tree::{SyntaxElement, TreeIds};
+use syntax_tree::{Position, SyntaxElement, SyntaxNode, TreeIds};
 
 /// The element of the present tree that a target names. None where the target's start is not before its end, or its end lies
 /// behind the text.
@@ -34,97 +34,148 @@ fn find(
     document.find(alloc, target.kind, TextRange::new(start, stop))
 }
 
-/// Puts one element in the place of another, and commits that.
-fn replace(
-    alloc: Global,
-    document: &mut Document,
-    old: &SyntaxElement,
-    new: &SyntaxElement,
-    ids: &mut TreeIds,
-) -> Result<Vec<TextRange>, Stop>
-    ensures done { IfOk result (λ ranges. IsChanged
-        (replaced (session document.old ids.old) (element_of old.now) (element_of new.now)) ranges.items
-        (session document.new ids.new)) }
-    ensures stopped { IfErr result (IsStopped
-        (replaced (session document.old ids.old) (element_of old.now) (element_of new.now))
-        (session document.new ids.new)) }
-    ensures kept { OnErr result (document.new ≡ document.old) }
-{
-    let mut editor = document.editor()?;
-    editor.replace(alloc, old, new)?;
-    let committed = document.commit(alloc, editor, ids)?;
-    prove!(document.root().tree() <= u32::MAX);
-    Ok(committed.changed)
-}
-
-/// What a change has its text read as; None for what is not done yet.
-fn payload_entry(entry: Entry) -> Option<PayloadEntry>
+/// What a change has its text read as.
+fn payload_entry(entry: Entry) -> PayloadEntry
     ensures { result ≡ payload_entry entry }
 {
     match entry {
-        Entry::Token => Some(PayloadEntry::Token),
-        Entry::Expr => Some(PayloadEntry::Top(TopEntryPoint::Expr)),
-        Entry::Ty => Some(PayloadEntry::Top(TopEntryPoint::Ty)),
-        Entry::Pattern => Some(PayloadEntry::Top(TopEntryPoint::Pattern)),
-        Entry::Item | Entry::Stmt => None,
+        Entry::Token => PayloadEntry::Token,
+        Entry::Expr => PayloadEntry::Top(TopEntryPoint::Expr),
+        Entry::Ty => PayloadEntry::Top(TopEntryPoint::Ty),
+        Entry::Pattern => PayloadEntry::Top(TopEntryPoint::Pattern),
+        Entry::Item => PayloadEntry::Top(TopEntryPoint::SourceFile),
+        Entry::Stmt => PayloadEntry::Top(TopEntryPoint::MacroStmts),
     }
 }
 
-/// Puts what a text is read as in the place of the element that a target names.
-fn put(
-    alloc: Global,
-    document: &mut Document,
-    target: Target,
-    entry: PayloadEntry,
-    text: &str,
-    ids: &mut TreeIds,
-) -> Result<Vec<TextRange>, Stop>
-    ensures done { IfOk result (λ ranges. IsChanged
-        (put_at (found document.old target) (session document.old ids.old) entry text.now) ranges.items
-        (session document.new ids.new)) }
-    ensures stopped { IfErr result (IsStopped
-        (put_at (found document.old target) (session document.old ids.old) entry text.now)
-        (session document.new ids.new)) }
-    ensures kept { OnErr result (document.new ≡ document.old) }
+/// Whether a change puts the only child of what its text is read as.
+fn is_only_child(entry: Entry) -> bool
+    ensures { result ≡ is_only_child entry }
 {
-    let Some(old) = find(alloc, document, target)? else {
-        return Err(Stop::Refused(Refusal::NoTarget));
-    };
-    let new = payload(alloc, entry, document.edition(), text, ids)?;
-    prove!(new.tree() <= u32::MAX);
-    replace(alloc, document, &old, &new, ids)
+    matches!(entry, Entry::Item | Entry::Stmt)
 }
 
-/// Makes the one change of a commit.
-fn change(
+/// The only child of a node, tokens counted too.
+fn only_child_of(alloc: Global, node: &SyntaxNode) -> Result<Option<SyntaxElement>, AllocError>
+    ensures { IfOk result (λ child. option_map element_of child ≡ only_child node.now) }
+{
+    if node.cursor().green().children().len() != 1 {
+        return Ok(None);
+    }
+    let mut way = node.way(alloc)?;
+    way.insert(0, 0)?;
+    node.element_at(alloc, &way)
+}
+
+/// The only child of an element; a token has none.
+fn only_child(alloc: Global, element: &SyntaxElement) -> Result<Option<SyntaxElement>, AllocError>
+    ensures { IfOk result (λ child. option_map element_of child ≡ only_child (element_of element.now)) }
+{
+    match element {
+        SyntaxElement::Node(node) => only_child_of(alloc, node),
+        SyntaxElement::Token(token) => {
+            let _leaf = token.cursor().green();
+            Ok(None)
+        }
+    }
+}
+
+/// What a text is, read as an entry.
+fn taken(
     alloc: Global,
-    document: &mut Document,
+    document: &Document,
+    entry: Entry,
+    text: &str,
+    ids: &mut TreeIds,
+) -> Result<SyntaxElement, Stop>
+    ensures given { IfOk result (λ element. taken entry document.now.edition text.now ids.old
+        ≡ Given (element_of element) ids.new) }
+    ensures stopped { IfErr result (IsWithheld (taken entry document.now.edition text.now ids.old) ids.new) }
+{
+    let payload = payload(alloc, payload_entry(entry), document.edition(), text, ids)?;
+    prove!(payload.tree() <= u32::MAX);
+    if !is_only_child(entry) {
+        return Ok(payload);
+    }
+    match only_child(alloc, &payload)? {
+        Some(child) => Ok(child),
+        None => Err(Stop::Refused(Refusal::Payload)),
+    }
+}
+
+/// Records that an element comes to another one.
+fn put_element(
+    alloc: Global,
+    editor: &mut SyntaxEditor,
+    op: Op,
+    old: &SyntaxElement,
+    new: &SyntaxElement,
+) -> Result<(), Stop>
+    ensures done { OnOk result ((next : ℕ) → put_element op (element_of old.now) editor.old next (element_of new.now)
+        ≡ Ready editor.new next) }
+    ensures stopped { IfErr result (λ stop. (next : ℕ)
+        → IsUnprepared (put_element op (element_of old.now) editor.old next (element_of new.now)) next stop) }
+{
+    match op {
+        Op::Replace => Ok(editor.replace(alloc, old, new)?),
+        Op::Before => Ok(editor.insert(alloc, Position::before(old)?, new)?),
+        Op::After => Ok(editor.insert(alloc, Position::after(old)?, new)?),
+    }
+}
+
+/// Records a change of a commit.
+fn prepare(
+    alloc: Global,
+    document: &Document,
+    editor: &mut SyntaxEditor,
     change: Change<'_>,
     ids: &mut TreeIds,
-) -> Result<Vec<TextRange>, Stop>
-    ensures done { IfOk result (λ ranges. IsChanged
-        (changed_by (change_in change.entry) (session document.old ids.old)) ranges.items
-        (session document.new ids.new)) }
-    ensures stopped { IfErr result (IsStopped
-        (changed_by (change_in change.entry) (session document.old ids.old))
-        (session document.new ids.new)) }
-    ensures kept { OnErr result (document.new ≡ document.old) }
+) -> Result<(), Stop>
+    ensures done { OnOk result (prepared_by (change_in change.entry) document.now editor.old ids.old ≡ Ready editor.new ids.new) }
+    ensures stopped { IfErr result (IsUnprepared (prepared_by (change_in change.entry) document.now editor.old ids.old) ids.new) }
 {
     match change {
         Change::Put {
-            op: Op::Replace,
+            op,
             target,
             entry,
             text,
-        } => match payload_entry(entry) {
-            Some(entry) => put(alloc, document, target, entry, text, ids),
-            None => Err(Stop::Refused(Refusal::Later)),
-        },
-        _ => Err(Stop::Refused(Refusal::Later)),
+        } => {
+            let Some(old) = find(alloc, document, target)? else {
+                return Err(Stop::Refused(Refusal::NoTarget));
+            };
+            let new = taken(alloc, document, entry, text, ids)?;
+            put_element(alloc, editor, op, &old, &new)
+        }
+        Change::Delete { target } => {
+            let Some(old) = find(alloc, document, target)? else {
+                return Err(Stop::Refused(Refusal::NoTarget));
+            };
+            editor.delete(alloc, &old)?;
+            Ok(())
+        }
     }
 }
 
-/// Makes the changes of a commit; so far there can be one.
+/// Records the changes of a commit in order, up to the first that is refused.
+fn prepare_all(
+    alloc: Global,
+    document: &Document,
+    editor: &mut SyntaxEditor,
+    changes: &[Change<'_>],
+    ids: &mut TreeIds,
+) -> Result<(), Stop>
+    ensures done { OnOk result (prepared (map change_in changes.now) document.now editor.old ids.old
+        ≡ Ready editor.new ids.new) }
+    ensures stopped { IfErr result (IsUnprepared (prepared (map change_in changes.now) document.now editor.old ids.old) ids.new) }
+{
+    for change in changes {
+        prepare(alloc, document, editor, *change, ids)?;
+    }
+    Ok(())
+}
+
+/// Makes the changes of a commit at once.
 fn commit(
     alloc: Global,
     document: &mut Document,
@@ -138,11 +189,13 @@ fn commit(
         (session document.new ids.new)) }
     ensures kept { OnErr result (document.new ≡ document.old) }
 {
-    let [only] = changes else {
-        return Err(Stop::Refused(Refusal::Later));
-    };
-    let changed = change(alloc, document, *only, ids)?;
-    Ok(Reply::Commit { changed })
+    let mut editor = document.editor(alloc)?;
+    prepare_all(alloc, document, &mut editor, changes, ids)?;
+    let committed = document.commit(alloc, editor, ids)?;
+    prove!(document.root().tree() <= u32::MAX);
+    Ok(Reply::Commit {
+        changed: committed.changed,
+    })
 }
 
 /// The bytes from `start` to just before `stop`, where these can be edited.

@@ -32,14 +32,18 @@ pub enum Refusal {
     NoTarget,
     /// The text to be put is not what it is to be read as.
     Payload,
-    /// A token would take the place of the root.
+    /// Nothing stands beside the root.
+    NoParent,
+    /// The root would be deleted, or a token would take its place.
     BadTarget,
+    /// Two changes replace one element.
+    Intersecting,
+    /// A change in a replaced element has no place in what replaces it.
+    MissingMapping,
     /// The new text does not read as the rewritten tree.
     Unfaithful,
     /// Each tree number was given.
     NoTreeNumber,
-    /// This is not done yet.
-    Later,
 }
 
 impl Refusal {
@@ -57,10 +61,12 @@ impl Refusal {
             Refusal::TooLong => "TooLong",
             Refusal::NoTarget => "NoTarget",
             Refusal::Payload => "Payload",
+            Refusal::NoParent => "NoParent",
             Refusal::BadTarget => "BadTarget",
+            Refusal::Intersecting => "Intersecting",
+            Refusal::MissingMapping => "MissingMapping",
             Refusal::Unfaithful => "Unfaithful",
             Refusal::NoTreeNumber => "NoTreeNumber",
-            Refusal::Later => "Later",
         }
     }
 }

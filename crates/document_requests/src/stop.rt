@@ -4,6 +4,7 @@ ghost use Rattle.std.specs.Prelude.{◌≡◌};
 use crate::reply::Refusal;
 use rust_document::{CommitError, EditError, PayloadError, RecordError};
 use std::alloc::AllocError;
+use syntax_tree::PositionError;
 
 /// What kept a command from being done. The document is as before.
 #[derive(Clone, Copy, Debug, PartialEq, Eq)]
@@ -62,9 +63,21 @@ impl From<RecordError> for Stop {
     fn from(error: RecordError) -> Stop {
         match error {
             RecordError::Foreign => Stop::Refused(Refusal::NoTarget),
-            RecordError::BadTarget => Stop::Refused(Refusal::BadTarget),
+            RecordError::BadRange | RecordError::BadTarget => Stop::Refused(Refusal::BadTarget),
             RecordError::NoMemory => Stop::NoMemory,
-            RecordError::Later => Stop::Refused(Refusal::Later),
+        }
+    }
+}
+
+impl From<PositionError> for Stop {
+    ghost use Rattle.document_requests.specs.Applied.{stop_of_position};
+
+    ghost from_gives = { λ error stop. stop ≡ stop_of_position error };
+
+    fn from(error: PositionError) -> Stop {
+        match error {
+            PositionError::NoParent => Stop::Refused(Refusal::NoParent),
+            PositionError::NoMemory => Stop::NoMemory,
         }
     }
 }
@@ -77,6 +90,8 @@ impl From<CommitError> for Stop {
     fn from(error: CommitError) -> Stop {
         match error {
             CommitError::Foreign => Stop::Refused(Refusal::NoTarget),
+            CommitError::Intersecting => Stop::Refused(Refusal::Intersecting),
+            CommitError::MissingMapping => Stop::Refused(Refusal::MissingMapping),
             CommitError::TooLong => Stop::Refused(Refusal::TooLong),
             CommitError::Unfaithful => Stop::Refused(Refusal::Unfaithful),
             CommitError::NoTreeNumber => Stop::Refused(Refusal::NoTreeNumber),

@@ -8,6 +8,7 @@ mod edits;
 mod opening;
 mod payloads;
 mod recording;
+mod rewrites;
 mod trees;
 
 use parser_input::edition::Edition;

@@ -4,19 +4,16 @@
 ghost use Rattle.std.specs.Prelude.{◌≡◌, IfErr};
 
 use parser_input::syntax_kind::SyntaxKind;
-use rowan_green::TextRange;
 use rust_document::{CommitError, Document, PayloadEntry, PayloadError, RecordError, payload};
 use std::alloc::{AllocError, Global};
-use syntax_tree::TreeIds;
+use syntax_tree::{SyntaxElement, TreeIds};
 
 /// Why a name was not put.
 #[derive(Clone, Copy, Debug, PartialEq, Eq)]
 pub enum RenameError {
-    /// No name stands there.
-    NoName,
     /// The new name is no token.
     NoToken(PayloadError),
-    /// The document can't record the change.
+    /// The document can't record a change.
     NotRecorded(RecordError),
     /// The new text would not read as the renamed tree, or one of the document's other refusals.
     Refused(CommitError),
@@ -48,22 +45,32 @@ impl From<CommitError> for RenameError {
     }
 }
 
-/// Puts another name where one stands. A refusal leaves the document as it was.
+/// Whether an element is an identifier of this text.
+fn is_named(element: &SyntaxElement, name: &str) -> bool {
+    match element {
+        SyntaxElement::Token(token) => token.kind() == SyntaxKind::IDENT && token.text() == name,
+        SyntaxElement::Node(_) => false,
+    }
+}
+
+/// Puts another name wherever one stands, all at once. A refusal leaves the document as it was.
 pub fn rename(
     alloc: Global,
     document: &mut Document,
-    at: TextRange,
-    name: &str,
+    old: &str,
+    new: &str,
     ids: &mut TreeIds,
 ) -> Result<(), RenameError>
     ensures kept { IfErr result (λ _. document.new ≡ document.old) }
 {
-    let Some(old) = document.find(alloc, SyntaxKind::IDENT, at)? else {
-        return Err(RenameError::NoName);
-    };
-    let new = payload(alloc, PayloadEntry::Token, document.edition(), name, ids)?;
-    let mut editor = document.editor()?;
-    editor.replace(alloc, &old, &new)?;
+    let new = payload(alloc, PayloadEntry::Token, document.edition(), new, ids)?;
+    let mut editor = document.editor(alloc)?;
+    for element in document.root().descendants_with_tokens(alloc)? {
+        let element = element?;
+        if is_named(&element, old) {
+            editor.replace(alloc, &element, &new)?;
+        }
+    }
     document.commit(alloc, editor, ids)?;
     Ok(())
 }
@@ -73,23 +80,24 @@ pub fn rename(
 mod tests {
     use super::{RenameError, rename};
     use parser_input::edition::Edition;
-    use rowan_green::{TextRange, TextSize};
     use rust_document::{CommitError, Document};
     use std::test::Fail;
     use syntax_tree::TreeIds;
 
     #[test]
-    fn a_name_and_a_keyword(rt: HostRuntime) -> Result<(), Fail> {
+    fn a_keyword_and_a_name(rt: HostRuntime) -> Result<(), Fail> {
         let alloc = rt.alloc();
         let mut ids = TreeIds::new();
-        let mut document = Document::open(alloc, Edition::Edition2021, "struct S;", &mut ids)?;
-        let name = TextRange::at(TextSize::new(7), TextSize::new(1));
-        let refused = rename(alloc, &mut document, name, "struct", &mut ids);
-        let renamed = rename(alloc, &mut document, name, "Tee", &mut ids);
-        let is_right = document.text() == "struct Tee;";
+        let text = "struct S;\n\nfn f(s: S) -> S { s }\n";
+        let mut document = Document::open(alloc, Edition::Edition2021, text, &mut ids)?;
+        let refused = rename(alloc, &mut document, "S", "struct", &mut ids);
+        let is_kept = document.text() == text;
+        let renamed = rename(alloc, &mut document, "S", "Point", &mut ids);
+        let is_right = document.text() == "struct Point;\n\nfn f(s: Point) -> Point { s }\n";
         drop(document);
         assert!(rt;
             (refused == Err(RenameError::Refused(CommitError::Unfaithful)))
+                & is_kept
                 & renamed.is_ok()
                 & is_right
         );

@@ -1,6 +1,7 @@
 //! What no contract says: that runs succeed where memory is ample, and the worked cases.
 mod broken;
 mod commands;
+mod commits;
 mod devices;
 mod lists;
 mod replies;
@@ -8,6 +9,7 @@ mod replies;
 use document_requests::run::run;
 use document_requests::{Fault, Watched};
 use std::alloc::Global;
+use std::test::Fail;
 
 /// Whether a request is answered by these bytes and this status.
 fn is_answered(alloc: Global, request: &[u8], expected: &str, status: u8) -> Result<bool, Fault> {
@@ -17,4 +19,12 @@ fn is_answered(alloc: Global, request: &[u8], expected: &str, status: u8) -> Res
     let mut writer = Watched::new(&mut output);
     let found = run(alloc, &mut reader, &mut writer)?;
     Ok(found == status && output.as_slice() == expected.as_bytes())
+}
+
+/// Whether commands on a text of edition 2021 are answered so.
+fn is_done(alloc: Global, text: &str, commands: &str, expected: &str) -> Result<bool, Fail> {
+    let request = format!(in alloc;
+        r#"{{"edition":"2021","text":"{text}","commands":[{commands}]}}"#
+    )?;
+    Ok(is_answered(alloc, request.as_bytes(), expected, 0)?)
 }

@@ -4,11 +4,9 @@ pub mod Undone
 pub mod Whole
 pub mod Bares
 pub mod Verdicts
+pub mod Rewrites
 pub mod Places
-pub mod Recordings
-pub mod Targets
 pub mod Payloads
-pub mod Changes
 pub mod TreeTexts
 pub mod Contents
 pub mod TreeSinks
@@ -23,3 +21,4 @@ pub mod Carried
 pub mod Closed
 pub mod Solid
 pub mod Bound
+pub mod Behind

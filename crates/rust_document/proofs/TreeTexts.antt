@@ -24,11 +24,20 @@ use Rattle.parser_events.specs.Dress.{Dressing, dress, dress_root, joined, as_dr
 use Rattle.parser_events.proofs.Texts.{text-is-text}
 use Rattle.rowan.specs.Place.{term_by, start_by, text_in}
 use Rattle.rowan.proofs.PlaceLaws.{texts-slices}
-use Rattle.syntax_tree.specs.Element.{Way}
+use Rattle.syntax_tree.specs.Element.{Way, Element}
 use Rattle.rust_document.specs.Open.{IsOpened}
 use Rattle.rust_document.specs.Reading.{terms_of, root_of, dressed_by, tree_by, tree, leaves_in}
 use Rattle.rust_grammar.specs.Rule.{Production, source_file}
-use Rattle.rust_document.specs.Step.{State, MAX_TEXT, present, bare_tree, is_faithful, Accepted, Foreign, TooLong, Unfaithful}
+use Rattle.tree_rewrite.proofs.MarkedLemmas.{forest_in-blank}
+use Rattle.syntax_tree.specs.declared.element.SyntaxElement.TheVariants as handles
+use Rattle.tree_rewrite.proofs.GreenLemmas.{fits-whole}
+use Rattle.tree_rewrite.proofs.FitLemmas.{new-to}
+use Rattle.tree_rewrite.specs.Marked.{blank, reading_of}
+use Rattle.tree_rewrite.specs.Pieces.{start}
+use Rattle.tree_rewrite.specs.Growing.{NewFit}
+use Rattle.syntax_editor.specs.Editing.{untouched}
+use Rattle.rust_document.specs.Rewrite.{rewritten}
+use Rattle.rust_document.specs.Step.{State, MAX_TEXT, present, root_element, bare_tree, is_faithful, Accepted, Foreign, Intersecting, MissingMapping, TooLong, Unfaithful}
 use Rattle.rust_document.specs.Laws.{IsKept}
 
 -- the text of terms is the text of what was dressed, in bytes
@@ -104,16 +113,32 @@ faithful-itself : (d : State) → IsUtf8 d.text → is_faithful d.edition (prese
 faithful-itself d u =
     ap (λ (bs : List ℕ). same_tree (bare_tree (present d)) (bare_tree (tree d.edition (chars bs)))) (present-text d u) ∙ same-itself (bare_tree (present d))
 
-rows-false : (f l u : Bool) → f ≡ false → l ≡ false → u ≡ false → first_fit (row f Foreign ∷ row l TooLong ∷ row u Unfaithful ∷ []) Accepted ≡ Accepted
+rows-false : (f i m l u : Bool) → f ≡ false → i ≡ false → m ≡ false → l ≡ false → u ≡ false → first_fit (row f Foreign ∷ row i Intersecting ∷ row m MissingMapping ∷ row l TooLong ∷ row u Unfaithful ∷ []) Accepted ≡ Accepted
 unfolding first_fit
-rows-false f l u p q r = rw (p, q, r) refl
+rows-false f i m l u p q r s t = rw (p, q, r, s, t) refl
+
+-- where nothing is recorded the tree stays
+kept-tree : (d : State) → rewritten (untouched (root_element d)) ≡ present d
+kept-tree d = λ i. record { kind = (present d).kind; forest = forest_in-blank (root_element d) [] 0 (present d).forest i }
+
+kept-text : (d : State) → IsUtf8 d.text → tree_text (rewritten (untouched (root_element d))) ≡ d.text
+kept-text d u = ap tree_text (kept-tree d) ∙ present-text d u
+
+-- nor is a node new there
+none-new : (e : Element) → NewFit (reading_of blank e)
+none-new e = (fits-whole (handles.Node e) start (tt, tt)).0
+
+short : (a b : Bool) → a ≡ false → b ≡ true → (a || not b) ≡ false
+short a b p q = rw (p, q) refl
 
 pub untouched-kept : (d : State) → IsUtf8 d.text → IsOpened d.text → IsKept d
 untouched-kept d u o = record {
   accepted =
-      rows-false _ _ _
+      rows-false _ _ _ _ _
       (ap (λ (b : Bool). not b || not (same_tree (present d) (present d))) (eq-eqb d.number d.number refl) ∙ ap not (same-itself (present d)))
-      (ap (λ (bs : List ℕ). nat_lt MAX_TEXT (length bs)) (present-text d u) ∙ le-ltb MAX_TEXT (length d.text) o)
-      (ap not (faithful-itself d u));
-  same_text = present-text d u;
+      refl
+      refl
+      (short _ _ (ap (λ (bs : List ℕ). nat_lt MAX_TEXT (length bs)) (kept-text d u) ∙ le-ltb MAX_TEXT (length d.text) o) (new-to (reading_of blank (root_element d)) (none-new (root_element d))))
+      (ap (λ (t : Tree). not (is_faithful d.edition t)) (kept-tree d) ∙ ap not (faithful-itself d u));
+  same_text = kept-text d u;
 }

@@ -1,11 +1,14 @@
 -- The verdict, by what was tested.
-use Rattle.std.proofs.Common.{◌≡◌, ℕ, ◌==◌, Bool, true, false, not, ◌&&◌, ◌||◌, nat_lt, List, [], ◌∷◌, length, refl, sym, ◌∙◌, ap, subst}
-use Rattle.std.proofs.lemmas.Bool.{lt-ltb, le-ltb}
+use Rattle.std.proofs.Common.{◌≡◌, ℕ, Option, Some, None, is_none, is_some, Bool, true, false, not, ◌&&◌, List, [], ◌∷◌, refl, sym, ◌∙◌, ap, subst}
 use Rattle.rustc_lexer.specs.Rows.{row, first_fit}
-use Rattle.rowan_green.specs.Forest.{same_tree, tree_text}
 use Rattle.parser_input.specs.declared.edition.Edition.{Edition}
-use Rattle.rust_document.specs.Rewrite.{Editing, rewritten}
-use Rattle.rust_document.specs.Step.{State, MAX_TEXT, present, is_faithful, Verdict, verdict, Foreign, TooLong, Unfaithful, Accepted}
+use Rattle.rowan_green.specs.declared.text_range.TextRange.{TextRange}
+use Rattle.tree_rewrite.specs.Change.{has_collision}
+use Rattle.tree_rewrite.specs.Rewrite.{jobs}
+use Rattle.syntax_editor.specs.Editing.{Editing}
+use Rattle.syntax_editor.specs.Rewriting.{IsPlaceable}
+use Rattle.rust_document.specs.Rewrite.{rewritten}
+use Rattle.rust_document.specs.Step.{State, is_foreign, is_too_long, is_faithful, Verdict, verdict, Foreign, Intersecting, MissingMapping, TooLong, Unfaithful, Accepted}
 use Rattle.syntax_tree.specs.Refusal.{RefusesTree}
 use Rattle.syntax_tree.specs.declared.error.TreeError.{TreeError}
 use Rattle.syntax_tree.specs.declared.error.TreeError.TheVariants as trees
@@ -15,58 +18,69 @@ use Rattle.rust_document.specs.declared.read.Reading.{Reading}
 use Rattle.rust_document.specs.declared.error.CommitError.{CommitError}
 use Rattle.rust_document.specs.declared.error.CommitError.TheVariants as refusals
 
-abbrev of_tree : State → Editing → Bool
-of_tree d e = (e.number == d.number) && same_tree e.root (present d)
+abbrev chosen : Bool → Bool → Bool → Bool → Bool → Verdict
+chosen f i m l u = first_fit (row f Foreign ∷ row i Intersecting ∷ row m MissingMapping ∷ row l TooLong ∷ row u Unfaithful ∷ []) Accepted
 
-abbrev chosen : Bool → Bool → Bool → Verdict
-chosen f l u = first_fit (row f Foreign ∷ row l TooLong ∷ row u Unfaithful ∷ []) Accepted
-
-foreign-test : (n s b : Bool) → b ≡ (n && s) → b ≡ false → (not n || not s) ≡ true
-foreign-test true true b e f = absurd (let z : true ≡ false = sym e ∙ f in cc)
-foreign-test true false b e f = refl
-foreign-test false s b e f = refl
-
-own-test : (n s b : Bool) → b ≡ (n && s) → b ≡ true → (not n || not s) ≡ false
-own-test true true b e f = refl
-own-test true false b e f = absurd (let z : true ≡ false = sym f ∙ e in cc)
-own-test false s b e f = absurd (let z : true ≡ false = sym f ∙ e in cc)
+abbrev misses : Editing → Bool
+misses e = is_none (jobs e.top e.changes e.mapping)
 
 verdict-is :
-    (d : State) (e : Editing) (f l u : Bool) → (not (e.number == d.number) || not (same_tree e.root (present d))) ≡ f → nat_lt MAX_TEXT (length (tree_text (rewritten e))) ≡ l → not (is_faithful d.edition (rewritten e)) ≡ u → verdict d e ≡ chosen f l u
-verdict-is d e f l u p q r = rw (p, q, r) refl
+    (d : State) (e : Editing) (f i m l u : Bool) → is_foreign d e ≡ f → has_collision e.changes ≡ i → misses e ≡ m → is_too_long e ≡ l
+    → not (is_faithful d.edition (rewritten e)) ≡ u → verdict d e ≡ chosen f i m l u
+verdict-is d e f i m l u p q r s t = λ j. chosen (p j) (q j) (r j) (s j) (t j)
+
+placed : (a : Bool) {A : Type 0} (o : Option A) → (not a && is_some o) ≡ true → (a ≡ false) × (is_none o ≡ false)
+placed true o is = cc
+placed false None is = cc
+placed false (Some x) is = (refl, refl)
+
+abbrev parts : (e : Editing) → IsPlaceable e → (has_collision e.changes ≡ false) × (misses e ≡ false)
+parts e is = placed (has_collision e.changes) (jobs e.top e.changes e.mapping) is
 
 -- an editor of another tree
-pub foreign : (d : State) (e : Editing) (b : Bool) → b ≡ of_tree d e → b ≡ false → verdict d e ≡ Foreign
+pub foreign : (d : State) (e : Editing) (b : Bool) → b ≡ not (is_foreign d e) → b ≡ false → verdict d e ≡ Foreign
 unfolding first_fit
-foreign d e b is other =
-    verdict-is d e true _ _ (foreign-test (e.number == d.number) (same_tree e.root (present d)) b is other) refl refl
+foreign d e b is other = verdict-is d e true _ _ _ _ (flipped (is_foreign d e) (sym is ∙ other)) refl refl refl refl
+  where
+    flipped : (a : Bool) → not a ≡ false → a ≡ true
+    flipped true h = refl
+    flipped false h = cc
 
-by-refusal : (d : State) (e : Editing) (b : Bool) (number : ℕ) (error : CommitError) → b ≡ of_tree d e → b ≡ true → RefusesRewritten d.edition (rewritten e) error → RefusesCommit (verdict d e) number error
-unfolding first_fit
-by-refusal d e b number refusals.Foreign is own h = absurd h
-by-refusal d e b number refusals.TooLong is own h =
-    verdict-is d e false true _ (own-test (e.number == d.number) (same_tree e.root (present d)) b is own) (lt-ltb MAX_TEXT (length (tree_text (rewritten e))) h) refl
-by-refusal d e b number refusals.Unfaithful is own h =
-    verdict-is d e false false true (own-test (e.number == d.number) (same_tree e.root (present d)) b is own) (le-ltb MAX_TEXT (length (tree_text (rewritten e))) h.0) (ap not h.1)
-by-refusal d e b number refusals.NoTreeNumber is own h = absurd h
-by-refusal d e b number refusals.NoMemory is own h = tt
+present-own : (a b : Bool) → b ≡ not a → b ≡ true → a ≡ false
+present-own true b is own = cc
+present-own false b is own = refl
 
-by-reading : (d : State) (e : Editing) (b : Bool) (text : List ℕ) (reading : Reading) → b ≡ of_tree d e → b ≡ true → IsRewritten d.edition (rewritten e) text reading → verdict d e ≡ Accepted
+by-refusal : (d : State) (e : Editing) (number : ℕ) (error : CommitError) → is_foreign d e ≡ false → RefusesRewritten d.edition e error → RefusesCommit (verdict d e) number error
 unfolding first_fit
-by-reading d e b text reading is own h =
-    verdict-is d e false false false (own-test (e.number == d.number) (same_tree e.root (present d)) b is own) (le-ltb MAX_TEXT (length (tree_text (rewritten e))) h.fits) (ap not h.faithful)
+by-refusal d e number refusals.Foreign own h = absurd h
+by-refusal d e number refusals.Intersecting own h = verdict-is d e false true _ _ _ own h refl refl refl
+by-refusal d e number refusals.MissingMapping own h = verdict-is d e false false true _ _ own h.0 (ap is_none h.1) refl refl
+by-refusal d e number refusals.TooLong own h =
+    let has = parts e h.0 in
+    verdict-is d e false false false true _ own has.0 has.1 h.1 refl
+by-refusal d e number refusals.Unfaithful own h =
+    let has = parts e h.0 in
+    verdict-is d e false false false false true own has.0 has.1 h.1 (ap not h.2)
+by-refusal d e number refusals.NoTreeNumber own h = absurd h
+by-refusal d e number refusals.NoMemory own h = tt
+
+by-reading : (d : State) (e : Editing) (text : List ℕ) (reading : Reading) (ranges : List TextRange) → is_foreign d e ≡ false → IsRewritten d.edition e text reading ranges → verdict d e ≡ Accepted
+unfolding first_fit
+by-reading d e text reading ranges own h =
+    let has = parts e h.placeable in
+    verdict-is d e false false false false false own has.0 has.1 h.within (ap not h.read_back.faithful)
 
 -- a rewrite that was refused
-pub refused : (d : State) (e : Editing) (b : Bool) (number : ℕ) (error : CommitError) (edition : Edition) → b ≡ of_tree d e → b ≡ true → edition ≡ d.edition → RefusesRewritten edition (rewritten e) error → RefusesCommit (verdict d e) number error
+pub refused : (d : State) (e : Editing) (b : Bool) (number : ℕ) (error : CommitError) (edition : Edition) → b ≡ not (is_foreign d e) → b ≡ true → edition ≡ d.edition → RefusesRewritten edition e error → RefusesCommit (verdict d e) number error
 refused d e b number error edition is own same h =
-    let P : Edition → Type 0 = λ x. RefusesRewritten x (rewritten e) error in
-    by-refusal d e b number error is own (subst P same h)
+    let P : Edition → Type 0 = λ x. RefusesRewritten x e error in
+    by-refusal d e number error (present-own (is_foreign d e) b is own) (subst P same h)
 
 -- a rewrite that is read
-pub accepted : (d : State) (e : Editing) (b : Bool) (text : List ℕ) (reading : Reading) (edition : Edition) → b ≡ of_tree d e → b ≡ true → edition ≡ d.edition → IsRewritten edition (rewritten e) text reading → verdict d e ≡ Accepted
-accepted d e b text reading edition is own same h =
-    let P : Edition → Type 0 = λ x. IsRewritten x (rewritten e) text reading in
-    by-reading d e b text reading is own (subst P same h)
+pub accepted : (d : State) (e : Editing) (b : Bool) (text : List ℕ) (reading : Reading) (ranges : List TextRange) (edition : Edition) → b ≡ not (is_foreign d e) → b ≡ true → edition ≡ d.edition → IsRewritten edition e text reading ranges → verdict d e ≡ Accepted
+accepted d e b text reading ranges edition is own same h =
+    let P : Edition → Type 0 = λ x. IsRewritten x e text reading ranges in
+    by-reading d e text reading ranges (present-own (is_foreign d e) b is own) (subst P same h)
 
 -- a rewrite that is accepted, and a tree that could not be made
 pub without_tree : (v : Verdict) (number : ℕ) (e : TreeError) → v ≡ Accepted → RefusesTree number e → RefusesCommit v number (commit_error_of e)

@@ -1,5 +1,5 @@
 -- What holds of every document.
-use Rattle.std.specs.Prelude.{◌≡◌, ℕ, true, List, [], take, drop, length, encode_utf8_all, Some, None}
+use Rattle.std.specs.Prelude.{◌≡◌, ℕ, true, List, [], take, drop, length, encode_utf8_all, Some}
 use Rattle.std.specs.Str.{IsUtf8}
 use Rattle.rowan_green.specs.Leaf.{Leaf}
 use Rattle.rowan_green.specs.Forest.{tree_text}
@@ -15,8 +15,9 @@ use Rattle.rust_document.specs.Reading.{tree, tree_by, leaves_in, messages}
 use Rattle.rust_document.specs.Brackets.{are_token_trees_closed}
 use Rattle.rust_document.specs.Operators.{are_operators_placed}
 use Rattle.rust_document.specs.Shape.{kinds_of, kinds_from, dots}
-use Rattle.rust_document.specs.Rewrite.{Editing, rewritten}
-use Rattle.rust_document.specs.Step.{State, present, verdict, Accepted}
+use Rattle.syntax_editor.specs.Editing.{untouched}
+use Rattle.rust_document.specs.Rewrite.{rewritten}
+use Rattle.rust_document.specs.Step.{State, present, root_element, verdict, Accepted}
 
 -- the leaves of a text's tree, joined, are the text
 abbrev pub TreesHaveTheirTexts : Type 0
@@ -28,14 +29,10 @@ LeavesAreSlices =
     (d : State) (way : Way) (l : Leaf) → IsUtf8 d.text → term_by (present d) way ≡ Some (Token l)
     → take (length l.text) (drop (start_by (present d) way) d.text) ≡ l.text
 
--- an editor of the present tree with nothing recorded
-abbrev pub untouched : State → Editing
-untouched d = record { number = d.number; root = present d; change = None }
-
--- it is accepted, and the text stays
+-- an editor of the present tree with nothing recorded is accepted, and the text stays
 pub record IsKept (d : State) : Type 0 where
-  pub accepted : verdict d (untouched d) ≡ Accepted
-  pub same_text : tree_text (rewritten (untouched d)) ≡ d.text
+  pub accepted : verdict d (untouched (root_element d)) ≡ Accepted
+  pub same_text : tree_text (rewritten (untouched (root_element d))) ≡ d.text
 
 abbrev pub UntouchedIsKept : Type 0
 UntouchedIsKept = (d : State) → IsUtf8 d.text → IsOpened d.text → IsKept d

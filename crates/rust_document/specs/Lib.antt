@@ -8,9 +8,7 @@ pub mod Edit
 pub mod EditLaws
 pub mod Bare
 pub mod Commit
-pub mod Placed
 pub mod Rewritten
-pub mod Record
 pub mod Payload
 pub mod Shape
 pub mod Brackets

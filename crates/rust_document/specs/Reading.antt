@@ -4,7 +4,7 @@ use Rattle.rustc_lexer.specs.Characters.{size}
 use Rattle.rowan_green.specs.Forest.{Forest, empty, node, leaf, Tree}
 use Rattle.parser_input.specs.Kinds.{ERROR}
 use Rattle.parser_input.specs.Leaf.{Leaf}
-use Rattle.parser_input.specs.Lexed.{Lexed, lexed, leaves_of}
+use Rattle.parser_input.specs.Lexed.{Lexed, content, cut, lexed, leaves_of}
 use Rattle.parser_input.specs.Messages.{wording}
 use Rattle.parser_input.specs.Stored.{leaf_at, offset}
 use Rattle.parser_input.specs.declared.message.Message as leaves
@@ -21,6 +21,10 @@ use Rattle.rust_grammar.specs.Whole.{whole}
 -- the leaves of a text, preface and all
 abbrev pub leaves_in : Edition → List ℕ → List Leaf
 leaves_in edition text = leaves_of (lexed edition text)
+
+-- those behind the preface
+abbrev pub behind_preface : Edition → List ℕ → List Lexed
+behind_preface edition text = cut edition 0 (content text)
 
 -- dressed elements as terms: texts in bytes, and no messages
 abbrev pub terms_of : Dressed → Forest

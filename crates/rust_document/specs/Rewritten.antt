@@ -1,26 +1,47 @@
--- What a rewritten tree becomes: a text that is read, or a refusal.
-use Rattle.std.specs.Prelude.{◌≡◌, ◌<◌, ◌≤◌, ℕ, true, false, List, length, chars}
+-- What an editor's changes become: a text that is read, or a refusal.
+use Rattle.std.specs.Prelude.{◌≡◌, ◌<◌, ◌≤◌, ℕ, true, false, List, length, map, chars}
 use Rattle.rowan_green.specs.Forest.{Tree, tree_text}
+use Rattle.rowan_green.specs.declared.text_range.TextRange.{TextRange}
 use Rattle.parser_input.specs.declared.edition.Edition.{Edition}
+use Rattle.syntax_editor.specs.Editing.{Editing}
+use Rattle.syntax_editor.specs.Rewriting.{IsIntersecting, MissesMapping, IsPlaceable}
+use Rattle.rust_document.specs.Committed.{ends_of}
 use Rattle.rust_document.specs.Costs.{most_steps}
 use Rattle.rust_document.specs.IsReading.{IsReading}
-use Rattle.rust_document.specs.Step.{MAX_TEXT, is_faithful}
+use Rattle.rust_document.specs.Rewrite.{rewritten, changed}
+use Rattle.rust_document.specs.Step.{MAX_TEXT, is_faithful, is_too_long}
 use Rattle.rust_document.specs.declared.read.Reading.{Reading}
 use Rattle.rust_document.specs.declared.error.CommitError.{CommitError}
-use Rattle.rust_document.specs.declared.error.CommitError.TheVariants.{Foreign, TooLong, Unfaithful, NoTreeNumber, NoMemory}
+use Rattle.rust_document.specs.declared.error.CommitError.TheVariants.{Foreign, Intersecting, MissingMapping, TooLong, Unfaithful, NoTreeNumber, NoMemory}
 
 -- the text is the tree's and within the limit, the reading is the text's, the tree is faithful to it, and looks were few
-pub record IsRewritten (edition : Edition) (t : Tree) (text : List ℕ) (reading : Reading) : Type 0 where
+pub record IsReadBack (edition : Edition) (t : Tree) (text : List ℕ) (reading : Reading) : Type 0 where
   pub text_is : text ≡ tree_text t
   pub fits : length (tree_text t) ≤ MAX_TEXT
   pub reading_is : IsReading edition (chars (tree_text t)) reading.tokens.items reading.root reading.errors.items
   pub faithful : is_faithful edition t ≡ true
   pub steps_within : reading.steps ≤ most_steps edition (chars (tree_text t))
 
--- the first case that fits; want of memory at any point
-abbrev pub RefusesRewritten : Edition → Tree → CommitError → Type 0
-RefusesRewritten edition t Foreign = ⊥
-RefusesRewritten edition t TooLong = MAX_TEXT < length (tree_text t)
-RefusesRewritten edition t Unfaithful = (length (tree_text t) ≤ MAX_TEXT) × (is_faithful edition t ≡ false)
-RefusesRewritten edition t NoTreeNumber = ⊥
-RefusesRewritten edition t NoMemory = Unit {0}
+-- the first case that fits; out of memory at any point
+abbrev pub RefusesReadBack : Edition → Tree → CommitError → Type 0
+RefusesReadBack edition t TooLong = MAX_TEXT < length (tree_text t)
+RefusesReadBack edition t Unfaithful = (length (tree_text t) ≤ MAX_TEXT) × (is_faithful edition t ≡ false)
+RefusesReadBack edition t NoMemory = Unit {0}
+RefusesReadBack edition t error = ⊥
+
+-- the changes have places, the rewritten tree is within the limits, and this is its text with its reading, and what was put in
+pub record IsRewritten (edition : Edition) (e : Editing) (text : List ℕ) (reading : Reading) (ranges : List TextRange) : Type 0 where
+  pub placeable : IsPlaceable e
+  pub within : is_too_long e ≡ false
+  pub read_back : IsReadBack edition (rewritten e) text reading
+  pub changed_are : map ends_of ranges ≡ changed e
+
+-- the first case that fits; out of memory at any point
+abbrev pub RefusesRewritten : Edition → Editing → CommitError → Type 0
+RefusesRewritten edition e Foreign = ⊥
+RefusesRewritten edition e Intersecting = IsIntersecting e
+RefusesRewritten edition e MissingMapping = MissesMapping e
+RefusesRewritten edition e TooLong = IsPlaceable e × (is_too_long e ≡ true)
+RefusesRewritten edition e Unfaithful = IsPlaceable e × (is_too_long e ≡ false) × (is_faithful edition (rewritten e) ≡ false)
+RefusesRewritten edition e NoTreeNumber = ⊥
+RefusesRewritten edition e NoMemory = Unit {0}

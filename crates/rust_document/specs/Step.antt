@@ -1,5 +1,5 @@
 -- What a command makes of a document.
-use Rattle.std.specs.Prelude.{ℕ, ◌==◌, Bool, not, ◌||◌, nat_lt, List, [], ◌∷◌, length, chars, Option, option_map}
+use Rattle.std.specs.Prelude.{ℕ, ◌==◌, Bool, not, ◌||◌, nat_lt, List, [], ◌∷◌, length, chars, Option, option_map, is_none}
 use Rattle.rustc_lexer.specs.Rows.{row, first_fit}
 use Rattle.rowan_green.specs.Forest.{Tree, tree_text, same_tree}
 use Rattle.parser_input.specs.declared.edition.Edition.{Edition}
@@ -7,7 +7,12 @@ use Rattle.syntax_tree.specs.Element.{Element, element_at}
 use Rattle.syntax_tree.specs.Handle.{element_of}
 use Rattle.syntax_tree.specs.Search.{first_of}
 use Rattle.rust_document.specs.Reading.{tree}
-use Rattle.rust_document.specs.Rewrite.{Editing, rewritten, bare}
+use Rattle.tree_rewrite.specs.Change.{has_collision}
+use Rattle.tree_rewrite.specs.Fits.{new_fits}
+use Rattle.tree_rewrite.specs.Rewrite.{jobs}
+use Rattle.syntax_editor.specs.Editing.{Editing}
+use Rattle.syntax_editor.specs.Rewriting.{rewriting}
+use Rattle.rust_document.specs.Rewrite.{rewritten, bare}
 
 -- what contracts see of a document: the edition, the bytes of the text, and the number of the present tree. Tokens, messages
 -- and tree are the reading of that text, and no part of it.
@@ -42,17 +47,28 @@ is_faithful edition t = same_tree (bare_tree t) (bare_tree (tree edition (chars 
 
 pub data Verdict : Type 0 where
   Foreign : Verdict
+  Intersecting : Verdict
+  MissingMapping : Verdict
   TooLong : Verdict
   Unfaithful : Verdict
   Accepted : Verdict
 
--- What becomes of an editor's changes: the first case that fits. An editor is foreign where it edits another tree than the
--- present one, by number or by what it holds.
+-- an editor of another tree than the present one, by number or by what it holds
+abbrev pub is_foreign : State → Editing → Bool
+is_foreign d e = not (e.top.number == d.number) || not (same_tree e.top.place.root (present d))
+
+-- the text of the rewritten tree passes the limit, or a node that is new in it may not have its children
+abbrev pub is_too_long : Editing → Bool
+is_too_long e = nat_lt MAX_TEXT (length (tree_text (rewritten e))) || not (new_fits (rewriting e))
+
+-- What becomes of an editor's changes: the first case that fits.
 abbrev pub verdict : State → Editing → Verdict
 verdict d e =
     first_fit
-    (row (not (e.number == d.number) || not (same_tree e.root (present d))) Foreign
-    ∷ row (nat_lt MAX_TEXT (length (tree_text (rewritten e)))) TooLong
+    (row (is_foreign d e) Foreign
+    ∷ row (has_collision e.changes) Intersecting
+    ∷ row (is_none (jobs e.top e.changes e.mapping)) MissingMapping
+    ∷ row (is_too_long e) TooLong
     ∷ row (not (is_faithful d.edition (rewritten e))) Unfaithful
     ∷ [])
     Accepted

@@ -1,7 +1,8 @@
 //! A text that is read.
-ghost use Rattle.std.specs.Prelude.{◌≡◌, ◌≤◌, ◌+◌, ◌==◌, ◌&&◌, [], true, None, chars, length, map, option_map, string_bytes, IfOk, IfErr, OnOk};
+ghost use Rattle.std.specs.Prelude.{◌≡◌, ◌≤◌, ◌+◌, [], true, not, chars, length, map, option_map, string_bytes, IfOk, IfErr, OnOk};
 ghost use Rattle.parser_input.specs.Kind.{raw_of};
-ghost use Rattle.rowan_green.specs.Forest.{same_tree, tree_text};
+ghost use Rattle.rowan_green.specs.Forest.{tree_text};
+ghost use Rattle.syntax_editor.specs.Editing.{untouched};
 ghost use Rattle.syntax_tree.specs.Handle.{element_of};
 ghost use Rattle.syntax_tree.specs.Refusal.{RefusesTree};
 ghost use Rattle.rust_document.specs.Commit.{RefusesCommit};
@@ -11,9 +12,9 @@ ghost use Rattle.rust_document.specs.Edit.{RefusesEdit, can_edit, edited};
 ghost use Rattle.rust_document.specs.Open.{IsOpened, RefusesOpen};
 ghost use Rattle.rust_document.specs.IsReading.{IsReading};
 ghost use Rattle.rust_document.specs.Seen.{told};
-ghost use Rattle.rust_document.specs.Reading.{messages};
+ghost use Rattle.rust_document.specs.Reading.{behind_preface, messages};
 ghost use Rattle.rust_document.specs.Rewrite.{rewritten, changed};
-ghost use Rattle.rust_document.specs.Step.{MAX_TEXT, first_element, present, root_element, verdict, Accepted};
+ghost use Rattle.rust_document.specs.Step.{MAX_TEXT, first_element, is_foreign, root_element, verdict, Accepted};
 ghost use Rattle.rust_document.specs.Tokens.{shown, tokens_of};
 ghost use Rattle.rust_document.specs.WithoutMessages.{HasPairedBrackets, HasPlacedOperators};
 
@@ -21,7 +22,6 @@ use crate::edit::edited;
 use crate::error::{CommitError, EditError, OpenError};
 use crate::read::{Reading, read};
 use crate::rewrite::{Rewritten, rewrite};
-use crate::syntax_editor::SyntaxEditor;
 use crate::syntax_error::SyntaxError;
 use crate::tokens::{LexedToken, Tokens};
 use parser_input::edition::Edition;
@@ -30,6 +30,7 @@ use ra_parser::TopEntryPoint;
 use rowan_green::TextRange;
 use std::alloc::{AllocError, Global};
 use std::marker::Model;
+use syntax_editor::SyntaxEditor;
 use syntax_tree::{SyntaxElement, SyntaxNode, TreeError, TreeIds};
 
 /// The most bytes that a text may have.
@@ -44,9 +45,15 @@ pub struct Committed {
     pub steps: u64,
 }
 
-/// What an accepted edit tells.
+/// What an accepted edit tells. So far the new text is lexed whole, so no token is kept.
 #[derive(Clone, Copy, Debug, PartialEq, Eq)]
 pub struct Edited {
+    /// How many tokens before the edit were kept.
+    pub front: usize,
+    /// How many tokens behind the preface were lexed.
+    pub lexed: usize,
+    /// How many tokens behind the edit were kept.
+    pub back: usize,
     /// How many looks at the tokens of the new text the parser made.
     pub steps: u64,
 }
@@ -71,7 +78,9 @@ impl Model for Document {
 
     ghost view = { λ d. record { edition = d.edition; text = string_bytes d.text; number = d.root.number } };
 
-    ghost invariant = { λ d. (length (string_bytes d.text) ≤ MAX_TEXT) × (d.root.place.up ≡ []) × IsReading d.edition (chars (string_bytes d.text)) d.tokens.items d.root.place.root d.errors.items };
+    ghost invariant = { λ d. (length (string_bytes d.text) ≤ MAX_TEXT)
+        × (d.root.place.up ≡ [])
+        × IsReading d.edition (chars (string_bytes d.text)) d.tokens.items d.root.place.root d.errors.items };
 }
 
 impl Document {
@@ -99,6 +108,7 @@ impl Document {
             tokens,
             root,
             errors,
+            lexed: _,
             steps: _,
         } = read(alloc, TopEntryPoint::SourceFile, edition, text)?;
         let text = String::from_str(alloc, text)?;
@@ -178,6 +188,10 @@ impl Document {
         ensures number { OnOk result (ids.new ≡ ids.old + 1) }
         ensures brackets { OnOk result (HasPairedBrackets self.new) }
         ensures operators { OnOk result (HasPlacedOperators self.new) }
+        ensures front { IfOk result (λ e. e.front ≡ 0) }
+        ensures lexed { IfOk result (λ e. e.lexed ≡ length (behind_preface self.old.edition
+            (chars (edited self.old.text range.start.0 range.end.0 text.now)))) }
+        ensures back { IfOk result (λ e. e.back ≡ 0) }
         ensures steps { IfOk result (λ e. e.steps ≤ most_steps self.old.edition
             (chars (edited self.old.text range.start.0 range.end.0 text.now))) }
         ensures refused { IfErr result (RefusesEdit (edited self.old.text range.start.0 range.end.0 text.now) ids.old) }
@@ -186,9 +200,14 @@ impl Document {
         let text = edited(alloc, self.text(), range, text)?;
         let entry = TopEntryPoint::SourceFile;
         let reading = read(alloc, entry, self.edition, text.as_str())?;
-        let steps = reading.steps;
+        let Reading { lexed, steps, .. } = reading;
         self.renew(alloc, text, reading, ids)?;
-        Ok(Edited { steps })
+        Ok(Edited {
+            front: 0,
+            lexed,
+            back: 0,
+            steps,
+        })
     }
 
     /// The first element in preorder that is of a kind and has a range: of several that have the range, the outermost.
@@ -205,25 +224,26 @@ impl Document {
     }
 
     /// An editor of the present tree, with nothing recorded.
-    pub fn editor(&self) -> Result<SyntaxEditor, AllocError>
-        ensures { IfOk result (λ e. e ≡ record { number = self.now.number; root = present self.now; change = None }) }
+    pub fn editor(&self, alloc: Global) -> Result<SyntaxEditor, AllocError>
+        ensures { IfOk result (λ e. e ≡ untouched (root_element self.now)) }
     {
-        Ok(SyntaxEditor::new(self.root.clone()?))
+        Ok(SyntaxEditor::of_root(alloc, self.root.clone()?))
     }
 
     /// Whether an editor is one of the present tree.
     fn is_of(&self, editor: &SyntaxEditor) -> bool
-        ensures { result ≡ (editor.now.number == self.now.number && same_tree editor.now.root (present self.now)) }
+        ensures { result ≡ not (is_foreign self.now editor.now) }
     {
         editor.root().tree() == self.root.tree()
             && *editor.root().cursor().green() == *self.root.cursor().green()
     }
 
-    /// Makes an editor's recorded change, where its text reads as the rewritten tree; the text is the rewritten tree's, and its
-    /// tree gets the next number of `ids`.
+    /// Makes all changes of an editor at once, where the new text reads as the rewritten tree; the text is the rewritten tree's, and
+    /// its tree gets the next number of `ids`.
     ///
-    /// Refuses, in this order, an editor of another tree, a new text of more than 16,777,216 bytes, and one that does not read
-    /// as the rewritten tree, white space and comments aside; and for want of a tree number. A refusal changes nothing. The
+    /// Refuses, in this order, an editor of another tree, two changes that replace one element, a change in a replaced node that has
+    /// no place in what replaces it, a new text of more than 16,777,216 bytes (or a node of 2^32 children), and a text that does not
+    /// read as the rewritten tree, white space and comments aside; and for want of a tree number. A refusal changes nothing. The
     /// editor is spent.
     pub fn commit(
         &mut self,
@@ -235,8 +255,7 @@ impl Document {
         ensures state { OnOk result (self.new ≡
             record {
               edition = self.old.edition;
-              text = tree_text
-                  (rewritten editor);
+              text = tree_text (rewritten editor);
               number = ids.old;
             }) }
         ensures brackets { OnOk result (HasPairedBrackets self.new) }
@@ -250,8 +269,11 @@ impl Document {
         if !self.is_of(&editor) {
             return Err(CommitError::Foreign);
         }
-        let Rewritten { text, reading } = rewrite(alloc, self.edition, &editor)?;
-        let changed = editor.changed(alloc)?;
+        let Rewritten {
+            text,
+            reading,
+            changed,
+        } = rewrite(alloc, self.edition, &editor)?;
         let steps = reading.steps;
         self.renew(alloc, text, reading, ids)?;
         Ok(Committed { changed, steps })
@@ -284,6 +306,7 @@ impl Document {
             tokens,
             root,
             errors,
+            lexed: _,
             steps: _,
         } = reading;
         self.root = SyntaxNode::new_root(alloc, root, ids)?;

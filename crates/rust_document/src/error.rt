@@ -2,6 +2,7 @@
 use std::alloc::AllocError;
 use std::error::Error;
 use std::fmt;
+use syntax_editor::RewriteError;
 use syntax_tree::TreeError;
 
 /// A refusal of `Document::open`. Nothing was changed.
@@ -115,7 +116,11 @@ impl From<TreeError> for EditError {
 pub enum CommitError {
     /// The editor is one of another tree.
     Foreign = 1,
-    /// The new text has more than 16,777,216 bytes.
+    /// Two changes replace one element.
+    Intersecting = 2,
+    /// A change in a replaced node has no place in what replaces it.
+    MissingMapping = 3,
+    /// The new text has more than 16,777,216 bytes, or a node of the new tree 2^32 children or more.
     TooLong = 4,
     /// The new text does not read as the rewritten tree.
     Unfaithful = 5,
@@ -134,6 +139,13 @@ impl fmt::Display for CommitError {
     fn fmt<W: fmt::Write>(&self, f: &mut fmt::Formatter<W>) -> fmt::Result {
         match self {
             CommitError::Foreign => write!(f, "of another tree"),
+            CommitError::Intersecting => write!(f, "two changes replace one element"),
+            CommitError::MissingMapping => {
+                write!(
+                    f,
+                    "a change in a replaced node has no place in what replaces it"
+                )
+            }
             CommitError::TooLong => write!(f, "too long"),
             CommitError::Unfaithful => write!(f, "not what its text says"),
             CommitError::NoTreeNumber => write!(f, "no tree number is left"),
@@ -169,45 +181,19 @@ impl From<TreeError> for CommitError {
     }
 }
 
-/// A refusal of `SyntaxEditor::replace`. Nothing was recorded.
-#[derive(Clone, Copy, Debug, PartialEq, Eq)]
-pub enum RecordError {
-    /// The target has another tree number than the editor's tree, or its way leads to nothing of its kind there.
-    Foreign = 1,
-    /// The root would be replaced by a token.
-    BadTarget = 3,
-    /// Memory was refused.
-    NoMemory = 4,
-    /// Another element is already to be replaced, and editors do not record two changes yet.
-    Later = 90,
-}
-
-impl fmt::Display for RecordError {
-    ghost use Rattle.std.specs.Prelude.{Some};
-    ghost use Rattle.rust_document.specs.Record.{record_message_of};
-
-    ghost output = { λ e. Some (record_message_of e) };
-
-    fn fmt<W: fmt::Write>(&self, f: &mut fmt::Formatter<W>) -> fmt::Result {
-        match self {
-            RecordError::Foreign => write!(f, "of another tree"),
-            RecordError::BadTarget => write!(f, "a token for the root"),
-            RecordError::NoMemory => write!(f, "out of memory"),
-            RecordError::Later => write!(f, "a second change"),
-        }
-    }
-}
-
-impl Error for RecordError {}
-
-impl From<AllocError> for RecordError {
-    ghost use Rattle.rust_document.specs.declared.error.RecordError.TheVariants.{NoMemory};
+impl From<RewriteError> for CommitError {
+    ghost use Rattle.rust_document.specs.Commit.{of_rewrite};
     ghost use Rattle.std.specs.Prelude.{◌≡◌};
 
-    ghost from_gives = { λ _ e. e ≡ NoMemory };
+    ghost from_gives = { λ r e. e ≡ of_rewrite r };
 
-    fn from(_e: AllocError) -> RecordError {
-        RecordError::NoMemory
+    fn from(e: RewriteError) -> CommitError {
+        match e {
+            RewriteError::Intersecting => CommitError::Intersecting,
+            RewriteError::MissingMapping => CommitError::MissingMapping,
+            RewriteError::TooLong => CommitError::TooLong,
+            RewriteError::NoMemory => CommitError::NoMemory,
+        }
     }
 }
 

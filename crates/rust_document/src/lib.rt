@@ -1,6 +1,6 @@
 //! A text with its reading: its messages and its tree, and nothing that an earlier text left.
 //!
-//! A text is read by the whole grammar; a change of it replaces one element by a token so far.
+//! A text is read by the whole grammar. It changes by edits of its bytes, and by what an editor records on its tree.
 #![tactic(auto)]
 
 mod bare;
@@ -12,14 +12,13 @@ mod leaf;
 pub mod payload_entry;
 mod read;
 mod rewrite;
-pub mod syntax_editor;
 pub mod syntax_error;
 pub mod tokens;
 mod tree_sink;
 
 pub use document::{Committed, Document, Edited, MAX_TEXT};
-pub use error::{CommitError, EditError, OpenError, PayloadError, RecordError};
+pub use error::{CommitError, EditError, OpenError, PayloadError};
 pub use payload_entry::{PayloadEntry, payload};
-pub use syntax_editor::SyntaxEditor;
+pub use syntax_editor::{RecordError, SyntaxEditor};
 pub use syntax_error::{SyntaxError, SyntaxMessage};
 pub use tokens::{LexedToken, Tokens};

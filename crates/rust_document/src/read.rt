@@ -1,13 +1,15 @@
 //! Reads a text.
 ghost use Rattle.std.specs.Prelude.{◌≡◌, ◌<◌, ◌≤◌, ◌++◌, length, map, chars, encode_utf8_all, IfOk, OnOk};
-ghost use Rattle.parser_input.specs.Lexed.{leaves_of};
+ghost use Rattle.parser_input.specs.Lexed.{frontmatter_leaf, leaves_of, shebang_leaf};
+ghost use Rattle.parser_input.specs.Preface.{shebang_piece, source};
+ghost use Rattle.parser_input.specs.Stored.{whole_of};
 ghost use Rattle.parser_events.specs.Dress.{joined};
 ghost use Rattle.parser_events.specs.Steps.{steps};
 ghost use Rattle.ra_parser.specs.Entries.{production_of};
 ghost use Rattle.rust_document.specs.IsReading.{IsReadingBy};
 ghost use Rattle.parser_input.specs.Input.{input};
 ghost use Rattle.rust_document.specs.Costs.{most_steps, steps_for};
-ghost use Rattle.rust_document.specs.Reading.{forest_by, of_leaf_at, of_leaves};
+ghost use Rattle.rust_document.specs.Reading.{behind_preface, forest_by, of_leaf_at, of_leaves};
 ghost use Rattle.rust_document.specs.Seen.{told};
 ghost use Rattle.rust_document.specs.TreeBuilt.{IsBuilt};
 
@@ -15,17 +17,21 @@ use crate::syntax_error::{SyntaxError, SyntaxMessage};
 use crate::tokens::{LexedToken, lexed_tokens};
 use crate::tree_sink::{Built, build};
 use parser_input::edition::Edition;
+use parser_input::frontmatter::ScriptSource;
 use parser_input::lexed_str::LexedStr;
 use ra_parser::{ParseError, TopEntryPoint};
 use rowan_green::GreenNode;
+use rustc_lexer::strip_shebang;
 use std::alloc::{AllocError, Global};
 
-/// The tokens, the tree and the messages of a text, and how many looks at its tokens the parser made.
+/// The tokens, the tree and the messages of a text, how many of the tokens stand behind its preface, and how many looks at them the
+/// parser made.
 #[derive(Drop)]
 pub struct Reading {
     pub tokens: Vec<LexedToken>,
     pub root: GreenNode,
     pub errors: Vec<SyntaxError>,
+    pub lexed: usize,
     pub steps: u64,
 }
 
@@ -89,6 +95,37 @@ fn append_faults(lexed: &LexedStr<'_>, errors: &mut Vec<SyntaxError>) -> Result<
     Ok(())
 }
 
+/// How many leaves the shebang of a text is.
+fn shebang_len(text: &str) -> usize
+    ensures { result ≡ length (shebang_leaf (shebang_piece (chars text.now))) }
+{
+    match strip_shebang(text) {
+        Some(_line) => 1,
+        None => 0,
+    }
+}
+
+/// How many leaves the frontmatter of a text is.
+fn frontmatter_len(text: &str) -> usize
+    ensures { result ≡ length (frontmatter_leaf (chars text.now) (source (chars text.now))) }
+{
+    let Ok(source) = ScriptSource::parse(text) else {
+        return 0;
+    };
+    match source.close_span() {
+        Some(_fence) => 1,
+        None => 0,
+    }
+}
+
+/// How many of a text's leaves stand behind its preface.
+fn behind_preface(text: &str, lexed: &LexedStr<'_>) -> usize
+    requires { lexed.now ≡ whole_of lexed.now.edition (chars text.now) }
+    ensures { result ≡ length (behind_preface lexed.now.edition (chars text.now)) }
+{
+    lexed.len() - (shebang_len(text) + frontmatter_len(text))
+}
+
 /// Reads a text of at most 16,777,216 bytes by an entry.
 pub fn read(
     alloc: Global,
@@ -99,6 +136,7 @@ pub fn read(
     requires { length text.now ≤ 16777216 }
     ensures read { IfOk result (λ r. IsReadingBy (production_of entry) edition (chars text.now)
         r.tokens.items r.root r.errors.items) }
+    ensures lexed { IfOk result (λ r. r.lexed ≡ length (behind_preface edition (chars text.now))) }
     ensures steps { IfOk result (λ r. r.steps ≤ most_steps edition (chars text.now)) }
 {
     let lexed = LexedStr::new(alloc, edition, text)?;
@@ -106,10 +144,12 @@ pub fn read(
     let Built { root, mut errors } = built;
     append_faults(&lexed, &mut errors)?;
     let tokens = lexed_tokens(alloc, &lexed)?;
+    let lexed = behind_preface(text, &lexed);
     Ok(Reading {
         tokens,
         root,
         errors,
+        lexed,
         steps,
     })
 }

@@ -1,29 +1,36 @@
 //! Reads the text of a rewritten tree, and compares.
 ghost use Rattle.std.specs.Prelude.{◌≡◌, length, string_bytes, IfOk, IfErr};
-ghost use Rattle.rust_document.specs.Rewrite.{rewritten};
-ghost use Rattle.rust_document.specs.Rewritten.{IsRewritten, RefusesRewritten};
+ghost use Rattle.rust_document.specs.Rewritten.{IsReadBack, RefusesReadBack, IsRewritten, RefusesRewritten};
 
 use crate::bare::same_bare;
 use crate::document::MAX_TEXT;
 use crate::error::CommitError;
 use crate::read::{Reading, read};
-use crate::syntax_editor::SyntaxEditor;
 use parser_input::edition::Edition;
 use ra_parser::TopEntryPoint;
-use rowan_green::{GreenError, GreenNode};
+use rowan_green::{GreenNode, TextRange};
 use std::alloc::Global;
+use syntax_editor::SyntaxEditor;
 
-/// The text of a rewritten tree, with its reading.
+/// The text of a rewritten tree, with its reading, and the bytes of it that were put in.
 #[derive(Drop)]
 pub struct Rewritten {
     pub text: String,
     pub reading: Reading,
+    pub changed: Vec<TextRange>,
+}
+
+/// A text with its reading.
+#[derive(Drop)]
+struct ReadBack {
+    text: String,
+    reading: Reading,
 }
 
 /// The text of a tree, with its reading, where that is the tree, white space and comments aside.
-fn read_back(alloc: Global, edition: Edition, tree: &GreenNode) -> Result<Rewritten, CommitError>
-    ensures ok { IfOk result (λ r. IsRewritten edition tree.now (string_bytes r.text) r.reading) }
-    ensures refused { IfErr result (RefusesRewritten edition tree.now) }
+fn read_back(alloc: Global, edition: Edition, tree: &GreenNode) -> Result<ReadBack, CommitError>
+    ensures ok { IfOk result (λ r. IsReadBack edition tree.now (string_bytes r.text) r.reading) }
+    ensures refused { IfErr result (RefusesReadBack edition tree.now) }
 {
     if usize::from(tree.text_len()) > MAX_TEXT {
         return Err(CommitError::TooLong);
@@ -31,23 +38,25 @@ fn read_back(alloc: Global, edition: Edition, tree: &GreenNode) -> Result<Rewrit
     let text = format!(in alloc; "{tree}")?;
     let reading = read(alloc, TopEntryPoint::SourceFile, edition, text.as_str())?;
     if same_bare(tree, &reading.root) {
-        return Ok(Rewritten { text, reading });
+        return Ok(ReadBack { text, reading });
     }
     Err(CommitError::Unfaithful)
 }
 
-/// What an editor's change makes of its tree.
+/// What an editor's changes make of its tree.
 pub fn rewrite(
     alloc: Global,
     edition: Edition,
     editor: &SyntaxEditor,
 ) -> Result<Rewritten, CommitError>
-    ensures ok { IfOk result (λ r. IsRewritten edition (rewritten editor.now) (string_bytes r.text) r.reading) }
-    ensures refused { IfErr result (RefusesRewritten edition (rewritten editor.now)) }
+    ensures ok { IfOk result (λ r. IsRewritten edition editor.now (string_bytes r.text) r.reading r.changed.items) }
+    ensures refused { IfErr result (RefusesRewritten edition editor.now) }
 {
-    match editor.finish(alloc) {
-        Ok(tree) => read_back(alloc, edition, &tree),
-        Err(GreenError::NoMemory) => Err(CommitError::NoMemory),
-        Err(_) => Err(CommitError::TooLong),
-    }
+    let rewritten = editor.rewritten(alloc)?;
+    let ReadBack { text, reading } = read_back(alloc, edition, &rewritten.green)?;
+    Ok(Rewritten {
+        text,
+        reading,
+        changed: rewritten.changed,
+    })
 }

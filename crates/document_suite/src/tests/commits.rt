@@ -36,7 +36,7 @@ fn recorded(
     new: &SyntaxElement,
 ) -> Result<SyntaxEditor, Fail> {
     let target = found(alloc, document, place)?;
-    let editor = document.editor()?;
+    let editor = document.editor(alloc)?;
     replacing(alloc, editor, &target, new)
 }
 
@@ -114,7 +114,7 @@ fn tokens_for_a_name(rt: HostRuntime) -> Result<(), Fail> {
 /// What an editor with nothing recorded makes of a text whose tree has the number 1, with these numbers left.
 fn untouched(alloc: Global, ids: &mut TreeIds) -> Result<(Option<CommitError>, u32), Fail> {
     let mut document = open(alloc, "struct S; s")?;
-    let editor = document.editor()?;
+    let editor = document.editor(alloc)?;
     let answer = commit(alloc, &mut document, editor, ids);
     Ok((answer.err(), document.root().tree()))
 }
@@ -149,8 +149,8 @@ fn comments_for_a_space(rt: HostRuntime) -> Result<(), Fail> {
 fn older(alloc: Global) -> Result<(Option<CommitError>, Option<CommitError>, u32), Fail> {
     let mut ids = TreeIds::starting_at(2);
     let mut document = open(alloc, "struct S;")?;
-    let older = document.editor()?;
-    let editor = document.editor()?;
+    let older = document.editor(alloc)?;
+    let editor = document.editor(alloc)?;
     let first = commit(alloc, &mut document, editor, &mut ids);
     let second = commit(alloc, &mut document, older, &mut ids);
     Ok((first.err(), second.err(), document.root().tree()))

@@ -134,3 +134,36 @@ fn refused_edits(rt: HostRuntime) -> Result<(), Fail> {
     assert!(rt; refused & stays);
     Ok(())
 }
+
+/// How many tokens an edit of a text kept before it, lexed, and kept behind it.
+fn counts(
+    alloc: Global,
+    text: &str,
+    at: TextRange,
+    new: &str,
+) -> Result<(usize, usize, usize), Fail> {
+    let mut ids = TreeIds::new();
+    let mut document = Document::open(alloc, Edition::Edition2021, text, &mut ids)?;
+    if !document.can_edit(at) {
+        return Err(Fail::new("no range that can be edited"));
+    }
+    let edited = document.edit(alloc, at, new, &mut ids)?;
+    Ok((edited.front, edited.lexed, edited.back))
+}
+
+/// All tokens behind the preface are lexed, and none is kept. A `#` before a string is a token of its own before 2024.
+#[test]
+fn tokens_behind_the_preface(rt: HostRuntime) -> Result<(), Fail> {
+    let alloc = rt.alloc();
+    for (text, at, new, lexed) in [
+        ("a b c d", range(2, 3), "bb", 7),
+        ("", range(0, 0), "", 0),
+        ("---\n---\nstruct S;", range(15, 16), "T", 4),
+        ("---\n---\nstruct S;", range(0, 0), "-", 13),
+        ("#!x\n---\n---\nstruct S;", range(19, 20), "T", 4),
+        ("#\"a\" b", range(5, 6), "c", 4),
+    ] {
+        assert_eq!(rt; counts(alloc, text, at, new)?, (0, lexed, 0), "at {text}");
+    }
+    Ok(())
+}

@@ -1,15 +1,6 @@
 //! Edits, trees and messages.
-use super::is_answered;
-use std::alloc::Global;
+use super::is_done;
 use std::test::Fail;
-
-/// Whether commands on a text of edition 2021 are answered so.
-fn is_done(alloc: Global, text: &str, commands: &str, expected: &str) -> Result<bool, Fail> {
-    let request = format!(in alloc;
-        r#"{{"edition":"2021","text":"{text}","commands":[{commands}]}}"#
-    )?;
-    Ok(is_answered(alloc, request.as_bytes(), expected, 0)?)
-}
 
 #[test]
 fn an_edit(rt: HostRuntime) -> Result<(), Fail> {
@@ -69,31 +60,5 @@ fn messages(rt: HostRuntime) -> Result<(), Fail> {
     let back = r#"{"do":"errors"},{"do":"edit","start":5,"end":5,"text":")"},{"do":"errors"}"#;
     let expected = format!(in alloc; "{param}\n{edit}\n{none}\nfn f() {{}}")?;
     assert!(rt; is_done(alloc, "fn f( {}", back, &expected)?);
-    Ok(())
-}
-
-/// What the program does not do yet; the text stays.
-#[test]
-fn not_done_yet(rt: HostRuntime) -> Result<(), Fail> {
-    let alloc = rt.alloc();
-    let cases = [
-        "",
-        r#"{"op":"delete","at":["STRUCT",0,9]}"#,
-        r#"{"op":"before","at":["STRUCT",0,9],"with":["token","x"]}"#,
-        r#"{"op":"after","at":["STRUCT",0,9],"with":["token","x"]}"#,
-        r#"{"op":"replace","at":["STRUCT",0,9],"with":["item","struct T;"]}"#,
-        r#"{"op":"replace","at":["STRUCT",0,9],"with":["stmt","x"]}"#,
-    ];
-    for changes in &cases {
-        let command = format!(in alloc; r#"{{"do":"commit","changes":[{changes}]}}"#)?;
-        assert!(rt;
-            is_done(
-                alloc,
-                "struct S;",
-                &command,
-                "{\"err\":\"Later\"}\nstruct S;"
-            )?
-        );
-    }
     Ok(())
 }

@@ -1,14 +1,14 @@
 -- The leaves of a text are its bytes, and are read as the grammar says.
-use Rattle.std.proofs.Common.{◌++◌, chars, map, length, ap, subst, ◌∙◌, arith, ◌≤◌}
+use Rattle.std.proofs.Common.{◌≡◌, ◌++◌, chars, map, length, refl, sym, ap, subst, ◌∙◌, arith, ◌≤◌}
 use Rattle.std.proofs.Math.Utf8.{encodes}
 use Rattle.parser_input.specs.Input.{input}
 use Rattle.rust_document.specs.Costs.{steps_for}
 use Rattle.parser_input.specs.Lexed.{leaves_of}
-use Rattle.parser_input.specs.Stored.{Whole}
+use Rattle.parser_input.specs.Stored.{Whole, whole_of}
 use Rattle.parser_events.specs.Dress.{joined}
 use Rattle.parser_events.specs.Steps.{steps}
 use Rattle.ra_parser.specs.Entries.{production_of}
-use Rattle.rust_document.specs.Reading.{forest_by, of_leaves}
+use Rattle.rust_document.specs.Reading.{behind_preface, forest_by, of_leaves}
 use Rattle.rust_document.specs.Seen.{in_bytes, told}
 use Rattle.rust_document.specs.Tokens.{spans_from}
 use Rattle.rust_document.specs.TreeBuilt.{IsBuilt}
@@ -38,3 +38,11 @@ returns-clause-read c =
     (subst (λ (w : Whole). IsBuilt (steps (forest_by (production_of c.args.entry) w.edition (leaves_of w.leaves))) (leaves_of w.leaves) c.in_ok-built.field-0.built.root c.in_ok-built.field-0.built.errors.items) c.in_ok-lexed.ensures c.in_ok-built.ensures.built)
     (c.in_ok-append_faults.ensures ∙ ap (λ (w : Whole). map told c.in_ok-built.field-0.built.errors.items ++ of_leaves 0 w.leaves) c.in_ok-lexed.ensures)
     (c.in_ok-tokens.ensures ∙ ap (λ (w : Whole). spans_from 0 (map in_bytes (leaves_of w.leaves))) c.in_ok-lexed.ensures)
+
+pub behind_preface-lexed-requires : goal.behind_preface-lexed-requires
+behind_preface-lexed-requires c =
+    subst (λ (w : Whole). w ≡ whole_of w.edition (chars c.args.text.now)) (sym c.in_ok-lexed.ensures) refl
+
+pub returns-clause-lexed : goal.returns-clause-lexed
+returns-clause-lexed c =
+    c.behind_preface-lexed.ensures ∙ ap (λ (w : Whole). length (behind_preface w.edition (chars c.args.text.now))) c.in_ok-lexed.ensures

@@ -1,0 +1,318 @@
+//! Commits of several changes: all are made at once, or the first refusal that holds is given.
+use super::{Place, found, open, range};
+use parser_input::edition::Edition;
+use parser_input::syntax_kind::SyntaxKind;
+use ra_parser::TopEntryPoint;
+use rowan_green::TextRange;
+use rust_document::{CommitError, Committed, Document, PayloadEntry, SyntaxEditor, payload};
+use std::alloc::Global;
+use std::test::Fail;
+use syntax_tree::{Position, SyntaxElement, TreeIds};
+
+/// What is put in.
+#[derive(Clone, Copy)]
+enum New {
+    Token(&'static str),
+    Expr(&'static str),
+    /// A struct, as an item.
+    Struct(&'static str),
+}
+
+/// What becomes of an element.
+#[derive(Clone, Copy)]
+enum Change {
+    /// Another one stands in its place.
+    Put(New),
+    /// Another one comes before it.
+    Before(New),
+    /// Another one comes behind it.
+    After(New),
+    Delete,
+    /// It goes, with all siblings up to this one.
+    DeleteTo(Place),
+}
+
+/// The struct that a text is.
+fn only_struct(
+    alloc: Global,
+    text: &str,
+    ids: &mut TreeIds,
+) -> Result<Option<SyntaxElement>, Fail> {
+    let entry = PayloadEntry::Top(TopEntryPoint::SourceFile);
+    let file = payload(alloc, entry, Edition::Edition2021, text, ids)?;
+    let whole = file.text_range();
+    match file {
+        SyntaxElement::Node(root) => Ok(root.find(alloc, SyntaxKind::STRUCT, whole)?),
+        SyntaxElement::Token(_) => Ok(None),
+    }
+}
+
+/// The element that is put in.
+fn made(alloc: Global, new: New, ids: &mut TreeIds) -> Result<SyntaxElement, Fail> {
+    let edition = Edition::Edition2021;
+    match new {
+        New::Token(text) => Ok(payload(alloc, PayloadEntry::Token, edition, text, ids)?),
+        New::Expr(text) => {
+            let entry = PayloadEntry::Top(TopEntryPoint::Expr);
+            Ok(payload(alloc, entry, edition, text, ids)?)
+        }
+        New::Struct(text) => match only_struct(alloc, text, ids)? {
+            Some(element) => Ok(element),
+            None => Err(Fail::new("no struct")),
+        },
+    }
+}
+
+/// Records a change of the element at a place of a document.
+fn record(
+    alloc: Global,
+    document: &Document,
+    editor: &mut SyntaxEditor,
+    (place, change): (Place, Change),
+    ids: &mut TreeIds,
+) -> Result<(), Fail> {
+    let target = found(alloc, document, place)?;
+    match change {
+        Change::Put(new) => editor.replace(alloc, &target, &made(alloc, new, ids)?)?,
+        Change::Before(new) => {
+            let gap = Position::before(&target)?;
+            editor.insert(alloc, gap, &made(alloc, new, ids)?)?;
+        }
+        Change::After(new) => {
+            let gap = Position::after(&target)?;
+            editor.insert(alloc, gap, &made(alloc, new, ids)?)?;
+        }
+        Change::Delete => editor.delete(alloc, &target)?,
+        Change::DeleteTo(last) => {
+            let last = found(alloc, document, last)?;
+            editor.delete_all(alloc, &target, &last)?;
+        }
+    }
+    Ok(())
+}
+
+/// A text, what becomes of its elements, and what the document answers: the ranges that changed, or a refusal; and its text then.
+#[derive(Clone, Copy)]
+struct Row {
+    text: &'static str,
+    changes: &'static [(Place, Change)],
+    answer: Result<&'static [(u32, u32)], CommitError>,
+    becomes: &'static str,
+}
+
+/// Whether these are the ranges.
+fn are_ranges(changed: &[TextRange], expected: &[(u32, u32)]) -> bool {
+    let mut equal = changed.len() == expected.len();
+    for (found, (start, end)) in changed.iter().zip(expected.iter()) {
+        equal &= *found == range(*start, *end);
+    }
+    equal
+}
+
+/// Whether a document answers this.
+fn is_answer(
+    committed: &Result<Committed, CommitError>,
+    expected: Result<&[(u32, u32)], CommitError>,
+) -> bool {
+    match (committed, expected) {
+        (Ok(committed), Ok(ranges)) => are_ranges(&committed.changed, ranges),
+        (Err(refused), Err(error)) => *refused == error,
+        _ => false,
+    }
+}
+
+/// Whether a document does what a row says.
+fn holds(alloc: Global, row: Row) -> Result<bool, Fail> {
+    let mut ids = TreeIds::starting_at(2);
+    let mut document = open(alloc, row.text)?;
+    let mut editor = document.editor(alloc)?;
+    for change in row.changes {
+        record(alloc, &document, &mut editor, *change, &mut ids)?;
+    }
+    let answer = document.commit(alloc, editor, &mut ids);
+    Ok(is_answer(&answer, row.answer) & (document.text() == row.becomes))
+}
+
+/// The literals of `fn f() { g(1, 2); }`, and the only one of `fn f() { g(1); }`.
+const ONE: Place = (SyntaxKind::LITERAL, 11, 12);
+
+const TWO: Place = (SyntaxKind::LITERAL, 14, 15);
+
+/// The call in `fn f() { g(1); }`, its statement, and what ends that.
+const CALL: Place = (SyntaxKind::CALL_EXPR, 9, 13);
+
+const STATEMENT: Place = (SyntaxKind::EXPR_STMT, 9, 14);
+
+const END: Place = (SyntaxKind::SEMICOLON, 13, 14);
+
+/// The structs of `struct S; struct T;`, of which the first is that of `struct S;` too.
+const FIRST: Place = (SyntaxKind::STRUCT, 0, 9);
+
+const SECOND: Place = (SyntaxKind::STRUCT, 10, 19);
+
+const TWO_NAMES: Row = Row {
+    text: "fn f() { let x = a * 2; }",
+    changes: &[
+        ((SyntaxKind::IDENT, 13, 14), Change::Put(New::Token("y"))),
+        ((SyntaxKind::PATH_EXPR, 17, 18), Change::Put(New::Expr("b"))),
+    ],
+    answer: Ok(&[(13, 14), (17, 18)]),
+    becomes: "fn f() { let y = b * 2; }",
+};
+
+const TWO_LITERALS: Row = Row {
+    text: "fn f() { g(1, 2); }",
+    changes: &[
+        (TWO, Change::Put(New::Expr("3"))),
+        (ONE, Change::Put(New::Expr("3"))),
+    ],
+    answer: Ok(&[(11, 12), (14, 15)]),
+    becomes: "fn f() { g(3, 3); }",
+};
+
+/// Later changes stand where the earlier ones moved them.
+const UNITS_BEFORE: Row = Row {
+    text: "fn f() { g(1, 2); }",
+    changes: &[
+        (ONE, Change::Before(New::Expr("()"))),
+        (TWO, Change::Before(New::Expr("()"))),
+    ],
+    answer: Ok(&[(11, 13), (16, 18)]),
+    becomes: "fn f() { g(()1, ()2); }",
+};
+
+/// A deletion puts in nothing.
+const NO_RESULT: Row = Row {
+    text: "fn it() -> () {\n    ()\n}",
+    changes: &[
+        ((SyntaxKind::RET_TYPE, 8, 13), Change::Delete),
+        ((SyntaxKind::WHITESPACE, 13, 14), Change::Delete),
+        ((SyntaxKind::TUPLE_EXPR, 20, 22), Change::Delete),
+    ],
+    answer: Ok(&[]),
+    becomes: "fn it() {\n    \n}",
+};
+
+/// The gap behind a deleted element is not deleted.
+const DELETED_AND_AFTER: Row = Row {
+    text: "struct S; struct T;",
+    changes: &[
+        (FIRST, Change::Delete),
+        (FIRST, Change::After(New::Struct("struct U;"))),
+    ],
+    answer: Ok(&[(0, 9)]),
+    becomes: "struct U; struct T;",
+};
+
+/// At one gap what was recorded last stands first.
+const TWO_AFTER: Row = Row {
+    text: "struct S;",
+    changes: &[
+        (FIRST, Change::After(New::Struct("struct A;"))),
+        (FIRST, Change::After(New::Struct("struct B;"))),
+    ],
+    answer: Ok(&[(9, 18), (18, 27)]),
+    becomes: "struct S;struct B;struct A;",
+};
+
+const LINE_FEED: Row = Row {
+    text: "struct S;",
+    changes: &[(
+        (SyntaxKind::SEMICOLON, 8, 9),
+        Change::After(New::Token("\n")),
+    )],
+    answer: Ok(&[(9, 10)]),
+    becomes: "struct S;\n",
+};
+
+/// What a deleted statement held is gone with it.
+const IN_DELETED: Row = Row {
+    text: "fn f() { g(1); }",
+    changes: &[
+        (ONE, Change::Put(New::Expr("2"))),
+        (STATEMENT, Change::Delete),
+    ],
+    answer: Ok(&[]),
+    becomes: "fn f() {  }",
+};
+
+/// Of one element that is recorded twice the later change counts.
+const TWICE: Row = Row {
+    text: "fn f() { g(1); }",
+    changes: &[
+        (ONE, Change::Put(New::Expr("2"))),
+        (ONE, Change::Put(New::Expr("3"))),
+    ],
+    answer: Ok(&[(11, 12)]),
+    becomes: "fn f() { g(3); }",
+};
+
+#[test]
+fn several_changes(rt: HostRuntime) -> Result<(), Fail> {
+    for row in [TWO_NAMES, TWO_LITERALS, UNITS_BEFORE, NO_RESULT, TWICE] {
+        assert!(rt; holds(rt.alloc(), row)?, "{}", row.becomes);
+    }
+    for row in [DELETED_AND_AFTER, TWO_AFTER, LINE_FEED, IN_DELETED] {
+        assert!(rt; holds(rt.alloc(), row)?, "{}", row.becomes);
+    }
+    Ok(())
+}
+
+const NO_PLACE: Row = Row {
+    text: "fn f() { g(1); }",
+    changes: &[
+        (ONE, Change::Put(New::Expr("2"))),
+        (CALL, Change::Put(New::Expr("h()"))),
+    ],
+    answer: Err(CommitError::MissingMapping),
+    becomes: "fn f() { g(1); }",
+};
+
+const COLLIDING: Row = Row {
+    text: "struct S; struct T;",
+    changes: &[
+        (FIRST, Change::Put(New::Struct("struct U;"))),
+        (FIRST, Change::DeleteTo(SECOND)),
+    ],
+    answer: Err(CommitError::Intersecting),
+    becomes: "struct S; struct T;",
+};
+
+/// A change has no place, and two replace one element: that is told first.
+const COLLIDING_WITHOUT_PLACE: Row = Row {
+    text: "fn f() { g(1); }",
+    changes: &[
+        (ONE, Change::Put(New::Expr("2"))),
+        (CALL, Change::Put(New::Expr("h()"))),
+        (CALL, Change::DeleteTo(END)),
+    ],
+    answer: Err(CommitError::Intersecting),
+    becomes: "fn f() { g(1); }",
+};
+
+/// The comment would swallow the item.
+const COMMENT_BEFORE: Row = Row {
+    text: "struct S;",
+    changes: &[(FIRST, Change::Before(New::Token("// c")))],
+    answer: Err(CommitError::Unfaithful),
+    becomes: "struct S;",
+};
+
+/// Two words would be one.
+const WORD_BEHIND: Row = Row {
+    text: "fn f() {}",
+    changes: &[((SyntaxKind::FN_KW, 0, 2), Change::After(New::Token("x")))],
+    answer: Err(CommitError::Unfaithful),
+    becomes: "fn f() {}",
+};
+
+#[test]
+fn refused_changes(rt: HostRuntime) -> Result<(), Fail> {
+    for row in [NO_PLACE, COLLIDING, COLLIDING_WITHOUT_PLACE] {
+        assert!(rt; holds(rt.alloc(), row)?);
+    }
+    for row in [COMMENT_BEFORE, WORD_BEHIND] {
+        assert!(rt; holds(rt.alloc(), row)?);
+    }
+    Ok(())
+}
