@@ -41,9 +41,9 @@ fn only_struct(
     let entry = PayloadEntry::Top(TopEntryPoint::SourceFile);
     let file = payload(alloc, entry, Edition::Edition2021, text, ids)?;
     let whole = file.text_range();
-    match file {
+    match &file {
         SyntaxElement::Node(root) => Ok(root.find(alloc, SyntaxKind::STRUCT, whole)?),
-        SyntaxElement::Token(_) => Ok(None),
+        SyntaxElement::Token(_token) => Ok(None),
     }
 }
 
