@@ -33,7 +33,7 @@ fn editor(alloc: Global, document: &Document, ids: &mut TreeIds) -> Option<Synta
     let old = target(alloc, document)?;
     let edition = document.edition();
     let new = payload(alloc, PayloadEntry::Token, edition, "renamed", ids).ok()?;
-    let mut editor = document.editor().ok()?;
+    let mut editor = document.editor(alloc).ok()?;
     editor.replace(alloc, &old, &new).ok()?;
     Some(editor)
 }

@@ -63,6 +63,45 @@ fn made(alloc: Global, new: New, ids: &mut TreeIds) -> Result<SyntaxElement, Fai
     }
 }
 
+/// Records that an element is replaced.
+fn replace(
+    alloc: Global,
+    editor: &mut SyntaxEditor,
+    target: &SyntaxElement,
+    new: New,
+    ids: &mut TreeIds,
+) -> Result<(), Fail> {
+    let new = made(alloc, new, ids)?;
+    editor.replace(alloc, target, &new)?;
+    Ok(())
+}
+
+/// Records that an element comes into a gap.
+fn insert(
+    alloc: Global,
+    editor: &mut SyntaxEditor,
+    gap: Position,
+    new: New,
+    ids: &mut TreeIds,
+) -> Result<(), Fail> {
+    let new = made(alloc, new, ids)?;
+    editor.insert(alloc, gap, &new)?;
+    Ok(())
+}
+
+/// Records that an element is deleted, with all siblings up to the one at a place of a document.
+fn delete_to(
+    alloc: Global,
+    document: &Document,
+    editor: &mut SyntaxEditor,
+    first: &SyntaxElement,
+    last: Place,
+) -> Result<(), Fail> {
+    let last = found(alloc, document, last)?;
+    editor.delete_all(alloc, first, &last)?;
+    Ok(())
+}
+
 /// Records a change of the element at a place of a document.
 fn record(
     alloc: Global,
@@ -73,22 +112,12 @@ fn record(
 ) -> Result<(), Fail> {
     let target = found(alloc, document, place)?;
     match change {
-        Change::Put(new) => editor.replace(alloc, &target, &made(alloc, new, ids)?)?,
-        Change::Before(new) => {
-            let gap = Position::before(&target)?;
-            editor.insert(alloc, gap, &made(alloc, new, ids)?)?;
-        }
-        Change::After(new) => {
-            let gap = Position::after(&target)?;
-            editor.insert(alloc, gap, &made(alloc, new, ids)?)?;
-        }
-        Change::Delete => editor.delete(alloc, &target)?,
-        Change::DeleteTo(last) => {
-            let last = found(alloc, document, last)?;
-            editor.delete_all(alloc, &target, &last)?;
-        }
+        Change::Put(new) => replace(alloc, editor, &target, new, ids),
+        Change::Before(new) => insert(alloc, editor, Position::before(&target)?, new, ids),
+        Change::After(new) => insert(alloc, editor, Position::after(&target)?, new, ids),
+        Change::Delete => Ok(editor.delete(alloc, &target)?),
+        Change::DeleteTo(last) => delete_to(alloc, document, editor, &target, last),
     }
-    Ok(())
 }
 
 /// A text, what becomes of its elements, and what the document answers: the ranges that changed, or a refusal; and its text then.

@@ -1,4 +1,6 @@
 //! Trees that are built by hand. Texts stand for leaves.
+ghost use Rattle.std.specs.Prelude.{◌≡◌, [], IfOk};
+
 use parser_input::SyntaxKind;
 use rowan_green::{GreenNode, GreenNodeBuilder, GreenToken};
 use std::alloc::Global;
@@ -86,7 +88,9 @@ fn green(alloc: Global, tree: Tree) -> Result<GreenNode, Fail> {
 }
 
 /// Its root, under the next number.
-pub fn root(alloc: Global, tree: Tree, ids: &mut TreeIds) -> Result<SyntaxNode, Fail> {
+pub fn root(alloc: Global, tree: Tree, ids: &mut TreeIds) -> Result<SyntaxNode, Fail>
+    ensures { IfOk result (λ r. r.place.up ≡ []) }
+{
     Ok(SyntaxNode::new_root(alloc, green(alloc, tree)?, ids)?)
 }
 
