@@ -3,7 +3,7 @@
     ./test               leaves out the edits that must-fail.ledger has as refused before over the very same sources,
                          but for a sample of one crate, which the commit picks; tries all others
     ./test --whole       tries every edit and does not read the ledger
-    ./test --record      as ./test, with no sample; where all passed, writes the ledger
+    ./test --record      as ./test, with no sample; writes to the ledger the edits that were refused, whatever else failed
     ./test --share 2/3   with any of these: tries, of the edits, those of the second of three shares of the crates alone
     ./test --edits NAME  with any of these: tries the edits of one crate alone, and none of the tests and programs, over the
                          libraries that checks have built here from the sources as they are; a share is then one of this crate's
@@ -15,6 +15,7 @@ Its last line is 'N passed, M failed', as of 'rt ci'. Only edits rest on the led
 import argparse
 import hashlib
 import os
+import re
 import shutil
 import subprocess
 import sys
@@ -28,6 +29,7 @@ TOP = os.path.dirname(os.path.dirname(os.path.realpath(__file__)))
 SAMPLE = 8
 # A check takes one to four gigabytes. Where there are fewer bytes a core than this, 'rt ci' by its own estimate leaves cores idle.
 BYTES_A_CORE = 5_000_000_000
+REFUSED = re.compile(r"rt: must-fail ([^/\s]+)/(\S+): refused, as it must be")
 
 
 def stop(why):
@@ -114,18 +116,26 @@ def run(at, *words):
     return ran.returncode, lines[-1], lines
 
 
+def refused_in(lines, tried):
+    """Returns the edits that the lines tell as refused, of those that were tried."""
+    told = {found.groups() for found in map(REFUSED.match, lines) if found}
+    return {edit for edit in tried if (crate_of(edit), os.path.basename(edit)) in told}
+
+
 def run_all(at, tried):
-    """Runs the gate in a folder. Returns its status, its last line, and whether each crate and each edit that was tried passed."""
-    status, last, _ = run(at, "ci")
-    return status, last, status == 0 and last == f"{len(ledger.lines_of(at)) + len(tried)} passed, 0 failed\n"
+    """Runs the gate in a folder. Returns its status, its last line, whether each crate and each edit that was tried passed, and the
+    edits that were refused."""
+    status, last, lines = run(at, "ci")
+    all_passed = status == 0 and last == f"{len(ledger.lines_of(at)) + len(tried)} passed, 0 failed\n"
+    return status, last, all_passed, refused_in(lines, tried)
 
 
 def run_edits(at, name, tried):
     """The same of a crate's edits alone."""
     status, last, lines = run(at, "must-fail", name)
     print(last, end="")
-    passed = sum(f"must-fail {name}/{os.path.basename(edit)}: refused, as it must be" in line for edit in tried for line in lines)
-    return status, f"{passed} passed, {len(tried) - passed} failed\n", status == 0 and passed == len(tried)
+    refused = refused_in(lines, tried)
+    return status, f"{len(refused)} passed, {len(tried) - len(refused)} failed\n", status == 0 and refused == tried, refused
 
 
 def arguments():
@@ -164,16 +174,17 @@ def main():
         for edit in {*sums} - tried:
             os.remove(f"{copied}/{edit}")
         if asked.edits:
-            status, last, all_passed = run_edits(copied, asked.edits, tried)
+            status, last, all_passed, refused = run_edits(copied, asked.edits, tried)
         else:
-            status, last, all_passed = run_all(copied, tried)
+            status, last, all_passed, refused = run_all(copied, tried)
             bring_back(copied)
-        if asked.record and all_passed:
-            # (what other runs recorded stays, also of what was changed meanwhile; a sum that is no edit's any more is met by none)
+        if asked.record and refused:
+            # ('rt' tries an edit only where its crate and those below are proved, so what failed elsewhere says nothing of it. What
+            # other runs recorded stays, also of what was changed meanwhile; a sum that is no edit's any more is met by none)
             others = {path: key for path, key in ledger.recorded(TOP).items() if os.path.isfile(f"{TOP}/{path}")}
-            ledger.record(TOP, {**others, **{path: sums[path] for path in tried}})
-        elif asked.record:
-            print("test: not all passed, so nothing is recorded")
+            ledger.record(TOP, {**others, **{path: sums[path] for path in refused}})
+        if asked.record and not all_passed:
+            print(f"test: not all passed; recorded are the {len(refused)} edits that were refused")
         print(last, end="", flush=True)
         return status or int(asked.record and not all_passed)
 

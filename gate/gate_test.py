@@ -7,20 +7,21 @@ import tempfile
 import unittest
 
 HERE = os.path.dirname(os.path.realpath(__file__))
-# Notes which edits it finds, builds a program, and counts crates and edits as 'rt ci' does, or names edits as 'rt must-fail' does.
-# FAIL and MISS turn its answer.
+# Notes which edits it finds, builds a program, names the edits that are refused, and counts crates and edits as 'rt ci' does. FAIL: no
+# crate is proved. MISS: so many edits are not refused. STOP: a program fails.
 STAND_IN = """#!/usr/bin/env bash
 ls crates/*/must-fail/*.edit > "$TRIED" 2> /dev/null
 find crates -path '*/out/*' -type f > "$TRIED.built"
-if [ "$1" = must-fail ]; then
-    for edit in $(tail -n +$((${MISS:-0} + 1)) "$TRIED"); do echo "rt: must-fail $2/$(basename "$edit"): refused, as it must be: .."; done
-    exit "${FAIL:-0}"
-fi
+for edit in $([ -n "${FAIL:-}" ] || tail -n +$((${MISS:-0} + 1)) "$TRIED"); do
+    of=${edit#crates/}
+    echo "rt: must-fail ${of%%/*}/$(basename "$edit"): refused, as it must be: .."
+done
+[ "$1" != must-fail ] || exit "${FAIL:-0}"
 mkdir -p crates/app/out/rlib && echo new > crates/app/out/app && echo new > crates/app/out/rlib/stamp
 echo "${RT_JOBS:-none}" > "$JOBS"
 passed=$(( $(wc -l < "$TRIED") + $(grep -c '^[a-z]' crates.txt) ))
 echo "a program says: 9 passed, 0 failed"
-[ -z "${FAIL:-}" ] || { echo "$((passed - 1)) passed, 1 failed"; exit 1; }
+[ -z "${FAIL:-}${STOP:-}" ] || { echo "$((passed - 1)) passed, 1 failed"; exit 1; }
 echo "$((passed - ${MISS:-0})) passed, 0 failed"
 """
 CRATES = "# lowest first\nlow: memchr\nmiddle: low\napart:\napp: middle apart\n"
@@ -154,13 +155,20 @@ class Gate(unittest.TestCase):
         write(self.ledger, said.replace(rows[2].split(" ")[0], key))
         self.assertEqual(self.run_gate("--record", FAIL="1"), {rows[2].split(" ")[1].strip()})
 
-    def test_a_failure_is_passed_on_and_records_nothing(self):
-        self.run_gate(FAIL="1")
-        self.assertEqual((self.status, self.said[-1]), (1, "18 passed, 1 failed"))
-        for turned in ({"FAIL": "1"}, {"MISS": "2"}):
-            self.run_gate("--record", **turned)
-            self.assertNotEqual(self.status, 0)
-            self.assertFalse(os.path.exists(self.ledger))
+    def test_a_failure_is_passed_on(self):
+        for turned in ({"FAIL": "1"}, {"STOP": "1"}):
+            self.run_gate(**turned)
+            self.assertEqual((self.status, self.said[-1]), (1, "18 passed, 1 failed"))
+        self.run_gate("--record", FAIL="1")
+        self.assertEqual(self.status, 1)
+        self.assertFalse(os.path.exists(self.ledger))
+
+    def test_what_was_refused_is_recorded_whatever_else_failed(self):
+        self.run_gate("--record", MISS="2")
+        self.assertNotEqual(self.status, 0)
+        self.assertEqual(len(self.run_gate("--record", STOP="1")), 2)
+        self.assertEqual(self.status, 1)
+        self.assertEqual(self.run_gate("--record"), set())
 
     def test_what_cannot_be_read_is_a_failure(self):
         self.assertEqual(self.run_gate("--share", "4/3"), {"not run"})
@@ -197,10 +205,12 @@ class Gate(unittest.TestCase):
         self.assertEqual(len(self.run_gate("--record", FAIL="1")), 5)
 
     def test_edits_that_are_not_refused_are_not_recorded(self):
-        for turned in ({"FAIL": "1"}, {"MISS": "1"}):
-            self.run_gate("--edits", "apart", "--record", **turned)
-            self.assertNotEqual(self.status, 0)
-            self.assertFalse(os.path.exists(self.ledger))
+        self.run_gate("--edits", "apart", "--record", FAIL="1")
+        self.assertNotEqual(self.status, 0)
+        self.assertFalse(os.path.exists(self.ledger))
+        self.run_gate("--edits", "apart", "--record", MISS="1")
+        self.assertNotEqual(self.status, 0)
+        self.assertEqual(len(self.run_gate("--edits", "apart", "--record")), 1)
 
     def test_list_runs_nothing(self):
         self.assertEqual(self.run_gate("--list"), {"not run"})

@@ -3,6 +3,7 @@ mod broken;
 mod commands;
 mod commits;
 mod devices;
+mod limits;
 mod lists;
 mod replies;
 

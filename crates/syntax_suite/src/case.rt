@@ -316,7 +316,7 @@ fn is_executed(alloc: Global, case: &Value, plan: &Plan) -> anyhow::Result<bool>
 }
 
 /// Whether of the changes becomes what the case says.
-pub fn is_met(alloc: Global, case: &Value) -> anyhow::Result<bool> {
+pub(crate) fn is_met(alloc: Global, case: &Value) -> anyhow::Result<bool> {
     let verdict = member(case, "verdict")?.as_str().context("no verdict")?;
     let green = green(
         alloc,

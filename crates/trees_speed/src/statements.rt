@@ -112,7 +112,7 @@ fn block(
 }
 
 /// The tree, with so many names that recur in turn; with 0, a new one in each statement.
-pub fn tree(alloc: Global, names: u32) -> Result<GreenNode, GreenError> {
+pub(crate) fn tree(alloc: Global, names: u32) -> Result<GreenNode, GreenError> {
     let mut builder = GreenNodeBuilder::new(alloc);
     let mut text = String::new(alloc);
     builder.start_node(ROOT)?;

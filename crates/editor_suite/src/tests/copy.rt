@@ -21,7 +21,7 @@ fn editor(alloc: Global, ids: &mut TreeIds) -> Result<SyntaxEditor, Fail> {
 }
 
 /// The text of the tree that is edited, of the rewritten one twice, how many elements that has, and what changed.
-pub fn edited_copy(alloc: Global) -> Result<String, Fail> {
+pub(crate) fn edited_copy(alloc: Global) -> Result<String, Fail> {
     let mut ids = TreeIds::new();
     let editor = editor(alloc, &mut ids)?;
     let rewritten = SyntaxNode::new_root(alloc, editor.rewritten(alloc)?.green, &mut ids)?;

@@ -206,7 +206,7 @@ fn path(alloc: Global, root: &SyntaxNode) -> Result<SyntaxNode, Fail> {
 }
 
 /// The refusals, then the new text with the bytes that changed, or why there is none.
-pub fn answer(alloc: Global, tree: Tree, doings: &[Do<'_>]) -> Result<String, Fail> {
+pub(crate) fn answer(alloc: Global, tree: Tree, doings: &[Do<'_>]) -> Result<String, Fail> {
     let mut ids = TreeIds::new();
     let root = root(alloc, tree, &mut ids)?;
     let (editor, _root) = SyntaxEditor::new(alloc, root, &mut ids)?;
@@ -234,7 +234,7 @@ pub fn answer(alloc: Global, tree: Tree, doings: &[Do<'_>]) -> Result<String, Fa
 }
 
 /// The new text, and the bytes of it that changed.
-pub fn show(alloc: Global, out: &mut String, edit: &SyntaxEdit) -> Result<(), Fail> {
+pub(crate) fn show(alloc: Global, out: &mut String, edit: &SyntaxEdit) -> Result<(), Fail> {
     let text = edit.new_root().cursor().text()?;
     let text = format!(in alloc; "{text}")?;
     out.push_str(&text)?;
@@ -256,7 +256,7 @@ fn name_of(refusal: FinishError) -> Result<&'static str, Fail> {
 }
 
 /// The text of what stands, once the second literal is replaced, where that stood.
-pub fn found_text(alloc: Global) -> Result<String, Fail> {
+pub(crate) fn found_text(alloc: Global) -> Result<String, Fail> {
     let mut ids = TreeIds::new();
     let root = root(alloc, Tree::Args, &mut ids)?;
     let Some(SyntaxElement::Node(old)) = root.element_at(alloc, &[4])? else {

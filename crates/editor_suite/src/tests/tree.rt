@@ -88,14 +88,14 @@ fn green(alloc: Global, tree: Tree) -> Result<GreenNode, Fail> {
 }
 
 /// Its root, under the next number.
-pub fn root(alloc: Global, tree: Tree, ids: &mut TreeIds) -> Result<SyntaxNode, Fail>
+pub(crate) fn root(alloc: Global, tree: Tree, ids: &mut TreeIds) -> Result<SyntaxNode, Fail>
     ensures { IfOk result (λ r. r.place.up ≡ []) }
 {
     Ok(SyntaxNode::new_root(alloc, green(alloc, tree)?, ids)?)
 }
 
 /// A literal, or a token of this text.
-pub fn payload(alloc: Global, text: &str, ids: &mut TreeIds) -> Result<SyntaxElement, Fail> {
+pub(crate) fn payload(alloc: Global, text: &str, ids: &mut TreeIds) -> Result<SyntaxElement, Fail> {
     if text == "LITERAL 3" {
         return Ok(SyntaxElement::Node(root(alloc, Tree::Literal, ids)?));
     }
