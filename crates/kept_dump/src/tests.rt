@@ -126,6 +126,58 @@ fn a_thousand_edits_end_in_the_texts_tokens(rt: HostRuntime) -> Result<(), Alloc
     Ok(())
 }
 
+/// So many structs, a line each of five tokens.
+fn structs(alloc: Global, count: usize) -> Result<String, AllocError> {
+    let mut text = String::new(alloc);
+    for _ in 0..count {
+        text.push_str("struct S;\n")?;
+    }
+    Ok(text)
+}
+
+/// Makes an edit, and makes it again where memory was refused; a refusal leaves text and tokens as they were.
+fn edit_again(
+    rt: &impl Abort,
+    text: &mut LexedText,
+    at: usize,
+    put: &str,
+    before: &str,
+) -> Result<Counts, AllocError> {
+    for _ in 0..2 {
+        if !text.can_edit(at..at, put.len()) {
+            break;
+        }
+        if let Ok(kept) = text.edit(at..at, put) {
+            return Ok((kept.front, kept.lexed, kept.back));
+        }
+        assert!(rt; text.text() == before && is_lexed(text), "a refused edit");
+    }
+    Err(AllocError)
+}
+
+/// Lexes, edits and copies a text of several runs of tokens. Run with one request for memory refused, each in turn, it ends the same way:
+/// `rt try --test --fail-alloc N`, for N from 1 on.
+#[test]
+fn refused_calls_change_nothing(rt: HostRuntime) -> Result<(), AllocError> {
+    let alloc = rt.alloc();
+    let source = structs(alloc, 1500)?;
+    let mut text = match LexedText::new(alloc, source.as_str()) {
+        Ok(text) => text,
+        Err(_) => LexedText::new(alloc, source.as_str())?,
+    };
+    let counts = edit_again(&rt, &mut text, 5000, "x y ", source.as_str())?;
+    assert!(rt;
+        counts == (2498, 6, 5000) && is_lexed(&text),
+        "the edited text"
+    );
+    let copy = match text.try_clone(alloc) {
+        Ok(copy) => copy,
+        Err(_) => text.try_clone(alloc)?,
+    };
+    assert!(rt; copy.text() == text.text() && is_lexed(&copy), "its copy");
+    Ok(())
+}
+
 #[test]
 fn laws_are_called(_rt: HostRuntime) {
     laws::front_stays();

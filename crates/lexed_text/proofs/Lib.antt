@@ -6,3 +6,5 @@ pub mod Sums
 pub mod Texts
 pub mod Turns
 pub mod Edits
+pub mod RunSums
+pub mod Renewals

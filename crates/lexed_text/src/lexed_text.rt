@@ -7,6 +7,7 @@ ghost use Rattle.lexed_text.specs.Kept.{IsKept};
 
 use crate::kept::Kept;
 use crate::relex::{Place, find_front, renew};
+use crate::runs::{Run, cut_runs};
 use rustc_lexer::{Token, tokenize};
 use std::alloc::{AllocError, Global};
 use std::marker::Model;
@@ -18,17 +19,26 @@ pub struct LexedText {
     alloc: Global,
     text: String,
     tokens: Vec<Token>,
+    runs: Vec<Run>,
 }
 
 impl Model for LexedText {
     ghost use Rattle.std.specs.Prelude.{◌≡◌, List, ℕ, chars, string_bytes};
     ghost use Rattle.rustc_lexer.specs.Tokens.{token_list};
+    ghost use Rattle.lexed_text.specs.Runs.{RunsFrom};
 
     ghost Value = { List ℕ };
 
     ghost view = { λ l. string_bytes l.text };
 
-    ghost invariant = { λ l. l.tokens.items ≡ token_list (chars (string_bytes l.text)) };
+    ghost invariant = { λ l. (l.tokens.items ≡ token_list (chars (string_bytes l.text))) × RunsFrom 0 0 l.runs.items l.tokens.items };
+}
+
+/// The tokens of a text.
+fn lexed(alloc: Global, text: &str) -> Result<Vec<Token>, AllocError>
+    ensures { IfOk result (λ tokens. tokens.items ≡ token_list (chars text.now)) }
+{
+    tokenize(text).collect(alloc)
 }
 
 impl LexedText {
@@ -36,12 +46,14 @@ impl LexedText {
     pub fn new(alloc: Global, text: &str) -> Result<LexedText, AllocError>
         ensures { IfOk result (λ lexed. lexed ≡ text.now) }
     {
-        let tokens = tokenize(text).collect(alloc)?;
+        let tokens = lexed(alloc, text)?;
         let text = String::from_str(alloc, text)?;
+        let runs = cut_runs(alloc, tokens.as_slice(), 0, tokens.len())?;
         Ok(LexedText {
             alloc,
             text,
             tokens,
+            runs,
         })
     }
 
@@ -87,7 +99,7 @@ impl LexedText {
         let end = range.end;
         let old = self.text.as_str();
         let removed = String::from_str(self.alloc, &old[start..end])?;
-        let front = find_front(self.tokens.as_slice(), &old[..start]);
+        let front = find_front(self.runs.as_slice(), self.tokens.as_slice(), &old[..start]);
         let most = old.len() - end;
         let behind_front = Place {
             count: front.count,
@@ -97,7 +109,14 @@ impl LexedText {
         self.text.replace_range(start..end, replacement)?;
         let new = self.text.as_str();
         let rest = &new[front.bytes..];
-        match renew(self.alloc, &mut self.tokens, behind_front, rest, most) {
+        match renew(
+            self.alloc,
+            &mut self.tokens,
+            &mut self.runs,
+            behind_front,
+            rest,
+            most,
+        ) {
             Ok(kept) => Ok(kept),
             Err(error) => {
                 // (there is room, since the old text was no longer than what was reserved)
@@ -114,10 +133,12 @@ impl LexedText {
     {
         let text = String::from_str(alloc, self.text.as_str())?;
         let tokens = Vec::from_slice(alloc, self.tokens.as_slice())?;
+        let runs = Vec::from_slice(alloc, self.runs.as_slice())?;
         Ok(LexedText {
             alloc,
             text,
             tokens,
+            runs,
         })
     }
 }

@@ -5,6 +5,7 @@ pub mod kept;
 pub mod laws;
 mod lexed_text;
 mod relex;
+mod runs;
 
 pub use kept::Kept;
 pub use lexed_text::LexedText;

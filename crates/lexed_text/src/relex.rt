@@ -1,10 +1,12 @@
 //! Which tokens stay, and the lexing of the others.
 
-ghost use Rattle.std.specs.Prelude.{◌≡◌, ◌<◌, ◌≤◌, [], chars, take, length, IfOk, MatchOption, OnErr};
+ghost use Rattle.std.specs.Prelude.{◌≡◌, ◌+◌, ◌<◌, ◌≤◌, ◌^◌, [], chars, take, length, IfOk, MatchOption, OnErr};
 ghost use Rattle.rustc_lexer.specs.Tokens.{token_list};
-ghost use Rattle.lexed_text.specs.Inside.{left, EndsWithin, FrontFound, LacksLast, LacksTwo, Meets, Passes, Renewed};
+ghost use Rattle.lexed_text.specs.Runs.{RunsFrom};
+ghost use Rattle.lexed_text.specs.Inside.{left, taken, EndsWithin, FrontFound, LacksLast, LacksTwo, Meets, Passes, Renewed};
 
 use crate::kept::Kept;
+use crate::runs::{Run, first_past, last_within, renew_runs};
 use rustc_lexer::{Cursor, Token};
 use std::alloc::{AllocError, Global};
 
@@ -42,27 +44,37 @@ fn without_two(text: &str) -> Option<usize>
     }
 }
 
-/// The last boundary that has no more than so many bytes before it.
-fn ends_within(tokens: &[Token], limit: usize) -> Place
+/// The last boundary that has no more than so many bytes before it: run by run, and then token by token.
+fn ends_within(runs: &[Run], tokens: &[Token], limit: usize) -> Place
+    requires { RunsFrom 0 0 runs.now tokens.now }
     ensures { EndsWithin tokens.now limit result.count result.bytes }
 {
     let mut end = Place { count: 0, bytes: 0 };
-    for token in tokens {
-        if token.len > limit - end.bytes {
+    for run in runs {
+        if run.bytes > limit - end.bytes {
+            break;
+        }
+        end.count += run.tokens;
+        end.bytes += run.bytes;
+    }
+    'tokens: while end.count < tokens.len() {
+        let len = tokens[end.count].len;
+        if len > limit - end.bytes {
             return end;
         }
         end.count += 1;
-        end.bytes += token.len;
+        end.bytes += len;
     }
     end
 }
 
 /// The front of an edit behind these characters, and the bytes before its end.
-pub(crate) fn find_front(tokens: &[Token], before: &str) -> Place
+pub(crate) fn find_front(runs: &[Run], tokens: &[Token], before: &str) -> Place
+    requires { RunsFrom 0 0 runs.now tokens.now }
     ensures { FrontFound tokens.now (chars before.now) result.count result.bytes }
 {
     match without_two(before) {
-        Some(limit) => ends_within(tokens, limit),
+        Some(limit) => ends_within(runs, tokens, limit),
         None => Place { count: 0, bytes: 0 },
     }
 }
@@ -130,25 +142,39 @@ fn lex(
 }
 
 /// Lexes a new text from the front's end on, and puts its tokens into the place of those that it has no more. The front's end and
-/// the edit's count the bytes behind them. A refusal leaves the tokens as they are.
+/// the edit's count the bytes behind them. A refusal leaves tokens and runs as they are.
 pub(crate) fn renew(
     alloc: Global,
     tokens: &mut Vec<Token>,
+    runs: &mut Vec<Run>,
     front: Place,
     text: &str,
     most: usize,
 ) -> Result<Kept, AllocError>
     requires within { front.count ≤ length tokens.old.items }
     requires is_left { front.bytes ≡ left front.count tokens.old.items }
+    requires fits { taken front.count tokens.old.items + length text.now < 2 ^ 64 }
+    requires runs { RunsFrom 0 0 runs.old.items tokens.old.items }
     ensures renewed { IfOk result (Renewed tokens.old.items (token_list (chars text.now)) front.count most tokens.new.items) }
     ensures refused { OnErr result (tokens.new.items ≡ tokens.old.items) }
+    ensures runs { RunsFrom 0 0 runs.new.items tokens.new.items }
 {
     let lexing = lex(alloc, tokens.as_slice(), front, text, most)?;
-    let back = tokens.len() - lexing.stop;
-    tokens.splice(front.count..lexing.stop, lexing.tokens)?;
+    let lexed = lexing.lexed;
+    let stop = lexing.stop;
+    let back = tokens.len() - stop;
+    let first = last_within(runs.as_slice(), front.count);
+    let next = first_past(runs.as_slice(), first, stop);
+    tokens.splice(front.count..stop, lexing.tokens)?;
+    let to = if next.run < runs.len() {
+        front.count + lexed + (next.count - stop)
+    } else {
+        tokens.len()
+    };
+    renew_runs(alloc, runs, tokens.as_slice(), first, next, to);
     Ok(Kept {
         front: front.count,
-        lexed: lexing.lexed,
+        lexed,
         back,
     })
 }

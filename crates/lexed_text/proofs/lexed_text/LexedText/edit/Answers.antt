@@ -17,8 +17,8 @@ overflow_sub-behind_front c =
     let end = c.args.range.end in
     let u : IsUtf8 text = subst IsUtf8 c.self.view_is (IsUtf8-string_bytes c.self.inside.text) in
     let old = c.as_str-old.ensures.value ∙ c.self.view_is in
-    let list = c.self.invariant ∙ ap (λ (z : List ℕ). token_list (chars z)) c.self.view_is in
-    let f = front-known text start end put _ _ _ _ _ u c.requires (c.as_slice.ensures.value ∙ list) old c.range-2.ensures.value c.find_front-front.ensures in
+    let list = c.self.invariant.0 ∙ ap (λ (z : List ℕ). token_list (chars z)) c.self.view_is in
+    let f = front-known text start end put _ _ _ _ _ u c.requires (c.as_slice-2.ensures.value ∙ list) old c.range-2.ensures.value c.find_front-front.ensures in
     let within = front-in text start end put _ _ u f in
     let same = ap length old in
     omega arith
@@ -31,8 +31,8 @@ range_from-rest-requires c =
     let end = c.args.range.end in
     let u : IsUtf8 text = subst IsUtf8 c.self.view_is (IsUtf8-string_bytes c.self.inside.text) in
     let old = c.as_str-old.ensures.value ∙ c.self.view_is in
-    let list = c.self.invariant ∙ ap (λ (z : List ℕ). token_list (chars z)) c.self.view_is in
-    let f = front-known text start end put _ _ _ _ _ u c.requires (c.as_slice.ensures.value ∙ list) old c.range-2.ensures.value c.find_front-front.ensures in
+    let list = c.self.invariant.0 ∙ ap (λ (z : List ℕ). token_list (chars z)) c.self.view_is in
+    let f = front-known text start end put _ _ _ _ _ u c.requires (c.as_slice-2.ensures.value ∙ list) old c.range-2.ensures.value c.find_front-front.ensures in
     let new = string_bytes c.replace_range.new.self in
     let is : new ≡ edited text start end put =
     edited-is text (string_bytes c.try_reserve.new.self) new put start end (c.in_ok-try_reserve.ensures.bytes ∙ c.self.view_is) c.in_ok-replace_range.ensures.bytes in
@@ -48,8 +48,8 @@ renew-requires-clause-is_left c =
     let end = c.args.range.end in
     let u : IsUtf8 text = subst IsUtf8 c.self.view_is (IsUtf8-string_bytes c.self.inside.text) in
     let old = c.as_str-old.ensures.value ∙ c.self.view_is in
-    let list = c.self.invariant ∙ ap (λ (z : List ℕ). token_list (chars z)) c.self.view_is in
-    let f = front-known text start end put _ _ _ _ _ u c.requires (c.as_slice.ensures.value ∙ list) old c.range-2.ensures.value c.find_front-front.ensures in
+    let list = c.self.invariant.0 ∙ ap (λ (z : List ℕ). token_list (chars z)) c.self.view_is in
+    let f = front-known text start end put _ _ _ _ _ u c.requires (c.as_slice-2.ensures.value ∙ list) old c.range-2.ensures.value c.find_front-front.ensures in
     ap (λ (z : List ℕ). length z - c.find_front-front.result.bytes) old ∙ front-left text start end put _ _ u f
     ∙ ap (λ (z : List Token). left c.find_front-front.result.count z) (sym list)
 
@@ -61,8 +61,8 @@ invariant_of-self-in-Ok c =
     let end = c.args.range.end in
     let u : IsUtf8 text = subst IsUtf8 c.self.view_is (IsUtf8-string_bytes c.self.inside.text) in
     let old = c.as_str-old.ensures.value ∙ c.self.view_is in
-    let list = c.self.invariant ∙ ap (λ (z : List ℕ). token_list (chars z)) c.self.view_is in
-    let f = front-known text start end put _ _ _ _ _ u c.requires (c.as_slice.ensures.value ∙ list) old c.range-2.ensures.value c.find_front-front.ensures in
+    let list = c.self.invariant.0 ∙ ap (λ (z : List ℕ). token_list (chars z)) c.self.view_is in
+    let f = front-known text start end put _ _ _ _ _ u c.requires (c.as_slice-2.ensures.value ∙ list) old c.range-2.ensures.value c.find_front-front.ensures in
     let new = string_bytes c.replace_range.new.self in
     let is : new ≡ edited text start end put =
     edited-is text (string_bytes c.try_reserve.new.self) new put start end (c.in_ok-try_reserve.ensures.bytes ∙ c.self.view_is) c.in_ok-replace_range.ensures.bytes in
@@ -70,7 +70,7 @@ invariant_of-self-in-Ok c =
     let rest : c.range_from-rest.result.now ≡ drop c.find_front-front.result.bytes new =
     c.range_from-rest.ensures.value ∙ ap (λ (z : List ℕ). drop c.find_front-front.result.bytes z) c.as_str-new.ensures.value in
     let most = ap (λ (z : List ℕ). length z - end) old in
-    (renewed-all text start end put new _ _ _ _ _ _ _ u c.utf8.replacement c.requires f is w rest most list c.in-Ok.ensures.renewed).1
+    ((renewed-all text start end put new _ _ _ _ _ _ _ u c.utf8.replacement c.requires f is w rest most list c.in-Ok.ensures.renewed).1, c.in-Ok.ensures.runs)
 
 pub returns-in-Ok-clause-kept : goal.returns-in-Ok-clause-kept
 returns-in-Ok-clause-kept c =
@@ -80,8 +80,8 @@ returns-in-Ok-clause-kept c =
     let end = c.args.range.end in
     let u : IsUtf8 text = subst IsUtf8 c.self.view_is (IsUtf8-string_bytes c.self.inside.text) in
     let old = c.as_str-old.ensures.value ∙ c.self.view_is in
-    let list = c.self.invariant ∙ ap (λ (z : List ℕ). token_list (chars z)) c.self.view_is in
-    let f = front-known text start end put _ _ _ _ _ u c.requires (c.as_slice.ensures.value ∙ list) old c.range-2.ensures.value c.find_front-front.ensures in
+    let list = c.self.invariant.0 ∙ ap (λ (z : List ℕ). token_list (chars z)) c.self.view_is in
+    let f = front-known text start end put _ _ _ _ _ u c.requires (c.as_slice-2.ensures.value ∙ list) old c.range-2.ensures.value c.find_front-front.ensures in
     let new = string_bytes c.replace_range.new.self in
     let is : new ≡ edited text start end put =
     edited-is text (string_bytes c.try_reserve.new.self) new put start end (c.in_ok-try_reserve.ensures.bytes ∙ c.self.view_is) c.in_ok-replace_range.ensures.bytes in
@@ -139,8 +139,8 @@ invariant_of-self-in-Err c =
     let back : restored ≡ (take start new ++ removed) ++ drop (start + length put) new =
     had-room c.replace_range-restored.result _ _ c.replace_range-restored.ensures.bytes c.replace_range-restored.ensures.full (λ full. omega (arith, full, len, c.range.ensures.len, c.in_ok-try_reserve.ensures.ok, c.in_ok-replace_range.ensures.len)) in
     let same = restored-is text put new removed restored start end c.requires is cut back in
-    let list = c.self.invariant ∙ ap (λ (z : List ℕ). token_list (chars z)) (c.self.view_is ∙ sym same) in
-    c.in-Err.ensures.refused ∙ list
+    let list = c.self.invariant.0 ∙ ap (λ (z : List ℕ). token_list (chars z)) (c.self.view_is ∙ sym same) in
+    (c.in-Err.ensures.refused ∙ list, c.in-Err.ensures.runs)
 
 pub returns-clause-refused : goal.returns-clause-refused
 returns-clause-refused c =

@@ -1,0 +1,132 @@
+//! Runs of tokens, by which a place is found among many tokens.
+
+ghost use Rattle.std.specs.Prelude.{◌≡◌, ℕ, ◌+◌, ◌<◌, ◌≤◌, ◌^◌, take, drop, length, IfOk};
+ghost use Rattle.std.specs.List.{sum_by};
+ghost use Rattle.lexed_text.specs.Inside.{taken};
+ghost use Rattle.lexed_text.specs.Runs.{run_tokens, RunsFrom};
+
+use rustc_lexer::Token;
+use std::alloc::{AllocError, Global};
+
+/// The tokens of a run; a run that is left over has up to twice as many.
+const RUN_TOKENS: usize = 1024;
+
+/// Some tokens in a row.
+#[derive(Clone, Copy)]
+pub(crate) struct Run {
+    /// How many they are.
+    pub(crate) tokens: usize,
+
+    /// Their bytes.
+    pub(crate) bytes: usize,
+}
+
+/// A boundary between runs.
+#[derive(Clone, Copy)]
+pub(crate) struct RunPlace {
+    /// The runs before it.
+    pub(crate) run: usize,
+
+    /// The tokens before it.
+    pub(crate) count: usize,
+}
+
+/// The last boundary between runs before which no more than so many tokens stand.
+pub(crate) fn last_within(runs: &[Run], most: usize) -> RunPlace
+    ensures within { result.run ≤ length runs.now }
+    ensures is_count { result.count ≡ run_tokens result.run runs.now }
+    ensures low { result.count ≤ most }
+{
+    let mut at = RunPlace { run: 0, count: 0 };
+    for run in runs {
+        if run.tokens > most - at.count {
+            return at;
+        }
+        at.run += 1;
+        at.count += run.tokens;
+    }
+    at
+}
+
+/// The first boundary from `from` on before which so many tokens stand, or the last one.
+pub(crate) fn first_past(runs: &[Run], from: RunPlace, least: usize) -> RunPlace
+    requires within { from.run ≤ length runs.now }
+    requires is_count { from.count ≡ run_tokens from.run runs.now }
+    requires fits { (i : ℕ) → i ≤ length runs.now → run_tokens i runs.now < 2 ^ 64 }
+    ensures onward { from.run ≤ result.run }
+    ensures within { result.run ≤ length runs.now }
+    ensures is_count { result.count ≡ run_tokens result.run runs.now }
+    ensures past { result.run < length runs.now → least ≤ result.count }
+{
+    let mut at = from;
+    'runs: while at.run < runs.len() && at.count < least {
+        at.count += runs[at.run].tokens;
+        at.run += 1;
+    }
+    at
+}
+
+/// The bytes of some tokens.
+fn bytes_of(tokens: &[Token]) -> usize
+    requires { sum_by (λ t. t.len) tokens.now < 2 ^ 64 }
+    ensures { result ≡ sum_by (λ t. t.len) tokens.now }
+{
+    tokens.iter().map(|token| token.len).sum()
+}
+
+/// Runs of the tokens of a range.
+pub(crate) fn cut_runs(
+    alloc: Global,
+    tokens: &[Token],
+    from: usize,
+    to: usize,
+) -> Result<Vec<Run>, AllocError>
+    requires in_order { from ≤ to }
+    requires within { to ≤ length tokens.now }
+    requires fits { taken (length tokens.now) tokens.now < 2 ^ 64 }
+    ensures runs { IfOk result (λ r. RunsFrom from (taken from tokens.now) r.items tokens.now) }
+    ensures whole { IfOk result (λ r. from + run_tokens (length r.items) r.items ≡ to) }
+{
+    let mut runs = Vec::new(alloc);
+    let mut at = from;
+    'runs: while at < to {
+        let end = if to - at < 2 * RUN_TOKENS {
+            to
+        } else {
+            at + RUN_TOKENS
+        };
+        let bytes = bytes_of(&tokens[at..end]);
+        let tokens = end - at;
+        runs.push(Run { tokens, bytes })?;
+        at = end;
+    }
+    Ok(runs)
+}
+
+/// Puts new runs of the tokens from `first` up to `to` in the place of those from `first` to `next`. For want of memory it drops the
+/// runs from `first` on: what has no run is looked at token by token.
+pub(crate) fn renew_runs(
+    alloc: Global,
+    runs: &mut Vec<Run>,
+    tokens: &[Token],
+    first: RunPlace,
+    next: RunPlace,
+    to: usize,
+)
+    requires in_order { first.run ≤ next.run }
+    requires within { next.run ≤ length runs.old.items }
+    requires is_count { first.count ≡ run_tokens first.run runs.old.items }
+    requires onward { first.count ≤ to }
+    requires ends { to ≤ length tokens.now }
+    requires fits { taken (length tokens.now) tokens.now < 2 ^ 64 }
+    requires front { RunsFrom 0 0 (take first.run runs.old.items) tokens.now }
+    requires back { RunsFrom to (taken to tokens.now) (drop next.run runs.old.items) tokens.now }
+    ensures { RunsFrom 0 0 runs.new.items tokens.now }
+{
+    if let Ok(fresh) = cut_runs(alloc, tokens, first.count, to) {
+        if let Ok(_) = runs.splice(first.run..next.run, fresh) {
+            return;
+        }
+    }
+    runs.truncate(first.run);
+}
