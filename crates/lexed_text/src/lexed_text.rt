@@ -48,7 +48,7 @@ impl LexedText {
     {
         let tokens = lexed(alloc, text)?;
         let text = String::from_str(alloc, text)?;
-        let runs = cut_runs(alloc, tokens.as_slice(), 0, tokens.len())?;
+        let runs = cut_runs(Vec::new(alloc), tokens.as_slice(), 0, tokens.len())?;
         Ok(LexedText {
             alloc,
             text,

@@ -1,6 +1,6 @@
 //! Runs of tokens, by which a place is found among many tokens.
 
-ghost use Rattle.std.specs.Prelude.{◌≡◌, ℕ, ◌+◌, ◌<◌, ◌≤◌, ◌^◌, take, drop, length, IfOk};
+ghost use Rattle.std.specs.Prelude.{◌≡◌, ℕ, ◌+◌, ◌<◌, ◌≤◌, ◌^◌, [], take, drop, length, IfOk};
 ghost use Rattle.std.specs.List.{sum_by};
 ghost use Rattle.lexed_text.specs.Inside.{taken};
 ghost use Rattle.lexed_text.specs.Runs.{run_tokens, RunsFrom};
@@ -74,20 +74,37 @@ fn bytes_of(tokens: &[Token]) -> usize
     tokens.iter().map(|token| token.len).sum()
 }
 
-/// Runs of the tokens of a range.
-pub(crate) fn cut_runs(
+/// Room for the runs of so many lexed tokens and of those around them, among the runs and beside them.
+pub(crate) fn room_for(
     alloc: Global,
+    runs: &mut Vec<Run>,
+    lexed: usize,
+) -> Result<Vec<Run>, AllocError>
+    ensures room { IfOk result (λ v. v.items ≡ []) }
+    ensures runs { runs.new.items ≡ runs.old.items }
+{
+    // (the tokens around fill fewer than seven)
+    let count = lexed / RUN_TOKENS + 8;
+    let room = Vec::with_capacity(alloc, count)?;
+    runs.try_reserve(count)?;
+    Ok(room)
+}
+
+/// Runs of the tokens of a range, in a list without any.
+pub(crate) fn cut_runs(
+    room: Vec<Run>,
     tokens: &[Token],
     from: usize,
     to: usize,
 ) -> Result<Vec<Run>, AllocError>
+    requires room { room.items ≡ [] }
     requires in_order { from ≤ to }
     requires within { to ≤ length tokens.now }
     requires fits { taken (length tokens.now) tokens.now < 2 ^ 64 }
     ensures runs { IfOk result (λ r. RunsFrom from (taken from tokens.now) r.items tokens.now) }
     ensures whole { IfOk result (λ r. from + run_tokens (length r.items) r.items ≡ to) }
 {
-    let mut runs = Vec::new(alloc);
+    let mut runs = room;
     let mut at = from;
     'runs: while at < to {
         let end = if to - at < 2 * RUN_TOKENS {
@@ -103,16 +120,17 @@ pub(crate) fn cut_runs(
     Ok(runs)
 }
 
-/// Puts new runs of the tokens from `first` up to `to` in the place of those from `first` to `next`. For want of memory it drops the
-/// runs from `first` on: what has no run is looked at token by token.
+/// Puts new runs of the tokens from `first` up to `to` in the place of those from `first` to `next`. Where `room_for` made no room
+/// for them, and memory is refused, it drops the runs from `first` on: what has no run is looked at token by token.
 pub(crate) fn renew_runs(
-    alloc: Global,
+    room: Vec<Run>,
     runs: &mut Vec<Run>,
     tokens: &[Token],
     first: RunPlace,
     next: RunPlace,
     to: usize,
 )
+    requires room { room.items ≡ [] }
     requires in_order { first.run ≤ next.run }
     requires within { next.run ≤ length runs.old.items }
     requires is_count { first.count ≡ run_tokens first.run runs.old.items }
@@ -123,7 +141,7 @@ pub(crate) fn renew_runs(
     requires back { RunsFrom to (taken to tokens.now) (drop next.run runs.old.items) tokens.now }
     ensures { RunsFrom 0 0 runs.new.items tokens.now }
 {
-    if let Ok(fresh) = cut_runs(alloc, tokens, first.count, to) {
+    if let Ok(fresh) = cut_runs(room, tokens, first.count, to) {
         if let Ok(_) = runs.splice(first.run..next.run, fresh) {
             return;
         }

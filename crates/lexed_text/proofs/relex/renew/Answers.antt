@@ -5,8 +5,8 @@ use Rattle.std.proofs.lemmas.Iterator.Adapters.{YieldsList-from_vec}
 use Rattle.rustc_lexer.specs.Tokens.{token_list}
 use Rattle.rustc_lexer.specs.declared.token.Token.{Token}
 use Rattle.lexed_text.specs.declared.runs.Run.{Run}
-use Rattle.lexed_text.specs.Inside.{Meets}
-use Rattle.lexed_text.specs.Runs.{run_tokens}
+use Rattle.lexed_text.specs.Inside.{taken, Meets}
+use Rattle.lexed_text.specs.Runs.{run_tokens, RunsFrom}
 use Rattle.lexed_text.proofs.Renewals.{Changed, changed-fits, runs-before, runs-behind}
 use Rattle.lexed_text.proofs.relex.renew.Goals as goal
 use Rattle.lexed_text.proofs.relex.renew.Goals.{then-next-len, else-next-len}
@@ -37,7 +37,7 @@ renew_runs-requires-clause-ends c =
     let within : next.run ≤ length runs = subst (λ (z : List Run). next.run ≤ length z) slice c.first_past-next.ensures.within in
     let count : next.count ≡ run_tokens next.run runs = c.first_past-next.ensures.is_count ∙ ap (λ (z : List Run). run_tokens next.run z) slice in
     let past = subst (λ (z : List Run). next.run < length z → lexing.stop ≤ next.count) slice c.first_past-next.ensures.past in
-    let len = c.len-2.ensures ∙ c.args.runs.now.ok.0 in
+    let len = c.len-2.ensures ∙ c.room_for.new.runs.ok.0 ∙ ap length c.room_for.ensures.runs in
     let whole : length new ≡ c.splice.new.self.len = ap length c.as_slice-4.ensures.value ∙ sym c.splice.new.self.ok.0 in
     let where_to : ((next.run < length runs) × (c.if-next-len.to ≡ c.args.front.count + lexing.lexed + (next.count - lexing.stop))) ⊎ ((length runs ≤ next.run) × (c.if-next-len.to ≡ length new)) =
     elim c.if-next-len.branch [
@@ -95,7 +95,8 @@ renew_runs-requires-clause-front c =
     let within : first.run ≤ length runs = subst (λ (z : List Run). first.run ≤ length z) slice c.last_within-first.ensures.within in
     let count : first.count ≡ run_tokens first.run runs = c.last_within-first.ensures.is_count ∙ ap (λ (z : List Run). run_tokens first.run z) slice in
     let low : first.count ≤ c.args.front.count = c.last_within-first.ensures.low in
-    runs-before old N new c.args.front.count lexing.lexed lexing.stop first.run runs changed c.requires.runs within (omega arith)
+    subst (λ (z : List Run). RunsFrom 0 0 (take first.run z) new) (sym c.room_for.ensures.runs)
+    (runs-before old N new c.args.front.count lexing.lexed lexing.stop first.run runs changed c.requires.runs within (omega arith))
 
 pub renew_runs-requires-clause-back : goal.renew_runs-requires-clause-back
 renew_runs-requires-clause-back c =
@@ -123,7 +124,7 @@ renew_runs-requires-clause-back c =
     let within : next.run ≤ length runs = subst (λ (z : List Run). next.run ≤ length z) slice c.first_past-next.ensures.within in
     let count : next.count ≡ run_tokens next.run runs = c.first_past-next.ensures.is_count ∙ ap (λ (z : List Run). run_tokens next.run z) slice in
     let past = subst (λ (z : List Run). next.run < length z → lexing.stop ≤ next.count) slice c.first_past-next.ensures.past in
-    let len = c.len-2.ensures ∙ c.args.runs.now.ok.0 in
+    let len = c.len-2.ensures ∙ c.room_for.new.runs.ok.0 ∙ ap length c.room_for.ensures.runs in
     let whole : length new ≡ c.splice.new.self.len = ap length c.as_slice-4.ensures.value ∙ sym c.splice.new.self.ok.0 in
     let where_to : ((next.run < length runs) × (c.if-next-len.to ≡ c.args.front.count + lexing.lexed + (next.count - lexing.stop))) ⊎ ((length runs ≤ next.run) × (c.if-next-len.to ≡ length new)) =
     elim c.if-next-len.branch [
@@ -131,7 +132,7 @@ renew_runs-requires-clause-back c =
       | else-next-len w ↦ inr (omega arith, w.to-is ∙ w.len-to.ensures ∙ sym whole)
     ] in
     let later = runs-behind old N new c.args.front.count lexing.lexed lexing.stop next.run next.count c.if-next-len.to runs changed c.requires.runs within count past where_to in
-    later.back
+    subst (λ (z : List Run). RunsFrom c.if-next-len.to (taken c.if-next-len.to new) (drop next.run z) new) (sym c.room_for.ensures.runs) later.back
 
 pub returns-clause-renewed : goal.returns-clause-renewed
 returns-clause-renewed c =
