@@ -17,6 +17,10 @@ pub enum Tree {
     Wrapped,
     /// `3`: a literal.
     Literal,
+    /// `a` in braces, on lines of its own: one step before `{`, two behind an empty line before `a`, three spaces before `}`.
+    Lines,
+    /// A file without tokens.
+    Empty,
 }
 
 #[derive(Clone, Copy)]
@@ -69,6 +73,21 @@ fn steps(tree: Tree) -> &'static [Step] {
             Step::Leaf(SyntaxKind::INT_NUMBER, "3"),
             Step::Close,
         ],
+        Tree::Lines => &[
+            Step::Open(SyntaxKind::BLOCK_EXPR),
+            Step::Leaf(SyntaxKind::WHITESPACE, "\n    "),
+            Step::Open(SyntaxKind::STMT_LIST),
+            Step::Leaf(SyntaxKind::L_CURLY, "{"),
+            Step::Leaf(SyntaxKind::WHITESPACE, "\n\n        "),
+            Step::Open(SyntaxKind::PATH),
+            Step::Leaf(SyntaxKind::IDENT, "a"),
+            Step::Close,
+            Step::Leaf(SyntaxKind::WHITESPACE, "\n   "),
+            Step::Leaf(SyntaxKind::R_CURLY, "}"),
+            Step::Close,
+            Step::Close,
+        ],
+        Tree::Empty => &[Step::Open(SyntaxKind::SOURCE_FILE), Step::Close],
     }
 }
 
