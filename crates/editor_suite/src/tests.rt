@@ -6,12 +6,12 @@ mod tree;
 
 use crate::tests::copy::edited_copy;
 use crate::tests::doing::{Do, Gap, answer, found_text};
-use crate::tests::levels::has_level;
+use crate::tests::levels::{between, has_level};
 use crate::tests::tree::Tree;
 use parser_input::SyntaxKind;
 use std::alloc::Global;
 use std::test::Fail;
-use syntax_editor::{IndentLevel, SyntaxFactory};
+use syntax_editor::{IndentLevel, Space, SyntaxFactory};
 use syntax_tree::TreeIds;
 
 #[derive(Clone, Copy)]
@@ -295,5 +295,24 @@ fn levels_need_a_line(rt: HostRuntime) -> Result<(), Fail> {
     let alloc = rt.alloc();
     assert!(rt; has_level(alloc, Tree::Args, &[4], 0)?);
     assert!(rt; has_level(alloc, Tree::Empty, &[], 0)?);
+    Ok(())
+}
+
+#[test]
+fn neighbours_touch_or_stand_apart(rt: HostRuntime) -> Result<(), Fail> {
+    let alloc = rt.alloc();
+    assert!(rt; between(alloc, Tree::Args, 1, 2)? == Space::Nothing);
+    assert!(rt; between(alloc, Tree::Args, 2, 4)? == Space::Blank);
+    assert!(rt; between(alloc, Tree::Args, 3, 4)? == Space::Nothing);
+    assert!(rt; between(alloc, Tree::Items, 1, 3)? == Space::Blank);
+    Ok(())
+}
+
+#[test]
+fn uses_and_attributes_have_lines(rt: HostRuntime) -> Result<(), Fail> {
+    let alloc = rt.alloc();
+    assert!(rt; between(alloc, Tree::Items, 7, 1)? == Space::Line(0));
+    assert!(rt; between(alloc, Tree::Items, 1, 4)? == Space::Line(2));
+    assert!(rt; between(alloc, Tree::Items, 7, 3)? == Space::Line(2));
     Ok(())
 }

@@ -21,6 +21,8 @@ pub enum Tree {
     Lines,
     /// A file without tokens.
     Empty,
+    /// Uses and attributes on lines of one step, two and none: elements 1 and 4 are uses, 3, 5 and 7 attributes.
+    Items,
 }
 
 #[derive(Clone, Copy)]
@@ -88,6 +90,28 @@ fn steps(tree: Tree) -> &'static [Step] {
             Step::Close,
         ],
         Tree::Empty => &[Step::Open(SyntaxKind::SOURCE_FILE), Step::Close],
+        Tree::Items => &[
+            Step::Open(SyntaxKind::SOURCE_FILE),
+            Step::Leaf(SyntaxKind::WHITESPACE, "\n    "),
+            Step::Open(SyntaxKind::USE),
+            Step::Leaf(SyntaxKind::USE_KW, "use"),
+            Step::Close,
+            Step::Leaf(SyntaxKind::WHITESPACE, "\n        "),
+            Step::Open(SyntaxKind::ATTR),
+            Step::Leaf(SyntaxKind::POUND, "#"),
+            Step::Close,
+            Step::Open(SyntaxKind::USE),
+            Step::Leaf(SyntaxKind::USE_KW, "use"),
+            Step::Close,
+            Step::Open(SyntaxKind::ATTR),
+            Step::Leaf(SyntaxKind::POUND, "#"),
+            Step::Close,
+            Step::Leaf(SyntaxKind::WHITESPACE, "\n"),
+            Step::Open(SyntaxKind::ATTR),
+            Step::Leaf(SyntaxKind::POUND, "#"),
+            Step::Close,
+            Step::Close,
+        ],
     }
 }
 
