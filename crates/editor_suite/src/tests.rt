@@ -1,15 +1,17 @@
 //! What no contract says: that calls succeed where memory is ample. A row edits a tree that is built by hand, and says what must come of it.
 mod copy;
 mod doing;
+mod levels;
 mod tree;
 
 use crate::tests::copy::edited_copy;
 use crate::tests::doing::{Do, Gap, answer, found_text};
+use crate::tests::levels::{between, has_level};
 use crate::tests::tree::Tree;
 use parser_input::SyntaxKind;
 use std::alloc::Global;
 use std::test::Fail;
-use syntax_editor::{IndentLevel, SyntaxFactory};
+use syntax_editor::{IndentLevel, Space, SyntaxFactory};
 use syntax_tree::TreeIds;
 
 #[derive(Clone, Copy)]
@@ -274,5 +276,43 @@ fn levels_stop_at_255(rt: HostRuntime) -> Result<(), Fail> {
     level += 1;
     let spaces = format!(in rt.alloc(); "{level}")?;
     assert!(rt; !level.is_zero() && spaces.as_str() == "        ");
+    Ok(())
+}
+
+#[test]
+fn levels_are_those_of_lines(rt: HostRuntime) -> Result<(), Fail> {
+    let alloc = rt.alloc();
+    assert!(rt; has_level(alloc, Tree::Lines, &[], 1)?);
+    assert!(rt; has_level(alloc, Tree::Lines, &[0, 1], 1)?);
+    assert!(rt; has_level(alloc, Tree::Lines, &[1, 1], 2)?);
+    assert!(rt; has_level(alloc, Tree::Lines, &[2, 1], 2)?);
+    assert!(rt; has_level(alloc, Tree::Lines, &[4, 1], 0)?);
+    Ok(())
+}
+
+#[test]
+fn levels_need_a_line(rt: HostRuntime) -> Result<(), Fail> {
+    let alloc = rt.alloc();
+    assert!(rt; has_level(alloc, Tree::Args, &[4], 0)?);
+    assert!(rt; has_level(alloc, Tree::Empty, &[], 0)?);
+    Ok(())
+}
+
+#[test]
+fn neighbours_touch_or_stand_apart(rt: HostRuntime) -> Result<(), Fail> {
+    let alloc = rt.alloc();
+    assert!(rt; between(alloc, Tree::Args, 1, 2)? == Space::Nothing);
+    assert!(rt; between(alloc, Tree::Args, 2, 4)? == Space::Blank);
+    assert!(rt; between(alloc, Tree::Args, 3, 4)? == Space::Nothing);
+    assert!(rt; between(alloc, Tree::Items, 1, 3)? == Space::Blank);
+    Ok(())
+}
+
+#[test]
+fn uses_and_attributes_have_lines(rt: HostRuntime) -> Result<(), Fail> {
+    let alloc = rt.alloc();
+    assert!(rt; between(alloc, Tree::Items, 7, 1)? == Space::Line(0));
+    assert!(rt; between(alloc, Tree::Items, 1, 4)? == Space::Line(2));
+    assert!(rt; between(alloc, Tree::Items, 7, 3)? == Space::Line(2));
     Ok(())
 }

@@ -1,2 +1,4 @@
 pub mod Singles
 pub mod Sound
+pub mod TokensBefore
+pub mod LineFeeds

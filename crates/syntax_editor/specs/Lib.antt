@@ -6,4 +6,5 @@ pub mod Inside
 pub mod Lending
 pub mod Making
 pub mod Indent
+pub mod Between
 pub mod Found

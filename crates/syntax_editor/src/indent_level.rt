@@ -1,8 +1,13 @@
 //! How far lines are set in.
-ghost use Rattle.std.specs.Prelude.{◌≡◌, ◌==◌};
+ghost use Rattle.std.specs.Prelude.{◌≡◌, ◌==◌, chars, option_map, IfOk};
+ghost use Rattle.syntax_tree.specs.declared.element.SyntaxElement.TheVariants.{Node};
+ghost use Rattle.syntax_editor.specs.Indent.{behind_line_feed, own_level, level_at, level_of};
 
+use parser_input::SyntaxKind;
+use std::alloc::{AllocError, Global};
 use std::fmt;
 use std::ops::{Add, AddAssign};
+use syntax_tree::{RustLanguage, SyntaxElement, SyntaxNode, SyntaxToken};
 
 /// Steps of four spaces. Sums stop at 255.
 #[derive(Clone, Copy, Debug, PartialEq, Eq, PartialOrd, Ord)]
@@ -20,6 +25,86 @@ impl IndentLevel {
         ensures { result ≡ (self.now.0 == 0) }
     {
         self.0 == 0
+    }
+
+    /// How far the line is set in on which a token stands: the first white space with a line feed, from the token itself backwards through
+    /// the tree, has a step for every four characters behind its last line feed. Without such white space no step.
+    pub fn from_token(alloc: Global, token: &SyntaxToken) -> Result<IndentLevel, AllocError>
+        ensures { IfOk result (λ level. level.0 ≡ level_at token.now.place) }
+    {
+        level_at(alloc, token.cursor().clone()?)
+    }
+
+    /// The level of a node's first token, no step of a node without tokens.
+    pub fn from_node(alloc: Global, node: &SyntaxNode) -> Result<IndentLevel, AllocError>
+        ensures { IfOk result (λ level. level.0 ≡ level_of (Node node.now)) }
+    {
+        match node.cursor().first_token(alloc)? {
+            Some(token) => level_at(alloc, token),
+            None => Ok(IndentLevel::zero()),
+        }
+    }
+
+    /// The level of a token, or of a node's first token.
+    pub fn from_element(alloc: Global, element: &SyntaxElement) -> Result<IndentLevel, AllocError>
+        ensures { IfOk result (λ level. level.0 ≡ level_of element.now) }
+    {
+        match element {
+            SyntaxElement::Node(node) => IndentLevel::from_node(alloc, node),
+            SyntaxElement::Token(token) => IndentLevel::from_token(alloc, token),
+        }
+    }
+}
+
+/// How many characters stand behind the last line feed of a text, if it has one.
+fn behind_line_feed(text: &str) -> Option<usize>
+    ensures { result ≡ behind_line_feed (chars text.now) }
+{
+    let _size = text.len();
+    let mut found = false;
+    let mut count = 0usize;
+    for c in text.chars() {
+        if c == '\n' {
+            found = true;
+            count = 0;
+            continue;
+        }
+        count += 1;
+    }
+    if found { Some(count) } else { None }
+}
+
+/// The level that a token of white space with a line feed has.
+fn own_level(token: &rowan::SyntaxToken<RustLanguage>) -> Option<IndentLevel>
+    ensures { option_map (λ level. level.0) result ≡ own_level token.now }
+{
+    if token.green().kind().0 != SyntaxKind::WHITESPACE.to_raw() {
+        return None;
+    }
+    let steps = behind_line_feed(token.text())? / 4;
+    if steps < 255 {
+        Some(IndentLevel(steps as u8))
+    } else {
+        Some(IndentLevel(255))
+    }
+}
+
+/// The first level from a token backwards.
+fn level_at(
+    alloc: Global,
+    token: rowan::SyntaxToken<RustLanguage>,
+) -> Result<IndentLevel, AllocError>
+    ensures { IfOk result (λ level. level.0 ≡ level_at token) }
+{
+    let mut place = token;
+    loop {
+        if let Some(level) = own_level(&place) {
+            return Ok(level);
+        }
+        match place.prev_token(alloc)? {
+            Some(before) => place = before,
+            None => return Ok(IndentLevel::zero()),
+        }
     }
 }
 

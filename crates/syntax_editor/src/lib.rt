@@ -14,6 +14,7 @@ pub mod recorded;
 pub mod recording;
 pub mod rewriting;
 pub mod target;
+pub mod whitespace;
 
 pub use annotation::{Annotations, SyntaxAnnotation};
 pub use editor::SyntaxEditor;
@@ -22,3 +23,4 @@ pub use factory::SyntaxFactory;
 pub use indent_level::IndentLevel;
 pub use make_error::MakeError;
 pub use rewriting::SyntaxEdit;
+pub use whitespace::Space;

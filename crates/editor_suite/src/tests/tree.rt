@@ -17,6 +17,12 @@ pub enum Tree {
     Wrapped,
     /// `3`: a literal.
     Literal,
+    /// `a` in braces, on lines of its own: one step before `{`, two behind an empty line before `a`, three spaces before `}`.
+    Lines,
+    /// A file without tokens.
+    Empty,
+    /// Uses and attributes on lines of one step, two and none: elements 1 and 4 are uses, 3, 5 and 7 attributes.
+    Items,
 }
 
 #[derive(Clone, Copy)]
@@ -67,6 +73,43 @@ fn steps(tree: Tree) -> &'static [Step] {
         Tree::Literal => &[
             LITERAL,
             Step::Leaf(SyntaxKind::INT_NUMBER, "3"),
+            Step::Close,
+        ],
+        Tree::Lines => &[
+            Step::Open(SyntaxKind::BLOCK_EXPR),
+            Step::Leaf(SyntaxKind::WHITESPACE, "\n    "),
+            Step::Open(SyntaxKind::STMT_LIST),
+            Step::Leaf(SyntaxKind::L_CURLY, "{"),
+            Step::Leaf(SyntaxKind::WHITESPACE, "\n\n        "),
+            Step::Open(SyntaxKind::PATH),
+            Step::Leaf(SyntaxKind::IDENT, "a"),
+            Step::Close,
+            Step::Leaf(SyntaxKind::WHITESPACE, "\n   "),
+            Step::Leaf(SyntaxKind::R_CURLY, "}"),
+            Step::Close,
+            Step::Close,
+        ],
+        Tree::Empty => &[Step::Open(SyntaxKind::SOURCE_FILE), Step::Close],
+        Tree::Items => &[
+            Step::Open(SyntaxKind::SOURCE_FILE),
+            Step::Leaf(SyntaxKind::WHITESPACE, "\n    "),
+            Step::Open(SyntaxKind::USE),
+            Step::Leaf(SyntaxKind::USE_KW, "use"),
+            Step::Close,
+            Step::Leaf(SyntaxKind::WHITESPACE, "\n        "),
+            Step::Open(SyntaxKind::ATTR),
+            Step::Leaf(SyntaxKind::POUND, "#"),
+            Step::Close,
+            Step::Open(SyntaxKind::USE),
+            Step::Leaf(SyntaxKind::USE_KW, "use"),
+            Step::Close,
+            Step::Open(SyntaxKind::ATTR),
+            Step::Leaf(SyntaxKind::POUND, "#"),
+            Step::Close,
+            Step::Leaf(SyntaxKind::WHITESPACE, "\n"),
+            Step::Open(SyntaxKind::ATTR),
+            Step::Leaf(SyntaxKind::POUND, "#"),
+            Step::Close,
             Step::Close,
         ],
     }

@@ -1,0 +1,31 @@
+//! How far elements are set in, and what comes between them.
+use crate::tests::tree::{Tree, root};
+use std::alloc::Global;
+use std::test::Fail;
+use syntax_editor::{IndentLevel, Space};
+use syntax_tree::{SyntaxElement, SyntaxNode, TreeIds};
+
+/// The element at a way.
+fn element(alloc: Global, root: &SyntaxNode, way: &[usize]) -> Result<SyntaxElement, Fail> {
+    match root.element_at(alloc, way)? {
+        Some(element) => Ok(element),
+        None => Err(Fail::new("nothing stands there")),
+    }
+}
+
+/// Whether the element at a way has a level.
+pub fn has_level(alloc: Global, tree: Tree, way: &[usize], level: u8) -> Result<bool, Fail> {
+    let mut ids = TreeIds::new();
+    let root = root(alloc, tree, &mut ids)?;
+    let element = element(alloc, &root, way)?;
+    Ok(IndentLevel::from_element(alloc, &element)? == IndentLevel(level))
+}
+
+/// What comes between the children of two numbers of a root.
+pub fn between(alloc: Global, tree: Tree, left: usize, right: usize) -> Result<Space, Fail> {
+    let mut ids = TreeIds::new();
+    let root = root(alloc, tree, &mut ids)?;
+    let first = element(alloc, &root, &[left])?;
+    let second = element(alloc, &root, &[right])?;
+    Ok(Space::between(alloc, &first, &second)?)
+}
