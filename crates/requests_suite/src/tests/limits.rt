@@ -8,7 +8,7 @@ const TOO_LONG: &str = "{\"err\":\"TooLong\"}\n";
 
 /// A text behind so many spaces.
 fn behind_spaces(alloc: Global, count: usize, text: &str) -> Result<String, AllocError> {
-    let mut whole = String::with_capacity(alloc, count + text.len())?;
+    let mut whole = String::with_capacity(alloc, count)?;
     for _ in 0..count {
         whole.push(' ')?;
     }
