@@ -31,6 +31,10 @@ found_in t p = found_by t p.root p.up
     found_by t root [] = first_in t (record { root = root; up = [] })
     found_by t root (i ∷ up) = None
 
+-- the first node in preorder of the tree of a root that has this kind and this range
+abbrev pub pointed_at : {K : Type 0} → (K → K → Bool) → (ℕ → K) → K → ℕ → ℕ → Place → Option Place
+pointed_at same from_raw k a b root = found_in (is_at same from_raw k a b) root
+
 -- a place where it passes a test
 abbrev pub taken : (Place → Bool) → Option Place → Option Place
 taken t None = None

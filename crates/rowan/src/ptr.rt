@@ -1,7 +1,7 @@
 //! Pointers to nodes: a kind and a range, by which a node is found again in a tree.
 ghost use Rattle.std.specs.Prelude.{◌≡◌, IfOk, IfErr, IsSome};
 ghost use Rattle.rowan.specs.Place.{kind_at, start_of, end_of};
-ghost use Rattle.rowan.specs.Pointer.{is_at, first_in, found_in};
+ghost use Rattle.rowan.specs.Pointer.{is_at, first_in, pointed_at};
 ghost use Rattle.rowan.specs.Refusal.{FindsOrRefuses};
 
 use crate::api::{SyntaxNode, node_of};
@@ -45,7 +45,9 @@ impl<L: Language> SyntaxNodePtr<L> {
     /// The first node in preorder of this kind and range, in the tree of this root. `NotFound` where
     /// there is none, and where the node given is not a root.
     pub fn to_node(&self, alloc: Global, root: &SyntaxNode<L>) -> Result<SyntaxNode<L>, CursorError>
-        ensures { FindsOrRefuses (λ p. p) (found_in (is_at L.Kind.eq L.from_raw self.now.kind self.now.range.start.0 self.now.range.end.0) root.now) result }
+        ensures { FindsOrRefuses (λ p. p)
+            (pointed_at L.Kind.eq L.from_raw self.now.kind self.now.range.start.0 self.now.range.end.0 root.now)
+            result }
     {
         self.try_to_node(alloc, root)?.ok_or(CursorError::NotFound)
     }
@@ -57,7 +59,8 @@ impl<L: Language> SyntaxNodePtr<L> {
         alloc: Global,
         root: &SyntaxNode<L>,
     ) -> Result<Option<SyntaxNode<L>>, AllocError>
-        ensures { IfOk result (λ r. r ≡ found_in (is_at L.Kind.eq L.from_raw self.now.kind self.now.range.start.0 self.now.range.end.0) root.now) }
+        ensures { IfOk result (λ r. r
+            ≡ pointed_at L.Kind.eq L.from_raw self.now.kind self.now.range.start.0 self.now.range.end.0 root.now) }
     {
         let root = root.cursor();
         if root.parent().is_some() {

@@ -2,7 +2,7 @@
 ghost use Rattle.std.specs.Prelude.{◌≡◌, ◌↔◌, true, option_map, IsSome, IfOk, IfSome};
 ghost use Rattle.rowan.specs.Place.{kind_at, start_of, end_of};
 ghost use Rattle.rowan.specs.Cast.{can};
-ghost use Rattle.rowan.specs.Pointer.{is_at, found_in, taken};
+ghost use Rattle.rowan.specs.Pointer.{pointed_at, taken};
 ghost use Rattle.rowan.specs.Refusal.{FindsOrRefuses};
 
 use crate::api::SyntaxNode;
@@ -51,7 +51,11 @@ impl<N: AstNode> AstPtr<N> {
     pub fn to_node(&self, alloc: Global, root: &SyntaxNode<N::Language>) -> Result<N, CursorError>
     where
         N: Drop,
-        ensures { FindsOrRefuses N.place (taken (can N.Language.from_raw N.casts) (found_in (is_at N.Language.Kind.eq N.Language.from_raw self.now.raw.kind self.now.raw.range.start.0 self.now.raw.range.end.0) root.now)) result }
+        ensures { FindsOrRefuses N.place
+            (taken (can N.Language.from_raw N.casts)
+            (pointed_at N.Language.Kind.eq N.Language.from_raw self.now.raw.kind
+            self.now.raw.range.start.0 self.now.raw.range.end.0 root.now))
+            result }
     {
         self.try_to_node(alloc, root)?.ok_or(CursorError::NotFound)
     }
@@ -62,7 +66,10 @@ impl<N: AstNode> AstPtr<N> {
         alloc: Global,
         root: &SyntaxNode<N::Language>,
     ) -> Result<Option<N>, AllocError>
-        ensures { IfOk result (λ r. option_map N.place r ≡ taken (can N.Language.from_raw N.casts) (found_in (is_at N.Language.Kind.eq N.Language.from_raw self.now.raw.kind self.now.raw.range.start.0 self.now.raw.range.end.0) root.now)) }
+        ensures { IfOk result (λ r. option_map N.place r
+            ≡ taken (can N.Language.from_raw N.casts)
+            (pointed_at N.Language.Kind.eq N.Language.from_raw self.now.raw.kind
+            self.now.raw.range.start.0 self.now.raw.range.end.0 root.now)) }
     {
         match self.raw.try_to_node(alloc, root)? {
             Some(node) => Ok(N::cast(node)),
