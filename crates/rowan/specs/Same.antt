@@ -1,9 +1,10 @@
--- The test `same_place` decides equality of places.
-use Rattle.std.specs.Prelude.{◌≡◌, ℕ, List, refl, true, Bool, ◌&&◌, nat_eq}
+-- Which places and ways are one, and what a hash is fed of a way.
+use Rattle.std.specs.Prelude.{◌≡◌, ℕ, List, [], ◌∷◌, ◌++◌, refl, true, Bool, ◌&&◌, nat_eq}
 use Rattle.std.proofs.Common.{subst, Decides}
 use Rattle.std.proofs.lemmas.Bool.{and_parts, and_from}
 use Rattle.std.specs.Cmp.{unsigned_Decides, decided, IsEquivalence}
 use Rattle.std.specs.Cmp.Lexicographic.{pointwise}
+use Rattle.std.specs.Hash.{HashWrites, u32}
 use lib.Pointwise.{pointwise_decides}
 use Rattle.rowan_green.specs.Forest.{same_tree}
 use Rattle.rowan_green.specs.Same.{same_tree-Decides}
@@ -12,6 +13,11 @@ use Rattle.rowan.specs.Place.{Place}
 -- whether two places have one way up and one root term
 abbrev pub same_place : Place → Place → Bool
 same_place p q = pointwise nat_eq p.up q.up && same_tree p.root q.root
+
+-- what a hash is fed of a way: its numbers, the innermost first
+abbrev pub numbers_fed : List ℕ → HashWrites
+numbers_fed [] = []
+numbers_fed (i ∷ up) = u32 i ++ numbers_fed up
 
 same_way : (x y : List ℕ) → Decides (pointwise nat_eq x y) (x ≡ y)
 same_way = pointwise_decides unsigned_Decides

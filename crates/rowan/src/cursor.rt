@@ -1,5 +1,5 @@
 //! Cursors over nodes and tokens that know no language: a green value and where it stands.
-ghost use Rattle.std.specs.Prelude.{◌≡◌, ◌+◌, ◌<◌, ◌≤◌, ◌^◌, [], length, IfOk, OnErr, IsSome, Some};
+ghost use Rattle.std.specs.Prelude.{◌≡◌, ◌+◌, ◌<◌, ◌≤◌, ◌^◌, [], fold, length, IfOk, OnErr, IsSome, Some};
 ghost use Rattle.std.specs.Prelude.{nat_eq};
 ghost use Rattle.std.specs.Cmp.Lexicographic.{pointwise};
 ghost use Rattle.std.specs.Option.{option_copied};
@@ -7,6 +7,7 @@ ghost use Rattle.rowan_green.specs.Leaf.{Leaf};
 ghost use Rattle.rowan_green.specs.declared.utility_types.NodeOrToken.TheVariants.{Node, Token};
 ghost use Rattle.rowan.specs.Place.{Place, above, below, term_at, kind_at, text_at, start_of, end_of, index_of};
 ghost use Rattle.rowan.specs.Around.{Cursor, cursor_at};
+ghost use Rattle.rowan.specs.Same.{numbers_fed};
 
 use rowan_green::{GreenNode, GreenToken, NodeOrToken, SyntaxKind};
 use std::alloc::{AllocError, Global};
@@ -297,7 +298,7 @@ impl Clone for SyntaxToken {
 }
 
 /// Whether two nodes have the same way up to their roots.
-fn same_way(a: &SyntaxNode, b: &SyntaxNode) -> bool
+pub(crate) fn same_way(a: &SyntaxNode, b: &SyntaxNode) -> bool
     ensures { result ≡ pointwise nat_eq a.now.up b.now.up }
 {
     match (&a.shared.spot, &b.shared.spot) {
@@ -305,6 +306,16 @@ fn same_way(a: &SyntaxNode, b: &SyntaxNode) -> bool
         (Spot::Child(above_a, i), Spot::Child(above_b, j)) => *i == *j
             && same_way(above_a, above_b),
         _ => false,
+    }
+}
+
+/// Feeds a hash with the way up to the root: the numbers among siblings, the node's own first.
+pub(crate) fn hash_way<H: Hasher>(node: &SyntaxNode, state: &mut H)
+    ensures { state.new ≡ fold H.write state.old (numbers_fed node.now.up) }
+{
+    if let Spot::Child(above, index) = &node.shared.spot {
+        index.hash(state);
+        hash_way(above, state);
     }
 }
 

@@ -39,6 +39,7 @@ mod text_search;
 mod token_at_offset;
 pub mod utility_types;
 mod walk;
+mod ways;
 
 pub use api::{SyntaxElement, SyntaxNode, SyntaxToken};
 pub use around::{Ancestors, Siblings, SiblingsWithTokens};
