@@ -1,7 +1,6 @@
 -- How the leaves of a text are stored: where each ends.
-use Rattle.std.specs.Prelude.{◌≡◌, ◌≢◌, ℕ, zero, suc, ◌+◌, ◌≤◌, List, [], ◌∷◌, ◌++◌, length, drop, chars, slice_range, slice_index_or, Option, Some, None, Result, Ok, Err}
+use Rattle.std.specs.Prelude.{◌≡◌, ℕ, zero, suc, ◌+◌, ◌≤◌, List, [], ◌∷◌, ◌++◌, length, drop, chars, slice_range, slice_index_or, Option, Some, None, Result, Ok, Err}
 use Rattle.std.specs.Borrow.{Bor}
-use Rattle.std.specs.List.{All}
 use Rattle.std.specs.Str.{IsCharBoundary, IsUtf8}
 use Rattle.rustc_lexer.specs.Characters.{size}
 use Rattle.rustc_lexer.specs.Tokens.{first_lexeme}
@@ -43,11 +42,6 @@ end_from start (p ∷ ps) = end_from p.end ps
 abbrev pub AreSpans : List ℕ → ℕ → List StoredLeaf → Type 0
 AreSpans text start [] = Unit {0}
 AreSpans text start (p ∷ ps) = (start ≤ p.end) × IsCharBoundary text p.end × AreSpans text p.end ps
-
--- The stored leaves of a whole text: the last ends where the text does, and none is of the kind that stands for its end.
-abbrev pub AreStored : List ℕ → List StoredLeaf → Type 0
-AreStored text ps =
-    AreSpans text 0 ps × (end_from 0 ps ≡ length text) × IsUtf8 text × All (λ p. raw_of p.kind ≢ EOF) ps
 
 -- the leaf that a text begins with
 abbrev pub leaf_next : Edition → List ℕ → Lexed

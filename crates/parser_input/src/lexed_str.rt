@@ -248,14 +248,20 @@ pub struct LexedStr<'a> {
 }
 
 impl<'a> Model for LexedStr<'a> {
-    ghost use Rattle.std.specs.Prelude.{chars};
-    ghost use Rattle.parser_input.specs.Stored.{AreStored, Whole, seen_from};
+    ghost use Rattle.std.specs.Prelude.{◌≡◌, ◌≢◌, chars, length, IsUtf8};
+    ghost use Rattle.std.specs.List.{All};
+    ghost use Rattle.parser_input.specs.Kind.{raw_of};
+    ghost use Rattle.parser_input.specs.Kinds.{EOF};
+    ghost use Rattle.parser_input.specs.Stored.{AreSpans, Whole, end_from, seen_from};
 
     ghost Value = { Whole };
 
     ghost view = { λ s. record { edition = s.edition; text = chars s.text.now; leaves = seen_from s.text.now 0 s.leaves.items } };
 
-    ghost invariant = { λ s. AreStored s.text.now s.leaves.items };
+    ghost invariant = { λ s. AreSpans s.text.now 0 s.leaves.items
+        × (end_from 0 s.leaves.items ≡ length s.text.now)
+        × IsUtf8 s.text.now
+        × All (λ p. raw_of p.kind ≢ EOF) s.leaves.items };
 }
 
 impl<'a> LexedStr<'a> {
