@@ -8,6 +8,7 @@ mod edits;
 mod opening;
 mod payloads;
 mod recording;
+mod refused_memory;
 mod rewrites;
 mod trees;
 

@@ -1,5 +1,5 @@
 -- What holds of every document.
-use Rattle.std.specs.Prelude.{◌≡◌, ℕ, true, List, [], take, drop, length, encode_utf8_all, Some}
+use Rattle.std.specs.Prelude.{◌≡◌, ℕ, Bool, true, List, [], take, drop, length, chars, encode_utf8_all, Some}
 use Rattle.std.specs.Str.{IsUtf8}
 use Rattle.rowan_green.specs.Leaf.{Leaf}
 use Rattle.rowan_green.specs.Forest.{tree_text}
@@ -8,13 +8,15 @@ use Rattle.parser_input.specs.Input.{input}
 use Rattle.parser_input.specs.declared.edition.Edition.{Edition}
 use Rattle.rust_grammar.specs.Rule.{Production}
 use Rattle.rust_grammar.specs.Laws.{is_entry}
-use Rattle.rowan.specs.Place.{term_by, start_by}
+use Rattle.rowan.specs.Place.{Place, term_by, start_by}
+use Rattle.rowan.specs.Pointer.{found_in}
 use Rattle.syntax_tree.specs.Element.{Way}
 use Rattle.rust_document.specs.Open.{IsOpened}
 use Rattle.rust_document.specs.Reading.{tree, tree_by, leaves_in, messages}
 use Rattle.rust_document.specs.Brackets.{are_token_trees_closed}
 use Rattle.rust_document.specs.Operators.{are_operators_placed}
 use Rattle.rust_document.specs.Shape.{kinds_of, kinds_from, dots}
+use Rattle.rust_document.specs.Tokens.{tokens_of}
 use Rattle.syntax_editor.specs.Editing.{untouched}
 use Rattle.rust_document.specs.Rewrite.{rewritten}
 use Rattle.rust_document.specs.Step.{State, present, root_element, verdict, Accepted}
@@ -28,6 +30,24 @@ abbrev pub LeavesAreSlices : Type 0
 LeavesAreSlices =
     (d : State) (way : Way) (l : Leaf) → IsUtf8 d.text → term_by (present d) way ≡ Some (Token l)
     → take (length l.text) (drop (start_by (present d) way) d.text) ≡ l.text
+
+-- two documents have the same tokens, messages and tree
+pub record Agree (d e : State) : Type 0 where
+  pub tokens : tokens_of d.edition (chars d.text) ≡ tokens_of e.edition (chars e.text)
+  pub told : messages d.edition (chars d.text) ≡ messages e.edition (chars e.text)
+  pub trees : present d ≡ present e
+
+-- Documents of equal edition and text agree, whatever commands made them.
+abbrev pub TextsDecide : Type 0
+TextsDecide = (d e : State) → d.edition ≡ e.edition → d.text ≡ e.text → Agree d e
+
+-- In documents of equal edition and text the first node that passes a test, as the one of a pointer's kind and range, stands at the
+-- same place.
+abbrev pub PointersFollowTexts : Type 0
+PointersFollowTexts =
+    (d e : State) (test : Place → Bool)
+    → d.edition ≡ e.edition → d.text ≡ e.text
+    → found_in test (root_element d).place ≡ found_in test (root_element e).place
 
 -- an editor of the present tree with nothing recorded is accepted, and the text stays
 pub record IsKept (d : State) : Type 0 where

@@ -1,7 +1,7 @@
 //! Laws of the definitions. Each is the contract of a function that makes no call.
 
 ghost use Rattle.rust_document.specs.EditLaws.{EditsAreUndone};
-ghost use Rattle.rust_document.specs.Laws.{TreesHaveTheirTexts, LeavesAreSlices, UntouchedIsKept, KindsFollowInputs, OperatorsBindByPower, TokenTreesAreClosed};
+ghost use Rattle.rust_document.specs.Laws.{TreesHaveTheirTexts, LeavesAreSlices, TextsDecide, PointersFollowTexts, UntouchedIsKept, KindsFollowInputs, OperatorsBindByPower, TokenTreesAreClosed};
 ghost use Rattle.rust_document.specs.OperatorExamples.{PlacedOperatorsAreTold};
 
 /// The leaves of a text's tree, joined, are the text.
@@ -12,6 +12,16 @@ pub fn trees_have_their_texts()
 /// The text of a leaf is the slice of the document's text at the leaf's range.
 pub fn leaves_are_slices()
     ensures { LeavesAreSlices }
+{}
+
+/// Documents of equal edition and text agree in tokens, messages and tree, whatever commands made them.
+pub fn texts_decide()
+    ensures { TextsDecide }
+{}
+
+/// In documents of equal edition and text a pointer leads to the same node. So it does after a refused command, which leaves both.
+pub fn pointers_follow_texts()
+    ensures { PointersFollowTexts }
 {}
 
 /// An editor of the present tree with nothing recorded is accepted, and the text stays: so tokens, messages and tree do.

@@ -1,5 +1,5 @@
 -- What a node or a token that is handed out stands for.
-use Rattle.std.specs.Prelude.{ℕ, List, map, Option, option_map}
+use Rattle.std.specs.Prelude.{ℕ, List, map, Option, Some, None, option_map}
 use Rattle.rowan_green.specs.Either.{either}
 use Rattle.rowan.specs.Place.{Place, above}
 use Rattle.rowan.specs.Around.{Cursor}
@@ -11,6 +11,16 @@ use Rattle.syntax_tree.specs.declared.element.SyntaxElement.TheVariants.{Node, T
 abbrev pub element_of : SyntaxElement → Element
 element_of (Node e) = e
 element_of (Token e) = e
+
+-- the node, if it is one
+abbrev pub node_of : SyntaxElement → Option Element
+node_of (Node e) = Some e
+node_of (Token e) = None
+
+-- the token, if it is one
+abbrev pub token_of : SyntaxElement → Option Element
+token_of (Node e) = None
+token_of (Token e) = Some e
 
 -- the element at a place of the tree of this number
 abbrev pub with_number : ℕ → Place → Element

@@ -7,3 +7,4 @@ pub mod Refusal
 pub mod Lent
 pub mod Search
 pub mod Replacement
+pub mod Same

@@ -1,23 +1,65 @@
 //! Elements: a node or a token.
 ghost use Rattle.std.specs.Prelude.{◌≡◌, ◌+◌, ◌<◌, ◌^◌, length, reverse, IfOk, Some};
+ghost use Rattle.std.specs.Option.{option_copied};
 ghost use Rattle.rowan.specs.Place.{kind_at, start_of, end_of, index_of, terms_below};
 ghost use Rattle.syntax_tree.specs.Language.{kind_of_raw};
 ghost use Rattle.syntax_tree.specs.Element.{term_of, is_node};
-ghost use Rattle.syntax_tree.specs.Handle.{element_of, parent_of};
+ghost use Rattle.syntax_tree.specs.declared.element.SyntaxElement.{SyntaxElement};
+ghost use Rattle.syntax_tree.specs.Handle.{element_of, node_of, token_of, parent_of};
 
 use crate::handle::{SyntaxNode, SyntaxToken};
 use parser_input::SyntaxKind;
 use rowan_green::{GreenElement, NodeOrToken, TextRange};
 use std::alloc::{AllocError, Global};
 
-/// A node or a token of a numbered tree.
-#[derive(Drop)]
+/// A node or a token of a numbered tree. Two are equal where both are nodes, or both tokens, of one tree number and one way.
+#[derive(PartialEq, Eq, Hash, Drop)]
 pub enum SyntaxElement {
     Node(SyntaxNode),
     Token(SyntaxToken),
 }
 
 impl SyntaxElement {
+    /// The node, if it is one.
+    pub fn into_node(self) -> Option<SyntaxNode>
+        ensures { result ≡ node_of self }
+    {
+        match self {
+            SyntaxElement::Node(node) => Some(node),
+            SyntaxElement::Token(_) => None,
+        }
+    }
+
+    /// The token, if it is one.
+    pub fn into_token(self) -> Option<SyntaxToken>
+        ensures { result ≡ token_of self }
+    {
+        match self {
+            SyntaxElement::Node(_) => None,
+            SyntaxElement::Token(token) => Some(token),
+        }
+    }
+
+    /// A reference to the node, if it is one.
+    pub fn as_node(&self) -> Option<&SyntaxNode>
+        ensures { option_copied result ≡ node_of self.now }
+    {
+        match self {
+            SyntaxElement::Node(node) => Some(node),
+            SyntaxElement::Token(_) => None,
+        }
+    }
+
+    /// A reference to the token, if it is one.
+    pub fn as_token(&self) -> Option<&SyntaxToken>
+        ensures { option_copied result ≡ token_of self.now }
+    {
+        match self {
+            SyntaxElement::Node(_) => None,
+            SyntaxElement::Token(token) => Some(token),
+        }
+    }
+
     /// The number of its tree.
     pub fn tree(&self) -> u32
         ensures { result ≡ (element_of self.now).number }
@@ -176,5 +218,71 @@ impl From<SyntaxToken> for SyntaxElement {
 
     fn from(token: SyntaxToken) -> SyntaxElement {
         SyntaxElement::Token(token)
+    }
+}
+
+/// What stands for an element: a node, a token, one of both, or a reference to one of these.
+pub trait Element: Sized {
+    /// The element.
+    ghost element: { Self → SyntaxElement };
+
+    /// The element. A reference is cloned, which is refused only where as many clones stand as a `usize` can count.
+    fn syntax_element(self) -> Result<SyntaxElement, AllocError>
+        ensures { IfOk result (λ e. e ≡ element self) };
+}
+
+impl Element for SyntaxNode {
+    ghost use Rattle.syntax_tree.specs.declared.element.SyntaxElement.TheVariants.{Node};
+
+    ghost element = { Node };
+
+    fn syntax_element(self) -> Result<SyntaxElement, AllocError> {
+        Ok(SyntaxElement::Node(self))
+    }
+}
+
+impl Element for &SyntaxNode {
+    ghost use Rattle.syntax_tree.specs.declared.element.SyntaxElement.TheVariants.{Node};
+
+    ghost element = { λ e. Node e.now };
+
+    fn syntax_element(self) -> Result<SyntaxElement, AllocError> {
+        Ok(SyntaxElement::Node(self.clone()?))
+    }
+}
+
+impl Element for SyntaxToken {
+    ghost use Rattle.syntax_tree.specs.declared.element.SyntaxElement.TheVariants.{Token};
+
+    ghost element = { Token };
+
+    fn syntax_element(self) -> Result<SyntaxElement, AllocError> {
+        Ok(SyntaxElement::Token(self))
+    }
+}
+
+impl Element for &SyntaxToken {
+    ghost use Rattle.syntax_tree.specs.declared.element.SyntaxElement.TheVariants.{Token};
+
+    ghost element = { λ e. Token e.now };
+
+    fn syntax_element(self) -> Result<SyntaxElement, AllocError> {
+        Ok(SyntaxElement::Token(self.clone()?))
+    }
+}
+
+impl Element for SyntaxElement {
+    ghost element = { λ e. e };
+
+    fn syntax_element(self) -> Result<SyntaxElement, AllocError> {
+        Ok(self)
+    }
+}
+
+impl Element for &SyntaxElement {
+    ghost element = { λ e. e.now };
+
+    fn syntax_element(self) -> Result<SyntaxElement, AllocError> {
+        self.clone()
     }
 }

@@ -4,6 +4,7 @@
 //! cursor is lent for all other reading.
 #![tactic(auto)]
 
+pub mod ast;
 pub mod element;
 pub mod elements;
 pub mod error;
@@ -14,10 +15,12 @@ pub mod language;
 pub mod mapping;
 pub mod position;
 pub mod replace;
+mod same;
 pub mod tree_ids;
 pub mod ways;
 
-pub use element::SyntaxElement;
+pub use ast::AstNode;
+pub use element::{Element, SyntaxElement};
 pub use error::{MappingError, PositionError, Spent, TreeError};
 pub use handle::{SyntaxNode, SyntaxToken};
 pub use iter::{Ancestors, DescendantsWithTokens, SyntaxElementChildren, SyntaxNodeChildren};

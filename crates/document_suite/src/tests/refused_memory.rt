@@ -1,0 +1,101 @@
+//! Calls that are made again where memory was refused: a refusal leaves the document as it was, and the same call then does what ample
+//! memory has it do. `bench/refused.py` runs these with each request for memory refused in turn.
+use super::{Place, range};
+use parser_input::edition::Edition;
+use parser_input::syntax_kind::SyntaxKind;
+use ra_parser::TopEntryPoint;
+use rowan_green::TextRange;
+use rust_document::{CommitError, Document, EditError, PayloadEntry, SyntaxEditor, payload};
+use std::alloc::Global;
+use std::test::Fail;
+use syntax_tree::TreeIds;
+
+fn opened(alloc: Global, text: &str, ids: &mut TreeIds) -> Result<Document, Fail> {
+    match Document::open(alloc, Edition::Edition2021, text, ids) {
+        Ok(document) => Ok(document),
+        Err(_) => Ok(Document::open(alloc, Edition::Edition2021, text, ids)?),
+    }
+}
+
+/// Whether an edit gives this text, made again where memory was refused.
+fn is_edited(
+    alloc: Global,
+    text: &str,
+    at: TextRange,
+    put: &str,
+    becomes: &str,
+) -> Result<bool, Fail> {
+    let mut ids = TreeIds::new();
+    let mut document = opened(alloc, text, &mut ids)?;
+    for _ in 0..2 {
+        if !document.can_edit(at) {
+            return Ok(false);
+        }
+        let answer = document.edit(alloc, at, put, &mut ids);
+        match answer {
+            Err(EditError::NoMemory) => {
+                if document.text() != text {
+                    return Ok(false);
+                }
+            }
+            _ => return Ok(answer.is_ok() & (document.text() == becomes)),
+        }
+    }
+    Ok(false)
+}
+
+/// An editor that puts what a text is read as for elements of a document. None where memory was refused.
+fn recorded(
+    alloc: Global,
+    document: &Document,
+    places: [Place; 2],
+    text: &str,
+    ids: &mut TreeIds,
+) -> Option<SyntaxEditor> {
+    let entry = PayloadEntry::Top(TopEntryPoint::Expr);
+    let new = payload(alloc, entry, Edition::Edition2021, text, ids).ok()?;
+    let mut editor = document.editor(alloc).ok()?;
+    for (kind, start, end) in places {
+        let target = document.find(alloc, kind, range(start, end)).ok()??;
+        editor.replace(alloc, &target, &new).ok()?;
+    }
+    Some(editor)
+}
+
+/// Whether the text of `fn f() { g(1, 2); }` is this once both literals became an expression, recorded and committed again where memory
+/// was refused.
+fn is_committed(alloc: Global, put: &str, becomes: &str) -> Result<bool, Fail> {
+    let text = "fn f() { g(1, 2); }";
+    let places = [(SyntaxKind::LITERAL, 11, 12), (SyntaxKind::LITERAL, 14, 15)];
+    let mut ids = TreeIds::new();
+    let mut document = opened(alloc, text, &mut ids)?;
+    for _ in 0..2 {
+        if let Some(editor) = recorded(alloc, &document, places, put, &mut ids) {
+            let refused = document.commit(alloc, editor, &mut ids).err();
+            if refused != Some(CommitError::NoMemory) {
+                return Ok(refused.is_none() & (document.text() == becomes));
+            }
+        }
+        if document.text() != text {
+            return Ok(false);
+        }
+    }
+    Ok(false)
+}
+
+#[test]
+fn refused_edits_change_nothing(rt: HostRuntime) -> Result<(), Fail> {
+    let alloc = rt.alloc();
+    let chain = "fn f() { x.0.1; }";
+    assert!(rt; is_edited(alloc, chain, range(13, 14), "", "fn f() { x.0.; }")?);
+    assert!(rt; is_edited(alloc, "#\"a\" b", range(5, 6), "c", "#\"a\" c")?);
+    Ok(())
+}
+
+#[test]
+fn refused_commits_change_nothing(rt: HostRuntime) -> Result<(), Fail> {
+    let alloc = rt.alloc();
+    assert!(rt; is_committed(alloc, "3", "fn f() { g(3, 3); }")?);
+    assert!(rt; is_committed(alloc, "a = b", "fn f() { g(a = b, a = b); }")?);
+    Ok(())
+}

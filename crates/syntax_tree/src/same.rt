@@ -1,0 +1,74 @@
+//! Nodes and tokens are one where they have one tree number and one way; by no memory.
+
+use crate::handle::{SyntaxNode, SyntaxToken};
+use std::hash::{Hash, Hasher};
+
+impl PartialEq for SyntaxNode {
+    ghost use Rattle.std.specs.Cmp.{partial_equiv_from_equiv};
+    ghost use Rattle.syntax_tree.specs.Element.{same_element};
+    ghost use Rattle.syntax_tree.specs.Same.{same_element-equiv};
+
+    ghost eq = { same_element };
+
+    ghost laws = { partial_equiv_from_equiv same_element-equiv };
+
+    /// Equal numbers of their trees, and equal ways up to the roots.
+    fn eq(&self, other: &SyntaxNode) -> bool {
+        self.tree() == other.tree() && self.cursor().has_way_of(other.cursor())
+    }
+}
+
+impl Eq for SyntaxNode {
+    ghost use Rattle.syntax_tree.specs.Same.{same_element-equiv};
+
+    ghost laws = { same_element-equiv };
+}
+
+impl Hash for SyntaxNode {
+    ghost use Rattle.syntax_tree.specs.Same.{element_fed, fed_alike};
+
+    ghost hash_input = { element_fed };
+
+    ghost respects_eq = { fed_alike };
+
+    /// The number of its tree, then the numbers of its way.
+    fn hash<H: Hasher>(&self, state: &mut H) {
+        self.tree().hash(state);
+        self.cursor().hash_way(state);
+    }
+}
+
+impl PartialEq for SyntaxToken {
+    ghost use Rattle.std.specs.Cmp.{partial_equiv_from_equiv};
+    ghost use Rattle.syntax_tree.specs.Element.{same_element};
+    ghost use Rattle.syntax_tree.specs.Same.{same_element-equiv};
+
+    ghost eq = { same_element };
+
+    ghost laws = { partial_equiv_from_equiv same_element-equiv };
+
+    /// Equal numbers of their trees, and equal ways up to the roots.
+    fn eq(&self, other: &SyntaxToken) -> bool {
+        self.tree() == other.tree() && self.cursor().has_way_of(other.cursor())
+    }
+}
+
+impl Eq for SyntaxToken {
+    ghost use Rattle.syntax_tree.specs.Same.{same_element-equiv};
+
+    ghost laws = { same_element-equiv };
+}
+
+impl Hash for SyntaxToken {
+    ghost use Rattle.syntax_tree.specs.Same.{element_fed, fed_alike};
+
+    ghost hash_input = { element_fed };
+
+    ghost respects_eq = { fed_alike };
+
+    /// The number of its tree, then the numbers of its way.
+    fn hash<H: Hasher>(&self, state: &mut H) {
+        self.tree().hash(state);
+        self.cursor().hash_way(state);
+    }
+}
