@@ -72,6 +72,16 @@ impl SyntaxMapping {
         self.entries.append(&mut entries)
     }
 
+    /// Takes the entries of another mapping, as if recorded after this one's, and leaves none there. A refusal changes neither.
+    pub fn append(&mut self, other: &mut SyntaxMapping) -> Result<(), AllocError>
+        ensures ok { OnOk result (self.new ≡ self.old ++ other.old) }
+        ensures emptied { OnOk result (other.new ≡ []) }
+        ensures err { OnErr result (self.new ≡ self.old) }
+        ensures kept { OnErr result (other.new ≡ other.old) }
+    {
+        self.entries.append(&mut other.entries)
+    }
+
     /// Takes over another mapping, as if recorded after this one. A refusal changes nothing.
     pub fn merge(&mut self, other: SyntaxMapping) -> Result<(), AllocError>
         ensures ok { OnOk result (self.new ≡ self.old ++ other) }
