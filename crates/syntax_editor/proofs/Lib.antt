@@ -2,3 +2,5 @@ pub mod Singles
 pub mod Sound
 pub mod TokensBefore
 pub mod LineFeeds
+pub mod Roots
+pub mod Spaces

@@ -1,5 +1,5 @@
 -- What contracts see of an editor.
-use Rattle.std.specs.Prelude.{◌≡◌, ℕ, ◌+◌, List, [], ◌∷◌, Some}
+use Rattle.std.specs.Prelude.{◌≡◌, ℕ, ◌+◌, List, [], ◌∷◌, ◌++◌, Some}
 use Rattle.rowan_green.specs.Forest.{Tree}
 use Rattle.rowan_green.specs.declared.utility_types.NodeOrToken.TheVariants.{Node}
 use Rattle.syntax_tree.specs.Element.{Way, Element, element_at, term_of}
@@ -17,6 +17,10 @@ pub record Editing : Type 0 where
   pub changes : List Change
   pub mapping : Mapping
   pub annotations : List Annotated
+
+-- an element with the annotation of a number
+abbrev pub with_annotation : ℕ → Element → Annotated
+with_annotation n e = record { annotation = n; element = e }
 
 -- nothing is recorded
 abbrev pub untouched : Element → Editing
@@ -37,3 +41,12 @@ IsEdited e n top = is_edited e.place.up
 abbrev pub next_number : Way → ℕ → ℕ
 next_number [] n = n
 next_number (i ∷ w) n = n + 1
+
+-- all that one has, and behind it all that the other has
+abbrev pub merged : Editing → Editing → Editing
+merged e f = record {
+  top = e.top;
+  changes = e.changes ++ f.changes;
+  mapping = e.mapping ++ f.mapping;
+  annotations = e.annotations ++ f.annotations;
+}

@@ -8,3 +8,4 @@ pub mod Making
 pub mod Indent
 pub mod Between
 pub mod Found
+pub mod Spaced

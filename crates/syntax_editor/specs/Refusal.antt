@@ -1,12 +1,18 @@
 -- When a call records nothing, and what refusals print.
 use Rattle.std.specs.Prelude.{◌≡◌, ℕ, List, codes}
+use Rattle.syntax_tree.specs.Element.{Element}
 use Rattle.syntax_tree.specs.declared.error.TreeError.{TreeError}
 use Rattle.syntax_tree.specs.declared.error.TreeError.TheVariants as trees
 use Rattle.tree_rewrite.specs.declared.error.PlanError.{PlanError}
 use Rattle.tree_rewrite.specs.declared.error.PlanError.TheVariants as plans
 use Rattle.syntax_editor.specs.Recording.{Recording, Foreign, BadRange, BadTarget}
+use Rattle.syntax_editor.specs.Inside.{IsOf}
 use Rattle.syntax_editor.specs.declared.error.RecordError.{RecordError}
 use Rattle.syntax_editor.specs.declared.error.RecordError.TheVariants as records
+use Rattle.syntax_editor.specs.declared.error.MergeError.{MergeError}
+use Rattle.syntax_editor.specs.declared.error.MergeError.TheVariants as merges
+use Rattle.syntax_editor.specs.declared.error.WhitespaceError.{WhitespaceError}
+use Rattle.syntax_editor.specs.declared.error.WhitespaceError.TheVariants as spaced
 use Rattle.syntax_editor.specs.declared.error.RewriteError.{RewriteError}
 use Rattle.syntax_editor.specs.declared.error.RewriteError.TheVariants as rewrites
 use Rattle.syntax_editor.specs.declared.error.FinishError.{FinishError}
@@ -24,6 +30,20 @@ record_message records.Foreign = codes "of another tree"
 record_message records.BadRange = codes "no children of one parent, in order"
 record_message records.BadTarget = codes "the root only becomes one other node"
 record_message records.NoMemory = codes "out of memory"
+
+-- only an editor of this tree, by number and by what stands there, is merged; out of memory only behind that
+abbrev pub RefusesMerge : Element → Element → MergeError → Type 0
+RefusesMerge top other merges.Foreign = IsOf top other → ⊥
+RefusesMerge top other merges.NoMemory = IsOf top other
+
+abbrev pub merge_message : MergeError → List ℕ
+merge_message merges.Foreign = codes "of another tree"
+merge_message merges.NoMemory = codes "out of memory"
+
+abbrev pub whitespace_message : WhitespaceError → List ℕ
+whitespace_message spaced.Foreign = codes "of another tree"
+whitespace_message spaced.NoMemory = codes "out of memory"
+whitespace_message spaced.NoTreeNumber = codes "no tree number is left"
 
 abbrev pub rewrite_message : RewriteError → List ℕ
 rewrite_message rewrites.Intersecting = codes "two changes replace one element"
@@ -53,3 +73,7 @@ of_rewrite rewrites.NoMemory = finishes.NoMemory
 abbrev pub of_tree : TreeError → FinishError
 of_tree trees.Spent = finishes.NoTreeNumber
 of_tree trees.NoMemory = finishes.NoMemory
+
+abbrev pub of_number : TreeError → WhitespaceError
+of_number trees.Spent = spaced.NoTreeNumber
+of_number trees.NoMemory = spaced.NoMemory

@@ -1,8 +1,12 @@
 //! Marks on elements, by which they are found again in a rewritten tree.
-ghost use Rattle.std.specs.Prelude.{◌≡◌, ◌+◌, ◌^◌, IfOk, IfErr};
+ghost use Rattle.std.specs.Prelude.{◌≡◌, ◌+◌, ◌^◌, map, IfOk, IfErr};
+ghost use Rattle.syntax_tree.specs.Handle.{element_of};
+ghost use Rattle.syntax_editor.specs.Editing.{with_annotation};
+ghost use Rattle.syntax_editor.specs.Inside.{annotated};
 
+use std::alloc::{AllocError, Global};
 use std::marker::Model;
-use syntax_tree::Spent;
+use syntax_tree::{Spent, SyntaxElement};
 
 /// A mark, told apart from others by its number.
 #[derive(Clone, Copy, Debug, PartialEq, Eq)]
@@ -47,4 +51,19 @@ impl Annotations {
         self.next += 1;
         Ok(SyntaxAnnotation { number })
     }
+}
+
+/// These elements, each with a mark.
+pub(crate) fn marked(
+    alloc: Global,
+    elements: &[SyntaxElement],
+    annotation: SyntaxAnnotation,
+) -> Result<Vec<(SyntaxElement, SyntaxAnnotation)>, AllocError>
+    ensures { IfOk result (λ v. map annotated v.items ≡ map (with_annotation annotation.number) (map element_of elements.now)) }
+{
+    let mut marked = Vec::new(alloc);
+    for element in elements {
+        marked.push((element.clone()?, annotation))?;
+    }
+    Ok(marked)
 }

@@ -6,12 +6,13 @@ ghost use Rattle.syntax_tree.specs.Handle.{element_of};
 ghost use Rattle.syntax_tree.specs.Refusal.{RefusesTree};
 ghost use Rattle.tree_rewrite.specs.Change.{IsOneNode};
 ghost use Rattle.tree_rewrite.specs.Recorded.{recorded};
-ghost use Rattle.syntax_editor.specs.Editing.{untouched, with_changes, IsEdited, next_number};
+ghost use Rattle.syntax_editor.specs.Editing.{with_annotation, untouched, with_changes, IsEdited, next_number};
 ghost use Rattle.syntax_editor.specs.Recording.{over, with_single, is_deleted};
 ghost use Rattle.syntax_editor.specs.Inside.{IsOf, IsSound, annotated};
 ghost use Rattle.syntax_editor.specs.Lending.{LendsMapping};
 
-use crate::annotation::SyntaxAnnotation;
+use crate::annotation::{SyntaxAnnotation, marked};
+use crate::factory::{FACTORY, SyntaxFactory};
 use crate::recorded::{has_deletion_at, puts_nothing, single_number};
 use crate::target::target;
 use std::alloc::{AllocError, Global};
@@ -98,6 +99,11 @@ impl SyntaxEditor {
         &self.root
     }
 
+    /// What makes tokens to put in.
+    pub fn make(&self) -> &SyntaxFactory {
+        &FACTORY
+    }
+
     /// What nodes of replaced trees are mapped to.
     pub fn mappings(&mut self) -> &mut SyntaxMapping
         ensures* writes_back { sem 𝓛 (LendsMapping self.entry result) }
@@ -120,6 +126,24 @@ impl SyntaxEditor {
     {
         let element = element.clone()?;
         self.annotations.push((element, annotation))?;
+        Ok(())
+    }
+
+    /// Marks elements, of any tree, the first of these first. A refusal marks nothing.
+    pub fn add_annotation_all(
+        &mut self,
+        alloc: Global,
+        elements: &[SyntaxElement],
+        annotation: SyntaxAnnotation,
+    ) -> Result<(), AllocError>
+        ensures ok { OnOk result (self.new ≡
+            record self.old {
+              annotations = self.old.annotations ++ map (with_annotation annotation.number) (map element_of elements.now);
+            }) }
+        ensures err { OnErr result (self.new ≡ self.old) }
+    {
+        let mut marked = marked(alloc, elements, annotation)?;
+        self.annotations.append(&mut marked)?;
         Ok(())
     }
 

@@ -58,6 +58,95 @@ impl<T: Drop> From<AllocFailed<T>> for RecordError {
     }
 }
 
+/// Why an editor was not merged.
+#[derive(Clone, Copy, Debug, PartialEq, Eq)]
+pub enum MergeError {
+    /// It is one of another tree: another tree number, or another tree under that.
+    Foreign = 1,
+    /// Memory was refused.
+    NoMemory = 4,
+}
+
+impl fmt::Display for MergeError {
+    ghost use Rattle.std.specs.Prelude.{Some};
+    ghost use Rattle.syntax_editor.specs.Refusal.{merge_message};
+
+    ghost output = { λ e. Some (merge_message e) };
+
+    fn fmt<W: fmt::Write>(&self, f: &mut fmt::Formatter<W>) -> fmt::Result {
+        match self {
+            MergeError::Foreign => write!(f, "of another tree"),
+            MergeError::NoMemory => write!(f, "out of memory"),
+        }
+    }
+}
+
+impl Error for MergeError {}
+
+/// Why elements with white space around them were not recorded. The editor is as it was.
+#[derive(Clone, Copy, Debug, PartialEq, Eq)]
+pub enum WhitespaceError {
+    /// A position is none of the edited tree.
+    Foreign = 1,
+    /// Memory was refused.
+    NoMemory = 4,
+    /// Each tree number was given.
+    NoTreeNumber = 5,
+}
+
+impl fmt::Display for WhitespaceError {
+    ghost use Rattle.std.specs.Prelude.{Some};
+    ghost use Rattle.syntax_editor.specs.Refusal.{whitespace_message};
+
+    ghost output = { λ e. Some (whitespace_message e) };
+
+    fn fmt<W: fmt::Write>(&self, f: &mut fmt::Formatter<W>) -> fmt::Result {
+        match self {
+            WhitespaceError::Foreign => write!(f, "of another tree"),
+            WhitespaceError::NoMemory => write!(f, "out of memory"),
+            WhitespaceError::NoTreeNumber => write!(f, "no tree number is left"),
+        }
+    }
+}
+
+impl Error for WhitespaceError {}
+
+impl From<AllocError> for WhitespaceError {
+    ghost use Rattle.syntax_editor.specs.declared.error.WhitespaceError.TheVariants.{NoMemory};
+    ghost use Rattle.std.specs.Prelude.{◌≡◌};
+
+    ghost from_gives = { λ _ e. e ≡ NoMemory };
+
+    fn from(_e: AllocError) -> WhitespaceError {
+        WhitespaceError::NoMemory
+    }
+}
+
+impl<T: Drop> From<AllocFailed<T>> for WhitespaceError {
+    ghost use Rattle.syntax_editor.specs.declared.error.WhitespaceError.TheVariants.{NoMemory};
+    ghost use Rattle.std.specs.Prelude.{◌≡◌};
+
+    ghost from_gives = { λ _ e. e ≡ NoMemory };
+
+    fn from(_e: AllocFailed<T>) -> WhitespaceError {
+        WhitespaceError::NoMemory
+    }
+}
+
+impl From<TreeError> for WhitespaceError {
+    ghost use Rattle.syntax_editor.specs.Refusal.{of_number};
+    ghost use Rattle.std.specs.Prelude.{◌≡◌};
+
+    ghost from_gives = { λ f e. e ≡ of_number f };
+
+    fn from(e: TreeError) -> WhitespaceError {
+        match e {
+            TreeError::Spent => WhitespaceError::NoTreeNumber,
+            TreeError::NoMemory => WhitespaceError::NoMemory,
+        }
+    }
+}
+
 /// Why the recorded changes make no tree.
 #[derive(Clone, Copy, Debug, PartialEq, Eq)]
 pub enum RewriteError {

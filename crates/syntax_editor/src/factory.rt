@@ -17,6 +17,9 @@ use syntax_tree::{SyntaxToken, TreeIds};
 #[derive(Debug, Drop)]
 pub struct SyntaxFactory;
 
+/// The factory that editors lend.
+pub(crate) static FACTORY: SyntaxFactory = SyntaxFactory;
+
 impl SyntaxFactory {
     /// White space in a tree of its own, whose number is the next of `ids`. Refuses a text of 2^32 bytes or more as too long, then for
     /// want of a number. A refusal takes no number.

@@ -1,5 +1,6 @@
 //! What a handle names in the tree that is edited.
 ghost use Rattle.std.specs.Prelude.{◌≡◌, true, ◌&&◌, [], Some, is_some, map, option_map, IfOk, IfSome};
+ghost use Rattle.rowan.specs.Place.{kind_at};
 ghost use Rattle.rowan_green.specs.Term.{kind_of};
 ghost use Rattle.syntax_tree.specs.Element.{term_of, element_at};
 ghost use Rattle.syntax_tree.specs.Handle.{element_of};
@@ -12,8 +13,9 @@ use std::alloc::{AllocError, Global};
 use syntax_tree::{Position, SyntaxElement, SyntaxNode};
 
 /// The raw number of its kind.
-fn raw_kind(element: &SyntaxElement) -> u16
-    ensures { option_map kind_of (term_of (element_of element.now)) ≡ Some result }
+pub(crate) fn raw_kind(element: &SyntaxElement) -> u16
+    ensures kind { result ≡ kind_at (element_of element.now).place }
+    ensures stands { option_map kind_of (term_of (element_of element.now)) ≡ Some result }
 {
     match element {
         SyntaxElement::Node(node) => node.cursor().green().kind().0,

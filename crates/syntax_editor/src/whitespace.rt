@@ -1,12 +1,14 @@
 //! White space around what is put in.
 ghost use Rattle.std.specs.Prelude.{◌≡◌, ◌==◌, max, IfOk};
 ghost use Rattle.parser_input.specs.Kind.{raw_of};
-ghost use Rattle.syntax_editor.specs.Between.{kind_of, is_tight, between};
+ghost use Rattle.syntax_editor.specs.Between.{is_tight, between};
 ghost use Rattle.syntax_editor.specs.Indent.{level_of};
 
 use crate::indent_level::IndentLevel;
+use crate::target::raw_kind;
 use parser_input::SyntaxKind;
 use std::alloc::{AllocError, Global};
+use std::fmt;
 use syntax_tree::SyntaxElement;
 
 /// The white space between two neighbours.
@@ -18,16 +20,6 @@ pub enum Space {
     Blank,
     /// A line feed, and so many steps.
     Line(u8),
-}
-
-/// The raw number of its kind.
-pub(crate) fn raw_kind(element: &SyntaxElement) -> u16
-    ensures { result ≡ kind_of element.now }
-{
-    match element {
-        SyntaxElement::Node(node) => node.cursor().green().kind().0,
-        SyntaxElement::Token(token) => token.cursor().green().kind().0,
-    }
 }
 
 /// Whether a raw kind is this one.
@@ -95,5 +87,23 @@ impl Space {
             return Ok(Space::Line(IndentLevel::from_element(alloc, right)?.0));
         }
         Ok(Space::Blank)
+    }
+}
+
+impl fmt::Display for Space {
+    ghost use Rattle.std.specs.Prelude.{Some};
+    ghost use Rattle.syntax_editor.specs.Spaced.{text_of};
+
+    ghost output = { λ space. Some (text_of space) };
+
+    fn fmt<W: fmt::Write>(&self, f: &mut fmt::Formatter<W>) -> fmt::Result {
+        match self {
+            Space::Nothing => Ok(()),
+            Space::Blank => f.write_str(" "),
+            Space::Line(steps) => {
+                f.write_str("\n")?;
+                IndentLevel(*steps).fmt(f)
+            }
+        }
     }
 }
