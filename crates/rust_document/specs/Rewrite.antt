@@ -1,9 +1,12 @@
 -- What an editor's recorded changes make of a tree, and when that is faithful to its own text.
-use Rattle.std.specs.Prelude.{ℕ, ◌==◌, ◌||◌, List, if◌then◌else◌}
+use Rattle.std.specs.Prelude.{ℕ, ◌==◌, ◌||◌, List, map, if◌then◌else◌}
 use Rattle.rowan_green.specs.Forest.{Forest, empty, node, leaf, Tree}
 use Rattle.parser_input.specs.Kinds.{WHITESPACE, COMMENT}
+use Rattle.rowan.specs.Place.{Place, start_of, end_of}
+use Rattle.syntax_tree.specs.Element.{Way}
 use Rattle.tree_rewrite.specs.Changed.{changed_at}
 use Rattle.tree_rewrite.specs.Marked.{forest_in}
+use Rattle.syntax_editor.specs.Again.{found_again}
 use Rattle.syntax_editor.specs.Editing.{Editing}
 use Rattle.syntax_editor.specs.Rewriting.{rewriting}
 use Rattle.rust_document.specs.Reading.{root_of}
@@ -15,6 +18,15 @@ rewritten e = root_of (forest_in (rewriting e))
 -- the ranges in the new text of what was put in by changes that lie in no other, in the order of the tree
 abbrev pub changed : Editing → List (ℕ × ℕ)
 changed e = changed_at (rewriting e) 0
+
+-- the bytes of what stands at a way in a tree
+abbrev pub bounds_at : Tree → Way → ℕ × ℕ
+bounds_at t w = let p = record { root = t; up = w } in (start_of p, end_of p)
+
+-- the ranges in the new text of the elements that come from annotated ones, with the numbers of their annotations, by order of annotation,
+-- then of the tree
+abbrev pub annotated : Editing → List ((ℕ × ℕ) × ℕ)
+annotated e = map (λ x. (bounds_at (rewritten e) x.0, x.1)) (found_again e)
 
 -- the elements without the leaves that are white space or comments
 abbrev pub bare : Forest → Forest

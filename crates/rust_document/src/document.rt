@@ -6,14 +6,14 @@ ghost use Rattle.syntax_editor.specs.Editing.{untouched};
 ghost use Rattle.syntax_tree.specs.Handle.{element_of};
 ghost use Rattle.syntax_tree.specs.Refusal.{RefusesTree};
 ghost use Rattle.rust_document.specs.Commit.{RefusesCommit};
-ghost use Rattle.rust_document.specs.Committed.{ends_of};
+ghost use Rattle.rust_document.specs.Committed.{annotated_ends, ends_of};
 ghost use Rattle.rust_document.specs.Costs.{most_steps};
 ghost use Rattle.rust_document.specs.Edit.{RefusesEdit, can_edit, edited};
 ghost use Rattle.rust_document.specs.Open.{IsOpened, RefusesOpen};
 ghost use Rattle.rust_document.specs.IsReading.{IsReading};
 ghost use Rattle.rust_document.specs.Seen.{told};
 ghost use Rattle.rust_document.specs.Reading.{behind_preface, messages};
-ghost use Rattle.rust_document.specs.Rewrite.{rewritten, changed};
+ghost use Rattle.rust_document.specs.Rewrite.{annotated, rewritten, changed};
 ghost use Rattle.rust_document.specs.Step.{MAX_TEXT, first_element, is_foreign, root_element, verdict, Accepted};
 ghost use Rattle.rust_document.specs.Tokens.{shown, tokens_of};
 ghost use Rattle.rust_document.specs.WithoutMessages.{HasPairedBrackets, HasPlacedOperators};
@@ -30,7 +30,7 @@ use ra_parser::TopEntryPoint;
 use rowan_green::TextRange;
 use std::alloc::{AllocError, Global};
 use std::marker::Model;
-use syntax_editor::SyntaxEditor;
+use syntax_editor::{SyntaxAnnotation, SyntaxEditor};
 use syntax_tree::{SyntaxElement, SyntaxNode, TreeError, TreeIds};
 
 /// The most bytes that a text may have.
@@ -41,6 +41,9 @@ pub const MAX_TEXT: usize = 16_777_216;
 pub struct Committed {
     /// The bytes of the new text that were put in, from front to end.
     pub changed: Vec<TextRange>,
+    /// The bytes of the new text of each annotated element that stands in the rewritten tree, with its annotation: by order of
+    /// annotation, then of the tree.
+    pub annotated: Vec<(TextRange, SyntaxAnnotation)>,
     /// How many looks at the tokens of the new text the parser made.
     pub steps: u64,
 }
@@ -261,6 +264,7 @@ impl Document {
         ensures brackets { OnOk result (HasPairedBrackets self.new) }
         ensures operators { OnOk result (HasPlacedOperators self.new) }
         ensures changed { IfOk result (λ c. map ends_of c.changed.items ≡ changed editor) }
+        ensures annotated { IfOk result (λ c. map annotated_ends c.annotated.items ≡ annotated editor) }
         ensures steps { IfOk result (λ c. c.steps ≤ most_steps self.old.edition (chars (tree_text (rewritten editor)))) }
         ensures number { OnOk result (ids.new ≡ ids.old + 1) }
         ensures refused { IfErr result (RefusesCommit (verdict self.old editor) ids.old) }
@@ -273,10 +277,15 @@ impl Document {
             text,
             reading,
             changed,
+            annotated,
         } = rewrite(alloc, self.edition, &editor)?;
         let steps = reading.steps;
         self.renew(alloc, text, reading, ids)?;
-        Ok(Committed { changed, steps })
+        Ok(Committed {
+            changed,
+            annotated,
+            steps,
+        })
     }
 
     /// Takes a text with its reading in the place of the present ones, and gives its tree the next number of `ids`.

@@ -1,5 +1,11 @@
 //! Reads the text of a rewritten tree, and compares.
-ghost use Rattle.std.specs.Prelude.{◌≡◌, length, string_bytes, IfOk, IfErr};
+ghost use Rattle.std.specs.Prelude.{◌≡◌, length, map, string_bytes, IfOk, IfErr};
+ghost use Rattle.syntax_tree.specs.Handle.{element_of};
+ghost use Rattle.tree_rewrite.specs.Fits.{IsNode};
+ghost use Rattle.tree_rewrite.specs.Marked.{origins};
+ghost use Rattle.syntax_editor.specs.Rewriting.{rewriting};
+ghost use Rattle.rust_document.specs.Committed.{annotated_ends};
+ghost use Rattle.rust_document.specs.Rewrite.{annotated};
 ghost use Rattle.rust_document.specs.Rewritten.{IsReadBack, RefusesReadBack, IsRewritten, RefusesRewritten};
 
 use crate::bare::same_bare;
@@ -9,15 +15,17 @@ use crate::read::{Reading, read};
 use parser_input::edition::Edition;
 use ra_parser::TopEntryPoint;
 use rowan_green::{GreenNode, TextRange};
-use std::alloc::Global;
-use syntax_editor::SyntaxEditor;
+use std::alloc::{AllocError, Global};
+use syntax_editor::{SyntaxAnnotation, SyntaxEditor};
+use syntax_tree::{SyntaxElement, SyntaxNode, TreeIds};
 
-/// The text of a rewritten tree, with its reading, and the bytes of it that were put in.
+/// The text of a rewritten tree, with its reading, the bytes of it that were put in, and those of annotated elements.
 #[derive(Drop)]
 pub struct Rewritten {
     pub text: String,
     pub reading: Reading,
     pub changed: Vec<TextRange>,
+    pub annotated: Vec<(TextRange, SyntaxAnnotation)>,
 }
 
 /// A text with its reading.
@@ -43,6 +51,28 @@ fn read_back(alloc: Global, edition: Edition, tree: &GreenNode) -> Result<ReadBa
     Err(CommitError::Unfaithful)
 }
 
+/// The bytes of the annotated elements that stand in the rewritten tree of an editor, whose elements have these origins in preorder.
+fn annotated_ranges(
+    alloc: Global,
+    editor: &SyntaxEditor,
+    tree: GreenNode,
+    origins: &[SyntaxElement],
+) -> Result<Vec<(TextRange, SyntaxAnnotation)>, AllocError>
+    requires tree { IsNode (rewriting editor.now) tree }
+    requires origins { map element_of origins.now ≡ origins (rewriting editor.now) }
+    ensures { IfOk result (λ v. map annotated_ends v.items ≡ annotated editor.now) }
+{
+    // (the number is of a source of its own: these handles are gone when their ranges are told)
+    let Ok(root) = SyntaxNode::new_root(alloc, tree, &mut TreeIds::new()) else {
+        return Err(AllocError);
+    };
+    let mut ranges = Vec::new(alloc);
+    for (element, annotation) in &editor.annotated_in(alloc, &root, origins)? {
+        ranges.push((element.text_range(), *annotation))?;
+    }
+    Ok(ranges)
+}
+
 /// What an editor's changes make of its tree.
 pub fn rewrite(
     alloc: Global,
@@ -50,13 +80,16 @@ pub fn rewrite(
     editor: &SyntaxEditor,
 ) -> Result<Rewritten, CommitError>
     ensures ok { IfOk result (λ r. IsRewritten edition editor.now (string_bytes r.text) r.reading r.changed.items) }
+    ensures annotated { IfOk result (λ r. map annotated_ends r.annotated.items ≡ annotated editor.now) }
     ensures refused { IfErr result (RefusesRewritten edition editor.now) }
 {
     let rewritten = editor.rewritten(alloc)?;
     let ReadBack { text, reading } = read_back(alloc, edition, &rewritten.green)?;
+    let annotated = annotated_ranges(alloc, editor, rewritten.green, &rewritten.origins)?;
     Ok(Rewritten {
         text,
         reading,
         changed: rewritten.changed,
+        annotated,
     })
 }

@@ -4,3 +4,4 @@ pub mod TokensBefore
 pub mod LineFeeds
 pub mod Roots
 pub mod Spaces
+pub mod FoundAgain

@@ -9,3 +9,4 @@ pub mod Indent
 pub mod Between
 pub mod Found
 pub mod Spaced
+pub mod Again

@@ -3,6 +3,7 @@
 //! An editor only records: its tree stays as it is. What is put in may be of any tree, and is taken as it stands there.
 #![tactic(auto)]
 
+pub mod again;
 pub mod annotation;
 pub mod editor;
 pub mod error;

@@ -1,0 +1,5 @@
+pub mod FollowLemmas
+pub mod EndLemmas
+pub mod PickLemmas
+pub mod FoundLemmas
+pub mod AnnotatedLemmas

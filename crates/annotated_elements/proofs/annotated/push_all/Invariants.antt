@@ -1,0 +1,5 @@
+use Rattle.std.proofs.Common.{◌≡◌, ◌++◌, map}
+use Rattle.annotated_elements.proofs.annotated.push_all.Given as goal
+
+abbrev pub invariant-loop-element : goal.invariant-loop-element
+invariant-loop-element g l = l.to.items ≡ l.initial.to.items ++ map (λ e. (e, l.annotation)) l.yielded

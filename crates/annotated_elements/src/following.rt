@@ -1,0 +1,72 @@
+//! Where a mapping leads.
+ghost use Rattle.std.specs.Prelude.{◌≡◌, ◌++◌, option_map, IfOk};
+ghost use Rattle.rowan_green.specs.Forest.{Tree};
+ghost use Rattle.syntax_tree.specs.Handle.{element_of, standing_at};
+ghost use Rattle.annotated_elements.specs.Following.{lead_at, followed};
+ghost use Rattle.annotated_elements.specs.Nearest.{lead_by};
+
+use std::alloc::{AllocError, Global};
+use syntax_tree::{SyntaxElement, SyntaxMapping, SyntaxNode};
+
+/// What the nearest mapped node at or above a way in the tree of this number is mapped to, and the numbers of the way below that node;
+/// none where none is mapped.
+fn nearest<'m, 'w>(
+    mapping: &'m SyntaxMapping,
+    tree: u32,
+    way: &'w [usize],
+) -> Result<Option<(&'m SyntaxNode, &'w [usize])>, AllocError>
+    ensures { (t : Tree) → IfOk result (λ r. lead_by r ≡ lead_at mapping.now tree t way.now) }
+{
+    let mut below = 0;
+    loop {
+        if let Some(image) = mapping.image_at(tree, &way[below..])? {
+            return Ok(Some((image, &way[..below])));
+        }
+        if below == way.len() {
+            return Ok(None);
+        }
+        below += 1;
+    }
+}
+
+/// The element so far below a node, the innermost number first; none where no element stands there.
+fn element_below(
+    alloc: Global,
+    node: &SyntaxNode,
+    way: &[usize],
+) -> Result<Option<SyntaxElement>, AllocError>
+    ensures { IfOk result (λ r. option_map element_of r ≡ standing_at node.now (way.now ++ node.now.place.up)) }
+{
+    let mut whole = Vec::from_slice(alloc, way)?;
+    let mut above = node.way(alloc)?;
+    whole.append(&mut above)?;
+    node.element_at(alloc, &whole)
+}
+
+/// The end to which a mapping leads an element: from the nearest mapped element at or above it to what that is mapped to, and the same
+/// way down from there, again and again, until nothing at or above it is mapped; none where nothing stands there. It follows at most as
+/// many steps as the mapping has entries: there are no more where each entry's output is of a tree of a greater number.
+pub fn followed(
+    alloc: Global,
+    mapping: &SyntaxMapping,
+    element: &SyntaxElement,
+) -> Result<Option<SyntaxElement>, AllocError>
+    ensures { IfOk result (λ r. option_map element_of r ≡ followed mapping.now (element_of element.now)) }
+{
+    let mut at = element.clone()?;
+    let mut left = mapping.len();
+    loop {
+        let way = at.way(alloc)?;
+        let Some((image, below)) = nearest(mapping, at.tree(), &way)? else {
+            return Ok(Some(at));
+        };
+        let Some(next) = element_below(alloc, image, below)? else {
+            return Ok(None);
+        };
+        if left == 0 {
+            return Ok(None);
+        }
+        left -= 1;
+        at = next;
+    }
+}

@@ -1,0 +1,98 @@
+//! The elements of a rewritten tree that came from one.
+ghost use Rattle.std.specs.Prelude.{◌≡◌, [], ◌∷◌, ◌++◌, map, if◌then◌else◌, IfOk, OnOk};
+ghost use Rattle.std.specs.List.{zip};
+ghost use Rattle.rowan_green.specs.Forest.{Tree};
+ghost use Rattle.syntax_tree.specs.Element.{same_way, same_element, element_at};
+ghost use Rattle.syntax_tree.specs.Handle.{element_of};
+ghost use Rattle.syntax_tree.specs.Search.{elements};
+ghost use Rattle.tree_rewrite.specs.Marked.{Marked};
+ghost use Rattle.annotated_elements.specs.Found.{picked, found, AreOrigins};
+
+use std::alloc::{AllocError, Global};
+use syntax_tree::{SyntaxElement, SyntaxNode, SyntaxToken};
+
+/// Whether a token stands at a way, the innermost number first.
+fn token_stands_at(token: &SyntaxToken, way: &[usize]) -> Result<bool, AllocError>
+    ensures { IfOk result (λ b. b ≡ same_way token.now.place.up way.now) }
+{
+    let Some(parent) = token.parent()? else {
+        return Ok(way.is_empty());
+    };
+    let Some((number, up)) = way.split_first() else {
+        return Ok(false);
+    };
+    if token.cursor().index() != *number {
+        return Ok(false);
+    }
+    parent.stands_at(up)
+}
+
+/// Whether an element stands at a way in the tree of this number.
+fn is_at(element: &SyntaxElement, tree: u32, way: &[usize]) -> Result<bool, AllocError>
+    ensures { (t : Tree) → IfOk result (λ b. b ≡ same_element (element_of element.now) (element_at tree t way.now)) }
+{
+    if element.tree() != tree {
+        return Ok(false);
+    }
+    match element {
+        SyntaxElement::Node(node) => node.stands_at(way),
+        SyntaxElement::Token(token) => token_stands_at(token, way),
+    }
+}
+
+/// Adds an element, if told so.
+fn push_if(
+    is_there: bool,
+    element: SyntaxElement,
+    to: &mut Vec<SyntaxElement>,
+) -> Result<(), AllocError>
+    ensures { OnOk result (to.new.items ≡ to.old.items ++ (if is_there then element ∷ [] else [])) }
+{
+    if is_there {
+        to.push(element)?;
+    }
+    Ok(())
+}
+
+/// The elements beside which this one stands, those at and below a root and these taken side by side, in preorder.
+fn beside(
+    alloc: Global,
+    root: &SyntaxNode,
+    origins: &[SyntaxElement],
+    origin: &SyntaxElement,
+) -> Result<Vec<SyntaxElement>, AllocError>
+    ensures { IfOk result (λ v. v.items
+        ≡ picked (λ e. same_element e (element_of origin.now)) (zip (elements root.now) (map element_of origins.now))) }
+{
+    let way = origin.way(alloc)?;
+    let mut found = Vec::new(alloc);
+    let mut rest = origins;
+    let mut left = root.descendants_with_tokens(alloc)?;
+    while let Some(element) = left.next() {
+        let element = element?;
+        let Some((first, others)) = rest.split_first() else {
+            return Ok(found);
+        };
+        let is_there = is_at(first, origin.tree(), &way)?;
+        push_if(is_there, element, &mut found)?;
+        rest = others;
+    }
+    Ok(found)
+}
+
+/// The elements of a tree that came from this one, in preorder. The tree is that of a root, and its elements have these origins, in
+/// preorder.
+pub fn found(
+    alloc: Global,
+    root: &SyntaxNode,
+    origins: &[SyntaxElement],
+    origin: &SyntaxElement,
+) -> Result<Vec<SyntaxElement>, AllocError>
+    ensures side_by_side { IfOk result (λ v. v.items
+        ≡ picked (λ e. same_element e (element_of origin.now)) (zip (elements root.now) (map element_of origins.now))) }
+    ensures found { (m : Marked) → AreOrigins m root.now (map element_of origins.now) → IfOk result
+        (λ v. map element_of v.items ≡ map (element_at root.now.number root.now.place.root) (found m (element_of origin.now))) }
+{
+    let found = beside(alloc, root, origins, origin)?;
+    Ok(found)
+}

@@ -1,0 +1,17 @@
+//! Laws of the definitions. Each is the contract of a function that makes no call.
+ghost use Rattle.annotated_elements.specs.Laws.{EndsAreOne, OriginsAgree, ChangedAgree};
+
+/// By a mapping whose outputs are in trees of greater numbers each element leads to one end, in no more steps than there are entries.
+pub fn ends_are_one()
+    ensures { EndsAreOne }
+{}
+
+/// The elements of a rewritten tree and their origins go side by side, in preorder.
+pub fn origins_agree()
+    ensures { OriginsAgree }
+{}
+
+/// The ways of what was put in are those whose marks say so, in preorder.
+pub fn changed_agree()
+    ensures { ChangedAgree }
+{}

@@ -1,0 +1,30 @@
+//! Annotated elements, found again in the rewritten tree.
+ghost use Rattle.std.specs.Prelude.{◌≡◌, map, IfOk};
+ghost use Rattle.syntax_tree.specs.Handle.{element_of};
+ghost use Rattle.annotated_elements.specs.Found.{AreOrigins};
+ghost use Rattle.syntax_editor.specs.Again.{annotated_at, found_again};
+ghost use Rattle.syntax_editor.specs.Inside.{annotated};
+ghost use Rattle.syntax_editor.specs.Rewriting.{rewriting};
+
+use crate::annotation::SyntaxAnnotation;
+use crate::editor::SyntaxEditor;
+use annotated_elements::annotated::annotated;
+use std::alloc::{AllocError, Global};
+use syntax_tree::{SyntaxElement, SyntaxNode};
+
+impl SyntaxEditor {
+    /// The annotated elements that stand in the rewritten tree, each with its annotation: an element is followed by the mapping to its
+    /// end, and found at each element that was copied from there; by order of annotation, then of the tree. The root is that of the
+    /// edited tree with all recorded changes made, and these are the origins of its elements in preorder, as `rewritten` gives both.
+    pub fn annotated_in(
+        &self,
+        alloc: Global,
+        root: &SyntaxNode,
+        origins: &[SyntaxElement],
+    ) -> Result<Vec<(SyntaxElement, SyntaxAnnotation)>, AllocError>
+        ensures { AreOrigins (rewriting self.now) root.now (map element_of origins.now)
+            → IfOk result (λ v. map annotated v.items ≡ map (annotated_at root.now) (found_again self.now)) }
+    {
+        annotated(alloc, &self.mapping, &self.annotations, root, origins)
+    }
+}
