@@ -3,7 +3,7 @@ use Rattle.std.proofs.Common.{◌≡◌, ℕ, Bool, true, false, List, ◌∷◌
 use Rattle.parser_input.specs.Input.{Token}
 use Rattle.parser_input.specs.Kinds.{COLON, L_PAREN, R_PAREN, LITERAL, TOKEN_TREE, MACRO_CALL, MACRO_EXPR, RECORD_EXPR, PATH_EXPR, TUPLE_EXPR, PAREN_EXPR}
 use Rattle.parser_events.specs.Forest.{Expected, ExpectedExpression, Forest, End, Leaf, Node}
-use Rattle.rust_grammar.specs.Rule.{Rule, Or, Wrap, Then, Want, Call, Mode, Unless, InCondition, Nothing, atom, literal, block_like, expr_path, token_tree, field_values, expression}
+use Rattle.rust_grammar.specs.Rule.{Rule, Or, Wrap, Then, Want, Call, Mode, Unless, InCondition, Nothing, One, atom, literal, block_like, expr_path, token_tree, field_values, expression}
 use Rattle.rust_grammar.specs.Meaning.{ahead}
 use Rattle.rust_grammar.specs.Notation.{next, rest_listed}
 use Rattle.rust_grammar.specs.Words.{'l_paren', 'r_paren', 'comma', '!', '!='}
@@ -48,7 +48,7 @@ literal-atom FalseWord j more = whole-means atom false _ ∙ rw (literal-reads F
 -- what stands behind a path
 abbrev behind_path : Rule
 behind_path =
-    Or (Unless (next '!=') (Then (Wrap MACRO_CALL (Then '!' (Want (Call token_tree) (Expected TOKEN_TREE)))) (Wrap MACRO_EXPR Nothing)))
+    Or (Unless (next '!=') (Then (Wrap MACRO_CALL (Then (One '!') (Want (Call token_tree) (Expected TOKEN_TREE)))) (Wrap MACRO_EXPR Nothing)))
     (Or (Unless InCondition (Wrap RECORD_EXPR (Call field_values))) (Wrap PATH_EXPR Nothing))
 
 behind-reads : (g : Forest) (more : List Token) → Calm more → reads behind_path (at g more) ≡ at (Node PATH_EXPR g End) more
@@ -81,10 +81,10 @@ path-atom p more c =
 -- what an opening bracket begins
 abbrev in_brackets : Rule
 in_brackets =
-    Then 'l_paren'
-    (Or (Wrap TUPLE_EXPR 'r_paren')
+    Then (One 'l_paren')
+    (Or (Wrap TUPLE_EXPR (One 'r_paren'))
     (Then (Mode false (Want (Call expression) ExpectedExpression))
-    (Or (Wrap TUPLE_EXPR (Then 'comma' (rest_listed TUPLE_EXPR (Call expression) 'r_paren'))) (Wrap PAREN_EXPR (Want 'r_paren' (Expected R_PAREN))))))
+    (Or (Wrap TUPLE_EXPR (Then (One 'comma') (rest_listed TUPLE_EXPR (Call expression) 'r_paren'))) (Wrap PAREN_EXPR (Want (One 'r_paren') (Expected R_PAREN))))))
 
 paren-picks : (j : Bool) (ts : List Token)
     → reads (rule atom) (at End (of_kind L_PAREN j ∷ ts)) ≡ reads in_brackets (at End (of_kind L_PAREN j ∷ ts))

@@ -3,7 +3,7 @@ use Rattle.std.proofs.Common.{◌≡◌, ℕ, ◌<◌, Bool, true, false, List, 
 use Rattle.parser_input.specs.Input.{Token}
 use Rattle.parser_input.specs.Kinds.{L_ANGLE, COMMA, COLON, L_PAREN, R_PAREN, L_CURLY, R_CURLY, PUB_KW, NAME, VISIBILITY, RECORD_FIELD, RECORD_FIELD_LIST, PARAM, PARAM_LIST}
 use Rattle.parser_events.specs.Forest.{Expected, Forest, End, Leaf, Node, ◌then◌}
-use Rattle.rust_grammar.specs.Rule.{Production, Look, Rule, Or, Then, Want, Star, Opt, Mode, Unless, When, Wrap, Not, Left, Call, Continue, name, visibility, attribute, any_type, ret_type, block, record_fields, params, param, pattern, item, body, source_file}
+use Rattle.rust_grammar.specs.Rule.{Production, Look, Rule, One, Or, Then, Want, Star, Opt, Mode, Unless, When, Wrap, Not, Left, Call, Continue, name, visibility, attribute, any_type, ret_type, block, record_fields, params, param, pattern, item, body, source_file}
 use Rattle.rust_grammar.specs.Rule as rules
 use Rattle.rust_grammar.specs.Meaning.{ahead, turns}
 use Rattle.rust_grammar.specs.Words.{'l_paren', 'r_paren', 'l_curly', 'r_curly'}
@@ -101,7 +101,7 @@ fields = record {
 }
 
 fields-rule : rule record_fields
-    ≡ rules.Node RECORD_FIELD_LIST (Then 'l_curly' (Then (Mode false (Star (item_of RECORD_FIELD_LIST R_CURLY (field_rule of_type)))) (Want 'r_curly' (Expected R_CURLY))))
+    ≡ rules.Node RECORD_FIELD_LIST (Then (One 'l_curly') (Then (Mode false (Star (item_of RECORD_FIELD_LIST R_CURLY (field_rule of_type)))) (Want (One 'r_curly') (Expected R_CURLY))))
 unfolding table
 fields-rule = refl
 
@@ -184,7 +184,7 @@ parameters = record {
 }
 
 parameters-rule : rule params
-    ≡ rules.Node PARAM_LIST (Then 'l_paren' (Then (Mode false (Star (item_of PARAM_LIST R_PAREN (Call param)))) (Want 'r_paren' (Expected R_PAREN))))
+    ≡ rules.Node PARAM_LIST (Then (One 'l_paren') (Then (Mode false (Star (item_of PARAM_LIST R_PAREN (Call param)))) (Want (One 'r_paren') (Expected R_PAREN))))
 unfolding table
 parameters-rule = refl
 

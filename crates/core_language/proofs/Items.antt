@@ -3,7 +3,7 @@ use Rattle.std.proofs.Common.{◌≡◌, ℕ, ◌<◌, ◌≤◌, Bool, true, fa
 use Rattle.parser_input.specs.Input.{Token}
 use Rattle.parser_input.specs.Kinds.{COMMA, SEMICOLON, L_PAREN, R_PAREN, L_CURLY, R_CURLY, MINUS, R_ANGLE, THIN_ARROW, STRUCT_KW, MOD_KW, FN_KW, SHEBANG, FRONTMATTER, NAME, PARAM_LIST, RET_TYPE, STRUCT, MODULE, ITEM_LIST, FN, SOURCE_FILE}
 use Rattle.parser_events.specs.Forest.{Expected, ExpectedType, Forest, End, Leaf, Node, ◌then◌}
-use Rattle.rust_grammar.specs.Rule.{Production, Look, Rule, Or, Then, Want, Star, Opt, Mode, Unless, When, Wrap, Not, Left, Call, Continue, name, visibility, attribute, any_type, ret_type, block, record_fields, params, param, pattern, item, body, source_file}
+use Rattle.rust_grammar.specs.Rule.{Production, Look, Rule, One, Or, Then, Want, Star, Opt, Mode, Unless, When, Wrap, Not, Left, Call, Continue, name, visibility, attribute, any_type, ret_type, block, record_fields, params, param, pattern, item, body, source_file}
 use Rattle.rust_grammar.specs.Rule as rules
 use Rattle.rust_grammar.specs.Meaning.{Reading, ahead, turns}
 use Rattle.rust_grammar.specs.Notation.{until, ◌before◌}
@@ -74,11 +74,11 @@ one_item l = Unless l (Or (When ('#' before '!') (Call attribute)) (Call item))
 
 -- the items of a module in braces
 abbrev items_node : Rule
-items_node = rules.Node ITEM_LIST (Then 'l_curly' (Then (Mode false (Star (one_item (until 'r_curly')))) (Want 'r_curly' (Expected R_CURLY))))
+items_node = rules.Node ITEM_LIST (Then (One 'l_curly') (Then (Mode false (Star (one_item (until 'r_curly')))) (Want (One 'r_curly') (Expected R_CURLY))))
 
 -- a module, which holds this or ends in `;`
 abbrev mod_rule : Rule → Rule
-mod_rule a = Wrap MODULE (Then 'mod' (Then (Want (Call name) (Expected NAME)) (Or a (Want 'semi' (Expected SEMICOLON)))))
+mod_rule a = Wrap MODULE (Then (One 'mod') (Then (Want (Call name) (Expected NAME)) (Or a (Want (One 'semi') (Expected SEMICOLON)))))
 
 mod-picks : (g : Forest) (j : Bool) (ts : List Token)
     → reads (rule body) (at g (of_kind MOD_KW j ∷ ts)) ≡ reads (mod_rule items_node) (at g (of_kind MOD_KW j ∷ ts))
@@ -94,7 +94,7 @@ unfolding forms
 braces-there g l ts = refl
 
 mod-word : (v : Visibility) (j : Bool) (ts : List Token)
-    → reads 'mod' (at (visibility_tree v End) (of_kind MOD_KW j ∷ ts)) ≡ at (visibility_tree v (Leaf MOD_KW 1 End)) ts
+    → reads (One 'mod') (at (visibility_tree v End) (of_kind MOD_KW j ∷ ts)) ≡ at (visibility_tree v (Leaf MOD_KW 1 End)) ts
 unfolding forms
 mod-word Private j ts = refl
 mod-word (Public i) j ts = refl
@@ -123,18 +123,18 @@ mod-items : (v : Visibility) (j n l : Bool) (ts : List Token) (f : Forest) (more
 mod-items v j n l ts f more e =
     whole-means body false _
     ∙ mod-picks (visibility_tree v End) j _
-    ∙ wrap-reads MODULE (Then 'mod' (Then (Want (Call name) (Expected NAME)) (Or items_node (Want 'semi' (Expected SEMICOLON))))) _ _ more
-    (then-reads 'mod' (Then (Want (Call name) (Expected NAME)) (Or items_node (Want 'semi' (Expected SEMICOLON)))) _ (mod-word v j _)
-    (then-reads (Want (Call name) (Expected NAME)) (Or items_node (Want 'semi' (Expected SEMICOLON))) _ (mod-name v n _)
-    (or-first items_node (Want 'semi' (Expected SEMICOLON)) _ (braces-there _ l ts) ∙ e _ ∙ ap (λ (x : Forest). at x more) (visibility-then v End f))))
+    ∙ wrap-reads MODULE (Then (One 'mod') (Then (Want (Call name) (Expected NAME)) (Or items_node (Want (One 'semi') (Expected SEMICOLON))))) _ _ more
+    (then-reads (One 'mod') (Then (Want (Call name) (Expected NAME)) (Or items_node (Want (One 'semi') (Expected SEMICOLON)))) _ (mod-word v j _)
+    (then-reads (Want (Call name) (Expected NAME)) (Or items_node (Want (One 'semi') (Expected SEMICOLON))) _ (mod-name v n _)
+    (or-first items_node (Want (One 'semi') (Expected SEMICOLON)) _ (braces-there _ l ts) ∙ e _ ∙ ap (λ (x : Forest). at x more) (visibility-then v End f))))
 
 ret-reads : (a : Bool) (t : CoreType) (more : List Token) → ((g : Forest) → begins_at (Call any_type) (at g (type_tokens t more)) ≡ true)
     → gives any_type (at End (type_tokens t more)) ≡ at (type_tree t End) more →
-    reads (rules.Node RET_TYPE (Then '->' (Want (Call any_type) ExpectedType))) (at End (of_kind MINUS true ∷ of_kind R_ANGLE a ∷ type_tokens t more)) ≡ at (Node RET_TYPE (Leaf THIN_ARROW 2 (type_tree t End)) End) more
+    reads (rules.Node RET_TYPE (Then (One '->') (Want (Call any_type) ExpectedType))) (at End (of_kind MINUS true ∷ of_kind R_ANGLE a ∷ type_tokens t more)) ≡ at (Node RET_TYPE (Leaf THIN_ARROW 2 (type_tree t End)) End) more
 unfolding forms
 ret-reads a t more there e = rw (there (Leaf THIN_ARROW 2 End)) (rw e refl)
 
-ret-rule : rule ret_type ≡ rules.Node RET_TYPE (Then '->' (Want (Call any_type) ExpectedType))
+ret-rule : rule ret_type ≡ rules.Node RET_TYPE (Then (One '->') (Want (Call any_type) ExpectedType))
 unfolding table
 ret-rule = refl
 
@@ -372,11 +372,11 @@ first-skips (ItemThen i is) = let b = item-begins i (items_tokens is []) in rw b
     word-skips OfMod (Public i) j ts = (refl, refl)
     word-skips OfFn (Public i) j ts = (refl, refl)
 
-file-rule : rule source_file ≡ rules.Node SOURCE_FILE (Then (Opt 'shebang') (Then (Opt 'frontmatter') (Star (one_item (Not Left)))))
+file-rule : rule source_file ≡ rules.Node SOURCE_FILE (Then (Opt (One 'shebang')) (Then (Opt (One 'frontmatter')) (Star (one_item (Not Left)))))
 unfolding table
 file-rule = refl
 
-one-skips : (k : ℕ) (ts : List Token) → IsNotNext k ts → begins_at (one k) (at End ts) ≡ false
+one-skips : (k : ℕ) (ts : List Token) → IsNotNext k ts → begins_at (One (one k)) (at End ts) ≡ false
 unfolding forms
 one-skips k ts h = h
 
@@ -386,7 +386,7 @@ file-reads is h =
     let skips = first-skips is in
     whole-means source_file false _
     ∙ ap (λ (a : Rule). reads a (at End (items_tokens is []))) file-rule
-    ∙ node-reads SOURCE_FILE (Then (Opt 'shebang') (Then (Opt 'frontmatter') (Star (one_item (Not Left))))) End _ _ []
-    (then-reads (Opt 'shebang') (Then (Opt 'frontmatter') (Star (one_item (Not Left)))) _ (opt-skips 'shebang' _ (one-skips SHEBANG _ skips.0))
-    (then-reads (Opt 'frontmatter') (Star (one_item (Not Left))) _ (opt-skips 'frontmatter' _ (one-skips FRONTMATTER _ skips.1))
+    ∙ node-reads SOURCE_FILE (Then (Opt (One 'shebang')) (Then (Opt (One 'frontmatter')) (Star (one_item (Not Left))))) End _ _ []
+    (then-reads (Opt (One 'shebang')) (Then (Opt (One 'frontmatter')) (Star (one_item (Not Left)))) _ (opt-skips (One 'shebang') _ (one-skips SHEBANG _ skips.0))
+    (then-reads (Opt (One 'frontmatter')) (Star (one_item (Not Left))) _ (opt-skips (One 'frontmatter') _ (one-skips FRONTMATTER _ skips.1))
     (star-reads (one_item (Not Left)) (items-in-file is h End))))

@@ -4,7 +4,7 @@ use Rattle.std.proofs.lemmas.Bool.{lt-ltb}
 use Rattle.parser_input.specs.Input.{Token}
 use Rattle.parser_input.specs.Kinds.{COMMA, L_PAREN, R_PAREN}
 use Rattle.parser_events.specs.Forest.{Expected, UnexpectedIn, Forest, End, Leaf, Node, ◌then◌}
-use Rattle.rust_grammar.specs.Rule.{Rule, Or, Then, Want, Star, Mode, Unless, When, Both, Not, Left, Say, Skip, Nothing, passes, is_silent}
+use Rattle.rust_grammar.specs.Rule.{Rule, Or, Then, Want, Star, Mode, Unless, When, Both, Not, Left, Say, Skip, Nothing, One, passes, is_silent}
 use Rattle.rust_grammar.specs.Rule as rules
 use Rattle.rust_grammar.specs.Notation.{next, until, one_of, stops}
 use Rattle.rust_grammar.specs.Words.{one, 'l_paren', 'r_paren', 'comma'}
@@ -18,7 +18,7 @@ use Rattle.core_language.proofs.Rules.{StarReads, Stop, Turn, at, begins_at, for
 abbrev pub item_of : (list close : ℕ) → Rule → Rule
 item_of list close el =
     Unless (until (one close))
-    (Or (Then el (Or 'comma' (Or (When (next (one close)) Nothing) (Say (Expected COMMA)))))
+    (Or (Then el (Or (One 'comma') (Or (When (next (one close)) Nothing) (Say (Expected COMMA)))))
     (When (Both Left (Not (one_of 0 stops))) (Skip (UnexpectedIn list))))
 
 -- an element that is no option, and a closing kind that is no comma
@@ -92,6 +92,6 @@ listed-then tree h (ElementComma a j l) f =
 
 pub parens-read : (list : ℕ) (a : Rule) (j k : Bool) (ts : List Token) (f : Forest) (more : List Token)
     → reads (Star a) (at (Leaf L_PAREN 1 End) ts) ≡ at (Leaf L_PAREN 1 f) (of_kind R_PAREN k ∷ more) →
-    reads (rules.Node list (Then 'l_paren' (Then (Mode false (Star a)) (Want 'r_paren' (Expected R_PAREN))))) (at End (of_kind L_PAREN j ∷ ts)) ≡ at (Node list (Leaf L_PAREN 1 (f then Leaf R_PAREN 1 End)) End) more
+    reads (rules.Node list (Then (One 'l_paren') (Then (Mode false (Star a)) (Want (One 'r_paren') (Expected R_PAREN))))) (at End (of_kind L_PAREN j ∷ ts)) ≡ at (Node list (Leaf L_PAREN 1 (f then Leaf R_PAREN 1 End)) End) more
 unfolding forms
 parens-read list a j k ts f more e = rw e refl

@@ -3,7 +3,7 @@ use Rattle.std.proofs.Common.{◌≡◌, ◌<◌, Bool, true, false, List, [], �
 use Rattle.parser_input.specs.Input.{Token}
 use Rattle.parser_input.specs.Kinds.{COLON, L_ANGLE, NAME_REF, PATH, PATH_SEGMENT, IDENT}
 use Rattle.parser_events.specs.Forest.{Expected, Forest, End, Leaf, Node}
-use Rattle.rust_grammar.specs.Rule.{Production, type_path, expr_path, name_ref, Look, Either, Rule, Star, Opt, Want, Then, When, Unless, Call, begins, passes, is_silent, width, shift, in_mode, there_at}
+use Rattle.rust_grammar.specs.Rule.{Production, type_path, expr_path, name_ref, Look, Either, Rule, One, Star, Opt, Want, Then, When, Unless, Call, begins, passes, is_silent, shift, in_mode, anew, there_at}
 use Rattle.rust_grammar.specs.Rule as rules
 use Rattle.rust_grammar.specs.Meaning.{Reading, sees, ahead}
 use Rattle.rust_grammar.specs.Words.{'::', '<', '='}
@@ -17,12 +17,12 @@ use Rattle.core_language.proofs.Rules.{StarReads, Stop, Turn, at, begins_at, for
 
 -- the first segment, with arguments where `l` looks
 abbrev pub first_part : Look → Rule
-first_part l = rules.Node PATH (rules.Node PATH_SEGMENT (Then (Opt '::') (Then (Want Ref (Expected NAME_REF)) (Opt (When l GenericArgs)))))
+first_part l = rules.Node PATH (rules.Node PATH_SEGMENT (Then (Opt (One '::')) (Then (Want Ref (Expected NAME_REF)) (Opt (When l GenericArgs)))))
 
 -- one more segment, with arguments where `l` looks
 abbrev pub next_part : Look → Rule
 next_part l =
-    Unless colons_before_more (rules.Wrap PATH (Then '::' (Want (rules.Node PATH_SEGMENT (Then Ref (Opt (When l GenericArgs)))) (Expected PATH_SEGMENT))))
+    Unless colons_before_more (rules.Wrap PATH (Then (One '::') (Want (rules.Node PATH_SEGMENT (Then Ref (Opt (When l GenericArgs)))) (Expected PATH_SEGMENT))))
 
 pub name_ref-reads : (j : Bool) (more : List Token)
     → gives name_ref (at End (name_token j ∷ more)) ≡ at (Node NAME_REF (Leaf IDENT 1 End) End) more

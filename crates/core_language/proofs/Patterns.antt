@@ -3,14 +3,14 @@ use Rattle.std.proofs.Common.{◌≡◌, Bool, true, false, List, ◌∷◌, ref
 use Rattle.parser_input.specs.Input.{Token}
 use Rattle.parser_input.specs.Kinds.{COLON, EQ, SEMICOLON}
 use Rattle.parser_events.specs.Forest.{Expected, ExpectedType, Forest, End, Leaf, ◌then◌}
-use Rattle.rust_grammar.specs.Rule.{Rule, Then, Want, Call, name, pattern, single_pattern, any_type}
+use Rattle.rust_grammar.specs.Rule.{Rule, One, Then, Want, Call, name, pattern, single_pattern, any_type}
 use Rattle.rust_grammar.specs.Words.{':'}
 use Rattle.rust_grammar.proofs.WholeTable.{whole-means}
 use Rattle.core_language.specs.Statements.{NamePattern, Pattern, name_tree, pattern_tokens, pattern_tree}
 use Rattle.core_language.specs.Tokens.{name_token, of_kind}
 use Rattle.core_language.specs.Types.{CoreType, Immutable, Mutable, PathType, ReferenceType, SliceType, type_tokens, type_tree}
 use Rattle.core_language.proofs.Paths.{NoAngle, NoColon}
-use Rattle.core_language.proofs.Rules.{at, begins_at, forms, gives, reads, table}
+use Rattle.core_language.proofs.Rules.{at, begins_at, call-there, forms, gives, reads, table}
 use Rattle.core_language.proofs.Types.{path-begins, type-is-there, type-reads}
 
 pub name-reads : (n : Bool) (more : List Token) → gives name (at End (name_token n ∷ more)) ≡ at (name_tree End) more
@@ -71,7 +71,7 @@ typed c (SliceType j t k) more = BeforeType c _ _ refl
 
 -- a type behind a colon
 abbrev pub of_type : Rule
-of_type = Then (Want ':' (Expected COLON)) (Want (Call any_type) ExpectedType)
+of_type = Then (Want (One ':') (Expected COLON)) (Want (Call any_type) ExpectedType)
 
 colon-reads : (g : Forest) (c : Bool) (ts : List Token) (f : Forest) (more : List Token)
     → ((h : Forest) → begins_at (Call any_type) (at h ts) ≡ true) → gives any_type (at End ts) ≡ at f more →
@@ -80,8 +80,7 @@ unfolding forms
 colon-reads g c ts f more there e = rw (there (g then Leaf COLON 1 End)) (rw e refl)
 
 pub type-there : (t : CoreType) (more : List Token) (g : Forest) → begins_at (Call any_type) (at g (type_tokens t more)) ≡ true
-unfolding forms
-type-there t more g = type-is-there t g more
+type-there t more g = call-there any_type g (type_tokens t more) (type-is-there t End more)
 
 pub of_type-reads : (g : Forest) (c : Bool) (t : CoreType) (more : List Token) → NoColon more → NoAngle more
     → reads of_type (at g (of_kind COLON c ∷ type_tokens t more)) ≡ at ((g then Leaf COLON 1 End) then type_tree t End) more

@@ -4,7 +4,7 @@ use Rattle.std.proofs.lemmas.Bool.{lt-ltb}
 use Rattle.parser_input.specs.Input.{Token}
 use Rattle.parser_input.specs.Kinds.{COLON, DOT, AMP, COMMA, MUT_KW, L_PAREN, R_PAREN, ARG_LIST, CALL_EXPR, FIELD_EXPR, METHOD_CALL_EXPR, PREFIX_EXPR, REF_EXPR}
 use Rattle.parser_events.specs.Forest.{Expected, ExpectedExpression, UnexpectedIn, Forest, End, Leaf, Said, ErrorLeaf, Node, Float, ◌then◌}
-use Rattle.rust_grammar.specs.Rule.{Production, Rule, Or, Wrap, Then, Want, Star, Opt, Call, Continue, Mode, Unless, When, Both, Not, Left, Say, Skip, Nothing, atom, arguments, expression, postfix, after_dot, prefixed, operation}
+use Rattle.rust_grammar.specs.Rule.{Production, Rule, Or, Wrap, Then, Want, Star, Opt, Call, Continue, Mode, Unless, When, Both, Not, Left, Say, Skip, Nothing, One, atom, arguments, expression, postfix, after_dot, prefixed, operation}
 use Rattle.rust_grammar.specs.Rule as rules
 use Rattle.rust_grammar.specs.Meaning.{Reading, ahead}
 use Rattle.rust_grammar.specs.Notation.{next, until, one_of, stops}
@@ -41,11 +41,11 @@ then-assoc (Float e c f) g h = ap (λ (x : Forest). Float e c x) (then-assoc f g
 abbrev element : Rule
 element =
     Unless (until 'r_paren')
-    (Or (Then (Call expression) (Or 'comma' (Or (When (next 'r_paren') Nothing) (Say (Expected COMMA)))))
+    (Or (Then (Call expression) (Or (One 'comma') (Or (When (next 'r_paren') Nothing) (Say (Expected COMMA)))))
     (When (Both Left (Not (one_of 0 stops))) (Skip (UnexpectedIn ARG_LIST))))
 
 arguments-rule : rule arguments
-    ≡ rules.Node ARG_LIST (Then 'l_paren' (Then (Mode false (Star element)) (Want 'r_paren' (Expected R_PAREN))))
+    ≡ rules.Node ARG_LIST (Then (One 'l_paren') (Then (Mode false (Star element)) (Want (One 'r_paren') (Expected R_PAREN))))
 unfolding table
 arguments-rule = refl
 
@@ -120,7 +120,7 @@ arguments-then (ArgumentComma e j es) f = ap (λ (x : Forest). Node (expression_
 
 list-reads : (j k : Bool) (ts : List Token) (f : Forest) (more : List Token)
     → reads (Star element) (at (Leaf L_PAREN 1 End) ts) ≡ at (Leaf L_PAREN 1 f) (of_kind R_PAREN k ∷ more) →
-    reads (rules.Node ARG_LIST (Then 'l_paren' (Then (Mode false (Star element)) (Want 'r_paren' (Expected R_PAREN))))) (at End (of_kind L_PAREN j ∷ ts)) ≡ at (Node ARG_LIST (Leaf L_PAREN 1 (f then Leaf R_PAREN 1 End)) End) more
+    reads (rules.Node ARG_LIST (Then (One 'l_paren') (Then (Mode false (Star element)) (Want (One 'r_paren') (Expected R_PAREN))))) (at End (of_kind L_PAREN j ∷ ts)) ≡ at (Node ARG_LIST (Leaf L_PAREN 1 (f then Leaf R_PAREN 1 End)) End) more
 unfolding forms
 list-reads j k ts f more e = rw e refl
 
@@ -242,7 +242,7 @@ prefixed-high e i h r more calm base =
 
 -- a prefix with its operand
 abbrev signed : Rule
-signed = rules.Node PREFIX_EXPR (Then (Or '-' (Or '!' '*')) (Want (Call prefixed) ExpectedExpression))
+signed = rules.Node PREFIX_EXPR (Then (Or (One '-') (Or (One '!') (One '*'))) (Want (Call prefixed) ExpectedExpression))
 
 sign-picks : (s : PrefixOperator) (j : Bool) (ts : List Token)
     → reads (rule prefixed) (at End (of_kind (prefix_kind s) j ∷ ts)) ≡ reads signed (at End (of_kind (prefix_kind s) j ∷ ts))
@@ -267,7 +267,7 @@ prefixed-sign s j e r more calm base =
 
 -- a borrow with its operand
 abbrev borrowed : Rule
-borrowed = rules.Node REF_EXPR (Then '&' (Then (Opt 'mut') (Want (Call prefixed) ExpectedExpression)))
+borrowed = rules.Node REF_EXPR (Then (One '&') (Then (Opt (One 'mut')) (Want (Call prefixed) ExpectedExpression)))
 
 borrow-picks : (j : Bool) (ts : List Token)
     → reads (rule prefixed) (at End (of_kind AMP j ∷ ts)) ≡ reads borrowed (at End (of_kind AMP j ∷ ts))

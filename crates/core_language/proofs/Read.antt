@@ -2,7 +2,7 @@
 use Rattle.std.proofs.Common.{◌≡◌, true, List, [], refl, ap, sym, ◌∙◌}
 use Rattle.parser_input.specs.Input.{Token}
 use Rattle.parser_events.specs.Forest.{Forest, End}
-use Rattle.rust_grammar.specs.Rule.{source_file, any_type, expression, Call, begins}
+use Rattle.rust_grammar.specs.Rule.{source_file, any_type, expression, Call}
 use Rattle.rust_grammar.specs.Meaning.{Reading, ahead}
 use Rattle.rust_grammar.specs.Entry.{takes_all, is_used_up, entry}
 use Rattle.rust_grammar.specs.Whole.{whole}
@@ -10,7 +10,7 @@ use Rattle.core_language.specs.Types.{CoreType, type_tokens, type_tree}
 use Rattle.core_language.specs.Expressions.{Expression, expression_tokens, expression_tree, IsWellFormed}
 use Rattle.core_language.specs.Items.{Items, items_tokens, file_tree, AreWellFormedItems}
 use Rattle.core_language.specs.Laws.{CoreFilesAreRead, CoreTypesAreRead, CoreExpressionsAreRead, CoreFilesHaveOneTree, CoreTypesHaveOneTree, CoreExpressionsHaveOneTree}
-use Rattle.core_language.proofs.Rules.{at, gives, begins_at, table}
+use Rattle.core_language.proofs.Rules.{at, gives, begins_at, there-called, table}
 use Rattle.core_language.proofs.Starts.{expression-is-there}
 use Rattle.core_language.proofs.Tails.{Closed, closed-of}
 use Rattle.core_language.proofs.Types.{type-reads}
@@ -25,13 +25,13 @@ file-entry ts f e = ap (λ (s : Reading). s.given) e
 
 type-entry : (ts : List Token) (f : Forest) → begins_at (Call any_type) (at End ts) ≡ true → gives any_type (at End ts) ≡ at f []
     → entry whole any_type ts ≡ f
-unfolding entry takes_all is_used_up begins
-type-entry ts f there e = rw (there, e) refl
+unfolding entry takes_all is_used_up
+type-entry ts f there e = rw (there-called any_type ts there, e) refl
 
 expression-entry : (ts : List Token) (f : Forest) → begins_at (Call expression) (at End ts) ≡ true → gives expression (at End ts) ≡ at f []
     → entry whole expression ts ≡ f
-unfolding entry takes_all is_used_up begins
-expression-entry ts f there e = rw (there, e) refl
+unfolding entry takes_all is_used_up
+expression-entry ts f there e = rw (there-called expression ts there, e) refl
 
 file-of : (is : Items) → AreWellFormedItems is → entry whole source_file (items_tokens is []) ≡ file_tree is
 file-of is w = file-entry (items_tokens is []) (file_tree is) (file-reads is w)

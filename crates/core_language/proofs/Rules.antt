@@ -1,11 +1,11 @@
 -- The reading of rules, step by step, over the whole grammar.
-use Rattle.std.proofs.Common.{◌≡◌, ℕ, zero, suc, ◌<◌, ◌≤◌, Bool, true, false, List, length, refl, arith}
+use Rattle.std.proofs.Common.{◌≡◌, ℕ, zero, suc, ◌<◌, ◌≤◌, Bool, true, false, List, length, refl, sym, ◌∙◌, arith}
 use Rattle.std.proofs.lemmas.Bool.{lt-ltb}
 use Rattle.parser_input.specs.Input.{Token}
 use Rattle.parser_events.specs.Forest.{Message, Forest, End}
-use Rattle.rust_grammar.specs.Rule.{Production, Rule, Then, Or, Opt, Star, Want, Call, begins, passes, is_silent, width, shift, in_mode, there_at}
+use Rattle.rust_grammar.specs.Rule.{Production, Rule, Then, Or, Opt, Star, Want, Call, begins, passes, is_silent, shift, in_mode, anew, there_at}
 use Rattle.rust_grammar.specs.Meaning.{Reading, turns, read, leaf, node, wrapped, behind, fresh, sees, ahead, is_end, look_of, begins_below, meaning}
-use Rattle.rust_grammar.specs.Notation.{expected, wanted, row, one_of, any_of, is_longer, no_longer, op}
+use Rattle.rust_grammar.specs.Notation.{row, one_of, any_of, is_longer, no_longer, longest}
 use Rattle.rust_grammar.specs.Paths.{paths}
 use Rattle.rust_grammar.specs.Types.{types}
 use Rattle.rust_grammar.specs.Patterns.{patterns}
@@ -13,6 +13,7 @@ use Rattle.rust_grammar.specs.Expressions.{expressions}
 use Rattle.rust_grammar.specs.Statements.{statements}
 use Rattle.rust_grammar.specs.Items.{items}
 use Rattle.rust_grammar.specs.Whole.{rule, rank, whole}
+use Rattle.rust_grammar.proofs.Elsewhere.{anew-seen}
 
 -- these trees given, and these tokens left
 abbrev pub at : Forest → List Token → Reading
@@ -72,6 +73,16 @@ pub or-second : (a b : Rule) (s : Reading) → begins_at a s ≡ false → reads
 unfolding read
 or-second a b s e = rw e refl
 
+-- where a production begins with nothing given, it begins when it is called
+pub call-there : (x : Production) (g : Forest) (ts : List Token) → sees false (at End ts) (look_of whole x) ≡ true → begins_at (Call x) (at g ts) ≡ true
+unfolding begins fresh
+call-there x g ts e = anew-seen false (at g ts) (look_of whole x) ∙ e
+
+-- and the other way round
+pub there-called : (x : Production) (ts : List Token) → begins_at (Call x) (at End ts) ≡ true → sees false (at End ts) (look_of whole x) ≡ true
+unfolding begins fresh
+there-called x ts e = sym (anew-seen false (at End ts) (look_of whole x)) ∙ e
+
 pub call-reads : (x : Production) (ts : List Token) (g : Forest) (more : List Token) → gives x (at End ts) ≡ at g more
     → reads (Call x) (at End ts) ≡ at g more
 unfolding read behind fresh
@@ -79,15 +90,15 @@ call-reads x ts g more e = rw e refl
 
 -- everything that a rule, a look or the table is computed with
 unfoldable pub table : Unit {0}
-unfolding read leaf node wrapped behind fresh sees ahead is_end begins passes is_silent width shift in_mode there_at look_of begins_below rule rank whole paths types patterns expressions statements items op expected wanted row one_of any_of is_longer no_longer
+unfolding read leaf node wrapped behind fresh sees ahead is_end begins passes is_silent shift in_mode anew there_at look_of begins_below rule rank whole paths types patterns expressions statements items row one_of any_of is_longer no_longer longest
 table = tt
 
 -- the same without the table: what a production begins with stays as it stands
 unfoldable pub forms : Unit {0}
-unfolding read leaf node wrapped behind fresh sees ahead is_end begins passes is_silent width shift in_mode there_at op expected wanted row one_of any_of is_longer no_longer
+unfolding read leaf node wrapped behind fresh sees ahead is_end begins passes is_silent shift in_mode anew there_at row one_of any_of is_longer no_longer longest
 forms = tt
 
 -- the rows of the table alone
 unfoldable pub rows : Unit {0}
-unfolding rule paths types patterns expressions statements items op expected wanted
+unfolding rule paths types patterns expressions statements items
 rows = tt

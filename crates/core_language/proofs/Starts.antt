@@ -2,15 +2,15 @@
 use Rattle.std.proofs.Common.{◌≡◌, ℕ, zero, suc, ◌≤◌, Bool, true, false, List, ◌∷◌, refl, arith, ◌==◌, if◌then◌else◌}
 use Rattle.parser_input.specs.Input.{Token}
 use Rattle.parser_input.specs.Kinds.{MUT_KW, EQ, L_ANGLE, R_ANGLE, PIPE, AMP, L_PAREN, R_PAREN, DOT}
-use Rattle.parser_events.specs.Forest.{Forest}
-use Rattle.rust_grammar.specs.Rule.{prefixed, operation, expression, Call, begins}
+use Rattle.parser_events.specs.Forest.{Forest, End}
+use Rattle.rust_grammar.specs.Rule.{prefixed, operation, expression, Call}
 use Rattle.rust_grammar.specs.Meaning.{sees, look_of}
 use Rattle.rust_grammar.specs.Whole.{whole}
 use Rattle.core_language.specs.Expressions.{Assignment, Binary, Borrow, Expression, FieldAccess, FunctionCall, IsWellFormed, Literal, MethodCall, Named, Parenthesized, Prefixed, begins_with_ampersand, expression_tokens, level}
 use Rattle.core_language.specs.Operators.{Byte, ByteText, CText, Character, Dereference, FalseWord, FloatNumber, Integer, Invert, LiteralForm, Negate, PrefixOperator, Text, TrueWord, literal_kind, power, prefix_kind}
 use Rattle.core_language.specs.Tokens.{name_token, of_kind}
 use Rattle.core_language.proofs.Places.{layer_of}
-use Rattle.core_language.proofs.Rules.{at, begins_at, table}
+use Rattle.core_language.proofs.Rules.{at, begins_at, call-there, table}
 use Rattle.core_language.proofs.Types.{path-begins}
 
 -- how an expression begins
@@ -154,13 +154,13 @@ layer-begins (suc (suc (suc (suc (suc (suc (suc (suc (suc d))))))))) h = refl
 
 pub prefixed-is-there : (e : Expression) (more : List Token) (g : Forest)
     → begins_at (Call prefixed) (at g (expression_tokens e more)) ≡ true
-unfolding table
-prefixed-is-there e more g = let b = expression-begins e more in rw b.are (begins-prefixed b.start g b.rest)
+prefixed-is-there e more g = let b = expression-begins e more in rw b.are (call-there prefixed g _ (begins-prefixed b.start End b.rest))
 
 pub layer-is-there : (d : ℕ) → d ≤ 9 → (e : Expression) (more : List Token) (g : Forest)
     → begins_at (Call (layer_of d)) (at g (expression_tokens e more)) ≡ true
-unfolding begins
-layer-is-there d h e more g = rw (layer-begins d h) (let b = expression-begins e more in rw b.are (begins-prefixed b.start g b.rest))
+layer-is-there d h e more g =
+    let b = expression-begins e more in
+    rw b.are (call-there (layer_of d) g _ (rw (layer-begins d h) (begins-prefixed b.start End b.rest)))
 
 -- an operation begins with a range mark or as a layer does
 begins-operation : (s : Start) (g : Forest) (ts : List Token) → sees false (at g (token_of s ∷ ts)) (look_of whole operation) ≡ true
@@ -183,8 +183,7 @@ begins-operation (WithAmpersand j) g ts = refl
 
 pub operation-is-there : (e : Expression) (more : List Token) (g : Forest)
     → begins_at (Call operation) (at g (expression_tokens e more)) ≡ true
-unfolding begins
-operation-is-there e more g = let b = expression-begins e more in rw b.are (begins-operation b.start g b.rest)
+operation-is-there e more g = let b = expression-begins e more in rw b.are (call-there operation g _ (begins-operation b.start End b.rest))
 
 expression-look : look_of whole expression ≡ look_of whole operation
 unfolding table
@@ -192,5 +191,6 @@ expression-look = refl
 
 pub expression-is-there : (e : Expression) (more : List Token) (g : Forest)
     → begins_at (Call expression) (at g (expression_tokens e more)) ≡ true
-unfolding begins
-expression-is-there e more g = rw expression-look (let b = expression-begins e more in rw b.are (begins-operation b.start g b.rest))
+expression-is-there e more g =
+    let b = expression-begins e more in
+    rw b.are (call-there expression g _ (rw expression-look (begins-operation b.start End b.rest)))

@@ -3,7 +3,7 @@ use Rattle.std.proofs.Common.{◌≡◌, ℕ, suc, ◌<◌, ◌≤◌, Bool, tru
 use Rattle.parser_input.specs.Input.{Token}
 use Rattle.parser_input.specs.Kinds.{DOT, L_PAREN, COLON, EQ, SEMICOLON, LET_KW, L_CURLY, R_CURLY, LET_STMT, LET_ELSE, EXPR_STMT, STMT_LIST, BLOCK_EXPR}
 use Rattle.parser_events.specs.Forest.{Expected, ExpectedType, ExpectedPattern, ExpectedExpression, Forest, End, Leaf, Node, ◌then◌}
-use Rattle.rust_grammar.specs.Rule.{Production, Look, Rule, Then, Or, Opt, Want, Call, Continue, Unless, Mode, Star, When, Nothing, Wrap, block_like, expression, pattern, any_type, block, statement, statement_end, statement_list}
+use Rattle.rust_grammar.specs.Rule.{Production, Look, Rule, Then, Or, Opt, Want, Call, Continue, Unless, Mode, Star, When, Nothing, One, Wrap, block_like, expression, pattern, any_type, block, statement, statement_end, statement_list}
 use Rattle.rust_grammar.specs.Rule as rules
 use Rattle.rust_grammar.specs.Meaning.{Reading, ahead}
 use Rattle.rust_grammar.specs.Notation.{until}
@@ -166,14 +166,14 @@ run-reads e more t i c h =
 
 -- a `let`
 abbrev value_part : Rule
-value_part = Opt (Then '=' (Want (Call expression) ExpectedExpression))
+value_part = Opt (Then (One '=') (Want (Call expression) ExpectedExpression))
 
 -- the rule of a `let`
 abbrev let_rule : Rule
 let_rule =
     rules.Node LET_STMT
-    (Then 'let' (Then (Want (Call pattern) ExpectedPattern) (Then (Opt (Then ':' (Want (Call any_type) ExpectedType)))
-    (Then value_part (Then (Opt (rules.Node LET_ELSE (Then 'else' (Want (Call block) (Expected BLOCK_EXPR))))) (Want 'semi' (Expected SEMICOLON)))))))
+    (Then (One 'let') (Then (Want (Call pattern) ExpectedPattern) (Then (Opt (Then (One ':') (Want (Call any_type) ExpectedType)))
+    (Then value_part (Then (Opt (rules.Node LET_ELSE (Then (One 'else') (Want (Call block) (Expected BLOCK_EXPR))))) (Want (One 'semi') (Expected SEMICOLON)))))))
 
 let-picks : (j : Bool) (ts : List Token)
     → reads (rule statement) (at End (of_kind LET_KW j ∷ ts)) ≡ reads let_rule (at End (of_kind LET_KW j ∷ ts))
@@ -323,19 +323,19 @@ statements-read (StatementThen s ss) i g k more =
 -- A list in braces.
 pub braces-read : (list : ℕ) (a : Rule) (j k : Bool) (ts : List Token) (f : Forest) (more : List Token)
     → reads (Star a) (at (Leaf L_CURLY 1 End) ts) ≡ at (Leaf L_CURLY 1 f) (of_kind R_CURLY k ∷ more) →
-    reads (rules.Node list (Then 'l_curly' (Then (Mode false (Star a)) (Want 'r_curly' (Expected R_CURLY))))) (at End (of_kind L_CURLY j ∷ ts)) ≡ at (Node list (Leaf L_CURLY 1 (f then Leaf R_CURLY 1 End)) End) more
+    reads (rules.Node list (Then (One 'l_curly') (Then (Mode false (Star a)) (Want (One 'r_curly') (Expected R_CURLY))))) (at End (of_kind L_CURLY j ∷ ts)) ≡ at (Node list (Leaf L_CURLY 1 (f then Leaf R_CURLY 1 End)) End) more
 unfolding forms
 braces-read list a j k ts f more e = rw e refl
 
 -- the same behind other trees
 pub braces-read-in : (list : ℕ) (a : Rule) (g : Forest) (j k : Bool) (ts : List Token) (f : Forest) (more : List Token)
     → reads (Star a) (at (Leaf L_CURLY 1 End) ts) ≡ at (Leaf L_CURLY 1 f) (of_kind R_CURLY k ∷ more) →
-    reads (rules.Node list (Then 'l_curly' (Then (Mode false (Star a)) (Want 'r_curly' (Expected R_CURLY))))) (at g (of_kind L_CURLY j ∷ ts)) ≡ at (g then Node list (Leaf L_CURLY 1 (f then Leaf R_CURLY 1 End)) End) more
+    reads (rules.Node list (Then (One 'l_curly') (Then (Mode false (Star a)) (Want (One 'r_curly') (Expected R_CURLY))))) (at g (of_kind L_CURLY j ∷ ts)) ≡ at (g then Node list (Leaf L_CURLY 1 (f then Leaf R_CURLY 1 End)) End) more
 unfolding forms
 braces-read-in list a g j k ts f more e = rw e refl
 
 list-rule : rule statement_list
-    ≡ rules.Node STMT_LIST (Then 'l_curly' (Then (Mode false (Star turn_statement)) (Want 'r_curly' (Expected R_CURLY))))
+    ≡ rules.Node STMT_LIST (Then (One 'l_curly') (Then (Mode false (Star turn_statement)) (Want (One 'r_curly') (Expected R_CURLY))))
 unfolding table
 list-rule = refl
 

@@ -277,11 +277,11 @@ def lemmas(number, case):
 
 COMPUTING = (
     "meaning by_length by_rank follow look_of begins_below read turns leaf say skip split fresh node wrapped behind sees ahead is_end begins passes"
-    " is_silent width shift in_mode there_at rule rank whole expected wanted row any_of one_of is_longer no_longer op paths types patterns"
+    " is_silent shift in_mode anew there_at rule rank whole row any_of one_of is_longer no_longer longest paths types patterns"
     " expressions statements items leaves is_used_up takes_all entry"
 )
-IMPORTS = """use Rattle.rust_grammar.specs.Rule.{begins, passes, is_silent, width, shift, in_mode, there_at}
-use Rattle.rust_grammar.specs.Notation.{expected, wanted, row, any_of, one_of, is_longer, no_longer, op}
+IMPORTS = """use Rattle.rust_grammar.specs.Rule.{begins, passes, is_silent, shift, in_mode, anew, there_at}
+use Rattle.rust_grammar.specs.Notation.{row, any_of, one_of, is_longer, no_longer, longest}
 use Rattle.rust_grammar.specs.Meaning.{meaning, by_length, by_rank, follow, look_of, begins_below, read, turns, leaf, say, skip, split, fresh, node, wrapped, behind, sees, ahead, is_end}
 use Rattle.rust_grammar.specs.Paths.{paths}
 use Rattle.rust_grammar.specs.Types.{types}

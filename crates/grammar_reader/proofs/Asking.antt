@@ -1,6 +1,6 @@
 -- How many looks tell whether a rule begins, form by form.
 use Rattle.std.proofs.Common.{◌≡◌, ℕ, suc, ◌+◌, ◌≤◌, Bool, true, false, refl, sym, subst, arith, if◌then◌else◌}
-use Rattle.rust_grammar.specs.Rule.{Production, Rule, Look, Always, Never, Kind, Contextual, Joint, Left, InCondition, Given, Both, Either, Not, Then, Near, Mode, begins, shift, passes, is_silent, width, in_mode}
+use Rattle.rust_grammar.specs.Rule.{Production, Rule, Look, Always, Never, Kind, Contextual, Joint, Left, InCondition, Given, Both, Either, Not, Then, Near, Mode, begins, shift, passes, is_silent, in_mode, anew}
 use Rattle.rust_grammar.specs.Meaning.{begins_below, look_of}
 use Rattle.rust_grammar.specs.Whole.{rule, whole}
 use Rattle.grammar_reader.specs.Looks.{asked, begin_looks}
@@ -38,6 +38,23 @@ asked-mode c (Both a b) = rw (asked-mode c a, asked-mode c b) refl
 asked-mode c (Either a b) = rw (asked-mode c a, asked-mode c b) refl
 asked-mode c (Not a) = asked-mode c a
 
+asked-anew : (l : Look) → asked (anew l) ≡ asked l
+unfolding asked anew
+asked-anew Always = refl
+asked-anew Never = refl
+asked-anew (Kind n k) = refl
+asked-anew (Contextual n k) = refl
+asked-anew (Joint n) = refl
+asked-anew Left = refl
+asked-anew InCondition = refl
+asked-anew Given = refl
+asked-anew (Both a b) = rw (asked-anew a, asked-anew b) refl
+asked-anew (Either a b) = rw (asked-anew a, asked-anew b) refl
+asked-anew (Not a) = asked-anew a
+
+pub anew-cost : (old : ℕ) (l : Look) {new : ℕ} → new ≤ old + asked l → new ≤ old + asked (anew l)
+anew-cost old l h = omega (arith, h, asked-anew l)
+
 module _ (k old : ℕ) where
   -- so many looks tell at most whether a rule begins
   abbrev pub cost : Rule → ℕ
@@ -59,9 +76,9 @@ module _ (k old : ℕ) where
   unfolding begins asked
   second-cost a b e p h i = rw (e, p) (omega (arith, h, i))
 
-  pub near-cost : (a b : Rule) {mid new : ℕ} → mid ≤ old + cost a → new ≤ mid + cost b → new ≤ old + cost (Near a b)
+  pub near-cost : (w : ℕ) (a b : Rule) {mid new : ℕ} → mid ≤ old + cost a → new ≤ mid + cost b → new ≤ old + cost (Near w a b)
   unfolding begins asked
-  near-cost a b h i = omega (arith, h, i, asked-shift (width a) (begins (begins_below whole k) b))
+  near-cost w a b h i = omega (arith, h, i, asked-shift w (begins (begins_below whole k) b))
 
   pub mode-cost : (d : Bool) (a : Rule) {new : ℕ} → new ≤ old + cost a → new ≤ old + cost (Mode d a)
   unfolding begins

@@ -3,10 +3,10 @@ use Rattle.std.proofs.Common.{◌≡◌, ℕ, zero, suc, ◌+◌, ◌-◌, ◌^�
 use Rattle.std.proofs.lemmas.List.{length-drop}
 use Rattle.parser_events.specs.View.{View}
 use Rattle.grammar_reader.specs.Stands.{IsAt}
-use Rattle.rust_grammar.specs.Rule.{Production, Rule, Look, Always, Never, Kind, Contextual, Joint, Left, InCondition, Given, Not, Then, Near, Or, Unless, Mode, Both, Either, begins, shift, passes, is_silent, width}
-use Rattle.rust_grammar.specs.Meaning.{Reading, sees, begins_below, look_of}
+use Rattle.rust_grammar.specs.Rule.{Production, Rule, Look, Always, Never, Kind, Contextual, Joint, Left, InCondition, Given, Not, Then, Near, Or, Unless, Mode, Both, Either, begins, shift, passes, is_silent, anew}
+use Rattle.rust_grammar.specs.Meaning.{Reading, sees, fresh, begins_below, look_of}
 use Rattle.rust_grammar.specs.Whole.{rule, whole}
-use Rattle.grammar_reader.proofs.Looking.{shift-shift, far-shift, mode-shift, both-on, none-on, either-off, all-on}
+use Rattle.grammar_reader.proofs.Looking.{shift-shift, far-shift, mode-shift, anew-shift, both-on, none-on, either-off, all-on}
 
 module _ (c : Bool) (s : Reading) (m k : ℕ) where
   -- whether a rule begins there
@@ -36,18 +36,18 @@ module _ (c : Bool) (s : Reading) (m k : ℕ) where
       either : q ≡ sees c s (shift m (Either (begins (begins_below whole k) a) (begins (begins_below whole k) b)))
       either = either-off f t g
 
-  pub no-near : (a b : Rule) {r : Bool} → r ≡ at a → r ≡ false → false ≡ at (Near a b)
+  pub no-near : (w : ℕ) (a b : Rule) {r : Bool} → r ≡ at a → r ≡ false → false ≡ at (Near w a b)
   unfolding begins sees shift
-  no-near a b f t = none-on (sees c s (shift m (shift (width a) (begins (begins_below whole k) b)))) f t
+  no-near w a b f t = none-on (sees c s (shift m (shift w (begins (begins_below whole k) b)))) f t
 
-  pub both-near : (a b : Rule) {r q : Bool} (n : ℕ) → length s.rest < 2 ^ 64 → n ≡ min (m + width a) (2 ^ 64 - 1) → r ≡ at a → r ≡ true → q ≡ sees c s (shift n (begins (begins_below whole k) b)) → q ≡ at (Near a b)
+  pub both-near : (w : ℕ) (a b : Rule) {r q : Bool} (n : ℕ) → length s.rest < 2 ^ 64 → n ≡ min (m + w) (2 ^ 64 - 1) → r ≡ at a → r ≡ true → q ≡ sees c s (shift n (begins (begins_below whole k) b)) → q ≡ at (Near w a b)
   unfolding begins sees shift
-  both-near a b {r} {q} n short is f t g = both-on f t (g ∙ further (begins (begins_below whole k) b))
+  both-near w a b {r} {q} n short is f t g = both-on f t (g ∙ further (begins (begins_below whole k) b))
     where
-      further : (l : Look) → sees c s (shift n l) ≡ sees c s (shift m (shift (width a) l))
+      further : (l : Look) → sees c s (shift n l) ≡ sees c s (shift m (shift w l))
       further l =
-          far-shift c s n (width a + m) short (is ∙ ap (λ (i : ℕ). min i (2 ^ 64 - 1)) (omega arith)) l
-          ∙ sym (ap (λ (h : Look). sees c s h) (shift-shift m (width a) l))
+          far-shift c s n (w + m) short (is ∙ ap (λ (i : ℕ). min i (2 ^ 64 - 1)) (omega arith)) l
+          ∙ sym (ap (λ (h : Look). sees c s h) (shift-shift m w l))
 
   pub first-or : (a b : Rule) {r : Bool} → r ≡ at a → r ≡ true → true ≡ at (Or a b)
   unfolding begins sees shift
@@ -83,6 +83,10 @@ one-rank c s m k j x row {r} e i f = subst (λ (n : ℕ). r ≡ sees c s (shift 
   where
     deeper : r ≡ sees c s (shift m (begins_below whole (suc j) x))
     deeper = f ∙ ap (λ (q : Rule). sees c s (shift m (begins (begins_below whole j) q))) i
+
+-- in a node, and in a production that is called anew
+pub inside : (c : Bool) (s : Reading) (m : ℕ) (l : Look) {r : Bool} → r ≡ sees c (fresh s) (shift m l) → r ≡ sees c s (shift m (anew l))
+inside c s m l e = e ∙ sym (anew-shift c s m l)
 
 pub one-less : (k : ℕ) → (k ≡ 0 → ⊥) → k ≡ suc (k - 1)
 one-less zero e = absurd (e refl)

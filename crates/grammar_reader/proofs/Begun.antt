@@ -3,7 +3,7 @@ use Rattle.std.proofs.Common.{◌≡◌, ℕ, ◌≤◌, Bool, true, false, ◌&
 use Rattle.std.proofs.lemmas.Bool.{ltb-true, or_cases, eqb-true}
 use Rattle.parser_input.specs.Kinds.{FLOAT_NUMBER}
 use Rattle.parser_input.specs.Input.{Token}
-use Rattle.rust_grammar.specs.Rule.{Production, Rule, Look, Kind, Left, Nothing, One, Any, Then, Near, Or, Opt, Star, Node, Wrap, Want, Say, Skip, Split, When, Unless, Call, Continue, Mode, begins}
+use Rattle.rust_grammar.specs.Rule.{Spelling, Production, Rule, Look, Kind, Left, Nothing, One, Any, Then, Near, Or, Opt, Star, Node, Wrap, Want, Say, Skip, Split, When, Unless, Call, Continue, Mode, begins, anew}
 use Rattle.rust_grammar.specs.Meaning.{Reading, sees, ahead, fresh, look_of, meaning}
 use Rattle.rust_grammar.specs.Spelled.{marks, are_next, is_token, is_contextual, is_one_of, is_spelled}
 use Rattle.rust_grammar.specs.Laws.{reads}
@@ -11,7 +11,7 @@ use Rattle.rust_grammar.specs.Whole.{rule, whole}
 use Rattle.rust_grammar.specs.Begun.{IsBegun}
 use Rattle.rust_grammar.proofs.Plain.{and_l, and_r}
 use Rattle.rust_grammar.proofs.Known.{implies, implied, cut, cut-seen}
-use Rattle.rust_grammar.proofs.Elsewhere.{anew, anew-seen, without, without-seen, asked, asked-seen, IsMode}
+use Rattle.rust_grammar.proofs.Elsewhere.{anew-seen, without, without-seen, asked, asked-seen, IsMode}
 use Rattle.rust_grammar.proofs.Spelling.{safe, after, at}
 use Rattle.rust_grammar.proofs.Spelled.{spelled-there, after-seen, at-seen, begun}
 use Rattle.rust_grammar.proofs.SpelledTable.{claims, known, all_safe}
@@ -26,17 +26,16 @@ row-there (k ∷ ks) [] e = absurd (true≢false (sym e))
 row-there (k ∷ []) (t ∷ ts) e = omega arith
 row-there (k ∷ l ∷ ks) (t ∷ ts) e = let more = row-there (l ∷ ks) ts (and_r ((t.kind == k) && t.joint) (are_next (l ∷ ks) ts) e) in omega (arith, more)
 
-mark-there : (rs : List Rule) (kind count : ℕ) (ts : List Token) → is_one_of rs kind count ts ≡ true → count ≤ length ts
+mark-there : (rs : List Spelling) (kind count : ℕ) (ts : List Token) → is_one_of rs kind count ts ≡ true → count ≤ length ts
 unfolding is_one_of
 mark-there [] kind count ts e = absurd (true≢false (sym e))
-mark-there (One x ∷ rs) kind count ts e = elim (or_cases ((x.kind == kind) && (length x.parts == count) && are_next x.parts ts) (is_one_of rs kind count ts) e) [
+mark-there (x ∷ rs) kind count ts e = elim (or_cases ((x.kind == kind) && (length x.parts == count) && are_next x.parts ts) (is_one_of rs kind count ts) e) [
   | inl i ↦
       let same : length x.parts ≡ count = eqb-true (length x.parts) count (and_r (x.kind == kind) (length x.parts == count) (and_l _ _ i)) in
       let there : length x.parts ≤ length ts = row-there x.parts ts (and_r _ _ i) in
       omega (arith, same, there)
   | inr i ↦ mark-there rs kind count ts i
 ]
-mark-there (r ∷ rs) kind count ts e = mark-there rs kind count ts e
 
 token-there : (kind : ℕ) (ts : List Token) → (is_token kind ts || is_contextual kind ts) ≡ true → 1 ≤ length ts
 unfolding is_token is_contextual
@@ -72,7 +71,7 @@ safe-can (Then a b) m k c s e mode h = (
   safe-can a m k c s (and_l (safe claims m k a) (safe claims m (after claims k a) b) e) mode h,
   safe-can b m (after claims k a) c (reads c a s) (and_r (safe claims m k a) (safe claims m (after claims k a) b) e) mode (after-seen claims (meaning whole) productions-sound a k c s h),
 )
-safe-can (Near a b) m k c s e mode h = (
+safe-can (Near w a b) m k c s e mode h = (
   safe-can a m k c s (and_l (safe claims m k a) (safe claims m (after claims k a) b) e) mode h,
   safe-can b m (after claims k a) c (reads c a s) (and_r (safe claims m k a) (safe claims m (after claims k a) b) e) mode (after-seen claims (meaning whole) productions-sound a k c s h),
 )

@@ -36,7 +36,7 @@ module _ (x : Production) (n : ℕ) where
         below z a t c s (and_l _ _ e) le lt can.0,
         below z b (t || takes claim a) c (reads c a s) (and_r _ _ e) (omega (arith, p.shrinks, le)) (after whole claim x n (meaning whole) agreed a t c s z le lt p) can.1,
       )
-  below z (Near a b) t c s e le lt can =
+  below z (Near w a b) t c s e le lt can =
       let p = agrees whole claim x n (meaning whole) agreed facts z a t c s (and_l _ _ e) le lt in (
         below z a t c s (and_l _ _ e) le lt can.0,
         below z b (t || takes claim a) c (reads c a s) (and_r _ _ e) (omega (arith, p.shrinks, le)) (after whole claim x n (meaning whole) agreed a t c s z le lt p) can.1,
@@ -67,7 +67,7 @@ module _ (x : Production) (n : ℕ) where
         at-end a c s (and_l _ _ e) z can.0,
         at-end b c (reads c a s) (and_r _ _ e) (omega (arith, p.shrinks, z)) can.1,
       )
-  at-end (Near a b) c s e z can =
+  at-end (Near w a b) c s e z can =
       let p = ends whole claim x n (meaning whole) agreed facts a c s (and_l _ _ e) z in (
         at-end a c s (and_l _ _ e) z can.0,
         at-end b c (reads c a s) (and_r _ _ e) (omega (arith, p.shrinks, z)) can.1,

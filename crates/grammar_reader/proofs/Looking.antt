@@ -6,8 +6,8 @@ use Rattle.parser_input.specs.Kinds.{EOF}
 use Rattle.parser_input.specs.Input.{Token}
 use Rattle.parser_input.specs.Recorded.{token_at, plain}
 use Rattle.parser_events.specs.View.{View}
-use Rattle.rust_grammar.specs.Rule.{Look, Always, Never, Kind, Contextual, Joint, Left, InCondition, Given, Both, Either, Not, shift, in_mode}
-use Rattle.rust_grammar.specs.Meaning.{Reading, ahead, sees}
+use Rattle.rust_grammar.specs.Rule.{Look, Always, Never, Kind, Contextual, Joint, Left, InCondition, Given, Both, Either, Not, shift, in_mode, anew}
+use Rattle.rust_grammar.specs.Meaning.{Reading, ahead, sees, fresh, is_end}
 use Rattle.grammar_reader.specs.Stands.{left, IsAt}
 
 ahead-past : (n : ℕ) (ts : List Token) → length ts ≤ n → ahead n ts ≡ record { kind = EOF; contextual = EOF; joint = false }
@@ -184,3 +184,23 @@ next-kind v s k e is = is ∙ ap (λ (t : Token). t.kind) (token-ahead v 0) ∙ 
 
 pub next-joint : (v : View) (s : Reading) (b : Bool) → left v ≡ s.rest → b ≡ (token_at v.input (v.position + 0)).joint → b ≡ (ahead 0 s.rest).joint
 next-joint v s b e is = is ∙ ap (λ (t : Token). t.joint) (token-ahead v 0) ∙ ap (λ (ts : List Token). (ahead 0 ts).joint) e
+
+-- A production that is called anew has given nothing.
+pub fresh-at : {given : Bool} {v : View} {s : Reading} → IsAt given v s → IsAt false v (fresh s)
+unfolding fresh is_end
+fresh-at at = record { rest = at.rest; gave = refl }
+
+module _ (c : Bool) (s : Reading) (m : ℕ) where
+  pub anew-shift : (l : Look) → sees c s (shift m (anew l)) ≡ sees c (fresh s) (shift m l)
+  unfolding sees shift anew fresh is_end
+  anew-shift Always = refl
+  anew-shift Never = refl
+  anew-shift (Kind k j) = refl
+  anew-shift (Contextual k j) = refl
+  anew-shift (Joint k) = refl
+  anew-shift Left = refl
+  anew-shift InCondition = refl
+  anew-shift Given = refl
+  anew-shift (Both a b) = rw (anew-shift a, anew-shift b) refl
+  anew-shift (Either a b) = rw (anew-shift a, anew-shift b) refl
+  anew-shift (Not a) = rw (anew-shift a) refl

@@ -73,7 +73,7 @@ idle Nothing = Some 0
 idle (One x) = None
 idle Any = None
 idle (Then a b) = in_turn (idle a) (idle b)
-idle (Near a b) = in_turn (idle a) (idle b)
+idle (Near w a b) = in_turn (idle a) (idle b)
 idle (Or a b) = in_turn (Some (begin_looks a)) (either (idle a) (idle b))
 idle (When l a) = idle a
 idle (Unless l a) = idle a
@@ -95,7 +95,7 @@ debt Nothing = 0
 debt (One x) = 0
 debt Any = 1
 debt (Then a b) = max (debt a + most (idle b)) (most (in_turn (idle a) (Some (debt b))))
-debt (Near a b) = max (debt a + most (idle b)) (most (in_turn (idle a) (Some (debt b))))
+debt (Near w a b) = max (debt a + most (idle b)) (most (in_turn (idle a) (Some (debt b))))
 debt (Or a b) = begin_looks a + max (debt a) (debt b)
 debt (When l a) = debt a
 debt (Unless l a) = debt a
@@ -114,7 +114,7 @@ debt (Mode c a) = debt a
 -- A further token pays for all that is read with it.
 unfoldable pub is_paid : Rule → Bool
 is_paid (Then a b) = is_paid a && is_paid b && nat_le (debt b) 4096
-is_paid (Near a b) = is_paid a && is_paid b && nat_le (debt b) 4096
+is_paid (Near w a b) = is_paid a && is_paid b && nat_le (debt b) 4096
 is_paid (Or a b) = is_paid a && is_paid b
 is_paid (When l a) = is_paid a
 is_paid (Unless l a) = is_paid a

@@ -5,7 +5,7 @@ use Rattle.rust_grammar.specs.Rule.{Rule, Then, Near, Or, Opt, Star, Node, Wrap,
 -- how many forms stand in a rule, itself one
 unfoldable pub size : Rule → ℕ
 size (Then a b) = suc (size a + size b)
-size (Near a b) = suc (size a + size b)
+size (Near w a b) = suc (size a + size b)
 size (Or a b) = suc (size a + size b)
 size (When l a) = suc (size a)
 size (Unless l a) = suc (size a)

@@ -30,6 +30,11 @@ pub fn begins(
     ensures same { p.new ≡ record p.old { looks = p.new.looks } }
     ensures looks { p.new.looks ≤ p.old.looks + asked (rules.begins (begins_below whole ranks) (plain rule.now)) }
 {
+    let anew = Place {
+        total: place.total,
+        condition: place.condition,
+        given: false,
+    };
     match rule {
         Rule::Nothing => true,
         Rule::Say(_) => true,
@@ -49,11 +54,11 @@ pub fn begins(
             }
             begins(p, place, second, ahead, ranks)
         }
-        Rule::Near(first, second) => {
+        Rule::Near(width, first, second) => {
             if !begins(p, place, first, ahead, ranks) {
                 return false;
             }
-            let behind = ahead.saturating_add(usize::from(first.width()));
+            let behind = ahead.saturating_add(usize::from(*width));
             begins(p, place, second, behind, ranks)
         }
         Rule::Or(first, second) => {
@@ -71,14 +76,14 @@ pub fn begins(
         }
         Rule::Opt(inner) => begins(p, place, inner, ahead, ranks),
         Rule::Star(inner) => begins(p, place, inner, ahead, ranks),
-        Rule::Node(_, inner) => begins(p, place, inner, ahead, ranks),
+        Rule::Node(_, inner) => begins(p, anew, inner, ahead, ranks),
         Rule::Wrap(_, inner) => begins(p, place, inner, ahead, ranks),
         Rule::Want(inner, _) => begins(p, place, inner, ahead, ranks),
         Rule::Call(production) => {
             if ranks == 0 {
                 return false;
             }
-            begins(p, place, rule_of(*production), ahead, ranks - 1)
+            begins(p, anew, rule_of(*production), ahead, ranks - 1)
         }
         Rule::Continue(production) => {
             if ranks == 0 {

@@ -1,5 +1,5 @@
-//! The writing of the table. A spelling is named by the kind of its leaf; `then!(a, b)` is a followed by b, `near!(a, b)` the
-//! same where the looks of both are asked, `or!(a, b)` the first whose looks are there (of several, the last where none is).
+//! The writing of the table. A spelling is named by the kind of its leaf; `then!(a, b)` is a followed by b, `near!(n, a, b)` the
+//! same where the looks of both are asked and a is one leaf of n tokens, `or!(a, b)` the first whose looks are there (of several, the last where none is).
 
 /// The spelling of a leaf.
 macro_rules! one {
@@ -135,7 +135,7 @@ macro_rules! or {
     ($first:expr, $($rest:expr),+ $(,)?) => { Rule::Or(&$first, &or!($($rest),+)) };
 }
 
-macro_rules! near { ($a:expr, $b:expr) => { Rule::Near(&$a, &$b) }; }
+macro_rules! near { ($width:expr, $a:expr, $b:expr) => { Rule::Near($width, &$a, &$b) }; }
 
 macro_rules! opt { ($a:expr) => { Rule::Opt(&$a) }; }
 
@@ -224,9 +224,20 @@ macro_rules! colons_before_more { () => { before_any!(COLON2; STAR L_CURLY) }; }
 
 macro_rules! field_name { () => { node!(NAME_REF, or!(one!(IDENT), one!(INT_NUMBER))) }; }
 
+/// Attributes and the visibility, before the rest.
+macro_rules! prefixed {
+    ($($rest:expr),+ $(,)?) => { then!(star!(call!(Attribute)), opt!(call!(Visibility)), $($rest),+) };
+}
+
+/// In condition mode a `{` ends the condition where an expression may be left out.
+macro_rules! body_begins {
+    () => { both!(Look::InCondition, next!(L_CURLY)) };
+}
+
 pub(crate) use any_of;
 pub(crate) use at_end;
 pub(crate) use before_any;
+pub(crate) use body_begins;
 pub(crate) use both;
 pub(crate) use call;
 pub(crate) use colons_before_more;
@@ -250,6 +261,7 @@ pub(crate) use op;
 pub(crate) use op_but;
 pub(crate) use opt;
 pub(crate) use or;
+pub(crate) use prefixed;
 pub(crate) use rest_listed;
 pub(crate) use row;
 pub(crate) use star;

@@ -22,18 +22,18 @@ pub struct Open {
 }
 
 /// Takes so many tokens as a leaf of this kind, if they are there.
-pub fn take(p: &mut Parser<'_>, open: Open, kind: SyntaxKind, count: u8, total: usize) -> Open
+pub fn take(p: &mut Parser<'_>, node: Open, kind: SyntaxKind, count: u8, total: usize) -> Open
     requires total { total ≡ length p.old.input }
     requires some { 1 ≤ count }
-    requires open { IsInnermost open.marker p.old.nodes }
+    requires marker { IsInnermost node.marker p.old.nodes }
     ensures input { p.new.input ≡ p.old.input }
     ensures looks { p.new.looks ≡ p.old.looks }
-    ensures open { IsInnermost result.marker p.new.nodes }
+    ensures marker { IsInnermost result.marker p.new.nodes }
     ensures innermost { (n : ℕ) → IsInnermost n p.old.nodes → IsInnermost n p.new.nodes }
-    ensures does { (s : Reading) (below : Option (List Marked)) → Stands open.given p.old s below → count ≤ length s.rest
+    ensures does { (s : Reading) (below : Option (List Marked)) → Stands node.given p.old s below → count ≤ length s.rest
         → Stands result.given p.new (leaf (raw_of kind) count s) below }
 {
-    let Open { marker, given } = open;
+    let Open { marker, given } = node;
     if usize::from(count) > tokens_left(p, total) {
         return Open { marker, given };
     }
@@ -45,16 +45,16 @@ pub fn take(p: &mut Parser<'_>, open: Open, kind: SyntaxKind, count: u8, total: 
 }
 
 /// Adds a message.
-pub fn tell(p: &mut Parser<'_>, open: Open, message: Message) -> Open
-    requires open { IsInnermost open.marker p.old.nodes }
+pub fn tell(p: &mut Parser<'_>, node: Open, message: Message) -> Open
+    requires marker { IsInnermost node.marker p.old.nodes }
     ensures input { p.new.input ≡ p.old.input }
     ensures looks { p.new.looks ≡ p.old.looks }
-    ensures open { IsInnermost result.marker p.new.nodes }
+    ensures marker { IsInnermost result.marker p.new.nodes }
     ensures innermost { (n : ℕ) → IsInnermost n p.old.nodes → IsInnermost n p.new.nodes }
-    ensures does { (s : Reading) (below : Option (List Marked)) → Stands open.given p.old s below
+    ensures does { (s : Reading) (below : Option (List Marked)) → Stands node.given p.old s below
         → Stands result.given p.new (say (message_of message) s) below }
 {
-    let Open { marker, given: _ } = open;
+    let Open { marker, given: _ } = node;
     p.error(message);
     Open {
         marker,
@@ -63,16 +63,16 @@ pub fn tell(p: &mut Parser<'_>, open: Open, message: Message) -> Open
 }
 
 /// Closes the node as one of this kind, and opens one around it.
-pub fn wrap(p: &mut Parser<'_>, open: Open, kind: SyntaxKind) -> Open
-    requires open { IsInnermost open.marker p.old.nodes }
+pub fn wrap(p: &mut Parser<'_>, node: Open, kind: SyntaxKind) -> Open
+    requires marker { IsInnermost node.marker p.old.nodes }
     ensures input { p.new.input ≡ p.old.input }
     ensures looks { p.new.looks ≡ p.old.looks }
-    ensures open { IsInnermost result.marker p.new.nodes }
+    ensures marker { IsInnermost result.marker p.new.nodes }
     ensures innermost { (n : ℕ) → IsInnermost n p.old.nodes → IsInnermost n p.new.nodes }
-    ensures does { (s : Reading) (below : Option (List Marked)) → Stands open.given p.old s below
+    ensures does { (s : Reading) (below : Option (List Marked)) → Stands node.given p.old s below
         → Stands result.given p.new (wrapped (raw_of kind) s) below }
 {
-    let Open { marker, given: _ } = open;
+    let Open { marker, given: _ } = node;
     let closed = marker.complete(p, kind);
     Open {
         marker: closed.precede(p),
@@ -81,32 +81,32 @@ pub fn wrap(p: &mut Parser<'_>, open: Open, kind: SyntaxKind) -> Open
 }
 
 /// Takes the next token as it is, if one is left.
-pub fn take_any(p: &mut Parser<'_>, open: Open, total: usize) -> Open
+pub fn take_any(p: &mut Parser<'_>, node: Open, total: usize) -> Open
     requires total { total ≡ length p.old.input }
-    requires open { IsInnermost open.marker p.old.nodes }
+    requires marker { IsInnermost node.marker p.old.nodes }
     ensures input { p.new.input ≡ p.old.input }
     ensures looks { p.new.looks ≤ p.old.looks + 1 }
-    ensures open { IsInnermost result.marker p.new.nodes }
+    ensures marker { IsInnermost result.marker p.new.nodes }
     ensures innermost { (n : ℕ) → IsInnermost n p.old.nodes → IsInnermost n p.new.nodes }
-    ensures does { (s : Reading) (below : Option (List Marked)) → Stands open.given p.old s below → 1 ≤ length s.rest
+    ensures does { (s : Reading) (below : Option (List Marked)) → Stands node.given p.old s below → 1 ≤ length s.rest
         → Stands result.given p.new (leaf (ahead 0 s.rest).kind 1 s) below }
 {
     let kind = p.kind_at(0);
-    take(p, open, kind, 1, total)
+    take(p, node, kind, 1, total)
 }
 
 /// Takes the next token into an error, behind the message, if one is left.
-pub fn skip(p: &mut Parser<'_>, open: Open, message: Message, total: usize) -> Open
+pub fn skip(p: &mut Parser<'_>, node: Open, message: Message, total: usize) -> Open
     requires total { total ≡ length p.old.input }
-    requires open { IsInnermost open.marker p.old.nodes }
+    requires marker { IsInnermost node.marker p.old.nodes }
     ensures input { p.new.input ≡ p.old.input }
     ensures looks { p.new.looks ≤ p.old.looks + 1 }
-    ensures open { IsInnermost result.marker p.new.nodes }
+    ensures marker { IsInnermost result.marker p.new.nodes }
     ensures innermost { (n : ℕ) → IsInnermost n p.old.nodes → IsInnermost n p.new.nodes }
-    ensures does { (s : Reading) (below : Option (List Marked)) → Stands open.given p.old s below → 1 ≤ length s.rest
+    ensures does { (s : Reading) (below : Option (List Marked)) → Stands node.given p.old s below → 1 ≤ length s.rest
         → Stands result.given p.new (skip (message_of message) s) below }
 {
-    let Open { marker, given: _ } = open;
+    let Open { marker, given: _ } = node;
     let inner = start(p);
     let inner = tell(p, inner, message);
     let inner = take_any(p, inner, total);
@@ -120,7 +120,7 @@ pub fn skip(p: &mut Parser<'_>, open: Open, message: Message, total: usize) -> O
 /// Opens a node in the innermost one.
 pub fn start(p: &mut Parser<'_>) -> Open
     ensures opens { Opens p.old p.new }
-    ensures open { IsInnermost result.marker p.new.nodes }
+    ensures marker { IsInnermost result.marker p.new.nodes }
     ensures given { result.given ≡ false }
     ensures input { p.new.input ≡ p.old.input }
     ensures looks { p.new.looks ≡ p.old.looks }
@@ -132,45 +132,45 @@ pub fn start(p: &mut Parser<'_>) -> Open
 }
 
 /// Closes the node as one of this kind.
-pub fn close(p: &mut Parser<'_>, open: Open, kind: SyntaxKind)
-    requires open { IsInnermost open.marker p.old.nodes }
+pub fn close(p: &mut Parser<'_>, node: Open, kind: SyntaxKind)
+    requires marker { IsInnermost node.marker p.old.nodes }
     ensures closes { Closes (raw_of kind) p.old p.new }
     ensures input { p.new.input ≡ p.old.input }
     ensures looks { p.new.looks ≡ p.old.looks }
 {
-    let Open { marker, given: _ } = open;
+    let Open { marker, given: _ } = node;
     marker.complete(p, kind);
 }
 
 /// Leaves the node out: what it has goes to the one around it. Whether anything does is the answer.
-pub fn leave_out(p: &mut Parser<'_>, open: Open) -> bool
-    requires open { IsInnermost open.marker p.old.nodes }
+pub fn leave_out(p: &mut Parser<'_>, node: Open) -> bool
+    requires marker { IsInnermost node.marker p.old.nodes }
     ensures leaves { Leaves p.old p.new }
-    ensures given { result ≡ open.given }
+    ensures given { result ≡ node.given }
     ensures input { p.new.input ≡ p.old.input }
     ensures looks { p.new.looks ≡ p.old.looks }
 {
-    let Open { marker, given } = open;
+    let Open { marker, given } = node;
     marker.abandon(p);
     given
 }
 
 /// Closes the node as a field access by the float that is next, and opens one around it. Nothing where no float is next.
-pub fn split(p: &mut Parser<'_>, open: Open) -> Open
-    requires open { IsInnermost open.marker p.old.nodes }
+pub fn split(p: &mut Parser<'_>, node: Open) -> Open
+    requires marker { IsInnermost node.marker p.old.nodes }
     ensures input { p.new.input ≡ p.old.input }
     ensures looks { p.new.looks ≤ p.old.looks + 1 }
-    ensures open { IsInnermost result.marker p.new.nodes }
+    ensures marker { IsInnermost result.marker p.new.nodes }
     ensures innermost { (n : ℕ) → IsInnermost n p.old.nodes → IsInnermost n p.new.nodes }
-    ensures does { (s : Reading) (below : Option (List Marked)) → Stands open.given p.old s below
+    ensures does { (s : Reading) (below : Option (List Marked)) → Stands node.given p.old s below
         → (ahead 0 s.rest).kind ≡ kinds.FLOAT_NUMBER
         → Stands result.given p.new (split s) below }
 {
     if p.kind_at(0).to_raw() != SyntaxKind::FLOAT_NUMBER.to_raw() {
-        return open;
+        return node;
     }
     let joint = p.joint_at(0);
-    let Open { marker, given: _ } = open;
+    let Open { marker, given: _ } = node;
     let marker = p.split_float(marker, !joint);
     if !joint {
         return Open {

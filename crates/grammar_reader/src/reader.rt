@@ -81,7 +81,7 @@ fn ranks_below(p: &Parser<'_>, caller: Caller) -> Option<u8>
 #[cycle(reader)]
 pub fn production(
     p: &mut Parser<'_>,
-    open: Open,
+    node: Open,
     production: Production,
     condition: bool,
     ranks: u8,
@@ -90,15 +90,15 @@ pub fn production(
     requires total { total ≡ length p.old.input }
     requires short { length p.old.input < 2 ^ 64 }
     requires few { ranks ≤ 20 }
-    requires open { IsInnermost open.marker p.old.nodes }
+    requires marker { IsInnermost node.marker p.old.nodes }
     ensures input { p.new.input ≡ p.old.input }
-    ensures open { IsInnermost result.marker p.new.nodes }
+    ensures marker { IsInnermost result.marker p.new.nodes }
     ensures innermost { (n : ℕ) → IsInnermost n p.old.nodes → IsInnermost n p.new.nodes }
     ensures reads { (s : Reading) (below : Option (List Marked)) → rank (named production) ≤ ranks
-        → Stands open.given p.old s below → IsBegun (named production) condition s
+        → Stands node.given p.old s below → IsBegun (named production) condition s
         → Stands result.given p.new (meaning whole (named production) condition s) below }
     ensures looks { (s : Reading) (below : Option (List Marked)) → rank (named production) ≤ ranks
-        → Stands open.given p.old s below → IsBegun (named production) condition s
+        → Stands node.given p.old s below → IsBegun (named production) condition s
         → Costs (idle_of (named production)) (debt_of (named production)) p.old p.new }
 {
     let began = tokens_left(p, total);
@@ -107,35 +107,35 @@ pub fn production(
         ranks,
         total,
     };
-    read(p, open, rule_of(production), condition, caller)
+    read(p, node, rule_of(production), condition, caller)
 }
 
 /// Reads a production in a node that is left out in the end.
 #[cycle(reader)]
-fn call(p: &mut Parser<'_>, open: Open, called: Production, condition: bool, caller: Caller) -> Open
+fn call(p: &mut Parser<'_>, node: Open, called: Production, condition: bool, caller: Caller) -> Open
     requires total { caller.total ≡ length p.old.input }
     requires short { length p.old.input < 2 ^ 64 }
     requires few { caller.ranks ≤ 20 }
-    requires open { IsInnermost open.marker p.old.nodes }
+    requires marker { IsInnermost node.marker p.old.nodes }
     ensures input { p.new.input ≡ p.old.input }
-    ensures open { IsInnermost result.marker p.new.nodes }
+    ensures marker { IsInnermost result.marker p.new.nodes }
     ensures innermost { (n : ℕ) → IsInnermost n p.old.nodes → IsInnermost n p.new.nodes }
     ensures reads { (x : rules.Production) (s : Reading) (below : Option (List Marked)) → rank x ≤ caller.ranks
-        → Stands open.given p.old s below → IsBelow x caller.began (named called) s
+        → Stands node.given p.old s below → IsBelow x caller.began (named called) s
         → IsBegun (named called) condition (fresh s)
         → Stands result.given p.new (behind s (meaning whole (named called) condition (fresh s))) below }
     ensures looks { (x : rules.Production) (s : Reading) (below : Option (List Marked)) → rank x ≤ caller.ranks
-        → Stands open.given p.old s below → IsBelow x caller.began (named called) s
+        → Stands node.given p.old s below → IsBelow x caller.began (named called) s
         → IsBegun (named called) condition (fresh s)
         → Costs (idle_of (named called)) (debt_of (named called)) p.old p.new }
 {
     let Some(ranks) = ranks_below(p, caller) else {
-        return open;
+        return node;
     };
     let inner = start(p);
     let inner = production(p, inner, called, condition, ranks, caller.total);
     let gave = leave_out(p, inner);
-    let Open { marker, given } = open;
+    let Open { marker, given } = node;
     Open {
         marker,
         given: given || gave,
@@ -146,7 +146,7 @@ fn call(p: &mut Parser<'_>, open: Open, called: Production, condition: bool, cal
 #[cycle(reader)]
 fn go_on(
     p: &mut Parser<'_>,
-    open: Open,
+    node: Open,
     called: Production,
     condition: bool,
     caller: Caller,
@@ -154,30 +154,30 @@ fn go_on(
     requires total { caller.total ≡ length p.old.input }
     requires short { length p.old.input < 2 ^ 64 }
     requires few { caller.ranks ≤ 20 }
-    requires open { IsInnermost open.marker p.old.nodes }
+    requires marker { IsInnermost node.marker p.old.nodes }
     ensures input { p.new.input ≡ p.old.input }
-    ensures open { IsInnermost result.marker p.new.nodes }
+    ensures marker { IsInnermost result.marker p.new.nodes }
     ensures innermost { (n : ℕ) → IsInnermost n p.old.nodes → IsInnermost n p.new.nodes }
     ensures reads { (x : rules.Production) (s : Reading) (below : Option (List Marked)) → rank x ≤ caller.ranks
-        → Stands open.given p.old s below → IsBelow x caller.began (named called) s
+        → Stands node.given p.old s below → IsBelow x caller.began (named called) s
         → IsBegun (named called) condition s
         → Stands result.given p.new (meaning whole (named called) condition s) below }
     ensures looks { (x : rules.Production) (s : Reading) (below : Option (List Marked)) → rank x ≤ caller.ranks
-        → Stands open.given p.old s below → IsBelow x caller.began (named called) s
+        → Stands node.given p.old s below → IsBelow x caller.began (named called) s
         → IsBegun (named called) condition s
         → Costs (idle_of (named called)) (debt_of (named called)) p.old p.new }
 {
     let Some(ranks) = ranks_below(p, caller) else {
-        return open;
+        return node;
     };
-    production(p, open, called, condition, ranks, caller.total)
+    production(p, node, called, condition, ranks, caller.total)
 }
 
 /// Reads turns of a rule, one for each token at most; a turn that takes no token is the last.
 #[cycle(reader)]
 fn turns(
     p: &mut Parser<'_>,
-    open: Open,
+    node: Open,
     rule: &'static Rule,
     condition: bool,
     caller: Caller,
@@ -185,39 +185,39 @@ fn turns(
     requires total { caller.total ≡ length p.old.input }
     requires short { length p.old.input < 2 ^ 64 }
     requires few { caller.ranks ≤ 20 }
-    requires open { IsInnermost open.marker p.old.nodes }
+    requires marker { IsInnermost node.marker p.old.nodes }
     ensures input { p.new.input ≡ p.old.input }
-    ensures open { IsInnermost result.marker p.new.nodes }
+    ensures marker { IsInnermost result.marker p.new.nodes }
     ensures innermost { (n : ℕ) → IsInnermost n p.old.nodes → IsInnermost n p.new.nodes }
     ensures reads { (x : rules.Production) (s : Reading) (below : Option (List Marked)) → rank x ≤ caller.ranks
-        → Stands open.given p.old s below → CanRead x caller.began condition (rules.Star (plain rule.now)) s
+        → Stands node.given p.old s below → CanRead x caller.began condition (rules.Star (plain rule.now)) s
         → Stands result.given p.new (reads condition (rules.Star (plain rule.now)) s) below }
     ensures looks { (x : rules.Production) (s : Reading) (below : Option (List Marked)) → rank x ≤ caller.ranks
-        → Stands open.given p.old s below → CanRead x caller.began condition (rules.Star (plain rule.now)) s
+        → Stands node.given p.old s below → CanRead x caller.began condition (rules.Star (plain rule.now)) s
         → is_paid (rules.Star (plain rule.now)) ≡ true
         → Costs (idle (rules.Star (plain rule.now))) (debt (rules.Star (plain rule.now))) p.old p.new }
 {
-    let mut open = open;
+    let mut node = node;
     let mut turns = tokens_left(p, caller.total);
     'turns: while turns > 0 {
-        if !at(p, open.given, rule, condition, caller.total) {
-            return open;
+        if !at(p, node.given, rule, condition, caller.total) {
+            return node;
         }
         let before = tokens_left(p, caller.total);
-        open = read(p, open, rule, condition, caller);
+        node = read(p, node, rule, condition, caller);
         if tokens_left(p, caller.total) >= before {
-            return open;
+            return node;
         }
         turns -= 1;
     }
-    open
+    node
 }
 
 /// Reads what a rule says.
 #[cycle(reader)]
 fn read(
     p: &mut Parser<'_>,
-    open: Open,
+    node: Open,
     rule: &'static Rule,
     condition: bool,
     caller: Caller,
@@ -225,72 +225,72 @@ fn read(
     requires total { caller.total ≡ length p.old.input }
     requires short { length p.old.input < 2 ^ 64 }
     requires few { caller.ranks ≤ 20 }
-    requires open { IsInnermost open.marker p.old.nodes }
+    requires marker { IsInnermost node.marker p.old.nodes }
     ensures input { p.new.input ≡ p.old.input }
-    ensures open { IsInnermost result.marker p.new.nodes }
+    ensures marker { IsInnermost result.marker p.new.nodes }
     ensures innermost { (n : ℕ) → IsInnermost n p.old.nodes → IsInnermost n p.new.nodes }
     ensures reads { (x : rules.Production) (s : Reading) (below : Option (List Marked)) → rank x ≤ caller.ranks
-        → Stands open.given p.old s below → CanRead x caller.began condition (plain rule.now) s
+        → Stands node.given p.old s below → CanRead x caller.began condition (plain rule.now) s
         → Stands result.given p.new (reads condition (plain rule.now) s) below }
     ensures looks { (x : rules.Production) (s : Reading) (below : Option (List Marked)) → rank x ≤ caller.ranks
-        → Stands open.given p.old s below → CanRead x caller.began condition (plain rule.now) s
+        → Stands node.given p.old s below → CanRead x caller.began condition (plain rule.now) s
         → is_paid (plain rule.now) ≡ true
         → Costs (idle (plain rule.now)) (debt (plain rule.now)) p.old p.new }
 {
     match rule {
-        Rule::Nothing => open,
-        Rule::One(spelling) => take(p, open, spelling.kind(), spelling.count(), caller.total),
-        Rule::Any => take_any(p, open, caller.total),
+        Rule::Nothing => node,
+        Rule::One(spelling) => take(p, node, spelling.kind(), spelling.count(), caller.total),
+        Rule::Any => take_any(p, node, caller.total),
         Rule::Then(first, second) => {
-            let open = read(p, open, first, condition, caller);
-            read(p, open, second, condition, caller)
+            let node = read(p, node, first, condition, caller);
+            read(p, node, second, condition, caller)
         }
-        Rule::Near(first, second) => {
-            let open = read(p, open, first, condition, caller);
-            read(p, open, second, condition, caller)
+        Rule::Near(_, first, second) => {
+            let node = read(p, node, first, condition, caller);
+            read(p, node, second, condition, caller)
         }
         Rule::Or(first, second) => {
-            if at(p, open.given, first, condition, caller.total) {
-                return read(p, open, first, condition, caller);
+            if at(p, node.given, first, condition, caller.total) {
+                return read(p, node, first, condition, caller);
             }
-            read(p, open, second, condition, caller)
+            read(p, node, second, condition, caller)
         }
-        Rule::When(_, inner) => read(p, open, inner, condition, caller),
-        Rule::Unless(_, inner) => read(p, open, inner, condition, caller),
+        Rule::When(_, inner) => read(p, node, inner, condition, caller),
+        Rule::Unless(_, inner) => read(p, node, inner, condition, caller),
         Rule::Opt(inner) => {
-            if at(p, open.given, inner, condition, caller.total) {
-                return read(p, open, inner, condition, caller);
+            if at(p, node.given, inner, condition, caller.total) {
+                return read(p, node, inner, condition, caller);
             }
-            open
+            node
         }
-        Rule::Star(inner) => turns(p, open, inner, condition, caller),
+        Rule::Star(inner) => turns(p, node, inner, condition, caller),
         Rule::Node(kind, inner) => {
-            let node = start(p);
-            let node = read(p, node, inner, condition, caller);
-            close(p, node, *kind);
-            let Open { marker, given: _ } = open;
+            let child = start(p);
+            let child = read(p, child, inner, condition, caller);
+            close(p, child, *kind);
+            let Open { marker, given: _ } = node;
             Open {
                 marker,
                 given: true,
             }
         }
         Rule::Wrap(kind, inner) => {
-            let open = read(p, open, inner, condition, caller);
-            wrap(p, open, *kind)
+            let node = read(p, node, inner, condition, caller);
+            wrap(p, node, *kind)
         }
         Rule::Want(inner, message) => {
-            if at(p, open.given, inner, condition, caller.total) {
-                return read(p, open, inner, condition, caller);
+            if at(p, node.given, inner, condition, caller.total) {
+                return read(p, node, inner, condition, caller);
             }
-            tell(p, open, *message)
+            tell(p, node, *message)
         }
-        Rule::Say(message) => tell(p, open, *message),
-        Rule::Skip(message) => skip(p, open, *message, caller.total),
-        Rule::Split => split(p, open),
-        Rule::Call(called) => call(p, open, *called, condition, caller),
-        Rule::Continue(called) => go_on(p, open, *called, condition, caller),
-        Rule::Mode(mode, inner) => read(p, open, inner, *mode, caller),
-        Rule::LaterBodies => read(p, open, later_bodies(), condition, caller),
-        Rule::LaterAtoms => read(p, open, later_atoms(), condition, caller),
+        Rule::Say(message) => tell(p, node, *message),
+        Rule::Skip(message) => skip(p, node, *message, caller.total),
+        Rule::Split => split(p, node),
+        Rule::Call(called) => call(p, node, *called, condition, caller),
+        Rule::Continue(called) => go_on(p, node, *called, condition, caller),
+        Rule::Mode(mode, inner) => read(p, node, inner, *mode, caller),
+        Rule::LaterBodies => read(p, node, later_bodies(), condition, caller),
+        Rule::LaterAtoms => read(p, node, later_atoms(), condition, caller),
     }
 }

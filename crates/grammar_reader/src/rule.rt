@@ -42,7 +42,8 @@ pub enum Rule {
     One(Spelling),
     Any,
     Then(&'static Rule, &'static Rule),
-    Near(&'static Rule, &'static Rule),
+    /// The second is asked for so many tokens further on.
+    Near(u8, &'static Rule, &'static Rule),
     Or(&'static Rule, &'static Rule),
     When(Look, &'static Rule),
     Unless(Look, &'static Rule),
@@ -100,7 +101,7 @@ impl Rule {
             Rule::One(_) => false,
             Rule::Any => false,
             Rule::Then(_, _) => false,
-            Rule::Near(_, _) => false,
+            Rule::Near(_, _, _) => false,
             Rule::Or(_, _) => false,
             Rule::When(_, _) => false,
             Rule::Unless(_, _) => false,
@@ -129,7 +130,7 @@ impl Rule {
             Rule::One(_) => false,
             Rule::Any => false,
             Rule::Then(_, _) => false,
-            Rule::Near(_, _) => false,
+            Rule::Near(_, _, _) => false,
             Rule::Or(_, _) => false,
             Rule::When(_, _) => false,
             Rule::Unless(_, _) => false,
@@ -146,35 +147,6 @@ impl Rule {
             Rule::Mode(_, inner) => inner.is_passed(),
             Rule::LaterBodies => false,
             Rule::LaterAtoms => false,
-        }
-    }
-
-    /// How many tokens the leaf stands over that it begins with.
-    pub fn width(&self) -> u8
-        ensures { result ≡ rules.width (plain self.now) }
-    {
-        match self {
-            Rule::Nothing => 1,
-            Rule::One(spelling) => spelling.count(),
-            Rule::Any => 1,
-            Rule::Then(_, _) => 1,
-            Rule::Near(_, _) => 1,
-            Rule::Or(first, _) => first.width(),
-            Rule::When(_, inner) => inner.width(),
-            Rule::Unless(_, _) => 1,
-            Rule::Opt(_) => 1,
-            Rule::Star(_) => 1,
-            Rule::Node(_, inner) => inner.width(),
-            Rule::Wrap(_, _) => 1,
-            Rule::Want(_, _) => 1,
-            Rule::Say(_) => 1,
-            Rule::Skip(_) => 1,
-            Rule::Split => 1,
-            Rule::Call(_) => 1,
-            Rule::Continue(_) => 1,
-            Rule::Mode(_, _) => 1,
-            Rule::LaterBodies => 1,
-            Rule::LaterAtoms => 1,
         }
     }
 }

@@ -10,12 +10,17 @@ use crate::rule::Rule;
 pub use expressions::later_atoms;
 pub use items::later_bodies;
 
+mod attributes;
+mod control;
 mod expressions;
 mod items;
+mod members;
+mod operators;
 mod paths;
 mod patterns;
 mod statements;
 mod types;
+mod use_trees;
 
 /// The rule that a production stands for.
 pub fn rule_of(production: Production) -> &'static Rule
@@ -30,17 +35,17 @@ pub fn rule_of(production: Production) -> &'static Rule
         Production::Item => items::item(),
         Production::Body => items::body(),
         Production::AssocItems => items::assoc_items(),
-        Production::Variants => items::variants(),
-        Production::RecordFields => items::record_fields(),
-        Production::TupleFields => items::tuple_fields(),
-        Production::Visibility => items::visibility(),
-        Production::Attribute => items::attribute(),
-        Production::Meta => items::meta(),
-        Production::TokenTree => items::token_tree(),
-        Production::UseTree => items::use_tree(),
-        Production::UseList => items::use_list(),
-        Production::Params => items::params(),
-        Production::Param => items::param(),
+        Production::Variants => members::variants(),
+        Production::RecordFields => members::record_fields(),
+        Production::TupleFields => members::tuple_fields(),
+        Production::Visibility => attributes::visibility(),
+        Production::Attribute => attributes::attribute(),
+        Production::Meta => attributes::meta(),
+        Production::TokenTree => attributes::token_tree(),
+        Production::UseTree => use_trees::use_tree(),
+        Production::UseList => use_trees::use_list(),
+        Production::Params => members::params(),
+        Production::Param => members::param(),
         Production::Name => paths::name(),
         Production::Lifetime => paths::lifetime(),
         Production::NameRef => paths::name_ref(),
@@ -68,29 +73,29 @@ pub fn rule_of(production: Production) -> &'static Rule
         Production::MacroStatement => statements::macro_statement(),
         Production::StatementEnd => statements::statement_end(),
         Production::MacroStatementEnd => statements::macro_statement_end(),
-        Production::Expression => expressions::expression(),
-        Production::Operation => expressions::operation(),
-        Production::OperationTail => expressions::operation_tail(),
-        Production::Disjunction => expressions::disjunction(),
-        Production::Conjunction => expressions::conjunction(),
-        Production::Comparison => expressions::comparison(),
-        Production::BitOr => expressions::bit_or(),
-        Production::BitXor => expressions::bit_xor(),
-        Production::BitAnd => expressions::bit_and(),
-        Production::BitShift => expressions::bit_shift(),
-        Production::Sum => expressions::sum(),
-        Production::Product => expressions::product(),
-        Production::Cast => expressions::cast(),
-        Production::Prefixed => expressions::prefixed(),
+        Production::Expression => operators::expression(),
+        Production::Operation => operators::operation(),
+        Production::OperationTail => operators::operation_tail(),
+        Production::Disjunction => operators::disjunction(),
+        Production::Conjunction => operators::conjunction(),
+        Production::Comparison => operators::comparison(),
+        Production::BitOr => operators::bit_or(),
+        Production::BitXor => operators::bit_xor(),
+        Production::BitAnd => operators::bit_and(),
+        Production::BitShift => operators::bit_shift(),
+        Production::Sum => operators::sum(),
+        Production::Product => operators::product(),
+        Production::Cast => operators::cast(),
+        Production::Prefixed => operators::prefixed(),
         Production::Postfix => expressions::postfix(),
         Production::AfterDot => expressions::after_dot(),
         Production::Arguments => expressions::arguments(),
         Production::Atom => expressions::atom(),
         Production::FieldValues => expressions::field_values(),
         Production::FieldValue => expressions::field_value(),
-        Production::BlockLike => expressions::block_like(),
-        Production::IfExpr => expressions::if_expr(),
-        Production::MatchArms => expressions::match_arms(),
-        Production::MatchArm => expressions::match_arm(),
+        Production::BlockLike => control::block_like(),
+        Production::IfExpr => control::if_expr(),
+        Production::MatchArms => control::match_arms(),
+        Production::MatchArm => control::match_arm(),
     }
 }

@@ -64,7 +64,7 @@ module _ (c : Bool) where
   unfolding read
   reads-then p q = record { does = does-as (λ s e. refl) (does-then p.does q.does) }
 
-  pub reads-near : {a b : Rule} {old mid new : View} → Reads c a old mid → Reads c b mid new → Reads c (Near a b) old new
+  pub reads-near : {w : ℕ} {a b : Rule} {old mid new : View} → Reads c a old mid → Reads c b mid new → Reads c (Near w a b) old new
   unfolding read
   reads-near p q = record { does = does-as (λ s e. refl) (does-then p.does q.does) }
 

@@ -28,7 +28,7 @@ pick None a b r = r
 -- What a rule comes to here: the alternatives that are read are chosen, up to the first part that is read.
 abbrev pub simple : List Fact → Rule → Rule
 simple fs (Then a b) = chain (simple fs a) b (simple fs b)
-simple fs (Near a b) = chain (simple fs a) b (simple fs b)
+simple fs (Near w a b) = chain (simple fs a) b (simple fs b)
 simple fs (Or a b) = pick (starts fs a) (simple fs a) (simple fs b) (Or a b)
 simple fs (When l a) = simple fs a
 simple fs (Unless l a) = simple fs a
@@ -49,7 +49,7 @@ module _ (c : Bool) where
   chained (Then x y) b d s e = chained y b b (does x s) (λ i. refl)
   chained (One x) b d s e = refl
   chained Any b d s e = refl
-  chained (Near x y) b d s e = refl
+  chained (Near w x y) b d s e = refl
   chained (Or x y) b d s e = refl
   chained (When l x) b d s e = refl
   chained (Unless l x) b d s e = refl
@@ -83,17 +83,17 @@ module _ (c : Bool) where
     is_simple Any s e = refl
     is_simple (Then a b) s e =
         chained (simple fs a) b (simple fs b) s (λ i. is_simple b s e) ∙ ap (λ (t : Reading). does b t) (is_simple a s e)
-    is_simple (Near a b) s e =
+    is_simple (Near w a b) s e =
         chained (simple fs a) b (simple fs b) s (λ i. is_simple b s e) ∙ ap (λ (t : Reading). does b t) (is_simple a s e)
     is_simple (Or a b) s e =
-        picked (sees c s (begins looks a)) (starts fs a) (simple fs a) (simple fs b) (Or a b) s (does a s) (does b s) (is_start c s fs (known s e) a)
+        picked (sees c s (begins looks a)) (starts fs a) (simple fs a) (simple fs b) (Or a b) s (does a s) (does b s) (is_start c s fs (known s e) (known (fresh s) e) a)
         (is_simple a s e) (is_simple b s e) refl
     is_simple (When l a) s e = is_simple a s e
     is_simple (Unless l a) s e = is_simple a s e
     is_simple (Opt a) s e =
-        picked (sees c s (begins looks a)) (starts fs a) (simple fs a) Nothing (Opt a) s (does a s) s (is_start c s fs (known s e) a)
+        picked (sees c s (begins looks a)) (starts fs a) (simple fs a) Nothing (Opt a) s (does a s) s (is_start c s fs (known s e) (known (fresh s) e) a)
         (is_simple a s e) refl refl
-    is_simple (Star a) s e = star (starts fs a) (is_start c s fs (known s e) a)
+    is_simple (Star a) s e = star (starts fs a) (is_start c s fs (known s e) (known (fresh s) e) a)
       where
         star : (o : Option Bool) → Right c s (begins looks a) o → does (pick o (Star a) Nothing (Star a)) s ≡ does (Star a) s
         star None h = refl
@@ -102,7 +102,7 @@ module _ (c : Bool) where
     is_simple (Node k a) s e = ap (λ (t : Reading). node k s t) (is_simple a (fresh s) e)
     is_simple (Wrap k a) s e = ap (λ (t : Reading). wrapped k t) (is_simple a s e)
     is_simple (Want a m) s e =
-        picked (sees c s (begins looks a)) (starts fs a) (simple fs a) (Say m) (Want a m) s (does a s) (say m s) (is_start c s fs (known s e) a)
+        picked (sees c s (begins looks a)) (starts fs a) (simple fs a) (Say m) (Want a m) s (does a s) (say m s) (is_start c s fs (known s e) (known (fresh s) e) a)
         (is_simple a s e) refl refl
     is_simple (Say m) s e = refl
     is_simple (Skip m) s e = refl

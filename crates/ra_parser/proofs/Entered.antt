@@ -3,7 +3,7 @@ use Rattle.std.proofs.Common.{◌≡◌, ◌≤◌, Bool, true, false, List, [],
 use Rattle.std.proofs.lemmas.Bool.{cases_Bool}
 use Rattle.parser_input.specs.Input.{Token}
 use Rattle.parser_events.specs.Forest as forest
-use Rattle.parser_events.specs.Forest.{Forest, UnexpectedTokens, ◌then◌}
+use Rattle.parser_events.specs.Forest.{Forest, Message, UnexpectedTokens, ◌then◌}
 use Rattle.parser_events.specs.Marked as marks
 use Rattle.parser_events.specs.Marked.{Marked, marked}
 use Rattle.parser_events.specs.Stack.{AreStepsOf}
@@ -14,7 +14,7 @@ use Rattle.parser_events.specs.View.{View}
 use Rattle.rust_grammar.specs.Rule.{Production}
 use Rattle.rust_grammar.specs.Notation.{wanted}
 use Rattle.rust_grammar.specs.Meaning.{Reading, meaning, sees, look_of}
-use Rattle.rust_grammar.specs.Entry.{is_used_up, takes_all, entry}
+use Rattle.rust_grammar.specs.Entry.{is_used_up, takes_all, told, entry}
 use Rattle.rust_grammar.specs.Whole.{whole}
 use Rattle.rust_grammar.specs.Begun.{asks_nothing, IsBegun}
 use Rattle.rust_grammar.proofs.EntriesInOrder.{lists-begin}
@@ -48,11 +48,11 @@ pub entry-every : (x : Production) (ts : List Token) → takes_all x ≡ true �
 unfolding entry
 entry-every x ts e = rw e refl
 
-pub entry-missing : (x : Production) (ts : List Token) → can_enter x (from ts) ≡ false → entry whole x ts ≡ strayed (wanted x) (from ts)
-unfolding entry can_enter strayed
-entry-missing x ts h = elim (cases_Bool (takes_all x)) [
+pub entry-missing : (x : Production) (ts : List Token) (m : Message) → can_enter x (from ts) ≡ false → (takes_all x ≡ false → wanted x ≡ Some m) → entry whole x ts ≡ strayed m (from ts)
+unfolding entry told can_enter strayed
+entry-missing x ts m h says = elim (cases_Bool (takes_all x)) [
   | inl e ↦ absurd (true≢false (let same : true ≡ false = subst (λ (b : Bool). (if b then true else sees false (from ts) (look_of whole x)) ≡ false) e h in same))
-  | inr e ↦ rw (e, subst (λ (b : Bool). (if b then true else sees false (from ts) (look_of whole x)) ≡ false) e h) refl
+  | inr e ↦ rw (e, subst (λ (b : Bool). (if b then true else sees false (from ts) (look_of whole x)) ≡ false) e h, says e) refl
 ]
 
 seen : (x : Production) (ts : List Token) → takes_all x ≡ false → can_enter x (from ts) ≡ true → sees false (from ts) (look_of whole x) ≡ true

@@ -4,8 +4,8 @@ use Rattle.std.proofs.lemmas.Bool.{leb-true}
 use Rattle.parser_input.specs.Input.{Token}
 use Rattle.parser_events.specs.Marked.{Marked, End}
 use Rattle.parser_events.specs.View.{View}
-use Rattle.rust_grammar.specs.Rule.{Production, begins, passes, is_silent, width, shift, in_mode, there_at}
-use Rattle.rust_grammar.specs.Notation.{expected, wanted, row, one_of, any_of, is_longer, no_longer, op}
+use Rattle.rust_grammar.specs.Rule.{Production, begins, passes, is_silent, shift, in_mode, anew, there_at}
+use Rattle.rust_grammar.specs.Notation.{row, one_of, any_of, is_longer, no_longer, longest}
 use Rattle.rust_grammar.specs.Meaning.{Reading, look_of, begins_below}
 use Rattle.rust_grammar.specs.Paths.{paths}
 use Rattle.rust_grammar.specs.Types.{types}
@@ -26,7 +26,7 @@ use Rattle.ra_parser.specs.declared.entry_points.TopEntryPoint.TheVariants.{Sour
 use Rattle.ra_parser.proofs.Entered.{from, can-begin}
 
 to-begin : (e : TopEntryPoint) → nat_le (begin_looks (rule (production_of e))) 200 ≡ true
-unfolding asked begin_looks look_of begins_below begins passes is_silent width shift in_mode there_at rule rank whole expected wanted row one_of any_of is_longer no_longer op paths types patterns expressions statements items
+unfolding asked begin_looks look_of begins_below begins passes is_silent shift in_mode anew there_at rule rank whole row one_of any_of is_longer no_longer longest paths types patterns expressions statements items
 to-begin SourceFile = refl
 to-begin MacroStmts = refl
 to-begin MacroItems = refl

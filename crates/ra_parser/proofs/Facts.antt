@@ -3,19 +3,20 @@ use Rattle.std.proofs.Common.{◌≡◌, ℕ, Bool, true, false, not, ◌&&◌, 
 use Rattle.std.proofs.lemmas.Bool.{eqb-true}
 use Rattle.parser_events.specs.View.{View}
 use Rattle.grammar_reader.specs.Stands.{left}
-use Rattle.rust_grammar.specs.Rule.{Production, Look, Always, Never, Kind, Contextual, Joint, Left, InCondition, Given, Both, Either, Not, Rule, Nothing, One, Any, Then, Near, Or, Opt, Star, Node, Wrap, Want, Say, Skip, Split, When, Unless, Call, Continue, Mode, begins, there_at, shift, width, passes, is_silent}
-use Rattle.rust_grammar.specs.Meaning.{Reading, ahead, sees}
+use Rattle.rust_grammar.specs.Rule.{Production, Look, Always, Never, Kind, Contextual, Joint, Left, InCondition, Given, Both, Either, Not, Rule, Nothing, One, Any, Then, Near, Or, Opt, Star, Node, Wrap, Want, Say, Skip, Split, When, Unless, Call, Continue, Mode, begins, there_at, shift, passes, is_silent, anew}
+use Rattle.rust_grammar.specs.Meaning.{Reading, ahead, sees, fresh}
 use Rattle.ra_parser.specs.Stands.{looks, Saw}
+use Rattle.rust_grammar.proofs.Elsewhere.{anew-seen}
 use Rattle.rust_grammar.proofs.Productions.{same_production, same_production-true}
 
--- A look answers so; a production begins, or does not.
+-- A look answers so; a production that is called anew begins, or does not.
 pub data Fact : Type 0 where
   Answers : Look → Bool → Fact
   Begins : Production → Bool → Fact
 
 abbrev pub Holds : Bool → Reading → Fact → Type 0
 Holds c s (Answers l b) = sees c s l ≡ b
-Holds c s (Begins x b) = sees c s (looks x) ≡ b
+Holds c s (Begins x b) = sees c s (anew (looks x)) ≡ b
 
 abbrev pub HoldAll : Bool → Reading → List Fact → Type 0
 HoldAll c s [] = Unit {0}
@@ -33,7 +34,8 @@ pub ◌and◌ : {c : Bool} {l : Look} {b : Bool} {fs : List Fact} {v : View} →
 saw and k = record { at = λ s e. (saw.at s e, k.at s e) }
 
 pub begun : (x : Production) {c : Bool} {b : Bool} {fs : List Fact} {v : View} → Saw c (looks x) v b → Known c fs v → Known c (Begins x b ∷ fs) v
-begun x saw k = record { at = λ s e. (saw.at s e, k.at s e) }
+unfolding fresh
+begun x saw k = record { at = λ s e. (anew-seen _ s (looks x) ∙ saw.at (fresh s) e, k.at s e) }
 
 pub saw-so : {c : Bool} {l : Look} {v : View} {a b : Bool} → Saw c l v a → a ≡ b → Saw c l v b
 saw-so {c} {l} {v} s e = subst (λ (b : Bool). Saw c l v b) e s
@@ -145,10 +147,10 @@ of_production [] x = None
 of_production (Begins y b ∷ fs) x = if same_production y x then Some b else of_production fs x
 of_production (f ∷ fs) x = of_production fs x
 
--- whether a production begins here
+-- whether a production that is called anew begins here
 abbrev pub or_look : Option Bool → List Fact → Production → Option Bool
 or_look (Some b) fs x = Some b
-or_look None fs x = tells fs (looks x)
+or_look None fs x = tells fs (anew (looks x))
 
 -- whether a rule begins here
 abbrev pub starts : List Fact → Rule → Option Bool
@@ -160,7 +162,7 @@ starts fs (Then a b) =
     let second = starts fs b in
     let sure = if passes a then either first second else first in
     if is_silent a then second else sure
-starts fs (Near a b) = of_look fs (Both (begins looks a) (shift (width a) (begins looks b))) (both (starts fs a) (tells fs (shift (width a) (begins looks b))))
+starts fs (Near w a b) = of_look fs (Both (begins looks a) (shift w (begins looks b))) (both (starts fs a) (tells fs (shift w (begins looks b))))
 starts fs (Or a b) = either (starts fs a) (starts fs b)
 starts fs (When l a) = tells fs l
 starts fs (Unless l a) = both (neither (tells fs l)) (starts fs a)
@@ -173,7 +175,7 @@ starts fs (Say m) = Some true
 starts fs (Skip m) = of_left fs
 starts fs Split = of_left fs
 starts fs (Call x) = or_look (of_production fs x) fs x
-starts fs (Continue x) = or_look (of_production fs x) fs x
+starts fs (Continue x) = tells fs (looks x)
 starts fs (Mode c a) = None
 
 abbrev pub Right : Bool → Reading → Look → Option Bool → Type 0
@@ -333,46 +335,52 @@ module _ (c : Bool) (s : Reading) where
   is_told fs h (Either a b) = is_of_look fs h (Either a b) _ (is_either a b (tells fs a) (tells fs b) (is_told fs h a) (is_told fs h b))
   is_told fs h (Not a) = is_neither a (tells fs a) (is_told fs h a)
 
-  is_of_production : (fs : List Fact) → HoldAll c s fs → (x : Production) → Right c s (looks x) (of_production fs x)
+  is_of_production : (fs : List Fact) → HoldAll c s fs → (x : Production) → Right c s (anew (looks x)) (of_production fs x)
   is_of_production [] h x = tt
   is_of_production (Begins y d ∷ fs) h x = yes (is_of_production fs h.1 x) (same_production y x) refl
     where
-      yes : Right c s (looks x) (of_production fs x) → (b : Bool) → same_production y x ≡ b → Right c s (looks x) (if b then Some d else of_production fs x)
-      yes i true e = ap (λ (z : Production). sees c s (looks z)) (sym (same_production-true y x e)) ∙ h.0
+      yes : Right c s (anew (looks x)) (of_production fs x) → (b : Bool) → same_production y x ≡ b → Right c s (anew (looks x)) (if b then Some d else of_production fs x)
+      yes i true e = ap (λ (z : Production). sees c s (anew (looks z))) (sym (same_production-true y x e)) ∙ h.0
       yes i false e = i
   is_of_production (Answers l b ∷ fs) h x = is_of_production fs h.1 x
 
-  is_or_look : (o : Option Bool) (fs : List Fact) → HoldAll c s fs → (x : Production) → Right c s (looks x) o → Right c s (looks x) (or_look o fs x)
+  is_or_look : (o : Option Bool) (fs : List Fact) → HoldAll c s fs → (x : Production) → Right c s (anew (looks x)) o → Right c s (anew (looks x)) (or_look o fs x)
   is_or_look (Some b) fs h x r = r
-  is_or_look None fs h x r = is_told fs h (looks x)
+  is_or_look None fs h x r = is_told fs h (anew (looks x))
 
-  pub is_start : (fs : List Fact) → HoldAll c s fs → (r : Rule) → Right c s (begins looks r) (starts fs r)
-  unfolding begins sees
-  is_start fs h Nothing = refl
-  is_start fs h (One x) = is_told fs h (there_at 0 x.parts)
-  is_start fs h Any = is_of_left fs h
-  is_start fs h (Then a b) = then_start (is_start fs h a) (is_start fs h b) (is_silent a) (passes a)
-    where
-      then_start : Right c s (begins looks a) (starts fs a) → Right c s (begins looks b) (starts fs b) → (silent pass : Bool) →
-          Right c s (if silent then begins looks b else (if pass then Either (begins looks a) (begins looks b) else begins looks a))
-          (if silent then starts fs b else (if pass then either (starts fs a) (starts fs b) else starts fs a))
-      then_start i j true pass = j
-      then_start i j false true = is_either (begins looks a) (begins looks b) (starts fs a) (starts fs b) i j
-      then_start i j false false = i
-  is_start fs h (Near a b) =
-      is_of_look fs h (Both (begins looks a) (shift (width a) (begins looks b))) _
-      (is_both (begins looks a) (shift (width a) (begins looks b)) (starts fs a) _ (is_start fs h a) (is_told fs h (shift (width a) (begins looks b))))
-  is_start fs h (Or a b) = is_either (begins looks a) (begins looks b) (starts fs a) (starts fs b) (is_start fs h a) (is_start fs h b)
-  is_start fs h (When l a) = is_told fs h l
-  is_start fs h (Unless l a) = is_both (Not l) (begins looks a) _ (starts fs a) (is_neither l (tells fs l) (is_told fs h l)) (is_start fs h a)
-  is_start fs h (Opt a) = is_start fs h a
-  is_start fs h (Star a) = is_start fs h a
-  is_start fs h (Node k a) = is_start fs h a
-  is_start fs h (Wrap k a) = is_start fs h a
-  is_start fs h (Want a m) = is_start fs h a
-  is_start fs h (Say m) = refl
-  is_start fs h (Skip m) = is_of_left fs h
-  is_start fs h Split = is_of_left fs h
-  is_start fs h (Call x) = is_or_look (of_production fs x) fs h x (is_of_production fs h x)
-  is_start fs h (Continue x) = is_or_look (of_production fs x) fs h x (is_of_production fs h x)
-  is_start fs h (Mode d a) = tt
+  -- a look of a place where nothing was given
+  is_anew : (l : Look) (o : Option Bool) → Right c (fresh s) l o → Right c s (anew l) o
+  is_anew l None h = tt
+  is_anew l (Some b) h = anew-seen c s l ∙ h
+
+-- Whether a rule begins here is as the facts tell, if they hold here, and also where nothing was given.
+pub is_start : (c : Bool) (s : Reading) (fs : List Fact) → HoldAll c s fs → HoldAll c (fresh s) fs → (r : Rule) → Right c s (begins looks r) (starts fs r)
+unfolding begins sees fresh
+is_start c s fs h i Nothing = refl
+is_start c s fs h i (One x) = is_told c s fs h (there_at 0 x.parts)
+is_start c s fs h i Any = is_of_left c s fs h
+is_start c s fs h i (Then a b) = then_start (is_start c s fs h i a) (is_start c s fs h i b) (is_silent a) (passes a)
+  where
+    then_start : Right c s (begins looks a) (starts fs a) → Right c s (begins looks b) (starts fs b) → (silent pass : Bool) →
+        Right c s (if silent then begins looks b else (if pass then Either (begins looks a) (begins looks b) else begins looks a))
+        (if silent then starts fs b else (if pass then either (starts fs a) (starts fs b) else starts fs a))
+    then_start k l true pass = l
+    then_start k l false true = is_either c s (begins looks a) (begins looks b) (starts fs a) (starts fs b) k l
+    then_start k l false false = k
+is_start c s fs h i (Near w a b) =
+    is_of_look c s fs h (Both (begins looks a) (shift w (begins looks b))) _
+    (is_both c s (begins looks a) (shift w (begins looks b)) (starts fs a) _ (is_start c s fs h i a) (is_told c s fs h (shift w (begins looks b))))
+is_start c s fs h i (Or a b) = is_either c s (begins looks a) (begins looks b) (starts fs a) (starts fs b) (is_start c s fs h i a) (is_start c s fs h i b)
+is_start c s fs h i (When l a) = is_told c s fs h l
+is_start c s fs h i (Unless l a) = is_both c s (Not l) (begins looks a) _ (starts fs a) (is_neither c s l (tells fs l) (is_told c s fs h l)) (is_start c s fs h i a)
+is_start c s fs h i (Opt a) = is_start c s fs h i a
+is_start c s fs h i (Star a) = is_start c s fs h i a
+is_start c s fs h i (Node k a) = is_anew c s (begins looks a) (starts fs a) (is_start c (fresh s) fs i i a)
+is_start c s fs h i (Wrap k a) = is_start c s fs h i a
+is_start c s fs h i (Want a m) = is_start c s fs h i a
+is_start c s fs h i (Say m) = refl
+is_start c s fs h i (Skip m) = is_of_left c s fs h
+is_start c s fs h i Split = is_of_left c s fs h
+is_start c s fs h i (Call x) = is_or_look c s (of_production fs x) fs h x (is_of_production c s fs h x)
+is_start c s fs h i (Continue x) = is_told c s fs h (looks x)
+is_start c s fs h i (Mode d a) = tt

@@ -23,7 +23,7 @@ is_behind f Nothing = true
 is_behind f (One x) = true
 is_behind f Any = true
 is_behind f (Then a b) = is_behind f a && is_behind f b
-is_behind f (Near a b) = is_behind f a && is_behind f b
+is_behind f (Near w a b) = is_behind f a && is_behind f b
 is_behind f (Or a b) = no_given (begins f a) && (is_behind f a && is_behind f b)
 is_behind f (When l a) = is_behind f a
 is_behind f (Unless l a) = is_behind f a
@@ -91,7 +91,7 @@ read-after f call c Nothing g s e = refl
 read-after f call c (One x) g s e = grown g s.given (forest.Leaf x.kind (length x.parts) End) (drop (length x.parts) s.rest)
 read-after f call c Any g s e = grown g s.given (forest.Leaf (ahead 0 s.rest).kind 1 End) (drop 1 s.rest)
 read-after f call c (Then a b) g s e = ap (λ t. read f call c b t) (read-after f call c a g s (and_l _ _ e)) ∙ read-after f call c b g (read f call c a s) (and_r _ _ e)
-read-after f call c (Near a b) g s e = ap (λ t. read f call c b t) (read-after f call c a g s (and_l _ _ e)) ∙ read-after f call c b g (read f call c a s) (and_r _ _ e)
+read-after f call c (Near w a b) g s e = ap (λ t. read f call c b t) (read-after f call c a g s (and_l _ _ e)) ∙ read-after f call c b g (read f call c a s) (and_r _ _ e)
 read-after f call c (Or a b) g s e =
     rw (sees-after c g s (begins f a) (and_l (no_given (begins f a)) (is_behind f a && is_behind f b) e))
     (choose (sees c s (begins f a)) _ _ (read f call c a s) (read f call c b s) g

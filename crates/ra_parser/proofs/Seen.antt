@@ -6,10 +6,11 @@ use Rattle.parser_events.specs.Forest as forest
 use Rattle.parser_events.specs.Forest.{Message}
 use Rattle.parser_events.specs.View.{View}
 use Rattle.grammar_reader.specs.Stands.{left}
-use Rattle.rust_grammar.specs.Rule.{Production, Spelling, Look, Always, Never, Kind, Contextual, Joint, Left, InCondition, Given, Both, Either, Not, Rule, One, Call, begins, shift}
-use Rattle.rust_grammar.specs.Meaning.{Reading, ahead, sees, leaf, read}
+use Rattle.rust_grammar.specs.Rule.{Production, Spelling, Look, Always, Never, Kind, Contextual, Joint, Left, InCondition, Given, Both, Either, Not, Rule, One, Call, begins, shift, anew}
+use Rattle.rust_grammar.specs.Meaning.{Reading, ahead, sees, fresh, leaf, read}
 use Rattle.rust_grammar.specs.Whole.{rule}
 use Rattle.ra_parser.specs.Stands.{looks, Opens, Leaves, Does, Reads, Saw}
+use Rattle.rust_grammar.proofs.Elsewhere.{anew-seen}
 use Rattle.rust_grammar.proofs.WholeTable.{whole-begins}
 use Rattle.ra_parser.proofs.Facts.{Fact, Answers, Begins, HoldAll, Known, Right, and_l, and_r, tells, starts, is_told, is_start}
 
@@ -62,19 +63,22 @@ pub saw-no-right : {c : Bool} {l m : Look} {v : View} → Saw c l v true → Saw
 unfolding sees
 saw-no-right f g = record { at = λ s e. rw (f.at s e, g.at s e) refl }
 
--- a production that begins here, as what is known tells
-pub begins-here : (x : Production) {c : Bool} {fs : List Fact} {b : Bool} {v : View} → Known c fs v → starts fs (Call x) ≡ Some b → Saw c (looks x) v b
-unfolding begins
-begins-here x {c} {fs} {b} {v} known is = record { at = λ s e. subst (λ (o : Option Bool). Right c s (looks x) o) is (is_start c s fs (known.at s e) (Call x)) }
+-- a production that begins here, as what is known tells, where it does not ask what was given
+pub begins-here : (x : Production) {c : Bool} {fs : List Fact} {b : Bool} {v : View} → anew (looks x) ≡ looks x → Known c fs v → starts fs (Call x) ≡ Some b → Saw c (looks x) v b
+unfolding begins fresh
+begins-here x {c} {fs} {b} {v} same known is = record {
+  at = λ s e. ap (λ (l : Look). sees c s l) (sym same) ∙ subst (λ (o : Option Bool). Right c s (anew (looks x)) o) is (is_start c s fs (known.at s e) (known.at (fresh s) e) (Call x));
+}
 
 -- Where a production begins, and would not if another one did not, that other one begins.
-pub begins-else : (x y : Production) {c : Bool} {fs : List Fact} {v : View} → Known c fs v → Saw c (looks y) v true → starts (Begins x false ∷ fs) (rule y) ≡ Some false → Saw c (looks x) v true
-begins-else x y {c} {fs} {v} known saw not_else = record { at = λ s e. one s (sees c s (looks x)) refl (known.at s e) (saw.at s e) }
+pub begins-else : (x y : Production) {c : Bool} {fs : List Fact} {v : View} → anew (looks x) ≡ looks x → Known c fs v → Saw c (looks y) v true → starts (Begins x false ∷ fs) (rule y) ≡ Some false → Saw c (looks x) v true
+unfolding fresh
+begins-else x y {c} {fs} {v} same known saw not_else = record { at = λ s e. ap (λ (l : Look). sees c s l) (sym same) ∙ one s (sees c s (anew (looks x))) refl (known.at s e) (known.at (fresh s) e) (saw.at s e) }
   where
-    one : (s : Reading) (b : Bool) → sees c s (looks x) ≡ b → HoldAll c s fs → sees c s (looks y) ≡ true → sees c s (looks x) ≡ true
-    one s true is h begins_there = is
-    one s false is h begins_there =
-        let no : sees c s (begins looks (rule y)) ≡ false = subst (λ (o : Option Bool). Right c s (begins looks (rule y)) o) not_else (is_start c s (Begins x false ∷ fs) (is, h) (rule y)) in
+    one : (s : Reading) (b : Bool) → sees c s (anew (looks x)) ≡ b → HoldAll c s fs → HoldAll c (fresh s) fs → sees c s (looks y) ≡ true → sees c s (anew (looks x)) ≡ true
+    one s true is h i begins_there = is
+    one s false is h i begins_there =
+        let no : sees c s (begins looks (rule y)) ≡ false = subst (λ (o : Option Bool). Right c s (begins looks (rule y)) o) not_else (is_start c s (Begins x false ∷ fs) (is, h) (anew-seen c (fresh s) (looks x) ∙ sym (anew-seen c s (looks x)) ∙ is, i) (rule y)) in
         absurd (let z : true ≡ false = sym begins_there ∙ ap (λ (l : Look). sees c s l) (whole-begins y) ∙ no in cc)
 
 pub saw-behind : {c : Bool} {l : Look} {b : Bool} {old mid : View} → Does (λ s. s) old mid → Saw c l old b → Saw c l mid b
@@ -86,8 +90,8 @@ at_the_end = Answers (Kind 0 EOF) true ∷ Answers Left false ∷ []
 
 -- a rule that does not begin where no token is left
 pub ends-at-end : (c : Bool) (a : Rule) → starts at_the_end a ≡ Some false → (t : Reading) → length t.rest ≡ 0 → sees c t (begins looks a) ≡ false
-unfolding sees ahead
-ends-at-end c a is t none = subst (λ (o : Option Bool). Right c t (begins looks a) o) is (is_start c t at_the_end (known t.rest none) a)
+unfolding sees ahead fresh
+ends-at-end c a is t none = subst (λ (o : Option Bool). Right c t (begins looks a) o) is (is_start c t at_the_end (known t.rest none) (known t.rest none) a)
   where
     known : (ts : List Token) → length ts ≡ 0 → ((ahead 0 ts).kind == EOF) ≡ true × (nat_lt 0 (length ts) ≡ false × Unit {0})
     known [] e = (refl, (refl, tt))
@@ -95,13 +99,15 @@ ends-at-end c a is t none = subst (λ (o : Option Bool). Right c t (begins looks
 
 -- the same, by its row
 pub begins-row : (x : Production) {c : Bool} {fs : List Fact} {b : Bool} {v : View} → Known c fs v → starts fs (rule x) ≡ Some b → Saw c (looks x) v b
+unfolding fresh
 begins-row x {c} {fs} {b} {v} known is = record {
-  at = λ s e. ap (λ (l : Look). sees c s l) (whole-begins x) ∙ subst (λ (o : Option Bool). Right c s (begins looks (rule x)) o) is (is_start c s fs (known.at s e) (rule x));
+  at = λ s e. ap (λ (l : Look). sees c s l) (whole-begins x) ∙ subst (λ (o : Option Bool). Right c s (begins looks (rule x)) o) is (is_start c s fs (known.at s e) (known.at (fresh s) e) (rule x));
 }
 
 -- what a rule begins with, where what is known tells it
 pub starts-here : (r : Rule) {c : Bool} {fs : List Fact} {b : Bool} {v : View} → Known c fs v → starts fs r ≡ Some b → Saw c (begins looks r) v b
-starts-here r {c} {fs} {b} {v} known is = record { at = λ s e. subst (λ (o : Option Bool). Right c s (begins looks r) o) is (is_start c s fs (known.at s e) r) }
+unfolding fresh
+starts-here r {c} {fs} {b} {v} known is = record { at = λ s e. subst (λ (o : Option Bool). Right c s (begins looks r) o) is (is_start c s fs (known.at s e) (known.at (fresh s) e) r) }
 
 pub saw-always : {c : Bool} {l : Look} {b : Bool} {v : View} → Saw c l v b → Saw c (Both l Always) v b
 unfolding sees

@@ -7,11 +7,11 @@ use Rattle.ra_parser.specs.Layers.{repeated, product_turn, sum_turn, turn_of, la
 use Rattle.rust_grammar.specs.Expressions.{expressions}
 use Rattle.rust_grammar.specs.Items.{items}
 use Rattle.rust_grammar.specs.Meaning.{sees, begins_below, look_of}
-use Rattle.rust_grammar.specs.Notation.{any_of, expected, is_longer, no_longer, one_of, op, row, wanted}
+use Rattle.rust_grammar.specs.Notation.{any_of, is_longer, no_longer, longest, one_of, row}
 use Rattle.rust_grammar.specs.Paths.{paths}
 use Rattle.rust_grammar.specs.Patterns.{patterns}
 use Rattle.rust_grammar.specs.Rule as rules
-use Rattle.rust_grammar.specs.Rule.{Look, Never, Either, Rule, Then, Call, begins, in_mode, is_silent, passes, shift, there_at, width}
+use Rattle.rust_grammar.specs.Rule.{Look, Never, Either, Rule, Then, Call, begins, in_mode, anew, is_silent, passes, shift, there_at}
 use Rattle.rust_grammar.specs.Statements.{statements}
 use Rattle.rust_grammar.specs.Types.{types}
 use Rattle.rust_grammar.specs.Whole.{rule, whole}
@@ -48,11 +48,11 @@ no-product false is = record { at = λ s e. refl }
 
 module _ (c : Bool) where
   product-ends : EndsAtEnd c product_turn
-  unfolding look_of begins_below whole rule items statements expressions patterns types paths there_at shift width passes is_silent begins in_mode row one_of any_of expected wanted op no_longer is_longer
+  unfolding look_of begins_below whole rule items statements expressions patterns types paths there_at shift passes is_silent begins in_mode anew row one_of any_of no_longer longest is_longer
   product-ends = ends-at-end c product_turn refl
 
   sum-ends : EndsAtEnd c sum_turn
-  unfolding look_of begins_below whole rule items statements expressions patterns types paths there_at shift width passes is_silent begins in_mode row one_of any_of expected wanted op no_longer is_longer
+  unfolding look_of begins_below whole rule items statements expressions patterns types paths there_at shift passes is_silent begins in_mode anew row one_of any_of no_longer longest is_longer
   sum-ends = ends-at-end c sum_turn refl
 
   pub turn-begins : (products product : Bool) {now : View} → Saw c (product_next products) now product → Saw c (Either (product_next products) (begins looks sum_turn)) now true → Saw c (begins looks (turn_of product)) now true
@@ -80,7 +80,7 @@ module _ (c : Bool) where
 
   -- a sum, from the casts and the layers around them
   pub gives-sum : {old new : View} → Anew c (Then (Call rules.cast) (repeated (layers_of true))) old new → Gives rules.sum c old new
-  unfolding rule expressions paths types patterns statements items op expected wanted
+  unfolding rule expressions paths types patterns statements items
   gives-sum p =
       gives-layers c rules.sum rules.cast (product_turn ∷ sum_turn ∷ [])
       (more-layers c rules.sum rules.product rules.cast (product_turn ∷ []) sum_turn refl (one-layer c rules.product rules.cast product_turn refl)) p

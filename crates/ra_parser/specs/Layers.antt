@@ -1,10 +1,11 @@
 -- Layers of operators, one within the other.
 use Rattle.std.specs.Prelude.{Bool, true, false, List, [], ◌∷◌}
 use Rattle.parser_input.specs.Kinds.{BIN_EXPR}
+use Rattle.parser_events.specs.Forest.{ExpectedExpression}
 use Rattle.rust_grammar.specs.Calls.{Cast, Product}
-use Rattle.rust_grammar.specs.Notation.{◌or◌, ◌▸◌, ◌!, ◌<⟨◌⟩, op}
+use Rattle.rust_grammar.specs.Notation.{◌or◌, ◌▸◌, ◌<⟨◌⟩, op}
 use Rattle.rust_grammar.specs.Words.{'+', '-', '*', '/', '%'}
-use Rattle.rust_grammar.specs.Rule.{Rule, Look, Never, Nothing, Then, Star, begins}
+use Rattle.rust_grammar.specs.Rule.{Rule, Look, Never, Nothing, Then, Star, Want, begins}
 use Rattle.ra_parser.specs.Stands.{looks}
 
 -- The turns of some layers, those of the layer that binds most first: each repeated, one behind the other.
@@ -14,10 +15,10 @@ repeated (a ∷ xs) = Then (Star a) (repeated xs)
 
 -- One operator of a product, and one of a sum, with the operand behind it.
 abbrev pub product_turn : Rule
-product_turn = BIN_EXPR <⟨ (op '*' or op '/' or op '%') ▸ Cast ! ⟩
+product_turn = BIN_EXPR <⟨ (op '*' or op '/' or op '%') ▸ Want Cast ExpectedExpression ⟩
 
 abbrev pub sum_turn : Rule
-sum_turn = BIN_EXPR <⟨ (op '+' or op '-') ▸ Product ! ⟩
+sum_turn = BIN_EXPR <⟨ (op '+' or op '-') ▸ Want Product ExpectedExpression ⟩
 
 abbrev pub turn_of : (product : Bool) → Rule
 turn_of true = product_turn

@@ -24,32 +24,32 @@ use parser_events::parser::Parser;
 use parser_input::syntax_kind::SyntaxKind;
 
 /// Takes the tokens that are left, each as a leaf.
-fn take_rest(p: &mut Parser<'_>, open: Open, total: usize) -> Open
+fn take_rest(p: &mut Parser<'_>, node: Open, total: usize) -> Open
     requires total { total ≡ length p.old.input }
-    requires open { IsInnermost open.marker p.old.nodes }
-    ensures open { IsInnermost result.marker p.new.nodes }
-    ensures does { (s : Reading) (below : Option (List Marked)) → Stands open.given p.old s below
+    requires marker { IsInnermost node.marker p.old.nodes }
+    ensures marker { IsInnermost result.marker p.new.nodes }
+    ensures does { (s : Reading) (below : Option (List Marked)) → Stands node.given p.old s below
         → Stands result.given p.new (with_leaves s) below }
     ensures looks { p.new.looks ≤ p.old.looks + length (left p.old) }
 {
-    let mut open = open;
+    let mut node = node;
     'tokens: while tokens_left(p, total) > 0 {
-        open = take_any(p, open, total);
+        node = take_any(p, node, total);
     }
-    open
+    node
 }
 
 /// Closes the only open node as an error, with this message and the tokens that are left.
-fn stray(p: &mut Parser<'_>, open: Open, message: Message, total: usize)
+fn stray(p: &mut Parser<'_>, node: Open, message: Message, total: usize)
     requires total { total ≡ length p.old.input }
-    requires open { IsInnermost open.marker p.old.nodes }
-    ensures tree { (s : Reading) → Stands open.given p.old s (Some (End ∷ []))
+    requires marker { IsInnermost node.marker p.old.nodes }
+    ensures tree { (s : Reading) → Stands node.given p.old s (Some (End ∷ []))
         → Holds p.new.nodes (marked (strayed (message_of message) s) ∷ []) }
     ensures looks { p.new.looks ≤ p.old.looks + length (left p.old) }
 {
-    let open = tell(p, open, message);
-    let open = take_rest(p, open, total);
-    close(p, open, SyntaxKind::ERROR);
+    let node = tell(p, node, message);
+    let node = take_rest(p, node, total);
+    close(p, node, SyntaxKind::ERROR);
 }
 
 /// The production that an entry asks for.
@@ -81,10 +81,11 @@ fn takes_every_input(entry_point: TopEntryPoint) -> bool
     }
 }
 
-/// What is said where an entry does not begin.
-#[tactic(auto, unfolding(rust_grammar::specs::Notation::wanted))]
+/// What is said where an entry does not begin. A list takes every input, so that nothing is said of one.
+#[tactic(auto, unfolding(rust_grammar::specs::Entry::takes_all))]
 fn missing(entry_point: TopEntryPoint) -> Message
-    ensures { message_of result ≡ wanted (production_of entry_point) }
+    ensures { takes_all (production_of entry_point) ≡ false
+        → wanted (production_of entry_point) ≡ Some (message_of result) }
 {
     match entry_point {
         TopEntryPoint::Pattern => Message::ExpectedPattern,
@@ -120,19 +121,19 @@ pub(crate) fn read_entry(p: &mut Parser<'_>, entry_point: TopEntryPoint, total: 
     ensures tree { Holds p.new.nodes (marked (entry whole (production_of entry_point) (left p.old)) ∷ []) }
     ensures looks { p.new.looks ≤ p.old.looks + looks_per_token * (length (left p.old) + 1) }
 {
-    let open = start(p);
+    let node = start(p);
     if !is_entered(p, entry_point, total) {
-        stray(p, open, missing(entry_point), total);
+        stray(p, node, missing(entry_point), total);
         return;
     }
-    let open = production(p, open, asked(entry_point), false, 20, total);
+    let node = production(p, node, asked(entry_point), false, 20, total);
     if takes_every_input(entry_point) {
-        leave_out(p, open);
+        leave_out(p, node);
         return;
     }
     if tokens_left(p, total) > 0 {
-        stray(p, open, Message::UnexpectedTokens, total);
+        stray(p, node, Message::UnexpectedTokens, total);
         return;
     }
-    leave_out(p, open);
+    leave_out(p, node);
 }

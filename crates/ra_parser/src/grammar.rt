@@ -10,7 +10,7 @@ ghost use Rattle.parser_events.specs.Forest.{Expected};
 ghost use Rattle.parser_events.specs.Seen.{message_of};
 ghost use Rattle.parser_events.specs.Stack.{IsInnermost};
 ghost use Rattle.ra_parser.specs.Looks.{tokens, spent};
-ghost use Rattle.rust_grammar.specs.Rule.{Kind, Contextual, Left, Say, Skip, Any, Want, Opt, there_at};
+ghost use Rattle.rust_grammar.specs.Rule.{Kind, Contextual, Left, Say, Skip, Any, Want, Opt, there_at, One};
 ghost use Rattle.rust_grammar.specs.Meaning.{wrapped};
 ghost use Rattle.rust_grammar.specs.Words.{one, joined};
 ghost use Rattle.ra_parser.specs.Stands.{Opens, Closes, Leaves, Does, Reads, Saw};
@@ -156,7 +156,7 @@ fn error(p: &mut Parser<'_>, message: Message)
 /// Takes the next token, as a leaf of this kind.
 fn take(p: &mut Parser<'_>, kind: SyntaxKind)
     requires { 1 ≤ tokens p.old }
-    ensures reads { (c : Bool) → Reads c (one (raw_of kind)) p.old p.new }
+    ensures reads { (c : Bool) → Reads c (One (one (raw_of kind))) p.old p.new }
     ensures left { tokens p.new + 1 ≡ tokens p.old }
     ensures looks { spent p.new + 4096 ≡ spent p.old }
 {
@@ -166,7 +166,7 @@ fn take(p: &mut Parser<'_>, kind: SyntaxKind)
 /// Takes the next two tokens, as one leaf of this kind.
 fn take_pair(p: &mut Parser<'_>, kind: SyntaxKind)
     requires { 2 ≤ tokens p.old }
-    ensures reads { (c : Bool) (first second : ℕ) → Reads c (joined (raw_of kind) (first ∷ second ∷ [])) p.old p.new }
+    ensures reads { (c : Bool) (first second : ℕ) → Reads c (One (joined (raw_of kind) (first ∷ second ∷ []))) p.old p.new }
     ensures left { tokens p.new + 2 ≡ tokens p.old }
     ensures looks { spent p.new + 8192 ≡ spent p.old }
 {
@@ -187,7 +187,7 @@ fn take_any(p: &mut Parser<'_>)
 /// Takes the next token where it is of this kind.
 fn eat(p: &mut Parser<'_>, kind: SyntaxKind)
     requires { raw_of kind ≢ kinds.EOF }
-    ensures reads { (c : Bool) → Reads c (Opt (one (raw_of kind))) p.old p.new }
+    ensures reads { (c : Bool) → Reads c (Opt (One (one (raw_of kind)))) p.old p.new }
     ensures left { tokens p.new ≤ tokens p.old }
     ensures looks { spent p.new ≤ spent p.old + 1 }
 {
@@ -199,7 +199,7 @@ fn eat(p: &mut Parser<'_>, kind: SyntaxKind)
 /// Takes the next token, or says that one of this kind is missing.
 fn expect(p: &mut Parser<'_>, kind: SyntaxKind)
     requires { raw_of kind ≢ kinds.EOF }
-    ensures reads { (c : Bool) → Reads c (Want (one (raw_of kind)) (Expected (raw_of kind))) p.old p.new }
+    ensures reads { (c : Bool) → Reads c (Want (One (one (raw_of kind))) (Expected (raw_of kind))) p.old p.new }
     ensures left { tokens p.new ≤ tokens p.old }
     ensures looks { spent p.new ≤ spent p.old + 1 }
 {

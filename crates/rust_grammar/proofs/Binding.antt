@@ -77,7 +77,7 @@ gives p Nothing = p
 gives p (One x) = beside p Placed
 gives p Any = beside p Placed
 gives p (Then a b) = gives (gives p a) b
-gives p (Near a b) = gives (gives p a) b
+gives p (Near w a b) = gives (gives p a) b
 gives p (Or a b) = join (gives p a) (gives p b)
 gives p (When l a) = gives p a
 gives p (Unless l a) = gives p a
@@ -206,7 +206,7 @@ module _ (looks : Production → Look) (call : Calls) (ok : (y : Production) (d 
   placed-so (One x) p c s h = of-beside p Placed s.given (forest.Leaf x.kind (length x.parts) forest.End) h (one-placed x.kind (length x.parts))
   placed-so Any p c s h = of-beside p Placed s.given (forest.Leaf (ahead 0 s.rest).kind 1 forest.End) h (one-placed (ahead 0 s.rest).kind 1)
   placed-so (Then a b) p c s h = placed-so b (gives p a) c (read looks call c a s) (placed-so a p c s h)
-  placed-so (Near a b) p c s h = placed-so b (gives p a) c (read looks call c a s) (placed-so a p c s h)
+  placed-so (Near w a b) p c s h = placed-so b (gives p a) c (read looks call c a s) (placed-so a p c s h)
   placed-so (Or a b) p c s h =
       chosen (λ (u : Reading). is_of (join (gives p a) (gives p b)) u.given ≡ true) (sees c s (begins looks a)) _ _
       (λ i. of-first (gives p a) (gives p b) _ (placed-so a p c s h)) (λ i. of-second (gives p a) (gives p b) _ (placed-so b p c s h))

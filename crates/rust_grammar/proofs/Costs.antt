@@ -62,7 +62,7 @@ idle g Nothing = 0
 idle g (One x) = 0
 idle g Any = 0
 idle g (Then a b) = let both = idle g a + idle g b in if takes g.sure a || takes g.sure b then 0 else both
-idle g (Near a b) = let both = idle g a + idle g b in if takes g.sure a || takes g.sure b then 0 else both
+idle g (Near w a b) = let both = idle g a + idle g b in if takes g.sure a || takes g.sure b then 0 else both
 idle g (Or a b) = max (idle g a) (idle g b)
 idle g (When l a) = idle g a
 idle g (Unless l a) = idle g a
@@ -84,7 +84,7 @@ debt g Nothing = 0
 debt g (One x) = 1
 debt g Any = 1
 debt g (Then a b) = let first = debt g a + idle g b in if takes g.sure a then first else max first (idle g a + debt g b)
-debt g (Near a b) = let first = debt g a + idle g b in if takes g.sure a then first else max first (idle g a + debt g b)
+debt g (Near w a b) = let first = debt g a + idle g b in if takes g.sure a then first else max first (idle g a + debt g b)
 debt g (Or a b) = max (debt g a) (debt g b)
 debt g (When l a) = debt g a
 debt g (Unless l a) = debt g a
@@ -103,7 +103,7 @@ debt g (Mode c a) = debt g a
 -- a further leaf pays for what is given with it
 unfoldable pub is_paid : Prices → Rule → Bool
 is_paid g (Then a b) = is_paid g a && is_paid g b && nat_le (debt g b) 64
-is_paid g (Near a b) = is_paid g a && is_paid g b && nat_le (debt g b) 64
+is_paid g (Near w a b) = is_paid g a && is_paid g b && nat_le (debt g b) 64
 is_paid g (Or a b) = is_paid g a && is_paid g b
 is_paid g (When l a) = is_paid g a
 is_paid g (Unless l a) = is_paid g a
@@ -267,7 +267,7 @@ module _ (g : Prices) (call : Calls) (ok : IsPriced g call) where
   costs (Then a b) c s e =
       let both = and_l (is_paid g a && is_paid g b) (nat_le (debt g b) 64) e in
       sequence a b c s (and_r (is_paid g a && is_paid g b) (nat_le (debt g b) 64) e) (costs a c s (and_l (is_paid g a) (is_paid g b) both)) (λ t. costs b c t (and_r (is_paid g a) (is_paid g b) both))
-  costs (Near a b) c s e =
+  costs (Near w a b) c s e =
       let both = and_l (is_paid g a && is_paid g b) (nat_le (debt g b) 64) e in
       sequence a b c s (and_r (is_paid g a && is_paid g b) (nat_le (debt g b) 64) e) (costs a c s (and_l (is_paid g a) (is_paid g b) both)) (λ t. costs b c t (and_r (is_paid g a) (is_paid g b) both))
   costs (Or a b) c s e =

@@ -10,7 +10,7 @@ use Rattle.parser_events.specs.Fits.{from_token, is_unbroken, is_split_at, is_no
 use Rattle.parser_events.specs.Forest.{Forest}
 use Rattle.parser_events.specs.Steps.{Step, steps}
 use Rattle.parser_events.specs.Trivia.{pending}
-use Rattle.rust_grammar.specs.Rule.{Rule, One}
+use Rattle.rust_grammar.specs.Rule.{Spelling}
 use Rattle.rust_grammar.specs.Spelled.{marks, are_next, is_token, is_contextual, is_one_of, is_spelled, is_float, drop_if, then_after}
 use Rattle.rust_grammar.proofs.Plain.{and_l, and_r}
 use Rattle.rust_grammar.proofs.Spelling.{or-first}
@@ -63,10 +63,9 @@ unfoldable pub no_float : List ℕ → Bool
 no_float [] = true
 no_float (k ∷ ks) = not (k == FLOAT_NUMBER) && no_float ks
 
-unfoldable pub are_plain : List Rule → Bool
+unfoldable pub are_plain : List Spelling → Bool
 are_plain [] = true
-are_plain (One x ∷ rs) = not (length x.parts == 0) && no_float x.parts && are_plain rs
-are_plain (r ∷ rs) = are_plain rs
+are_plain (x ∷ rs) = not (length x.parts == 0) && no_float x.parts && are_plain rs
 
 pub marks-plain : are_plain marks ≡ true
 unfolding are_plain no_float marks
@@ -132,10 +131,10 @@ one-stands edition ls t ts e =
     let n = next edition ls t ts e in
     record { unbroken = rw (n.are, n.own) refl; more = ap (λ (us : List Leaf). input edition (drop 1 us)) n.are ∙ n.more }
 
-marks-stand : (edition : Edition) (rs : List Rule) (kind count : ℕ) (ls : List Leaf) → are_plain rs ≡ true → is_one_of rs kind count (input edition ls) ≡ true → Stands edition count (from_token ls) (drop count (input edition ls))
+marks-stand : (edition : Edition) (rs : List Spelling) (kind count : ℕ) (ls : List Leaf) → are_plain rs ≡ true → is_one_of rs kind count (input edition ls) ≡ true → Stands edition count (from_token ls) (drop count (input edition ls))
 unfolding are_plain is_one_of
 marks-stand edition [] kind count ls plain e = absurd (true≢false (sym e))
-marks-stand edition (One x ∷ rs) kind count ls plain e =
+marks-stand edition (x ∷ rs) kind count ls plain e =
     let mine = and_l (not (length x.parts == 0) && no_float x.parts) (are_plain rs) plain in
     elim (or_cases ((x.kind == kind) && (length x.parts == count) && are_next x.parts (input edition ls)) (is_one_of rs kind count (input edition ls)) e) [
       | inl i ↦
@@ -144,7 +143,6 @@ marks-stand edition (One x ∷ rs) kind count ls plain e =
           subst (λ (n : ℕ). Stands edition n (from_token ls) (drop n (input edition ls))) same row
       | inr i ↦ marks-stand edition rs kind count ls (and_r (not (length x.parts == 0) && no_float x.parts) (are_plain rs) plain) i
     ]
-marks-stand edition (r ∷ rs) kind count ls plain e = marks-stand edition rs kind count ls plain e
 
 some-token : (edition : Edition) (kind : ℕ) (ls : List Leaf) (ts : List Token) → input edition ls ≡ ts → (is_token kind ts || is_contextual kind ts) ≡ true → Stands edition 1 (from_token ls) (drop 1 ts)
 unfolding is_token is_contextual

@@ -2,19 +2,11 @@
 use Rattle.std.proofs.Common.{◌≡◌, ℕ, ◌-◌, Bool, true, false, not, ◌&&◌, ◌==◌, List, length, drop, nat_lt, Option, Some, None, refl, sym, ap, ◌∙◌, inl, inr, if◌then◌else◌, true≢false}
 use Rattle.std.proofs.lemmas.Bool.{cases_Bool}
 use Rattle.parser_input.specs.Input.{Token}
-use Rattle.rust_grammar.specs.Rule.{Look, Always, Never, Kind, Contextual, Joint, Left, InCondition, Given, Both, Either, Not, shift, in_mode}
+use Rattle.rust_grammar.specs.Rule.{Look, Always, Never, Kind, Contextual, Joint, Left, InCondition, Given, Both, Either, Not, shift, in_mode, anew}
 use Rattle.rust_grammar.specs.Meaning.{Reading, ahead, sees, fresh, is_end}
 use Rattle.rust_grammar.proofs.Plain.{and_l, and_r}
 use Rattle.rust_grammar.proofs.Parts.{asks_tokens, shifted}
 use Rattle.rust_grammar.proofs.Known.{either-if, both-if-l, both-if-r, if-first, if-second, if-both, neither-l, neither-r, same_look, same-look}
-
--- a look where nothing is given
-unfoldable pub anew : Look → Look
-anew Given = Never
-anew (Both a b) = Both (anew a) (anew b)
-anew (Either a b) = Either (anew a) (anew b)
-anew (Not a) = Not (anew a)
-anew l = l
 
 -- whether a look asks what is given, or for condition mode
 unfoldable pub asks : (given condition : Bool) → Look → Bool
@@ -78,7 +70,7 @@ module _ (c : Bool) (s : Reading) where
   anew-seen InCondition = refl
 
   mode-seen : (l : Look) → sees c s (in_mode c l) ≡ sees c s l
-  unfolding sees in_mode
+  unfolding sees in_mode anew
   mode-seen InCondition = of c
     where
       of : (b : Bool) → sees c s (if b then Always else Never) ≡ b

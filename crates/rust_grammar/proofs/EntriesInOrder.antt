@@ -1,11 +1,13 @@
 -- The tree of an entry stands over all tokens, in order, as it is spelled.
-use Rattle.std.proofs.Common.{◌≡◌, Bool, true, false, List, [], ◌∷◌, Some, refl, sym, ap, ◌∙◌, if◌then◌else◌, true≢false}
+use Rattle.std.proofs.Common.{◌≡◌, Bool, true, false, List, [], ◌∷◌, Option, Some, None, refl, sym, ap, ◌∙◌, if◌then◌else◌, true≢false}
+use Rattle.parser_input.specs.Kinds.{ERROR}
 use Rattle.parser_input.specs.Input.{Token}
 use Rattle.parser_events.specs.Forest as forest
-use Rattle.parser_events.specs.Forest.{Forest, UnexpectedTokens, ◌then◌}
+use Rattle.parser_events.specs.Forest.{Forest, Message, UnexpectedTokens, ◌then◌}
 use Rattle.rust_grammar.specs.Rule.{Production, source_file, macro_items, macro_statements}
 use Rattle.rust_grammar.specs.Meaning.{Reading, meaning, sees, look_of}
-use Rattle.rust_grammar.specs.Entry.{leaves, is_used_up, takes_all, entry}
+use Rattle.rust_grammar.specs.Entry.{leaves, is_used_up, takes_all, told, entry}
+use Rattle.rust_grammar.specs.Notation.{wanted}
 use Rattle.rust_grammar.specs.Spelled.{then_after, tokens_after}
 use Rattle.rust_grammar.specs.Whole.{whole}
 use Rattle.rust_grammar.specs.Begun.{asks_nothing, IsBegun}
@@ -30,6 +32,12 @@ lists-begin x e = absurd (true≢false (sym e))
 pub chosen-forest : (P : Forest → Type 0) (b : Bool) (f g : Forest) → (b ≡ true → P f) → (b ≡ false → P g) → P (if b then f else g)
 chosen-forest P true f g p q = p refl
 chosen-forest P false f g p q = q refl
+
+-- trees behind a message, if there is one
+pub with-message : (P : Forest → Type 0) (m : Option Message) (f : Forest) → P f → ((n : Message) → P (forest.Said n f)) → P (told m f)
+unfolding told
+with-message P None f p q = p
+with-message P (Some n) f p q = q n
 
 -- these trees stand over all of these tokens, in order
 abbrev IsAll : List Token → Forest → Type 0
@@ -61,7 +69,7 @@ entries-in-order x ts =
     chosen-forest (IsAll ts) (is_used_up s.rest) _ _
     (λ u. all-read x ts b (used-up s.rest u))
     (λ u. rw (more-in-order s (forest.Said UnexpectedTokens (leaves s.rest)) ts [] (read-in-order x ts b) (leaves-in-order s.rest)) refl))
-    (λ f. rw (leaves-in-order ts) refl))
+    (λ f. with-message (λ (g : Forest). IsAll ts (forest.Node ERROR g forest.End)) (wanted x) (leaves ts) (rw (leaves-in-order ts) refl) (λ m. rw (leaves-in-order ts) refl)))
   where
     list-begun : (x : Production) (ts : List Token) → asks_nothing x ≡ true → (if asks_nothing x then true else sees false (from ts) (look_of whole x)) ≡ true
     list-begun x ts e = rw e refl

@@ -10,9 +10,10 @@ use Rattle.parser_events.specs.Dress.{dress_root}
 use Rattle.parser_events.specs.Forest as forest
 use Rattle.parser_events.specs.Forest.{Forest, UnexpectedTokens, ◌then◌}
 use Rattle.parser_events.specs.TextSteps.{text_steps}
-use Rattle.rust_grammar.specs.Rule.{Production, Rule, One}
+use Rattle.rust_grammar.specs.Rule.{Spelling, Production}
 use Rattle.rust_grammar.specs.Meaning.{Reading, Calls, read, meaning, sees, look_of, leaf}
 use Rattle.rust_grammar.specs.Entry.{leaves, is_used_up, takes_all, entry}
+use Rattle.rust_grammar.specs.Notation.{wanted}
 use Rattle.rust_grammar.specs.Laws.{is_entry, entry_of}
 use Rattle.rust_grammar.specs.Spelled.{marks, are_next, is_token, is_contextual, is_one_of, is_spelled, is_float, drop_if, then_after, tokens_after}
 use Rattle.rust_grammar.specs.Whole.{rule, whole}
@@ -22,7 +23,7 @@ use Rattle.rust_grammar.proofs.WholeTable.{claim}
 use Rattle.rust_grammar.proofs.Covering.{no_float, are_plain, marks-plain, after-some, dropped}
 use Rattle.rust_grammar.proofs.Costs.{leaf_count, step_count, leaves-then, steps-then, idle, debt, is_paid, Costs, IsPriced, weaker, one-leaf, costs}
 use Rattle.rust_grammar.proofs.CostsTable.{idle_most, debt_most, prices, is_priced, all_priced}
-use Rattle.rust_grammar.proofs.EntriesInOrder.{chosen-forest, entries-in-order}
+use Rattle.rust_grammar.proofs.EntriesInOrder.{chosen-forest, with-message, entries-in-order}
 use Rattle.rust_grammar.proofs.EntriesFit.{entry-rooted, entry-fits}
 use Rattle.rust_grammar.proofs.Lengths.{dressed-most, input-most}
 use Rattle.rust_grammar.proofs.Induction.{HoldOf, meaning-holds}
@@ -118,7 +119,9 @@ entry-steps x ts =
     let count = leaves-then s.given (forest.Said UnexpectedTokens (leaves s.rest)) in
     let rest = leaves-short s.rest in
     omega (arith, own, steps, count, rest)))
-    (λ j. let all = leaves-short ts in omega (arith, all)))
+    (λ j. let all = leaves-short ts in
+    with-message (λ (f : Forest). step_count (forest.Node ERROR f forest.End) ≤ 64 * leaf_count (forest.Node ERROR f forest.End) + 67) (wanted x) (leaves ts)
+    (omega (arith, all)) (λ m. omega (arith, all))))
 
 -- Each leaf takes a token.
 row-takes : (ks : List ℕ) (ts : List Token) → not (length ks == 0) ≡ true → are_next ks ts ≡ true → length (drop (length ks) ts) + 1 ≤ length ts
@@ -127,10 +130,10 @@ row-takes [] ts some e = absurd (true≢false (sym some))
 row-takes (k ∷ ks) [] some e = absurd (true≢false (sym e))
 row-takes (k ∷ ks) (t ∷ ts) some e = omega (arith, length-drop (length ks) ts)
 
-mark-takes : (rs : List Rule) (kind count : ℕ) (ts : List Token) → are_plain rs ≡ true → is_one_of rs kind count ts ≡ true → length (drop count ts) + 1 ≤ length ts
+mark-takes : (rs : List Spelling) (kind count : ℕ) (ts : List Token) → are_plain rs ≡ true → is_one_of rs kind count ts ≡ true → length (drop count ts) + 1 ≤ length ts
 unfolding are_plain is_one_of
 mark-takes [] kind count ts plain e = absurd (true≢false (sym e))
-mark-takes (One x ∷ rs) kind count ts plain e =
+mark-takes (x ∷ rs) kind count ts plain e =
     let mine = and_l (not (length x.parts == 0) && no_float x.parts) (are_plain rs) plain in
     elim (or_cases ((x.kind == kind) && (length x.parts == count) && are_next x.parts ts) (is_one_of rs kind count ts) e) [
       | inl i ↦
@@ -138,7 +141,6 @@ mark-takes (One x ∷ rs) kind count ts plain e =
           subst (λ (n : ℕ). length (drop n ts) + 1 ≤ length ts) same (row-takes x.parts ts (and_l (not (length x.parts == 0)) (no_float x.parts) mine) (and_r _ _ i))
       | inr i ↦ mark-takes rs kind count ts (and_r (not (length x.parts == 0) && no_float x.parts) (are_plain rs) plain) i
     ]
-mark-takes (r ∷ rs) kind count ts plain e = mark-takes rs kind count ts plain e
 
 token-takes : (kind : ℕ) (ts : List Token) → (is_token kind ts || is_contextual kind ts) ≡ true → length (drop 1 ts) + 1 ≤ length ts
 unfolding is_token is_contextual

@@ -2,9 +2,9 @@
 use Rattle.std.proofs.Common.{◌≡◌, ℕ, suc, ◌<◌, ◌≤◌, Bool, true, false, not, List, [], ◌∷◌, length, nat_lt, None, refl, sym, ap, ◌∙◌, arith, inl, inr, if◌then◌else◌, true≢false}
 use Rattle.std.proofs.lemmas.Bool.{cases_Bool, ltb-true, lt-ltb}
 use Rattle.parser_input.specs.Input.{Token}
-use Rattle.rust_grammar.specs.Rule.{Production, source_file, macro_items, macro_statements, Look, Left, Rule, Node, Then, Opt, When, Star, Unless, begins, passes, is_silent, width, shift, in_mode, there_at}
+use Rattle.rust_grammar.specs.Rule.{Production, source_file, macro_items, macro_statements, Look, Left, Rule, One, Node, Then, Opt, When, Star, Unless, begins, passes, is_silent, shift, in_mode, anew, there_at}
 use Rattle.rust_grammar.specs.Meaning.{Reading, Calls, read, meaning, sees, look_of, begins_below, node, fresh}
-use Rattle.rust_grammar.specs.Notation.{◌or◌, ◌before◌, at_end, expected, wanted, row, one_of, any_of, is_longer, no_longer, op}
+use Rattle.rust_grammar.specs.Notation.{◌or◌, ◌before◌, at_end, row, one_of, any_of, is_longer, no_longer, longest}
 use Rattle.rust_grammar.specs.Words.{'#', '!', 'shebang', 'frontmatter'}
 use Rattle.rust_grammar.specs.Calls.{Item, Attribute, MacroStatement}
 use Rattle.rust_grammar.specs.Paths.{paths}
@@ -19,7 +19,7 @@ use Rattle.rust_grammar.proofs.Plain.{all_facts}
 use Rattle.rust_grammar.proofs.WholeTable.{claim, all_fine, whole-means}
 use Rattle.rust_grammar.proofs.Parts.{asks_tokens}
 use Rattle.rust_grammar.proofs.Known.{same_look, is_left, is_never, tells, weakens, implies, implied, never-seen, either-if, cut, sift}
-use Rattle.rust_grammar.proofs.Elsewhere.{anew, asks, without, down, all_down, back, asked}
+use Rattle.rust_grammar.proofs.Elsewhere.{asks, without, down, all_down, back, asked}
 use Rattle.rust_grammar.proofs.Spelling.{at}
 use Rattle.rust_grammar.proofs.WordPaths.{gives, star-ends}
 use Rattle.rust_grammar.proofs.Moving.{Moved, unmoved_calls, unmoved_option, unmoved, moves, takes-token}
@@ -106,19 +106,19 @@ abbrev list_item : Rule
 list_item = When ('#' before '!') Attribute or Item
 
 items-begun : implies Left (begins (look_of whole) list_item) ≡ true
-unfolding same_look is_left is_never tells weakens implies look_of begins_below begins passes is_silent width shift in_mode there_at rule rank whole expected wanted row one_of any_of is_longer no_longer op paths types patterns expressions statements items
+unfolding same_look is_left is_never tells weakens implies look_of begins_below begins passes is_silent shift in_mode anew there_at rule rank whole row one_of any_of is_longer no_longer longest paths types patterns expressions statements items
 items-begun = refl
 
 items-move : moves movers None (begins (look_of whole) (Unless at_end list_item)) (Unless at_end list_item) ≡ true
-unfolding movers moves_where claim unmoved_calls unmoved_option unmoved moves at same_look is_left is_never tells weakens implies cut sift anew asks without down all_down back asked asks_tokens look_of begins_below begins passes is_silent width shift in_mode there_at rule rank whole expected wanted row one_of any_of is_longer no_longer op paths types patterns expressions statements items
+unfolding movers moves_where claim unmoved_calls unmoved_option unmoved moves at same_look is_left is_never tells weakens implies cut sift anew asks without down all_down back asked asks_tokens look_of begins_below begins passes is_silent shift in_mode there_at rule rank whole row one_of any_of is_longer no_longer longest paths types patterns expressions statements items
 items-move = refl
 
 statements-begun : implies Left (begins (look_of whole) MacroStatement) ≡ true
-unfolding same_look is_left is_never tells weakens implies look_of begins_below begins passes is_silent width shift in_mode there_at rule rank whole expected wanted row one_of any_of is_longer no_longer op paths types patterns expressions statements items
+unfolding same_look is_left is_never tells weakens implies look_of begins_below begins passes is_silent shift in_mode anew there_at rule rank whole row one_of any_of is_longer no_longer longest paths types patterns expressions statements items
 statements-begun = refl
 
 statements-move : moves movers None (begins (look_of whole) (Unless at_end MacroStatement)) (Unless at_end MacroStatement) ≡ true
-unfolding movers moves_where claim unmoved_calls unmoved_option unmoved moves at same_look is_left is_never tells weakens implies cut sift anew asks without down all_down back asked asks_tokens look_of begins_below begins passes is_silent width shift in_mode there_at rule rank whole expected wanted row one_of any_of is_longer no_longer op paths types patterns expressions statements items
+unfolding movers moves_where claim unmoved_calls unmoved_option unmoved moves at same_look is_left is_never tells weakens implies cut sift anew asks without down all_down back asked asks_tokens look_of begins_below begins passes is_silent shift in_mode there_at rule rank whole row one_of any_of is_longer no_longer longest paths types patterns expressions statements items
 statements-move = refl
 
 node-rest : (k : ℕ) (a : Rule) (c : Bool) (s : Reading) → (gives c (Node k a) s).rest ≡ (gives c a (fresh s)).rest
@@ -134,7 +134,7 @@ pub lists-take-all : (x : Production) → takes_all x ≡ true → (c : Bool) (s
 unfolding takes_all rule items statements read node fresh
 lists-take-all source_file e c s =
     ap (λ (u : Reading). u.rest) (whole-means source_file c s)
-    ∙ takes-list list_item items-begun items-move c (gives c (Opt 'frontmatter') (gives c (Opt 'shebang') (fresh s)))
+    ∙ takes-list list_item items-begun items-move c (gives c (Opt (One 'frontmatter')) (gives c (Opt (One 'shebang')) (fresh s)))
 lists-take-all macro_items e c s = ap (λ (u : Reading). u.rest) (whole-means macro_items c s) ∙ takes-list list_item items-begun items-move c (fresh s)
 lists-take-all macro_statements e c s = ap (λ (u : Reading). u.rest) (whole-means macro_statements c s) ∙ takes-list MacroStatement statements-begun statements-move c (fresh s)
 lists-take-all x e c s = absurd (true≢false (sym e))

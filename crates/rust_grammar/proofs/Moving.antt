@@ -3,11 +3,11 @@ use Rattle.std.proofs.Common.{◌≡◌, ℕ, zero, suc, ◌<◌, ◌≤◌, Boo
 use Rattle.std.proofs.lemmas.Bool.{cases_Bool, ltb-true, lt-ltb}
 use Rattle.std.proofs.lemmas.List.{length-drop}
 use Rattle.parser_input.specs.Input.{Token}
-use Rattle.rust_grammar.specs.Rule.{Production, Rule, Look, Always, Never, Nothing, One, Any, Then, Near, Or, Opt, Star, Node, Wrap, Want, Say, Skip, Split, When, Unless, Call, Continue, Mode, begins, there_at}
+use Rattle.rust_grammar.specs.Rule.{Production, Rule, Look, Always, Never, Nothing, One, Any, Then, Near, Or, Opt, Star, Node, Wrap, Want, Say, Skip, Split, When, Unless, Call, Continue, Mode, begins, there_at, anew}
 use Rattle.rust_grammar.specs.Meaning.{Reading, Calls, read, sees, fresh, leaf, say, skip, split, node, wrapped, behind, turns}
 use Rattle.rust_grammar.proofs.Plain.{and_l, and_r}
 use Rattle.rust_grammar.proofs.Known.{either-if, implies, implied, cut, cut-seen}
-use Rattle.rust_grammar.proofs.Elsewhere.{anew, anew-seen, without, without-seen, asked, asked-seen, IsMode}
+use Rattle.rust_grammar.proofs.Elsewhere.{anew-seen, without, without-seen, asked, asked-seen, IsMode}
 use Rattle.rust_grammar.proofs.Spelling.{at}
 use Rattle.rust_grammar.proofs.Spelled.{chosen, at-seen}
 use Rattle.rust_grammar.proofs.Shrinks.{shorter-after, turns-shrink, no-turns}
@@ -23,7 +23,7 @@ pub record Movers : Type 0 where
 
 -- what is known after a rule that took no token
 unfoldable pub unmoved_calls : Movers → Option Bool → Look → Rule → Look
-unmoved_calls g m k (Call y) = if g.always y then cut k (asked m (g.looks y)) else Always
+unmoved_calls g m k (Call y) = if g.always y then cut k (asked m (anew (g.looks y))) else Always
 unmoved_calls g m k a = Always
 
 unfoldable pub unmoved_option : Movers → Option Bool → Look → Rule → Look
@@ -40,7 +40,7 @@ moves g m k Nothing = false
 moves g m k (One x) = nat_lt 0 (length x.parts)
 moves g m k Any = true
 moves g m k (Then a b) = let second = moves g m (unmoved g m k a) b in if moves g m k a then true else second
-moves g m k (Near a b) = let second = moves g m (unmoved g m k a) b in if moves g m k a then true else second
+moves g m k (Near w a b) = let second = moves g m (unmoved g m k a) b in if moves g m k a then true else second
 moves g m k (Or a b) = let l = asked m (begins g.looks a) in moves g m (at k l) a && moves g m (cut k l) b
 moves g m k (When l a) = let part = moves g m k a in if implies k Never then true else part
 moves g m k (Unless l a) = moves g m k a
@@ -105,15 +105,15 @@ module _ (g : Movers) (call : Calls) (ok : Moved g call) where
   option-kept (One x) m k c s mode h some = claimed (nat_lt 0 (length x.parts)) _ c s _ (λ e.
       kept k (there_at 0 x.parts) m c s s (leaf x.kind (length x.parts) s) (sees c s (there_at 0 x.parts)) mode h (λ f. fewer (length x.parts) s.rest (ltb-true _ _ e) some) refl)
   option-kept (Call y) m k c s mode h some = claimed (g.always y) _ c s _ (λ e.
-      kept k (g.looks y) m c s s (behind s (call y c (fresh s))) (sees c s (g.looks y)) mode h (λ f. call-moves y c s e some) refl)
+      kept k (anew (g.looks y)) m c s s (behind s (call y c (fresh s))) (sees c s (anew (g.looks y))) mode h (λ f. call-moves y c s e some) refl)
   option-kept a m k c s mode h some = λ same. refl
 
   star-kept : (a : Rule) (m : Option Bool) (k : Look) (c : Bool) (s : Reading) → IsMode m c → sees c s k ≡ true → 0 < length s.rest → Unmoved (unmoved_calls g m k a) c s (read g.looks call c (Star a) s)
   unfolding unmoved_calls read begins sees
   star-kept (Call y) m k c s mode h some = claimed (g.always y) _ c s _ (λ e.
-      elim (cases_Bool (sees c s (g.looks y))) [
-        | inl f ↦ λ same. absurd (omega (arith, same, first-turn (length s.rest) (λ t. sees c t (g.looks y)) (λ v. behind v (call y c (fresh v))) s (λ v. less (Call y) c v) f (call-moves y c s e some) (omega arith)))
-        | inr f ↦ λ same. subst (λ (u : Reading). sees c u (cut k (asked m (g.looks y))) ≡ true) (sym (no-turns (length s.rest) (λ t. sees c t (g.looks y)) (λ v. behind v (call y c (fresh v))) s f)) (cut-seen c s k (asked m (g.looks y)) (asked-seen c s m (g.looks y) mode ∙ f) h)
+      elim (cases_Bool (sees c s (anew (g.looks y)))) [
+        | inl f ↦ λ same. absurd (omega (arith, same, first-turn (length s.rest) (λ t. sees c t (anew (g.looks y))) (λ v. behind v (call y c (fresh v))) s (λ v. less (Call y) c v) f (call-moves y c s e some) (omega arith)))
+        | inr f ↦ λ same. subst (λ (u : Reading). sees c u (cut k (asked m (anew (g.looks y)))) ≡ true) (sym (no-turns (length s.rest) (λ t. sees c t (anew (g.looks y))) (λ v. behind v (call y c (fresh v))) s f)) (cut-seen c s k (asked m (anew (g.looks y))) (asked-seen c s m (anew (g.looks y)) mode ∙ f) h)
       ])
   star-kept a m k c s mode h some = λ same. refl
 
@@ -142,7 +142,7 @@ module _ (g : Movers) (call : Calls) (ok : Moved g call) where
     | inl i ↦ let one = takes-token a m k c s i mode h some in let two = less b c (read g.looks call c a s) in omega (arith, one, two)
     | inr i ↦ then-moves a b c s (λ same. takes-token b m (unmoved g m k a) c (read g.looks call c a s) i mode (unmoved-seen a m k c s mode h some same) (omega (arith, same, some)))
   ]
-  takes-token (Near a b) m k c s e mode h some = elim (either-if (moves g m k a) (moves g m (unmoved g m k a) b) e) [
+  takes-token (Near w a b) m k c s e mode h some = elim (either-if (moves g m k a) (moves g m (unmoved g m k a) b) e) [
     | inl i ↦ let one = takes-token a m k c s i mode h some in let two = less b c (read g.looks call c a s) in omega (arith, one, two)
     | inr i ↦ then-moves a b c s (λ same. takes-token b m (unmoved g m k a) c (read g.looks call c a s) i mode (unmoved-seen a m k c s mode h some same) (omega (arith, same, some)))
   ]

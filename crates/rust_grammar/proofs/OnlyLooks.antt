@@ -1,7 +1,7 @@
 -- What satisfies the equations of where productions begin is where they begin.
 use Rattle.std.proofs.Common.{◌≡◌, ℕ, zero, suc, ◌<◌, Bool, true, false, not, ◌&&◌, ◌||◌, nat_lt, refl, ap, ◌∙◌, sym, arith, if◌then◌else◌, true≢false}
 use Rattle.std.proofs.lemmas.Bool.{ltb-true}
-use Rattle.rust_grammar.specs.Rule.{Production, Rule, Look, Both, Either, Not, Nothing, One, Any, Then, Near, Or, Opt, Star, Node, Wrap, Want, Say, Skip, Split, When, Unless, Call, Continue, Mode, begins, is_silent, passes, in_mode}
+use Rattle.rust_grammar.specs.Rule.{Production, Rule, Look, Both, Either, Not, Nothing, One, Any, Then, Near, Or, Opt, Star, Node, Wrap, Want, Say, Skip, Split, When, Unless, Call, Continue, Mode, begins, is_silent, passes, in_mode, anew}
 use Rattle.rust_grammar.specs.Meaning.{Table, look_of, begins_below}
 use Rattle.rust_grammar.proofs.Plain.{and_l, and_r}
 
@@ -12,7 +12,7 @@ reaches_second a = is_silent a || passes a
 -- each production whose looks are among those of the rule is one of these
 unfoldable pub asks_only : (Production → Bool) → Rule → Bool
 asks_only low (Then a b) = (is_silent a || asks_only low a) && (not (reaches_second a) || asks_only low b)
-asks_only low (Near a b) = asks_only low a && asks_only low b
+asks_only low (Near w a b) = asks_only low a && asks_only low b
 asks_only low (Or a b) = asks_only low a && asks_only low b
 asks_only low (Unless l a) = asks_only low a
 asks_only low (Opt a) = asks_only low a
@@ -50,19 +50,19 @@ module _ (low : Production → Bool) (f h : Production → Look) (same : (y : Pr
       sequence (is_silent a) (passes a) (begins f a) (begins f b) (begins h a) (begins h b)
       (λ z. same-begins a (unless (is_silent a) (asks_only low a) (and_l (is_silent a || asks_only low a) (not (reaches_second a) || asks_only low b) e) z))
       (λ z. same-begins b (wherever (reaches_second a) (asks_only low b) (and_r (is_silent a || asks_only low a) (not (reaches_second a) || asks_only low b) e) z))
-  same-begins (Near a b) e = rw (same-begins a (and_l (asks_only low a) (asks_only low b) e), same-begins b (and_r (asks_only low a) (asks_only low b) e)) refl
+  same-begins (Near w a b) e = rw (same-begins a (and_l (asks_only low a) (asks_only low b) e), same-begins b (and_r (asks_only low a) (asks_only low b) e)) refl
   same-begins (Or a b) e = rw (same-begins a (and_l (asks_only low a) (asks_only low b) e), same-begins b (and_r (asks_only low a) (asks_only low b) e)) refl
   same-begins (When l a) e = refl
   same-begins (Unless l a) e = ap (λ (m : Look). Both (Not l) m) (same-begins a e)
   same-begins (Opt a) e = same-begins a e
   same-begins (Star a) e = same-begins a e
-  same-begins (Node kind a) e = same-begins a e
+  same-begins (Node kind a) e = ap anew (same-begins a e)
   same-begins (Wrap kind a) e = same-begins a e
   same-begins (Want a m) e = same-begins a e
   same-begins (Say m) e = refl
   same-begins (Skip m) e = refl
   same-begins Split e = refl
-  same-begins (Call x) e = same x e
+  same-begins (Call x) e = ap anew (same x e)
   same-begins (Continue x) e = same x e
   same-begins (Mode c a) e = ap (in_mode c) (same-begins a e)
 

@@ -2,7 +2,7 @@
 use Rattle.std.proofs.Common.{◌≡◌, ℕ, ◌<◌, true, refl, subst, arith}
 use mathlib.Core.Path.{fun_ext}
 use Rattle.rust_grammar.specs.Rule.{Production, Look, source_file, macro_items, macro_statements, item, body, assoc_items, variants, record_fields, tuple_fields, visibility, attribute, meta, token_tree, use_tree, use_list, params, param, name, lifetime, name_ref, path, type_path, expr_path, generic_args, generic_arg, generic_params, generic_param, bounds, bound, where_clause, where_pred, any_type, ret_type, pattern, single_pattern, pattern_fields, pattern_field, literal, statement_list, block, statement, macro_statement, statement_end, macro_statement_end, expression, operation, operation_tail, disjunction, conjunction, comparison, bit_or, bit_xor, bit_and, bit_shift, sum, product, cast, prefixed, postfix, after_dot, arguments, atom, field_values, field_value, block_like, if_expr, match_arms, match_arm, passes, is_silent}
-use Rattle.rust_grammar.specs.Notation.{expected, wanted, row, one_of, any_of, is_longer, no_longer, op}
+use Rattle.rust_grammar.specs.Notation.{row, one_of, any_of, is_longer, no_longer, longest}
 use Rattle.rust_grammar.specs.Meaning.{look_of}
 use Rattle.rust_grammar.specs.Paths.{paths}
 use Rattle.rust_grammar.specs.Types.{types}
@@ -28,7 +28,7 @@ depth-below operation_tail = omega arith
 depth-below x = fine-rank whole claim all_fine x
 
 all_asked : (x : Production) → asks_less depth whole x ≡ true
-unfolding asks_less depth asks_only reaches_second passes is_silent rule rank whole expected wanted row one_of any_of is_longer no_longer op paths types patterns expressions statements items
+unfolding asks_less depth asks_only reaches_second passes is_silent rule rank whole row one_of any_of is_longer no_longer longest paths types patterns expressions statements items
 all_asked source_file = refl
 all_asked macro_items = refl
 all_asked macro_statements = refl

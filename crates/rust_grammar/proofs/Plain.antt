@@ -158,9 +158,9 @@ module _ (g : Table) (f : Production → Bool) (x : Production) (n : ℕ) (call 
       through : {a b m : ℕ} → a ≤ b → b ≤ m → a ≤ m
       through p q = omega arith
 
-  same-near : (a b : Rule) (c : Bool) (s : Reading) → Same c (Then a b) s → Same c (Near a b) s
+  same-near : (w : ℕ) (a b : Rule) (c : Bool) (s : Reading) → Same c (Then a b) s → Same c (Near w a b) s
   unfolding read takes
-  same-near a b c s p = record { same = p.same; shrinks = p.shrinks; took = p.took }
+  same-near w a b c s p = record { same = p.same; shrinks = p.shrinks; took = p.took }
 
   same-or : (a b : Rule) (c : Bool) (s : Reading) → Same c a s → Same c b s → Same c (Or a b) s
   unfolding read takes
@@ -178,7 +178,7 @@ module _ (g : Table) (f : Production → Bool) (x : Production) (n : ℕ) (call 
   agrees k z (Then a b) t c s e le lt = same-then a b t c s z le lt
       (agrees k z a t c s (and_l _ _ e) le lt)
       (λ i j. agrees k z b (t || takes f a) c (read (look_of g) (meaning g) c a s) (and_r _ _ e) i j)
-  agrees k z (Near a b) t c s e le lt = same-near a b c s (same-then a b t c s z le lt
+  agrees k z (Near w a b) t c s e le lt = same-near w a b c s (same-then a b t c s z le lt
       (agrees k z a t c s (and_l _ _ e) le lt)
       (λ i j. agrees k z b (t || takes f a) c (read (look_of g) (meaning g) c a s) (and_r _ _ e) i j))
   agrees k z (Or a b) t c s e le lt = same-or a b c s (agrees k z a t c s (and_l _ _ e) le lt) (agrees k z b t c s (and_r _ _ e) le lt)
@@ -261,7 +261,7 @@ module _ (g : Table) (f : Production → Bool) (x : Production) (n : ℕ) (call 
   ends k (One y) c s e z = record { same = refl; shrinks = drops (length y.parts) s.rest; took = λ p q. absurd (omega arith) }
   ends k Any c s e z = record { same = refl; shrinks = drops 1 s.rest; took = λ p q. absurd (omega arith) }
   ends k (Then a b) c s e z = ends-then a b c s z (ends k a c s (and_l _ _ e) z) (λ i. ends k b c (read (look_of g) (meaning g) c a s) (and_r _ _ e) i)
-  ends k (Near a b) c s e z = same-near a b c s (ends-then a b c s z (ends k a c s (and_l _ _ e) z) (λ i. ends k b c (read (look_of g) (meaning g) c a s) (and_r _ _ e) i))
+  ends k (Near w a b) c s e z = same-near w a b c s (ends-then a b c s z (ends k a c s (and_l _ _ e) z) (λ i. ends k b c (read (look_of g) (meaning g) c a s) (and_r _ _ e) i))
   ends k (Or a b) c s e z =
       let q = ends k b c s (and_r _ _ e) z in
       elim (or_cases (fails (begins (look_of g) a)) (ranked_at_end (look_of g) low a) (and_l _ _ e)) [

@@ -5,7 +5,7 @@ use Rattle.parser_input.specs.Kinds.{ERROR}
 use Rattle.parser_events.specs.Forest as forest
 use Rattle.parser_events.specs.Forest.{Forest, UnexpectedTokens}
 use Rattle.rust_grammar.specs.Rule.{Production, source_file, macro_items, macro_statements, item, body, assoc_items, variants, record_fields, tuple_fields, visibility, attribute, meta, token_tree, use_tree, use_list, params, param, name, lifetime, name_ref, path, type_path, expr_path, generic_args, generic_arg, generic_params, generic_param, bounds, bound, where_clause, where_pred, any_type, ret_type, pattern, single_pattern, pattern_fields, pattern_field, literal, statement_list, block, statement, macro_statement, statement_end, macro_statement_end, expression, operation, operation_tail, disjunction, conjunction, comparison, bit_or, bit_xor, bit_and, bit_shift, sum, product, cast, prefixed, postfix, after_dot, arguments, atom, field_values, field_value, block_like, if_expr, match_arms, match_arm}
-use Rattle.rust_grammar.specs.Notation.{expected, wanted, op}
+use Rattle.rust_grammar.specs.Notation.{wanted}
 use Rattle.rust_grammar.specs.Meaning.{Reading, Calls, meaning, sees, look_of, wrapped}
 use Rattle.rust_grammar.specs.Paths.{paths}
 use Rattle.rust_grammar.specs.Types.{types}
@@ -20,12 +20,12 @@ use Rattle.rust_grammar.specs.Laws.{OperatorsOfProductionsBindByPower, Operators
 use Rattle.rust_grammar.proofs.Powers.{Standing, Operand, Placed, is_of, is_within, placed, join, beside, inside, weaken, empty-is, then-placed, of-node}
 use Rattle.rust_grammar.proofs.Operators.{fits_between}
 use Rattle.rust_grammar.proofs.Binding.{starts, ends, has_power, first_power, binary, operated, gives, KeepsPowers, placed-so}
-use Rattle.rust_grammar.proofs.EntriesInOrder.{chosen-forest}
+use Rattle.rust_grammar.proofs.EntriesInOrder.{chosen-forest, with-message}
 use Rattle.rust_grammar.proofs.Induction.{HoldOf, meaning-holds}
 
 -- the test, of each row
 all_placed : (x : Production) → is_within (gives (starts x) (rule x)) (ends x) ≡ true
-unfolding gives starts ends join beside inside placed operated binary has_power first_power fits_between power is_among is_within rule expected wanted op paths types patterns expressions statements items
+unfolding gives starts ends join beside inside placed operated binary has_power first_power fits_between power is_among is_within rule paths types patterns expressions statements items
 all_placed source_file = refl
 all_placed macro_items = refl
 all_placed macro_statements = refl
@@ -160,4 +160,4 @@ entries-bind x ts =
     (λ i. chosen-forest (λ (f : Forest). are_operators_placed f ≡ true) (sees false start (look_of whole x)) _ _
     (λ j. chosen-forest (λ (f : Forest). are_operators_placed f ≡ true) (is_used_up s.rest) _ _ (λ k. own)
     (λ k. rw (then-placed s.given (forest.Said UnexpectedTokens (leaves s.rest)) own (leaves-placed s.rest)) refl))
-    (λ j. rw (leaves-placed ts) refl))
+    (λ j. with-message (λ (f : Forest). are_operators_placed (forest.Node ERROR f forest.End) ≡ true) (wanted x) (leaves ts) (rw (leaves-placed ts) refl) (λ m. rw (leaves-placed ts) refl)))

@@ -54,7 +54,7 @@ shape g j p Nothing = p
 shape g j p (One x) = Several
 shape g j p Any = Several
 shape g j p (Then a b) = shape g false (shape g j p a) b
-shape g j p (Near a b) = shape g false (shape g j p a) b
+shape g j p (Near w a b) = shape g false (shape g j p a) b
 shape g j p (Or a b) = join (shape g (implies (begins g.looks a) (Joint 0)) p a) (shape g false p b)
 shape g j p (When l a) = shape g j p a
 shape g j p (Unless l a) = shape g j p a
@@ -130,7 +130,7 @@ module _ (g : Rooting) (call : Calls) (ok : Rooted g call) where
   has-shape (One x) j p c s joint h = tt
   has-shape Any j p c s joint h = tt
   has-shape (Then a b) j p c s joint h = has-shape b false (shape g j p a) c (read g.looks call c a s) (λ e. absurd (true≢false (sym e))) (has-shape a j p c s joint h)
-  has-shape (Near a b) j p c s joint h = has-shape b false (shape g j p a) c (read g.looks call c a s) (λ e. absurd (true≢false (sym e))) (has-shape a j p c s joint h)
+  has-shape (Near w a b) j p c s joint h = has-shape b false (shape g j p a) c (read g.looks call c a s) (λ e. absurd (true≢false (sym e))) (has-shape a j p c s joint h)
   has-shape (Or a b) j p c s joint h =
       chosen (λ (u : Reading). HasShape (join (shape g (implies (begins g.looks a) (Joint 0)) p a) (shape g false p b)) u.given) (sees c s (begins g.looks a)) _ _
       (λ e. join-first (shape g (implies (begins g.looks a) (Joint 0)) p a) (shape g false p b) (read g.looks call c a s).given

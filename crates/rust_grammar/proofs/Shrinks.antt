@@ -29,7 +29,7 @@ module _ (looks : Production → Look) (call : Calls) (less : (y : Production) (
   shorter-after (One x) c s = shorter (length x.parts) s.rest
   shorter-after Any c s = shorter 1 s.rest
   shorter-after (Then a b) c s = omega (arith, shorter-after a c s, shorter-after b c (read looks call c a s))
-  shorter-after (Near a b) c s = omega (arith, shorter-after a c s, shorter-after b c (read looks call c a s))
+  shorter-after (Near w a b) c s = omega (arith, shorter-after a c s, shorter-after b c (read looks call c a s))
   shorter-after (Or a b) c s = chosen (λ (u : Reading). length u.rest ≤ length s.rest) (sees c s (begins looks a)) _ _ (λ e. shorter-after a c s) (λ e. shorter-after b c s)
   shorter-after (When l a) c s = shorter-after a c s
   shorter-after (Unless l a) c s = shorter-after a c s

@@ -5,13 +5,13 @@ use Rattle.parser_input.specs.Kinds.{EOF, FLOAT_NUMBER}
 use Rattle.parser_input.specs.Input.{Token}
 use Rattle.parser_events.specs.Forest as forest
 use Rattle.parser_events.specs.Forest.{Forest, ◌then◌}
-use Rattle.rust_grammar.specs.Rule.{Production, Rule, Spelling, Look, Always, Never, Kind, Contextual, Joint, Left, InCondition, Given, Both, Either, Not, Nothing, One, Any, Then, Near, Or, Opt, Star, Node, Wrap, Want, Say, Skip, Split, When, Unless, Call, Continue, Mode, begins, there_at, width}
+use Rattle.rust_grammar.specs.Rule.{Production, Rule, Spelling, Look, Always, Never, Kind, Contextual, Joint, Left, InCondition, Given, Both, Either, Not, Nothing, One, Any, Then, Near, Or, Opt, Star, Node, Wrap, Want, Say, Skip, Split, When, Unless, Call, Continue, Mode, begins, there_at, anew}
 use Rattle.rust_grammar.specs.Meaning.{Reading, Calls, read, sees, ahead, fresh, is_end, leaf, say, skip, split, node, wrapped, behind, turns}
 use Rattle.rust_grammar.specs.Spelled.{marks, is_token, is_contextual, is_one_of, is_spelled, drop_if, then_after, tokens_after}
 use Rattle.rust_grammar.proofs.Plain.{and_l, and_r}
 use Rattle.rust_grammar.proofs.Known.{either-if, both-if-l, both-if-r, if-first, if-second, if-both, implies, implied, cut, cut-seen, sift, sift-seen}
-use Rattle.rust_grammar.proofs.Elsewhere.{anew, anew-seen, without, without-seen, back-seen, asked, asked-seen, IsMode}
-use Rattle.rust_grammar.proofs.Spelling.{Claims, Sound, IsInOrder, counts, denies, denies_first, decided, past, after_call, after_calls, after_option, after_other, after, at, no_end, is_among, is_word, is_mark, safe, more-in-order, or-first, or-second, token-seen, contextual-seen, own-token, float-seen, spelling-seen, among-marks, unlike}
+use Rattle.rust_grammar.proofs.Elsewhere.{anew-seen, without, without-seen, back-seen, asked, asked-seen, IsMode}
+use Rattle.rust_grammar.proofs.Spelling.{first_width, Claims, Sound, IsInOrder, counts, denies, denies_first, decided, past, after_call, after_calls, after_option, after_other, after, at, no_end, is_among, is_word, is_mark, safe, more-in-order, or-first, or-second, token-seen, contextual-seen, own-token, float-seen, spelling-seen, among-marks, unlike}
 
 -- one of two readings
 pub chosen : (P : Reading → Type 0) (b : Bool) (u v : Reading) → (b ≡ true → P u) → (b ≡ false → P v) → P (if b then u else v)
@@ -166,7 +166,7 @@ module _ (looks : Production → Look) (call : Calls) where
   counted (Mode d a) n c s e = counted a n d s e
   counted Nothing n c s e = absurd (true≢false (sym e))
   counted (Then a b) n c s e = absurd (true≢false (sym e))
-  counted (Near a b) n c s e = absurd (true≢false (sym e))
+  counted (Near w a b) n c s e = absurd (true≢false (sym e))
   counted (Opt a) n c s e = absurd (true≢false (sym e))
   counted (Star a) n c s e = absurd (true≢false (sym e))
   counted (Want a m) n c s e = absurd (true≢false (sym e))
@@ -208,13 +208,13 @@ module _ (g : Claims) (call : Calls) (ok : Sound g call) where
       past-seen c s (if sees c s (there_at 0 x.parts) then leaf x.kind (length x.parts) s else s) x.parts
       (λ e. rw e refl) (λ e. rw e refl) k h
   option-seen (Call y) k c s h = claimed (g.gives y) (Either k Given) c _ (λ e.
-      chosen (λ (u : Reading). sees c u (Either k Given) ≡ true) (sees c s (g.looks y)) _ _
+      chosen (λ (u : Reading). sees c u (Either k Given) ≡ true) (sees c s (anew (g.looks y))) _ _
       (λ i. given-too k c (behind s (call y c (fresh s))) (gave y c s e))
       (λ i. known-first k c s h))
   option-seen Nothing k c s h = refl
   option-seen Any k c s h = refl
   option-seen (Then a b) k c s h = refl
-  option-seen (Near a b) k c s h = refl
+  option-seen (Near w a b) k c s h = refl
   option-seen (Or a b) k c s h = refl
   option-seen (When l a) k c s h = refl
   option-seen (Unless l a) k c s h = refl
@@ -232,15 +232,15 @@ module _ (g : Claims) (call : Calls) (ok : Sound g call) where
   star-seen : (a : Rule) (k : Look) (c : Bool) (s : Reading) → sees c s k ≡ true → sees c (read g.looks call c (Star a) s) (after_calls g k a) ≡ true
   unfolding after_calls read begins sees
   star-seen (Call y) k c s h = claimed (g.gives y) (Either k Given) c _ (λ e.
-      elim (turns-some (length s.rest) (λ t. sees c t (g.looks y)) (λ v. behind v (call y c (fresh v))) s (λ v. gave y c v e)) [
+      elim (turns-some (length s.rest) (λ t. sees c t (anew (g.looks y))) (λ v. behind v (call y c (fresh v))) s (λ v. gave y c v e)) [
         | inl i ↦ subst (λ (u : Reading). sees c u (Either k Given) ≡ true) (sym i) (known-first k c s h)
-        | inr i ↦ given-too k c (turns (length s.rest) (λ t. sees c t (g.looks y)) (λ v. behind v (call y c (fresh v))) s) i
+        | inr i ↦ given-too k c (turns (length s.rest) (λ t. sees c t (anew (g.looks y))) (λ v. behind v (call y c (fresh v))) s) i
       ])
   star-seen (One x) k c s h = refl
   star-seen Nothing k c s h = refl
   star-seen Any k c s h = refl
   star-seen (Then a b) k c s h = refl
-  star-seen (Near a b) k c s h = refl
+  star-seen (Near w a b) k c s h = refl
   star-seen (Or a b) k c s h = refl
   star-seen (When l a) k c s h = refl
   star-seen (Unless l a) k c s h = refl
@@ -264,7 +264,7 @@ module _ (g : Claims) (call : Calls) (ok : Sound g call) where
   other-seen Nothing k c s h = refl
   other-seen Any k c s h = refl
   other-seen (Then a b) k c s h = refl
-  other-seen (Near a b) k c s h = refl
+  other-seen (Near w a b) k c s h = refl
   other-seen (Or a b) k c s h = refl
   other-seen (When l a) k c s h = refl
   other-seen (Unless l a) k c s h = refl
@@ -279,8 +279,8 @@ module _ (g : Claims) (call : Calls) (ok : Sound g call) where
 
   pub after-seen : (a : Rule) (k : Look) (c : Bool) (s : Reading) → sees c s k ≡ true → sees c (read g.looks call c a s) (after g k a) ≡ true
   unfolding after
-  after-seen a k c s h = elim (cases_Bool (counts (width a) a)) [
-    | inl e ↦ rw e (back-seen c s (read g.looks call c a s) (width a) (counted g.looks call a (width a) c s e) k h)
+  after-seen a k c s h = elim (cases_Bool (counts (first_width a) a)) [
+    | inl e ↦ rw e (back-seen c s (read g.looks call c a s) (first_width a) (counted g.looks call a (first_width a) c s e) k h)
     | inr e ↦ rw e (other-seen a k c s h)
   ]
 
@@ -298,7 +298,7 @@ module _ (g : Claims) (call : Calls) (ok : Sound g call) where
   in-order (Then a b) m k c s ts e mode h i =
       in-order b m (after g k a) c (read g.looks call c a s) ts (and_r (safe g m k a) (safe g m (after g k a) b) e) mode (after-seen a k c s h)
       (in-order a m k c s ts (and_l (safe g m k a) (safe g m (after g k a) b) e) mode h i)
-  in-order (Near a b) m k c s ts e mode h i =
+  in-order (Near w a b) m k c s ts e mode h i =
       in-order b m (after g k a) c (read g.looks call c a s) ts (and_r (safe g m k a) (safe g m (after g k a) b) e) mode (after-seen a k c s h)
       (in-order a m k c s ts (and_l (safe g m k a) (safe g m (after g k a) b) e) mode h i)
   in-order (Or a b) m k c s ts e mode h i =

@@ -5,12 +5,12 @@ use Rattle.parser_input.specs.Kinds.{EOF, FLOAT_NUMBER}
 use Rattle.parser_input.specs.Input.{Token}
 use Rattle.parser_events.specs.Forest as forest
 use Rattle.parser_events.specs.Forest.{Forest, ◌then◌}
-use Rattle.rust_grammar.specs.Rule.{Production, Rule, Spelling, Look, Always, Kind, Contextual, Left, Given, Both, Either, Nothing, One, Any, Then, Near, Or, Opt, Star, Node, Wrap, Want, Say, Skip, Split, When, Unless, Call, Continue, Mode, begins, there_at, width}
+use Rattle.rust_grammar.specs.Rule.{Production, Rule, Spelling, Look, Always, Kind, Contextual, Left, Given, Both, Either, Nothing, One, Any, Then, Near, Or, Opt, Star, Node, Wrap, Want, Say, Skip, Split, When, Unless, Call, Continue, Mode, begins, there_at, anew}
 use Rattle.rust_grammar.specs.Meaning.{Reading, Calls, sees, ahead, is_end}
 use Rattle.rust_grammar.specs.Spelled.{marks, are_next, is_token, is_contextual, is_one_of, is_spelled, is_float, drop_if, then_after, tokens_after}
 use Rattle.rust_grammar.proofs.Plain.{and_l, and_r}
 use Rattle.rust_grammar.proofs.Known.{both-if-l, both-if-r, implies, cut, sift}
-use Rattle.rust_grammar.proofs.Elsewhere.{anew, without, back, asked}
+use Rattle.rust_grammar.proofs.Elsewhere.{without, back, asked}
 
 -- What is taken as known of productions.
 pub record Claims : Type 0 where
@@ -59,6 +59,14 @@ past (Either a b) ps = Either (past a ps) (past b ps)
 past (Both a b) ps = decided (Both a b) ps (Both (past a ps) (past b ps))
 past k ps = decided k ps Always
 
+-- how many tokens a rule takes, if it is one leaf: as many as its first alternative
+unfoldable pub first_width : Rule → ℕ
+first_width (One x) = length x.parts
+first_width (When l a) = first_width a
+first_width (Node k a) = first_width a
+first_width (Or a b) = first_width a
+first_width r = 1
+
 -- What is known after a rule.
 unfoldable pub after_call : Claims → Look → Production → Look
 after_call g k y = if implies k (anew (g.one y)) then back 1 k else g.ends y
@@ -78,7 +86,7 @@ after_other g k (Call y) = after_call g k y
 after_other g k a = Always
 
 unfoldable pub after : Claims → Look → Rule → Look
-after g k a = let other = after_other g k a in if counts (width a) a then back (width a) k else other
+after g k a = let other = after_other g k a in if counts (first_width a) a then back (first_width a) k else other
 
 -- what is known where this is seen, too
 unfoldable pub at : Look → Look → Look
@@ -94,10 +102,9 @@ same_parts [] [] = true
 same_parts (k ∷ ks) (l ∷ ls) = nat_eq k l && same_parts ks ls
 same_parts ks ls = false
 
-unfoldable pub is_among : List Rule → Spelling → Bool
+unfoldable pub is_among : List Spelling → Spelling → Bool
 is_among [] x = false
-is_among (One y ∷ rs) x = (nat_eq y.kind x.kind && same_parts y.parts x.parts) || is_among rs x
-is_among (r ∷ rs) x = is_among rs x
+is_among (y ∷ ys) x = (nat_eq y.kind x.kind && same_parts y.parts x.parts) || is_among ys x
 
 -- a spelling of one token, of its own kind or as a contextual keyword
 unfoldable pub is_word : Look → ℕ → List ℕ → Bool
@@ -113,7 +120,7 @@ safe g m k Nothing = true
 safe g m k (One x) = is_word k x.kind x.parts || is_mark k x
 safe g m k Any = implies k Left
 safe g m k (Then a b) = safe g m k a && safe g m (after g k a) b
-safe g m k (Near a b) = safe g m k a && safe g m (after g k a) b
+safe g m k (Near w a b) = safe g m k a && safe g m (after g k a) b
 safe g m k (Or a b) = let l = asked m (begins g.looks a) in safe g m (at k l) a && safe g m (cut k l) b
 safe g m k (When l a) = safe g m k a
 safe g m k (Unless l a) = safe g m k a
@@ -243,10 +250,10 @@ same-parts (k ∷ ks) (l ∷ ls) e = let f = eqb-true k l (and_l (nat_eq k l) (s
 same-parts [] (l ∷ ls) e = absurd (true≢false (sym e))
 same-parts (k ∷ ks) [] e = absurd (true≢false (sym e))
 
-pub among-marks : (rs : List Rule) (x : Spelling) (ts : List Token) → is_among rs x ≡ true → are_next x.parts ts ≡ true → is_one_of rs x.kind (length x.parts) ts ≡ true
+pub among-marks : (rs : List Spelling) (x : Spelling) (ts : List Token) → is_among rs x ≡ true → are_next x.parts ts ≡ true → is_one_of rs x.kind (length x.parts) ts ≡ true
 unfolding is_among is_one_of
 among-marks [] x ts e h = absurd (true≢false (sym e))
-among-marks (One y ∷ rs) x ts e h = elim (or_cases (nat_eq y.kind x.kind && same_parts y.parts x.parts) (is_among rs x) e) [
+among-marks (y ∷ rs) x ts e h = elim (or_cases (nat_eq y.kind x.kind && same_parts y.parts x.parts) (is_among rs x) e) [
   | inl i ↦
       let kind = and_l (nat_eq y.kind x.kind) (same_parts y.parts x.parts) i in
       let parts = same-parts y.parts x.parts (and_r (nat_eq y.kind x.kind) (same_parts y.parts x.parts) i) in
@@ -255,21 +262,3 @@ among-marks (One y ∷ rs) x ts e h = elim (or_cases (nat_eq y.kind x.kind && sa
       or-first (nat_eq y.kind x.kind && nat_eq (length y.parts) (length x.parts) && are_next y.parts ts) (is_one_of rs x.kind (length x.parts) ts) (both-true (nat_eq y.kind x.kind && nat_eq (length y.parts) (length x.parts)) (are_next y.parts ts) (both-true (nat_eq y.kind x.kind) (nat_eq (length y.parts) (length x.parts)) kind count) next)
   | inr i ↦ or-second (nat_eq y.kind x.kind && (length y.parts == length x.parts) && are_next y.parts ts) (is_one_of rs x.kind (length x.parts) ts) (among-marks rs x ts i h)
 ]
-among-marks (Nothing ∷ rs) x ts e h = among-marks rs x ts e h
-among-marks (Any ∷ rs) x ts e h = among-marks rs x ts e h
-among-marks (Then a b ∷ rs) x ts e h = among-marks rs x ts e h
-among-marks (Near a b ∷ rs) x ts e h = among-marks rs x ts e h
-among-marks (Or a b ∷ rs) x ts e h = among-marks rs x ts e h
-among-marks (When l a ∷ rs) x ts e h = among-marks rs x ts e h
-among-marks (Unless l a ∷ rs) x ts e h = among-marks rs x ts e h
-among-marks (Opt a ∷ rs) x ts e h = among-marks rs x ts e h
-among-marks (Star a ∷ rs) x ts e h = among-marks rs x ts e h
-among-marks (Node k a ∷ rs) x ts e h = among-marks rs x ts e h
-among-marks (Wrap k a ∷ rs) x ts e h = among-marks rs x ts e h
-among-marks (Want a m ∷ rs) x ts e h = among-marks rs x ts e h
-among-marks (Say m ∷ rs) x ts e h = among-marks rs x ts e h
-among-marks (Skip m ∷ rs) x ts e h = among-marks rs x ts e h
-among-marks (Split ∷ rs) x ts e h = among-marks rs x ts e h
-among-marks (Call y ∷ rs) x ts e h = among-marks rs x ts e h
-among-marks (Continue y ∷ rs) x ts e h = among-marks rs x ts e h
-among-marks (Mode d a ∷ rs) x ts e h = among-marks rs x ts e h

@@ -13,7 +13,7 @@ use Rattle.rust_grammar.proofs.Spelling.{both-true}
 -- a rule that adds to what was given
 unfoldable pub adds : Rule → Bool
 adds (Then a b) = adds a && adds b
-adds (Near a b) = adds a && adds b
+adds (Near w a b) = adds a && adds b
 adds (Or a b) = adds a && adds b
 adds (When l a) = adds a
 adds (Unless l a) = adds a
@@ -38,7 +38,7 @@ is_tree r = false
 -- The test: each token tree is so written.
 unfoldable pub brackets : Rule → Bool
 brackets (Then a b) = brackets a && brackets b
-brackets (Near a b) = brackets a && brackets b
+brackets (Near w a b) = brackets a && brackets b
 brackets (Or a b) = brackets a && brackets b
 brackets (When l a) = brackets a
 brackets (Unless l a) = brackets a
@@ -138,7 +138,7 @@ module _ (looks : Production → Look) (call : Calls) where
   added (One x) c s e = record { more = forest.Leaf x.kind (length x.parts) forest.End; is = refl }
   added Any c s e = record { more = forest.Leaf (ahead 0 s.rest).kind 1 forest.End; is = refl }
   added (Then a b) c s e = added-twice s (read looks call c a s) _ (added a c s (and_l (adds a) (adds b) e)) (added b c (read looks call c a s) (and_r (adds a) (adds b) e))
-  added (Near a b) c s e = added-twice s (read looks call c a s) _ (added a c s (and_l (adds a) (adds b) e)) (added b c (read looks call c a s) (and_r (adds a) (adds b) e))
+  added (Near w a b) c s e = added-twice s (read looks call c a s) _ (added a c s (and_l (adds a) (adds b) e)) (added b c (read looks call c a s) (and_r (adds a) (adds b) e))
   added (Or a b) c s e = chosen (Added s) (sees c s (begins looks a)) _ _ (λ i. added a c s (and_l (adds a) (adds b) e)) (λ i. added b c s (and_r (adds a) (adds b) e))
   added (When l a) c s e = added a c s e
   added (Unless l a) c s e = added a c s e
@@ -210,7 +210,7 @@ module _ (looks : Production → Look) (call : Calls) (ok : (y : Production) (d 
   bracketed (One x) c s e h = then-bracketed s.given (forest.Leaf x.kind (length x.parts) forest.End) h refl
   bracketed Any c s e h = then-bracketed s.given (forest.Leaf (ahead 0 s.rest).kind 1 forest.End) h refl
   bracketed (Then a b) c s e h = bracketed b c (read looks call c a s) (and_r (brackets a) (brackets b) e) (bracketed a c s (and_l (brackets a) (brackets b) e) h)
-  bracketed (Near a b) c s e h = bracketed b c (read looks call c a s) (and_r (brackets a) (brackets b) e) (bracketed a c s (and_l (brackets a) (brackets b) e) h)
+  bracketed (Near w a b) c s e h = bracketed b c (read looks call c a s) (and_r (brackets a) (brackets b) e) (bracketed a c s (and_l (brackets a) (brackets b) e) h)
   bracketed (Or a b) c s e h =
       chosen (λ (u : Reading). are_token_trees_bracketed u.given ≡ true) (sees c s (begins looks a)) _ _
       (λ i. bracketed a c s (and_l (brackets a) (brackets b) e) h) (λ i. bracketed b c s (and_r (brackets a) (brackets b) e) h)

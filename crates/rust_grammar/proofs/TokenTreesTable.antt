@@ -1,10 +1,11 @@
 -- The token trees of the whole grammar are bracketed.
 use Rattle.std.proofs.Common.{◌≡◌, Bool, true, false, List, [], ◌∷◌, refl}
 use Rattle.parser_input.specs.Input.{Token}
+use Rattle.parser_input.specs.Kinds.{ERROR}
 use Rattle.parser_events.specs.Forest as forest
 use Rattle.parser_events.specs.Forest.{Forest, UnexpectedTokens}
 use Rattle.rust_grammar.specs.Rule.{Production, source_file, macro_items, macro_statements, item, body, assoc_items, variants, record_fields, tuple_fields, visibility, attribute, meta, token_tree, use_tree, use_list, params, param, name, lifetime, name_ref, path, type_path, expr_path, generic_args, generic_arg, generic_params, generic_param, bounds, bound, where_clause, where_pred, any_type, ret_type, pattern, single_pattern, pattern_fields, pattern_field, literal, statement_list, block, statement, macro_statement, statement_end, macro_statement_end, expression, operation, operation_tail, disjunction, conjunction, comparison, bit_or, bit_xor, bit_and, bit_shift, sum, product, cast, prefixed, postfix, after_dot, arguments, atom, field_values, field_value, block_like, if_expr, match_arms, match_arm}
-use Rattle.rust_grammar.specs.Notation.{expected, wanted, op}
+use Rattle.rust_grammar.specs.Notation.{wanted}
 use Rattle.rust_grammar.specs.Meaning.{Reading, Calls, meaning, sees, look_of}
 use Rattle.rust_grammar.specs.Paths.{paths}
 use Rattle.rust_grammar.specs.Types.{types}
@@ -17,11 +18,11 @@ use Rattle.rust_grammar.specs.Entry.{leaves, is_used_up, takes_all, entry}
 use Rattle.rust_grammar.specs.TokenTrees.{partner, is_opening, is_missing, are_token_trees_bracketed}
 use Rattle.rust_grammar.specs.Laws.{TokenTreesAreBracketed}
 use Rattle.rust_grammar.proofs.TokenTrees.{adds, ends_in, is_tree, brackets, then-bracketed, KeepsBrackets, bracketed}
-use Rattle.rust_grammar.proofs.EntriesInOrder.{chosen-forest}
+use Rattle.rust_grammar.proofs.EntriesInOrder.{chosen-forest, with-message}
 use Rattle.rust_grammar.proofs.Induction.{HoldOf, meaning-holds}
 
 all_bracketed : (x : Production) → brackets (rule x) ≡ true
-unfolding brackets is_tree ends_in adds partner is_opening is_missing rule expected wanted op paths types patterns expressions statements items
+unfolding brackets is_tree ends_in adds partner is_opening is_missing rule paths types patterns expressions statements items
 all_bracketed source_file = refl
 all_bracketed macro_items = refl
 all_bracketed macro_statements = refl
@@ -122,4 +123,4 @@ token-trees-bracketed x ts =
     (λ i. chosen-forest (λ (f : Forest). are_token_trees_bracketed f ≡ true) (sees false start (look_of whole x)) _ _
     (λ j. chosen-forest (λ (f : Forest). are_token_trees_bracketed f ≡ true) (is_used_up s.rest) _ _ (λ k. own)
     (λ k. rw (then-bracketed s.given (forest.Said UnexpectedTokens (leaves s.rest)) own (leaves-bracketed s.rest)) refl))
-    (λ j. rw (leaves-bracketed ts) refl))
+    (λ j. with-message (λ (f : Forest). are_token_trees_bracketed (forest.Node ERROR f forest.End) ≡ true) (wanted x) (leaves ts) (rw (leaves-bracketed ts) refl) (λ m. rw (leaves-bracketed ts) refl)))

@@ -1,7 +1,7 @@
 -- The table of the whole grammar passes the test, so its productions mean what their rules say.
 use Rattle.std.proofs.Common.{◌≡◌, Bool, true, false, refl}
-use Rattle.rust_grammar.specs.Rule.{Production, source_file, macro_items, macro_statements, item, body, assoc_items, variants, record_fields, tuple_fields, visibility, attribute, meta, token_tree, use_tree, use_list, params, param, name, lifetime, name_ref, path, type_path, expr_path, generic_args, generic_arg, generic_params, generic_param, bounds, bound, where_clause, where_pred, any_type, ret_type, pattern, single_pattern, pattern_fields, pattern_field, literal, statement_list, block, statement, macro_statement, statement_end, macro_statement_end, expression, operation, operation_tail, disjunction, conjunction, comparison, bit_or, bit_xor, bit_and, bit_shift, sum, product, cast, prefixed, postfix, after_dot, arguments, atom, field_values, field_value, block_like, if_expr, match_arms, match_arm, begins, passes, is_silent, width, shift, in_mode, there_at}
-use Rattle.rust_grammar.specs.Notation.{expected, wanted, row, one_of, any_of, is_longer, no_longer, op}
+use Rattle.rust_grammar.specs.Rule.{Production, source_file, macro_items, macro_statements, item, body, assoc_items, variants, record_fields, tuple_fields, visibility, attribute, meta, token_tree, use_tree, use_list, params, param, name, lifetime, name_ref, path, type_path, expr_path, generic_args, generic_arg, generic_params, generic_param, bounds, bound, where_clause, where_pred, any_type, ret_type, pattern, single_pattern, pattern_fields, pattern_field, literal, statement_list, block, statement, macro_statement, statement_end, macro_statement_end, expression, operation, operation_tail, disjunction, conjunction, comparison, bit_or, bit_xor, bit_and, bit_shift, sum, product, cast, prefixed, postfix, after_dot, arguments, atom, field_values, field_value, block_like, if_expr, match_arms, match_arm, begins, passes, is_silent, shift, in_mode, anew, there_at}
+use Rattle.rust_grammar.specs.Notation.{row, one_of, any_of, is_longer, no_longer, longest}
 use Rattle.rust_grammar.specs.Meaning.{Reading, read, meaning, look_of, begins_below}
 use Rattle.rust_grammar.proofs.Fine.{fine, ranked, ranked_at_end, fails, takes}
 use Rattle.rust_grammar.specs.Paths.{paths}
@@ -46,7 +46,7 @@ claim match_arms = true
 claim x = false
 
 pub all_fine : (x : Production) → fine whole claim x ≡ true
-unfolding fine ranked ranked_at_end fails takes claim look_of begins_below begins passes is_silent width shift in_mode there_at rule rank whole expected wanted row one_of any_of is_longer no_longer op paths types patterns expressions statements items
+unfolding fine ranked ranked_at_end fails takes claim look_of begins_below begins passes is_silent shift in_mode anew there_at rule rank whole row one_of any_of is_longer no_longer longest paths types patterns expressions statements items
 all_fine source_file = refl
 all_fine macro_items = refl
 all_fine macro_statements = refl
@@ -122,7 +122,7 @@ unfolding whole
 whole-means = meaning_is_plain whole claim all_fine
 
 pub all_have_rules : (x : Production) → is_nothing (rule x) ≡ false
-unfolding is_nothing rule paths types patterns expressions statements items op
+unfolding is_nothing rule paths types patterns expressions statements items
 all_have_rules source_file = refl
 all_have_rules macro_items = refl
 all_have_rules macro_statements = refl
@@ -193,7 +193,7 @@ all_have_rules match_arms = refl
 all_have_rules match_arm = refl
 
 pub whole-begins : (x : Production) → look_of whole x ≡ begins (look_of whole) (rule x)
-unfolding look_of begins_below begins passes is_silent width shift in_mode there_at rule rank whole expected wanted row one_of any_of is_longer no_longer op paths types patterns expressions statements items
+unfolding look_of begins_below begins passes is_silent shift in_mode anew there_at rule rank whole row one_of any_of is_longer no_longer longest paths types patterns expressions statements items
 whole-begins source_file = refl
 whole-begins macro_items = refl
 whole-begins macro_statements = refl

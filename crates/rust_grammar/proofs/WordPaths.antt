@@ -2,12 +2,12 @@
 use Rattle.std.proofs.Common.{◌≡◌, ℕ, ◌<◌, Bool, true, false, not, ◌==◌, List, [], ◌∷◌, length, drop, refl, sym, ap, subst, ◌∙◌, arith, if◌then◌else◌}
 use Rattle.std.proofs.lemmas.Bool.{eqb-true, ltb-true}
 use Rattle.std.proofs.lemmas.List.{length-drop}
-use Rattle.parser_input.specs.Kinds.{COLON, COLON2, BANG, IDENT, PATH, PATH_SEGMENT}
+use Rattle.parser_input.specs.Kinds.{COLON, COLON2, BANG, IDENT, NAME_REF, PATH, PATH_SEGMENT}
 use Rattle.parser_input.specs.Input.{Token}
-use Rattle.parser_events.specs.Forest.{Forest, Message}
-use Rattle.rust_grammar.specs.Rule.{name_ref, path, expr_path, Rule, Look, Either, Not, Nothing, Then, Opt, Star, Want, When, Unless, begins, passes, is_silent, width, there_at}
+use Rattle.parser_events.specs.Forest.{Forest, Message, Expected}
+use Rattle.rust_grammar.specs.Rule.{name_ref, path, expr_path, Rule, Look, Either, Not, Nothing, One, Then, Opt, Star, Want, When, Unless, begins, passes, is_silent, anew, there_at}
 use Rattle.rust_grammar.specs.Meaning.{Reading, read, meaning, sees, ahead, look_of, leaf, fresh, node, wrapped, behind}
-use Rattle.rust_grammar.specs.Notation.{◌▸◌, ⁅◌⁆, ◌!, ◌⟨◌⟩, ◌<⟨◌⟩, ◌before◌, expected, wanted, row, one_of}
+use Rattle.rust_grammar.specs.Notation.{◌▸◌, ⁅◌⁆, ◌!, ◌⟨◌⟩, ◌<⟨◌⟩, ◌before◌, row, one_of}
 use Rattle.rust_grammar.specs.Words.{'::', '<'}
 use Rattle.rust_grammar.specs.Calls.{Ref, GenericArgs}
 use Rattle.rust_grammar.specs.Shared.{colons_before_more}
@@ -20,6 +20,7 @@ use Rattle.rust_grammar.specs.Items.{items}
 use Rattle.rust_grammar.specs.Whole.{rule, whole}
 use Rattle.rust_grammar.proofs.WholeTable.{whole-means, whole-begins}
 use Rattle.rust_grammar.proofs.Known.{token-left, both-if-l, both-if-r, if-first}
+use Rattle.rust_grammar.proofs.Elsewhere.{anew-seen}
 use Rattle.rust_grammar.proofs.Spelling.{counts}
 use Rattle.rust_grammar.proofs.Spelled.{counted}
 use Rattle.rust_grammar.proofs.Shrinks.{shrinks, turns-end, no-turns}
@@ -36,10 +37,10 @@ next-after (t ∷ ts) = refl
 
 -- a path's segment with such arguments, and one more segment
 abbrev first_segment : Rule → Rule
-first_segment args = PATH ⟨ PATH_SEGMENT ⟨ ⁅ '::' ⁆ ▸ Ref ! ▸ args ⟩ ⟩
+first_segment args = PATH ⟨ PATH_SEGMENT ⟨ ⁅ One '::' ⁆ ▸ Ref ! ▸ args ⟩ ⟩
 
 abbrev next_segment : Rule → Rule
-next_segment args = Unless colons_before_more (PATH <⟨ '::' ▸ (PATH_SEGMENT ⟨ Ref ▸ args ⟩) ! ⟩)
+next_segment args = Unless colons_before_more (PATH <⟨ One '::' ▸ (PATH_SEGMENT ⟨ Ref ▸ args ⟩) ! ⟩)
 
 abbrev expression_args : Rule
 expression_args = ⁅ When ('::' before '<') GenericArgs ⁆
@@ -73,7 +74,7 @@ unfolding read
 star-ends a c s each = turns-end (length s.rest) (λ t. sees c t (begins (look_of whole) a)) (read (look_of whole) (meaning whole) c a) s each (omega arith)
 
 ends-so : (c : Bool) (w : Reading) (v : Forest) → sees c w (begins (look_of whole) (next_segment Nothing)) ≡ false → sees c (record { given = v; rest = w.rest }) (Either (Not (there_at 0 (COLON ∷ COLON ∷ []))) colons_before_more) ≡ true
-unfolding sees begins passes is_silent there_at row one_of width
+unfolding sees begins passes is_silent there_at row one_of
 ends-so c w v e = either-ends (sees c w colons_before_more) (sees c w (there_at 0 (COLON ∷ COLON ∷ []))) e
   where
     either-ends : (a b : Bool) → (if not a then b else false) ≡ false → (if not b then true else a) ≡ true
@@ -103,7 +104,7 @@ no-segment args c s e = and-false (not (sees c s colons_before_more)) (sees c s 
     and-false false b e = refl
 
 word-begins : (c : Bool) (s : Reading) → ((ahead 0 s.rest).kind == IDENT) ≡ true → sees c s (look_of whole name_ref) ≡ true
-unfolding sees begins there_at rule items statements expressions patterns types paths
+unfolding sees begins anew there_at rule items statements expressions patterns types paths
 word-begins c s e = ap (λ (l : Look). sees c s l) (whole-begins name_ref) ∙ if-first ((ahead 0 s.rest).kind == IDENT) _ e
 
 -- the first segment of a word before a `!` is that word
@@ -113,16 +114,16 @@ word-segment c s e d =
     let f = fresh (fresh s) in
     let w = gives c Ref f in
     let rest : w.rest ≡ drop 1 s.rest = name_ref-takes c (fresh f) in
-    let colons : gives c ⁅ '::' ⁆ f ≡ f = skipped '::' c f (no-colons c f (other-kind (ahead 0 s.rest).kind IDENT COLON e refl)) in
-    let word : gives c (Ref !) f ≡ w = wanted-there Ref (expected Ref) c f (word-begins c f e) in
+    let colons : gives c ⁅ One '::' ⁆ f ≡ f = skipped (One '::') c f (no-colons c f (other-kind (ahead 0 s.rest).kind IDENT COLON e refl)) in
+    let word : gives c (Ref !) f ≡ w = wanted-there Ref (Expected NAME_REF) c f (anew-seen c f (look_of whole name_ref) ∙ word-begins c (fresh f) e) in
     let kind : ((ahead 0 w.rest).kind == BANG) ≡ true = ap (λ (ts : List Token). (ahead 0 ts).kind == BANG) rest ∙ ap (λ (t : Token). t.kind == BANG) (next-after s.rest) ∙ d in
     let none : gives c expression_args w ≡ w = skipped (When ('::' before '<') GenericArgs) c w (no-generics c w (other-kind (ahead 0 w.rest).kind BANG COLON kind refl)) in
-    let all : gives c (⁅ '::' ⁆ ▸ Ref ! ▸ expression_args) f ≡ w = ap (λ (u : Reading). gives c expression_args (gives c (Ref !) u)) colons ∙ ap (λ (u : Reading). gives c expression_args u) word ∙ none in
+    let all : gives c (⁅ One '::' ⁆ ▸ Ref ! ▸ expression_args) f ≡ w = ap (λ (u : Reading). gives c expression_args (gives c (Ref !) u)) colons ∙ ap (λ (u : Reading). gives c expression_args u) word ∙ none in
     ap (λ (u : Reading). u.rest) all ∙ rest
 
 -- So is the path.
 pub word-path : (c : Bool) (s : Reading) → ((ahead 0 s.rest).kind == IDENT) ≡ true → ((ahead 1 s.rest).kind == BANG) ≡ true → (meaning whole expr_path c s).rest ≡ drop 1 s.rest
-unfolding rule items statements expressions patterns types paths expected wanted
+unfolding rule items statements expressions patterns types paths
 word-path c s e d =
     let u = gives c (first_segment expression_args) s in
     let rest : u.rest ≡ drop 1 s.rest = word-segment c s e d in
@@ -143,7 +144,7 @@ segment-takes c s e =
 
 -- A path without arguments ends where no segment is next.
 pub path-ends : (c : Bool) (s : Reading) (v : Forest) → sees c (record { given = v; rest = (meaning whole path c s).rest }) (Either (Not (there_at 0 (COLON ∷ COLON ∷ []))) colons_before_more) ≡ true
-unfolding rule items statements expressions patterns types paths expected wanted
+unfolding rule items statements expressions patterns types paths
 path-ends c s v =
     let u = gives c (first_segment Nothing) s in
     let w = gives c (Star (next_segment Nothing)) u in

@@ -1,20 +1,8 @@
--- The productions, each as the rule that it stands for in another: it begins anew.
-use Rattle.rust_grammar.specs.Rule.{Rule, Call, source_file, macro_items, macro_statements, item, body, assoc_items, variants, record_fields, tuple_fields, visibility, attribute, meta, token_tree, use_tree, use_list, name, lifetime, name_ref, path, type_path, expr_path, generic_args, generic_arg, generic_params, generic_param, bounds, bound, where_clause, where_pred, params, param, ret_type, any_type, pattern, single_pattern, pattern_fields, pattern_field, literal, statement_list, block, statement, macro_statement, statement_end, macro_statement_end, expression, operation, operation_tail, disjunction, conjunction, comparison, bit_or, bit_xor, bit_and, bit_shift, sum, product, cast, prefixed, postfix, after_dot, arguments, atom, field_values, field_value, block_like, if_expr, match_arms, match_arm}
-
-abbrev pub SourceFile : Rule
-SourceFile = Call source_file
-
-abbrev pub MacroItems : Rule
-MacroItems = Call macro_items
-
-abbrev pub MacroStatements : Rule
-MacroStatements = Call macro_statements
+-- Productions that others call, each as the rule that it stands for there: it begins anew.
+use Rattle.rust_grammar.specs.Rule.{Rule, Call, item, assoc_items, variants, record_fields, tuple_fields, visibility, attribute, meta, token_tree, use_tree, use_list, name, lifetime, name_ref, path, type_path, expr_path, generic_args, generic_arg, generic_params, generic_param, bounds, bound, where_clause, where_pred, params, param, ret_type, any_type, pattern, single_pattern, pattern_fields, pattern_field, literal, statement_list, block, macro_statement, expression, operation, disjunction, comparison, product, cast, prefixed, arguments, atom, field_values, field_value, block_like, if_expr, match_arms, match_arm}
 
 abbrev pub Item : Rule
 Item = Call item
-
-abbrev pub Body : Rule
-Body = Call body
 
 abbrev pub AssocItems : Rule
 AssocItems = Call assoc_items
@@ -121,17 +109,8 @@ StatementList = Call statement_list
 abbrev pub Block : Rule
 Block = Call block
 
-abbrev pub Statement : Rule
-Statement = Call statement
-
 abbrev pub MacroStatement : Rule
 MacroStatement = Call macro_statement
-
-abbrev pub StatementEnd : Rule
-StatementEnd = Call statement_end
-
-abbrev pub MacroStatementEnd : Rule
-MacroStatementEnd = Call macro_statement_end
 
 abbrev pub Expression : Rule
 Expression = Call expression
@@ -139,32 +118,11 @@ Expression = Call expression
 abbrev pub Operation : Rule
 Operation = Call operation
 
-abbrev pub OperationTail : Rule
-OperationTail = Call operation_tail
-
 abbrev pub Disjunction : Rule
 Disjunction = Call disjunction
 
-abbrev pub Conjunction : Rule
-Conjunction = Call conjunction
-
 abbrev pub Comparison : Rule
 Comparison = Call comparison
-
-abbrev pub BitOr : Rule
-BitOr = Call bit_or
-
-abbrev pub BitXor : Rule
-BitXor = Call bit_xor
-
-abbrev pub BitAnd : Rule
-BitAnd = Call bit_and
-
-abbrev pub BitShift : Rule
-BitShift = Call bit_shift
-
-abbrev pub Sum : Rule
-Sum = Call sum
 
 abbrev pub Product : Rule
 Product = Call product
@@ -174,12 +132,6 @@ Cast = Call cast
 
 abbrev pub Prefixed : Rule
 Prefixed = Call prefixed
-
-abbrev pub Postfix : Rule
-Postfix = Call postfix
-
-abbrev pub AfterDot : Rule
-AfterDot = Call after_dot
 
 abbrev pub Arguments : Rule
 Arguments = Call arguments

@@ -1,9 +1,9 @@
 -- What is read where a text is asked to be one thing: a file, the items or the statements of a macro, a type, a pattern, an
 -- expression, an attribute's inside.
-use Rattle.std.specs.Prelude.{Bool, true, false, List, [], ◌∷◌, if◌then◌else◌}
+use Rattle.std.specs.Prelude.{Bool, true, false, List, [], ◌∷◌, Option, Some, None, if◌then◌else◌}
 use Rattle.parser_input.specs.Kinds.{ERROR}
 use Rattle.parser_input.specs.Input.{Token}
-use Rattle.parser_events.specs.Forest.{Forest, End, Leaf, Said, Node, UnexpectedTokens, ◌then◌}
+use Rattle.parser_events.specs.Forest.{Forest, Message, End, Leaf, Said, Node, UnexpectedTokens, ◌then◌}
 use Rattle.rust_grammar.specs.Rule.{Production, source_file, macro_items, macro_statements}
 use Rattle.rust_grammar.specs.Notation.{wanted}
 use Rattle.rust_grammar.specs.Meaning.{Reading, Table, meaning, look_of, sees}
@@ -24,6 +24,11 @@ takes_all macro_items = true
 takes_all macro_statements = true
 takes_all x = false
 
+-- trees behind a message, if there is one
+unfoldable pub told : Option Message → Forest → Forest
+told (Some m) f = Said m f
+told None f = f
+
 -- The one tree of an input. What cannot begin the production stands whole in an error, behind what is expected; where tokens are
 -- left over, tree, message and tokens stand in an error.
 unfoldable pub entry : Table → Production → List Token → Forest
@@ -31,7 +36,7 @@ entry g x ts =
     let start : Reading = record { given = End; rest = ts } in
     let s = meaning g x false start in
     let over = Node ERROR (s.given then Said UnexpectedTokens (leaves s.rest)) End in
-    let missing = Node ERROR (Said (wanted x) (leaves ts)) End in
+    let missing = Node ERROR (told (wanted x) (leaves ts)) End in
     let one = if is_used_up s.rest then s.given else over in
     let other = if sees false start (look_of g x) then one else missing in
     if takes_all x then s.given else other

@@ -2,9 +2,9 @@
 use Rattle.std.specs.Prelude.{[], ◌∷◌}
 use Rattle.parser_input.specs.Kinds.{ERROR, SOURCE_FILE, MACRO_ITEMS, MODULE, ITEM_LIST, USE, USE_TREE, USE_TREE_LIST, RENAME, STRUCT, ENUM, VARIANT_LIST, VARIANT, RECORD_FIELD_LIST, RECORD_FIELD, TUPLE_FIELD_LIST, TUPLE_FIELD, FN, PARAM_LIST, SELF_PARAM, PARAM, CONST, STATIC, TYPE_ALIAS, IMPL, TRAIT, ASSOC_ITEM_LIST, VISIBILITY, ATTR, META, MACRO_CALL, TOKEN_TREE, NAME}
 use Rattle.parser_events.specs.Forest.{ExpectedItem}
-use Rattle.rust_grammar.specs.Rule.{source_file, macro_items, item, body, assoc_items, variants, record_fields, tuple_fields, visibility, attribute, meta, token_tree, use_tree, use_list, params, param, Production, Look, Left, Given, Both, Either, Not, Rule, Any, Say, Skip, When, Unless}
+use Rattle.rust_grammar.specs.Rule.{source_file, macro_items, item, body, assoc_items, variants, record_fields, tuple_fields, visibility, attribute, meta, token_tree, use_tree, use_list, params, param, Production, Look, Left, Given, Both, Either, Not, Rule, One, Any, Say, Skip, When, Unless}
 use Rattle.rust_grammar.specs.Words.{'::', 'semi', 'l_paren', 'r_paren', 'l_curly', 'r_curly', '[', ']', '#', ':', '=', '!', '&', '*', 'const', 'crate', 'enum', 'fn', 'for', 'impl', 'in', 'mod', 'mut', 'pub', 'self', 'static', 'struct', 'super', 'trait', 'type', 'unsafe', 'use', 'as', '_', 'lifetime', 'shebang', 'frontmatter'}
-use Rattle.rust_grammar.specs.Calls.{Item, Body, AssocItems, Variants, RecordFields, TupleFields, Visibility, Attribute, Meta, TokenTree, UseTree, UseList, Name, Lifetime, Path, GenericParams, Bounds, WhereClause, Params, Param, RetType, AnyType, Pattern, Block, Expression}
+use Rattle.rust_grammar.specs.Calls.{Item, AssocItems, Variants, RecordFields, TupleFields, Visibility, Attribute, Meta, TokenTree, UseTree, UseList, Name, Lifetime, Path, GenericParams, Bounds, WhereClause, Params, Param, RetType, AnyType, Pattern, Block, Expression}
 use Rattle.rust_grammar.specs.Notation.{◌or◌, ◌▸◌, ⁅◌⁆, ◌*, ◌!, ◌⟨◌⟩, ◌<⟨◌⟩, more, off, at_end, next, row, ◌before◌, any_of, one_of, until, listed}
 use Rattle.rust_grammar.specs.Shared.{colons_before_more}
 
@@ -14,7 +14,7 @@ items_until ends = (Unless ends (When ('#' before '!') Attribute or Item)) *
 
 -- items in braces
 abbrev items_in_braces : Rule
-items_in_braces = 'l_curly' ▸ off (items_until (until 'r_curly')) ▸ 'r_curly' !
+items_in_braces = One 'l_curly' ▸ off (items_until (until 'r_curly')) ▸ One 'r_curly' !
 
 -- where a bracket behind `pub` belongs to it, and is not the type of a field
 abbrev pub visibility_goes_on : Look
@@ -42,43 +42,43 @@ tokens = inner_token *
 
 -- behind the path of a use tree: more of it, or another name
 abbrev pub behind_use : Rule
-behind_use = ⁅ '::' ▸ ('*' or UseList) or RENAME ⟨ 'as' ▸ ('_' or Name !) ⟩ ⁆
+behind_use = ⁅ One '::' ▸ (One '*' or UseList) or RENAME ⟨ One 'as' ▸ (One '_' or Name !) ⟩ ⁆
 
 -- A body stands around the attributes and the visibility before it. A word that begins no item is read as the path of a macro.
 unfoldable pub items : (others : Production → Rule) → Production → Rule
-items others source_file = SOURCE_FILE ⟨ ⁅ 'shebang' ⁆ ▸ ⁅ 'frontmatter' ⁆ ▸ items_until at_end ⟩
+items others source_file = SOURCE_FILE ⟨ ⁅ One 'shebang' ⁆ ▸ ⁅ One 'frontmatter' ⁆ ▸ items_until at_end ⟩
 items others macro_items = MACRO_ITEMS ⟨ items_until at_end ⟩
-items others item = Attribute * ▸ ⁅ Visibility ⁆ ▸ more Body
+items others item = Attribute * ▸ ⁅ Visibility ⁆ ▸ more body
 items others body =
-    MODULE <⟨ 'mod' ▸ Name ! ▸ (ITEM_LIST ⟨ items_in_braces ⟩ or 'semi' !) ⟩
-    or USE <⟨ 'use' ▸ UseTree ! ▸ 'semi' ! ⟩
-    or STRUCT <⟨ 'struct' ▸ Name ! ▸ ⁅ GenericParams ⁆ ▸ (TupleFields ▸ ⁅ WhereClause ⁆ ▸ 'semi' ! or ⁅ WhereClause ⁆ ▸ (RecordFields or 'semi' !)) ⟩
-    or ENUM <⟨ 'enum' ▸ Name ! ▸ ⁅ GenericParams ⁆ ▸ ⁅ WhereClause ⁆ ▸ Variants ! ⟩
-    or When fn_begins (FN <⟨ ⁅ 'const' ⁆ ▸ ⁅ 'unsafe' ⁆ ▸ 'fn' ! ▸ Name ! ▸ ⁅ GenericParams ⁆ ▸ Params ! ▸ ⁅ RetType ⁆ ▸ ⁅ WhereClause ⁆ ▸ (Block or 'semi' !) ⟩)
-    or CONST <⟨ 'const' ▸ ('_' or Name !) ▸ ':' ! ▸ AnyType ! ▸ ⁅ '=' ▸ Expression ! ⁆ ▸ 'semi' ! ⟩
-    or STATIC <⟨ 'static' ▸ ⁅ 'mut' ⁆ ▸ Name ! ▸ ':' ! ▸ AnyType ! ▸ ⁅ '=' ▸ Expression ! ⁆ ▸ 'semi' ! ⟩
-    or TYPE_ALIAS <⟨ 'type' ▸ Name ! ▸ ⁅ GenericParams ⁆ ▸ ⁅ ':' ▸ Bounds ⁆ ▸ ⁅ WhereClause ⁆ ▸ ⁅ '=' ▸ AnyType ! ⁆ ▸ 'semi' ! ⟩
-    or When (Either (next 'impl') ('unsafe' before 'impl')) (IMPL <⟨ ⁅ 'unsafe' ⁆ ▸ 'impl' ▸ ⁅ GenericParams ⁆ ▸ AnyType ! ▸ ⁅ 'for' ▸ AnyType ! ⁆ ▸ ⁅ WhereClause ⁆ ▸ AssocItems ! ⟩)
-    or When (Either (next 'trait') ('unsafe' before 'trait')) (TRAIT <⟨ ⁅ 'unsafe' ⁆ ▸ 'trait' ▸ Name ! ▸ ⁅ GenericParams ⁆ ▸ ⁅ ':' ▸ Bounds ⁆ ▸ ⁅ WhereClause ⁆ ▸ AssocItems ! ⟩)
-    or Path ▸ (MACRO_CALL <⟨ '!' ▸ (When (next 'l_curly') TokenTree or TokenTree ! ▸ 'semi' !) ⟩ or ERROR <⟨ Say ExpectedItem ⟩)
+    MODULE <⟨ One 'mod' ▸ Name ! ▸ (ITEM_LIST ⟨ items_in_braces ⟩ or One 'semi' !) ⟩
+    or USE <⟨ One 'use' ▸ UseTree ! ▸ One 'semi' ! ⟩
+    or STRUCT <⟨ One 'struct' ▸ Name ! ▸ ⁅ GenericParams ⁆ ▸ (TupleFields ▸ ⁅ WhereClause ⁆ ▸ One 'semi' ! or ⁅ WhereClause ⁆ ▸ (RecordFields or One 'semi' !)) ⟩
+    or ENUM <⟨ One 'enum' ▸ Name ! ▸ ⁅ GenericParams ⁆ ▸ ⁅ WhereClause ⁆ ▸ Variants ! ⟩
+    or When fn_begins (FN <⟨ ⁅ One 'const' ⁆ ▸ ⁅ One 'unsafe' ⁆ ▸ One 'fn' ! ▸ Name ! ▸ ⁅ GenericParams ⁆ ▸ Params ! ▸ ⁅ RetType ⁆ ▸ ⁅ WhereClause ⁆ ▸ (Block or One 'semi' !) ⟩)
+    or CONST <⟨ One 'const' ▸ (One '_' or Name !) ▸ One ':' ! ▸ AnyType ! ▸ ⁅ One '=' ▸ Expression ! ⁆ ▸ One 'semi' ! ⟩
+    or STATIC <⟨ One 'static' ▸ ⁅ One 'mut' ⁆ ▸ Name ! ▸ One ':' ! ▸ AnyType ! ▸ ⁅ One '=' ▸ Expression ! ⁆ ▸ One 'semi' ! ⟩
+    or TYPE_ALIAS <⟨ One 'type' ▸ Name ! ▸ ⁅ GenericParams ⁆ ▸ ⁅ One ':' ▸ Bounds ⁆ ▸ ⁅ WhereClause ⁆ ▸ ⁅ One '=' ▸ AnyType ! ⁆ ▸ One 'semi' ! ⟩
+    or When (Either (next 'impl') ('unsafe' before 'impl')) (IMPL <⟨ ⁅ One 'unsafe' ⁆ ▸ One 'impl' ▸ ⁅ GenericParams ⁆ ▸ AnyType ! ▸ ⁅ One 'for' ▸ AnyType ! ⁆ ▸ ⁅ WhereClause ⁆ ▸ AssocItems ! ⟩)
+    or When (Either (next 'trait') ('unsafe' before 'trait')) (TRAIT <⟨ ⁅ One 'unsafe' ⁆ ▸ One 'trait' ▸ Name ! ▸ ⁅ GenericParams ⁆ ▸ ⁅ One ':' ▸ Bounds ⁆ ▸ ⁅ WhereClause ⁆ ▸ AssocItems ! ⟩)
+    or Path ▸ (MACRO_CALL <⟨ One '!' ▸ (When (next 'l_curly') TokenTree or TokenTree ! ▸ One 'semi' !) ⟩ or ERROR <⟨ Say ExpectedItem ⟩)
     or When Given (ERROR <⟨ Say ExpectedItem ⟩)
     or Skip ExpectedItem
 items others assoc_items = ASSOC_ITEM_LIST ⟨ items_in_braces ⟩
 items others variants = VARIANT_LIST ⟨ listed VARIANT_LIST 'l_curly' (VARIANT ⟨ Attribute * ▸ ⁅ Visibility ⁆ ▸ Name ! ▸ ⁅ RecordFields or TupleFields ⁆ ⟩) 'r_curly' ⟩
-items others record_fields = RECORD_FIELD_LIST ⟨ listed RECORD_FIELD_LIST 'l_curly' (RECORD_FIELD ⟨ Attribute * ▸ ⁅ Visibility ⁆ ▸ Name ! ▸ ':' ! ▸ AnyType ! ⟩) 'r_curly' ⟩
+items others record_fields = RECORD_FIELD_LIST ⟨ listed RECORD_FIELD_LIST 'l_curly' (RECORD_FIELD ⟨ Attribute * ▸ ⁅ Visibility ⁆ ▸ Name ! ▸ One ':' ! ▸ AnyType ! ⟩) 'r_curly' ⟩
 items others tuple_fields = TUPLE_FIELD_LIST ⟨ listed TUPLE_FIELD_LIST 'l_paren' (TUPLE_FIELD ⟨ Attribute * ▸ ⁅ Visibility ⁆ ▸ AnyType ! ⟩) 'r_paren' ⟩
 items others params = PARAM_LIST ⟨ listed PARAM_LIST 'l_paren' Param 'r_paren' ⟩
 items others param =
-    When self_begins (SELF_PARAM ⟨ ⁅ '&' ▸ ⁅ Lifetime ⁆ ⁆ ▸ ⁅ 'mut' ⁆ ▸ NAME ⟨ 'self' ! ⟩ ▸ ⁅ ':' ▸ AnyType ! ⁆ ⟩)
-    or PARAM ⟨ Pattern ▸ ':' ! ▸ AnyType ! ⟩
-items others visibility = VISIBILITY ⟨ 'pub' ▸ ⁅ When visibility_goes_on ('l_paren' ▸ ⁅ 'in' ⁆ ▸ Path ! ▸ 'r_paren' !) ⁆ ⟩
-items others attribute = ATTR ⟨ '#' ▸ ⁅ '!' ⁆ ▸ '[' ! ▸ off (Meta !) ▸ ']' ! ⟩
-items others meta = META ⟨ Path ▸ ⁅ '=' ▸ Expression ! or TokenTree ⁆ ⟩
+    When self_begins (SELF_PARAM ⟨ ⁅ One '&' ▸ ⁅ Lifetime ⁆ ⁆ ▸ ⁅ One 'mut' ⁆ ▸ NAME ⟨ One 'self' ! ⟩ ▸ ⁅ One ':' ▸ AnyType ! ⁆ ⟩)
+    or PARAM ⟨ Pattern ▸ One ':' ! ▸ AnyType ! ⟩
+items others visibility = VISIBILITY ⟨ One 'pub' ▸ ⁅ When visibility_goes_on (One 'l_paren' ▸ ⁅ One 'in' ⁆ ▸ Path ! ▸ One 'r_paren' !) ⁆ ⟩
+items others attribute = ATTR ⟨ One '#' ▸ ⁅ One '!' ⁆ ▸ One '[' ! ▸ off (Meta !) ▸ One ']' ! ⟩
+items others meta = META ⟨ Path ▸ ⁅ One '=' ▸ Expression ! or TokenTree ⁆ ⟩
 items others token_tree =
-    TOKEN_TREE ⟨ 'l_paren' ▸ tokens ▸ 'r_paren' ! ⟩
-    or TOKEN_TREE ⟨ '[' ▸ tokens ▸ ']' ! ⟩
-    or TOKEN_TREE ⟨ 'l_curly' ▸ tokens ▸ 'r_curly' ! ⟩
+    TOKEN_TREE ⟨ One 'l_paren' ▸ tokens ▸ One 'r_paren' ! ⟩
+    or TOKEN_TREE ⟨ One '[' ▸ tokens ▸ One ']' ! ⟩
+    or TOKEN_TREE ⟨ One 'l_curly' ▸ tokens ▸ One 'r_curly' ! ⟩
 items others use_tree =
-    USE_TREE ⟨ ⁅ When colons_before_more '::' ⁆ ▸ ('*' or UseList or Path ▸ behind_use) ⟩
+    USE_TREE ⟨ ⁅ When colons_before_more (One '::') ⁆ ▸ (One '*' or UseList or Path ▸ behind_use) ⟩
 items others use_list = USE_TREE_LIST ⟨ listed USE_TREE_LIST 'l_curly' UseTree 'r_curly' ⟩
 items others x = others x

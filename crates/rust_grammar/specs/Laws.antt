@@ -6,7 +6,7 @@ use Rattle.parser_input.specs.declared.edition.Edition.{Edition}
 use Rattle.parser_events.specs.Fits.{IsRooted, fits}
 use Rattle.parser_events.specs.Forest.{Forest, End}
 use Rattle.parser_events.specs.Steps.{steps}
-use Rattle.rust_grammar.specs.Rule.{Production, source_file, macro_items, macro_statements, meta, any_type, pattern, expression, Look, Rule, Nothing, Star, begins, shift}
+use Rattle.rust_grammar.specs.Rule.{Production, source_file, macro_items, macro_statements, meta, any_type, pattern, expression, Look, Rule, Nothing, Star, Node, Call, begins, shift}
 use Rattle.rust_grammar.specs.Meaning.{Reading, Calls, read, sees, fresh, look_of, meaning}
 use Rattle.rust_grammar.specs.Parts.{repeated, nearby}
 use Rattle.rust_grammar.specs.Entry.{entry}
@@ -79,8 +79,18 @@ LooksAhead a =
 abbrev pub PartsLookAhead : Type 0
 PartsLookAhead = (x : Production) → All LooksAhead (nearby (all.rule x))
 
--- Where a token is left, it makes no difference to where a production begins what was given before it: called anew, it
--- begins where it would with nothing given.
+-- A production that is called anew begins where it would with nothing given, wherever productions begin; and so does a node.
+abbrev pub CallsHaveGivenNothing : Type 0
+CallsHaveGivenNothing =
+    (looks : Production → Look) (x : Production) (in_condition : Bool) (s : Reading)
+    → sees in_condition s (begins looks (Call x)) ≡ sees in_condition (fresh s) (looks x)
+
+abbrev pub NodesHaveGivenNothing : Type 0
+NodesHaveGivenNothing =
+    (looks : Production → Look) (kind : ℕ) (inside : Rule) (in_condition : Bool) (s : Reading)
+    → sees in_condition s (begins looks (Node kind inside)) ≡ sees in_condition (fresh s) (begins looks inside)
+
+-- Where a token is left, it makes no difference to where a production begins what was given before it.
 abbrev pub CallsBeginAnew : Type 0
 CallsBeginAnew =
     (x : Production) (in_condition : Bool) (s : Reading)

@@ -1,11 +1,12 @@
--- The writing of a grammar: `a ▸ b` is a followed by b, `a ▹ b` the same where the looks of both are asked, `a or b` the first
--- whose looks are there (of several, the last where none is), `⁅ a ⁆` an option, `a *` a repetition, `a ⁺` one of one turn at
--- least, `N ⟨ a ⟩` a node, `N <⟨ a ⟩` a node around all that the present production gave so far and a, `a !` a part that is
--- expected, `more a` a production as a continuation of the present one.
-use Rattle.std.specs.Prelude.{ℕ, ◌+◌, ◌==◌, Bool, true, false, ◌&&◌, List, [], ◌∷◌, length, if◌then◌else◌}
-use Rattle.parser_input.specs.Kinds.{COMMA, USE_TREE, VARIANT_LIST, PARAM_LIST, ASSOC_ITEM_LIST, META, TOKEN_TREE, NAME, NAME_REF, PATH, STMT_LIST, LITERAL, BLOCK_EXPR, ARG_LIST, MATCH_ARM_LIST}
-use Rattle.parser_events.specs.Forest.{Message, Expected, UnexpectedIn, ExpectedType, ExpectedExpression, ExpectedPattern}
-use Rattle.rust_grammar.specs.Rule.{assoc_items, variants, meta, token_tree, use_tree, params, name, name_ref, path, any_type, pattern, single_pattern, literal, statement_list, block, arguments, match_arms, Production, Look, Always, Never, Left, Both, Either, Not, Rule, Nothing, One, Then, Near, Or, Opt, Star, Node, Wrap, Want, Say, Skip, When, Unless, Call, Continue, Mode, there_at, width}
+-- The writing of a grammar: `One 'let'` is a leaf that is so spelled, `a ▸ b` is a followed by b, `a ▹ b` the same where the
+-- looks of both are asked, `a or b` the first whose looks are there (of several, the last where none is), `⁅ a ⁆` an option,
+-- `a *` a repetition, `a ⁺` one of one turn at least, `N ⟨ a ⟩` a node, `N <⟨ a ⟩` a node around all that the present production
+-- gave so far and a, `a !` a part that is expected, `more a` a production as a continuation of the present one. Looks take
+-- spellings.
+use Rattle.std.specs.Prelude.{ℕ, ◌+◌, ◌==◌, Bool, true, false, ◌&&◌, List, [], ◌∷◌, length, Option, Some, None, if◌then◌else◌}
+use Rattle.parser_input.specs.Kinds.{COMMA, ASSOC_ITEM_LIST, VARIANT_LIST, META, TOKEN_TREE, USE_TREE, PARAM_LIST, NAME, NAME_REF, PATH, LITERAL, STMT_LIST, BLOCK_EXPR, ARG_LIST, MATCH_ARM_LIST}
+use Rattle.parser_events.specs.Forest.{Message, Expected, UnexpectedIn, ExpectedType, ExpectedPattern, ExpectedExpression}
+use Rattle.rust_grammar.specs.Rule.{assoc_items, variants, meta, token_tree, use_tree, params, name, name_ref, path, any_type, pattern, single_pattern, literal, statement_list, block, expression, operation, comparison, prefixed, arguments, match_arms, Production, Look, Always, Never, Left, Both, Either, Not, Spelling, Rule, Nothing, One, Then, Near, Or, Opt, Star, Node, Wrap, Want, Say, Skip, When, Unless, Call, Continue, Mode, there_at}
 use Rattle.rust_grammar.specs.Words.{'dots', 'dots_eq', '==', '=>', '!=', '<=', '>=', '&&', '||', '<<', '>>', '+=', '-=', '*=', '/=', '%=', '&=', '|=', '^=', '<<=', '>>=', 'semi', 'comma', 'r_paren', 'l_curly', 'r_curly', ']', '=', '<', '>', '-', '&', '|', '+', '*', '/', '^', '%'}
 
 infixr 40 ◌or◌
@@ -22,8 +23,29 @@ a or b = Or a b
 abbrev pub ◌▸◌ : Rule → Rule → Rule
 a ▸ b = Then a b
 
-abbrev pub ◌▹◌ : Rule → Rule → Rule
-a ▹ b = Near a b
+-- how many tokens a part stands over that is one leaf, whichever of its alternatives it is
+abbrev same_width : Option ℕ → Option ℕ → Option ℕ
+same_width (Some m) (Some n) = if m == n then Some m else None
+same_width m n = None
+
+abbrev pub width : Rule → Option ℕ
+width (One x) = Some (length x.parts)
+width (Or a b) = same_width (width a) (width b)
+width (When l a) = width a
+width (Node k a) = width a
+width a = None
+
+-- `a ▹ b` is a rule where a is one leaf, of so many tokens; behind any other part it is none, and an error where a rule is asked.
+abbrev pub Measured : Option ℕ → Type 0
+Measured (Some n) = Rule
+Measured None = Unit {0}
+
+abbrev pub near : (width : Option ℕ) → Rule → Rule → Measured width
+near (Some n) a b = Near n a b
+near None a b = tt
+
+abbrev pub ◌▹◌ : (a : Rule) → Rule → Measured (width a)
+a ▹ b = near (width a) a b
 
 abbrev pub ⁅◌⁆ : Rule → Rule
 ⁅ a ⁆ = Opt a
@@ -40,9 +62,8 @@ k ⟨ a ⟩ = Node k a
 abbrev pub ◌<⟨◌⟩ : ℕ → Rule → Rule
 k <⟨ a ⟩ = Wrap k a
 
-abbrev pub more : Rule → Rule
-more (Call x) = Continue x
-more a = a
+abbrev pub more : Production → Rule
+more x = Continue x
 
 -- out of condition mode, and in it
 abbrev pub off : Rule → Rule
@@ -51,94 +72,107 @@ off a = Mode false a
 abbrev pub on : Rule → Rule
 on a = Mode true a
 
--- what is expected where a production is missing: the one kind that it gives, or what all that it can give is called
-unfoldable pub wanted : Production → Message
-wanted name = Expected NAME
-wanted name_ref = Expected NAME_REF
-wanted path = Expected PATH
-wanted meta = Expected META
-wanted token_tree = Expected TOKEN_TREE
-wanted use_tree = Expected USE_TREE
-wanted assoc_items = Expected ASSOC_ITEM_LIST
-wanted variants = Expected VARIANT_LIST
-wanted params = Expected PARAM_LIST
-wanted block = Expected BLOCK_EXPR
-wanted statement_list = Expected STMT_LIST
-wanted match_arms = Expected MATCH_ARM_LIST
-wanted arguments = Expected ARG_LIST
-wanted literal = Expected LITERAL
-wanted any_type = ExpectedType
-wanted pattern = ExpectedPattern
-wanted single_pattern = ExpectedPattern
-wanted x = ExpectedExpression
+-- What is expected where a production is missing that some rule wants: the one kind that it gives, or what all that it can give
+-- is called.
+abbrev pub wanted : Production → Option Message
+wanted assoc_items = Some (Expected ASSOC_ITEM_LIST)
+wanted variants = Some (Expected VARIANT_LIST)
+wanted meta = Some (Expected META)
+wanted token_tree = Some (Expected TOKEN_TREE)
+wanted use_tree = Some (Expected USE_TREE)
+wanted params = Some (Expected PARAM_LIST)
+wanted name = Some (Expected NAME)
+wanted name_ref = Some (Expected NAME_REF)
+wanted path = Some (Expected PATH)
+wanted any_type = Some ExpectedType
+wanted pattern = Some ExpectedPattern
+wanted single_pattern = Some ExpectedPattern
+wanted literal = Some (Expected LITERAL)
+wanted statement_list = Some (Expected STMT_LIST)
+wanted block = Some (Expected BLOCK_EXPR)
+wanted expression = Some ExpectedExpression
+wanted operation = Some ExpectedExpression
+wanted comparison = Some ExpectedExpression
+wanted prefixed = Some ExpectedExpression
+wanted arguments = Some (Expected ARG_LIST)
+wanted match_arms = Some (Expected MATCH_ARM_LIST)
+wanted x = None
 
--- the message of a part that is missing
-unfoldable pub expected : Rule → Message
-expected (One x) = Expected x.kind
-expected (Node k a) = Expected k
+-- the message of a part that is missing, if it can be: a leaf, a node, a production that has one
+abbrev pub expected : Rule → Option Message
+expected (One x) = Some (Expected x.kind)
+expected (Node k a) = Some (Expected k)
 expected (Call x) = wanted x
 expected (Mode c a) = expected a
-expected a = ExpectedExpression
+expected a = None
 
-abbrev pub ◌! : Rule → Rule
-a ! = Want a (expected a)
+-- A part with a message is a rule where it is expected; `!` behind any other part is no rule, and an error where one is asked.
+abbrev pub Wanted : Option Message → Type 0
+Wanted (Some m) = Rule
+Wanted None = Unit {0}
+
+abbrev pub want : Rule → (m : Option Message) → Wanted m
+want a (Some m) = Want a m
+want a None = tt
+
+abbrev pub ◌! : (a : Rule) → Wanted (expected a)
+a ! = want a (expected a)
 
 -- Looks. No token is left:
 abbrev pub at_end : Look
 at_end = Not Left
 
 -- these spellings stand one behind the other, from the n-th token on
-unfoldable pub row : ℕ → List Rule → Look
+unfoldable pub row : ℕ → List Spelling → Look
 row n [] = Always
-row n (One x ∷ rs) = Both (there_at n x.parts) (row (n + length x.parts) rs)
-row n (r ∷ rs) = Never
+row n (x ∷ xs) = Both (there_at n x.parts) (row (n + length x.parts) xs)
 
 -- one of these spellings stands at the n-th token
-unfoldable pub one_of : ℕ → List Rule → Look
+unfoldable pub one_of : ℕ → List Spelling → Look
 one_of n [] = Never
-one_of n (r ∷ rs) = Either (row n (r ∷ [])) (one_of n rs)
+one_of n (x ∷ xs) = Either (row n (x ∷ [])) (one_of n xs)
 
 unfoldable pub any_of : List Look → Look
 any_of [] = Never
 any_of (l ∷ ls) = Either l (any_of ls)
 
-abbrev pub next : Rule → Look
-next a = row 0 (a ∷ [])
+abbrev pub next : Spelling → Look
+next x = row 0 (x ∷ [])
 
--- a is next, and b behind it; and one of these is; and none of these is
+-- x is next, and y behind it; and one of these is; and none of these is
 infix 68 ◌before◌
 infix 68 ◌before_any◌
 infix 68 ◌not_before◌
-abbrev pub ◌before◌ : Rule → Rule → Look
-a before b = row 0 (a ∷ b ∷ [])
+abbrev pub ◌before◌ : Spelling → Spelling → Look
+x before y = row 0 (x ∷ y ∷ [])
 
-abbrev pub ◌before_any◌ : Rule → List Rule → Look
-a before_any bs = Both (next a) (one_of (width a) bs)
+abbrev pub ◌before_any◌ : Spelling → List Spelling → Look
+x before_any ys = Both (next x) (one_of (length x.parts) ys)
 
-abbrev pub ◌not_before◌ : Rule → List Rule → Look
-a not_before bs = Both (next a) (Not (one_of (width a) bs))
+abbrev pub ◌not_before◌ : Spelling → List Spelling → Look
+x not_before ys = Both (next x) (Not (one_of (length x.parts) ys))
 
 -- a list ends here: at its closing spelling, or with the input
-abbrev pub until : Rule → Look
-until b = Either (Not Left) (next b)
+abbrev pub until : Spelling → Look
+until x = Either (Not Left) (next x)
 
 -- the spellings at which a list gives up: a list is left open where one of these is next
-abbrev pub stops : List Rule
+abbrev pub stops : List Spelling
 stops = 'semi' ∷ 'l_curly' ∷ 'r_curly' ∷ 'r_paren' ∷ ']' ∷ []
 
 -- The rest of a list behind its opening spelling, in the node `list`: elements with commas between them, up to `close`. A
 -- missing comma is told; what begins no element stands in an error, up to a token at which the list gives up.
-abbrev pub rest_listed : (list : ℕ) → (element close : Rule) → Rule
+abbrev pub rest_listed : (list : ℕ) → (element : Rule) → (close : Spelling) → Rule
 rest_listed list element close =
     off
-    ((Unless (until close) (element ▸ ('comma' or When (next close) Nothing or Say (Expected COMMA)) or When (Both Left (Not (one_of 0 stops))) (Skip (UnexpectedIn list)))) *)
-    ▸ close !
+    ((Unless (until close) (element ▸ (One 'comma' or When (next close) Nothing or Say (Expected COMMA)) or When (Both Left (Not (one_of 0 stops))) (Skip (UnexpectedIn list)))) *)
+    ▸ One close !
 
-abbrev pub listed : (list : ℕ) → (opening element close : Rule) → Rule
-listed list opening element close = opening ▸ rest_listed list element close
+abbrev pub listed : (list : ℕ) → (opening : Spelling) → (element : Rule) → (close : Spelling) → Rule
+listed list opening element close = One opening ▸ rest_listed list element close
 
 -- The operators of expressions, and the marks that one of them could be taken for the front of.
-abbrev pub operators : List Rule
+abbrev pub operators : List Spelling
 operators = '=' ∷ '+=' ∷ '-=' ∷ '*=' ∷ '/=' ∷ '%=' ∷ '&=' ∷ '|=' ∷ '^=' ∷ '<<=' ∷ '>>=' ∷ '||' ∷ '&&' ∷ '==' ∷ '!=' ∷ '<' ∷ '>' ∷ '<=' ∷ '>=' ∷ '|' ∷ '^' ∷ '&' ∷ '<<' ∷ '>>' ∷ '+' ∷ '-' ∷ '*' ∷ '/' ∷ '%' ∷ 'dots_eq' ∷ 'dots' ∷ '=>' ∷ []
 
 -- whether the second spelling begins with the first and is longer
@@ -148,16 +182,20 @@ is_longer [] (l ∷ ls) = true
 is_longer (k ∷ ks) [] = false
 is_longer (k ∷ ks) (l ∷ ls) = k == l && is_longer ks ls
 
+-- a look, and where that is so not this spelling
+abbrev but_not : Bool → List ℕ → Look → Look
+but_not true ps l = Both (Not (there_at 0 ps)) l
+but_not false ps l = l
+
 -- none of these stands here that begins with this spelling and is longer
-unfoldable pub no_longer : List ℕ → List Rule → Look
+unfoldable pub no_longer : List ℕ → List Spelling → Look
 no_longer ks [] = Always
-no_longer ks (One x ∷ rs) =
-    let others = no_longer ks rs in
-    let none = Both (Not (there_at 0 x.parts)) others in
-    if is_longer ks x.parts then none else others
-no_longer ks (r ∷ rs) = no_longer ks rs
+no_longer ks (x ∷ xs) = but_not (is_longer ks x.parts) x.parts (no_longer ks xs)
+
+-- a spelling is next, and no longer operator that begins with it
+unfoldable pub longest : Spelling → Look
+longest x = Both (there_at 0 x.parts) (no_longer x.parts operators)
 
 -- an operator, where no longer one stands
-unfoldable pub op : Rule → Rule
-op (One x) = When (Both (there_at 0 x.parts) (no_longer x.parts operators)) (One x)
-op r = r
+abbrev pub op : Spelling → Rule
+op x = When (longest x) (One x)

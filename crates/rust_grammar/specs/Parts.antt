@@ -6,7 +6,7 @@ use Rattle.rust_grammar.specs.Rule.{Rule, Nothing, One, Any, Then, Near, Or, Whe
 unfoldable pub repeated : Rule → List Rule
 repeated (Star a) = a ∷ repeated a
 repeated (Then a b) = repeated a ++ repeated b
-repeated (Near a b) = repeated a ++ repeated b
+repeated (Near w a b) = repeated a ++ repeated b
 repeated (Or a b) = repeated a ++ repeated b
 repeated (When l a) = repeated a
 repeated (Unless l a) = repeated a
@@ -26,7 +26,7 @@ repeated (Continue x) = []
 
 -- the parts whose looks are asked together with those of the part before
 unfoldable pub nearby : Rule → List Rule
-nearby (Near a b) = b ∷ (nearby a ++ nearby b)
+nearby (Near w a b) = b ∷ (nearby a ++ nearby b)
 nearby (Then a b) = nearby a ++ nearby b
 nearby (Or a b) = nearby a ++ nearby b
 nearby (When l a) = nearby a

@@ -93,11 +93,11 @@ pub record Spelling : Type 0 where
   pub kind : ℕ
   pub parts : List ℕ
 
--- The nine forms are: one leaf (One, Any); a sequence (Nothing, Then, Near, which asks the looks of both parts); a choice by
--- looks (Or, When, Unless); an option; a repetition; a node; a wrap around all that the present production gave so far;
--- an expected part (Want: it, or a message); an error (Say: a message; Skip: a message about the next token, which is
--- taken; Split: a float behind a dot). Call begins a production anew, Continue goes on in the present one, Mode reads a
--- rule in condition mode or out of it.
+-- The nine forms are: one leaf (One, Any); a sequence (Nothing, Then, Near, which asks the looks of both parts, those of the
+-- second so many tokens further on); a choice by looks (Or, When, Unless); an option; a repetition; a node; a wrap around all
+-- that the present production gave so far; an expected part (Want: it, or a message); an error (Say: a message; Skip: a message
+-- about the next token, which is taken; Split: a float behind a dot). Call begins a production anew, Continue goes on in the
+-- present one, Mode reads a rule in condition mode or out of it.
 -- A choice reads its first part where that begins, and else its second, of which it asks nothing: where all looks of a chain of
 -- choices fail, its last part is read. When puts its look in the place of those of its rule, Unless asks besides those of its
 -- rule that its look fails; both say only where a rule begins, not what it gives.
@@ -106,7 +106,7 @@ pub data Rule : Type 0 where
   One : Spelling → Rule
   Any : Rule
   Then : Rule → Rule → Rule
-  Near : Rule → Rule → Rule
+  Near : (width : ℕ) → Rule → Rule → Rule
   Or : Rule → Rule → Rule
   When : Look → Rule → Rule
   Unless : Look → Rule → Rule
@@ -151,6 +151,14 @@ in_mode c (Either a b) = Either (in_mode c a) (in_mode c b)
 in_mode c (Not a) = Not (in_mode c a)
 in_mode c l = l
 
+-- a look where nothing was given
+unfoldable pub anew : Look → Look
+anew Given = Never
+anew (Both a b) = Both (anew a) (anew b)
+anew (Either a b) = Either (anew a) (anew b)
+anew (Not a) = Not (anew a)
+anew l = l
+
 -- a rule that may give nothing where its looks fail: a sequence looks past it
 unfoldable pub passes : Rule → Bool
 passes (Opt a) = true
@@ -164,17 +172,8 @@ is_silent Nothing = true
 is_silent (Say m) = true
 is_silent r = false
 
--- how many tokens the leaf that a rule begins with stands over
-unfoldable pub width : Rule → ℕ
-width (One x) = length x.parts
-width (When l a) = width a
-width (Node k a) = width a
-width (Or a b) = width a
-width r = 1
-
--- Where a rule begins, given where the productions begin. A part that is wanted begins where the part itself does. A production
--- that is called anew has given nothing yet; that it is asked here what its caller gave makes no difference where a token is
--- left, as a law says.
+-- Where a rule begins, given where the productions begin. A part that is wanted begins where the part itself does. In a node, and
+-- in a production that is called anew, nothing has been given yet.
 unfoldable pub begins : (Production → Look) → Rule → Look
 begins f Nothing = Always
 begins f (One x) = there_at 0 x.parts
@@ -185,18 +184,18 @@ begins f (Then a b) =
     let both = Either first second in
     let sure = if passes a then both else first in
     if is_silent a then second else sure
-begins f (Near a b) = Both (begins f a) (shift (width a) (begins f b))
+begins f (Near w a b) = Both (begins f a) (shift w (begins f b))
 begins f (Or a b) = Either (begins f a) (begins f b)
 begins f (When l a) = l
 begins f (Unless l a) = Both (Not l) (begins f a)
 begins f (Opt a) = begins f a
 begins f (Star a) = begins f a
-begins f (Node kind a) = begins f a
+begins f (Node kind a) = anew (begins f a)
 begins f (Wrap kind a) = begins f a
 begins f (Want a m) = begins f a
 begins f (Say m) = Always
 begins f (Skip m) = Left
 begins f Split = Left
-begins f (Call x) = f x
+begins f (Call x) = anew (f x)
 begins f (Continue x) = f x
 begins f (Mode c a) = in_mode c (begins f a)

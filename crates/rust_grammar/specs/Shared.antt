@@ -1,12 +1,12 @@
 -- Parts of rules that several tables share.
 use Rattle.std.specs.Prelude.{List, [], ◌∷◌}
 use Rattle.parser_input.specs.Kinds.{COLON, NAME_REF}
-use Rattle.rust_grammar.specs.Rule.{Look, Kind, Joint, Both, Not, Rule}
+use Rattle.rust_grammar.specs.Rule.{Look, Kind, Joint, Both, Not, Spelling, Rule, One}
 use Rattle.rust_grammar.specs.Words.{'::', 'l_curly', '*', 'crate', 'self', 'Self', 'super', 'ident', 'int'}
 use Rattle.rust_grammar.specs.Notation.{◌or◌, ◌⟨◌⟩, ◌before_any◌}
 
 -- the words that a segment of a path can be
-abbrev pub refs : List Rule
+abbrev pub refs : List Spelling
 refs = 'ident' ∷ 'self' ∷ 'super' ∷ 'crate' ∷ 'Self' ∷ []
 
 -- the `::` behind which a `*` or a list of uses stands, which ends a path
@@ -19,4 +19,4 @@ path_goes_on = Both (Not colons_before_more) (Both (Kind 0 COLON) (Both (Joint 0
 
 -- a field by name or by number
 abbrev pub field_name : Rule
-field_name = NAME_REF ⟨ 'ident' or 'int' ⟩
+field_name = NAME_REF ⟨ One 'ident' or One 'int' ⟩

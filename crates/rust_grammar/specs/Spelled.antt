@@ -4,11 +4,11 @@ use Rattle.parser_input.specs.Kinds.{FLOAT_NUMBER}
 use Rattle.parser_input.specs.Input.{Token}
 use Rattle.parser_events.specs.Forest as forest
 use Rattle.parser_events.specs.Forest.{Forest}
-use Rattle.rust_grammar.specs.Rule.{Rule, One}
+use Rattle.rust_grammar.specs.Rule.{Spelling}
 use Rattle.rust_grammar.specs.Words.{'dots', 'dots_eq', '::', '==', '=>', '!=', '->', '<=', '>=', '&&', '||', '<<', '>>', '+=', '-=', '*=', '/=', '%=', '&=', '|=', '^=', '<<=', '>>='}
 
 -- the marks of several characters
-unfoldable pub marks : List Rule
+unfoldable pub marks : List Spelling
 marks = 'dots' ∷ 'dots_eq' ∷ '::' ∷ '==' ∷ '=>' ∷ '!=' ∷ '->' ∷ '<=' ∷ '>=' ∷ '&&' ∷ '||' ∷ '<<' ∷ '>>' ∷ '+=' ∷ '-=' ∷ '*=' ∷ '/=' ∷ '%=' ∷ '&=' ∷ '|=' ∷ '^=' ∷ '<<=' ∷ '>>=' ∷ []
 
 -- tokens of these kinds are next, and each but the last touches the one after it
@@ -29,10 +29,9 @@ is_contextual kind [] = false
 is_contextual kind (t ∷ ts) = t.contextual == kind
 
 -- one of these spellings is of this kind and of so many tokens, and they are next
-unfoldable pub is_one_of : List Rule → (kind count : ℕ) → List Token → Bool
+unfoldable pub is_one_of : List Spelling → (kind count : ℕ) → List Token → Bool
 is_one_of [] kind count ts = false
-is_one_of (One x ∷ rs) kind count ts = (x.kind == kind && length x.parts == count && are_next x.parts ts) || is_one_of rs kind count ts
-is_one_of (r ∷ rs) kind count ts = is_one_of rs kind count ts
+is_one_of (x ∷ xs) kind count ts = (x.kind == kind && length x.parts == count && are_next x.parts ts) || is_one_of xs kind count ts
 
 -- A leaf of this kind over so many tokens is spelled here: one token of its kind or a contextual keyword, or a mark.
 unfoldable pub is_spelled : (kind count : ℕ) → List Token → Bool

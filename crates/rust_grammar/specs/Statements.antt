@@ -2,9 +2,9 @@
 use Rattle.std.specs.Prelude.{[], ◌∷◌}
 use Rattle.parser_input.specs.Kinds.{MACRO_STMTS, STMT_LIST, LET_STMT, LET_ELSE, EXPR_STMT, BLOCK_EXPR}
 use Rattle.parser_events.specs.Forest.{ExpectedStatement}
-use Rattle.rust_grammar.specs.Rule.{macro_statements, statement_list, block, statement, macro_statement, statement_end, macro_statement_end, Production, Look, Both, Either, Not, Rule, Nothing, Skip, When, Unless}
+use Rattle.rust_grammar.specs.Rule.{macro_statements, statement_list, block, statement, macro_statement, statement_end, macro_statement_end, postfix, Production, Look, Both, Either, Not, Rule, Nothing, One, Skip, When, Unless, Call}
 use Rattle.rust_grammar.specs.Words.{'dots', 'semi', 'dot', 'l_curly', 'r_curly', '#', '?', ':', '=', '!', 'const', 'else', 'enum', 'fn', 'impl', 'let', 'mod', 'pub', 'static', 'struct', 'trait', 'type', 'unsafe', 'use'}
-use Rattle.rust_grammar.specs.Calls.{Item, Attribute, AnyType, Pattern, StatementList, Block, Statement, MacroStatement, StatementEnd, MacroStatementEnd, Expression, Postfix, BlockLike}
+use Rattle.rust_grammar.specs.Calls.{Item, Attribute, AnyType, Pattern, StatementList, Block, Expression, BlockLike}
 use Rattle.rust_grammar.specs.Notation.{◌or◌, ◌▸◌, ⁅◌⁆, ◌*, ◌⁺, ◌!, ◌⟨◌⟩, ◌<⟨◌⟩, more, off, at_end, next, ◌before◌, ◌before_any◌, any_of, one_of, until}
 
 -- where an item begins among statements; other items begin like expressions
@@ -19,29 +19,45 @@ item_begins =
 abbrev goes_on : Look
 goes_on = Either (next '?') (Both (next 'dot') (Not (next 'dots')))
 
--- A statement of a list that ends where `ends` looks, with what stands behind an expression: an expression that ends in a
--- block needs no `;`, and the last expression of a list is no statement.
-abbrev statement_of : (ends : Look) → (end : Rule) → Rule
-statement_of ends end =
-    'semi'
+-- A list of statements: where it ends, one of its statements, and what stands behind an expression in it.
+record Listing : Type 0 where
+  ends : Look
+  one : Production
+  end : Production
+
+-- a block's list, up to its `}`, and the statements of a macro, up to the input's end
+abbrev in_block : Listing
+in_block = record { ends = until 'r_curly'; one = statement; end = statement_end }
+
+abbrev in_macro : Listing
+in_macro = record { ends = at_end; one = macro_statement; end = macro_statement_end }
+
+-- all statements of a list
+abbrev all_of : Listing → Rule
+all_of list = (Unless list.ends (Call list.one)) *
+
+-- A statement, with what stands behind an expression: an expression that ends in a block needs no `;`, and the last expression
+-- of a list is no statement.
+abbrev statement_of : Listing → Rule
+statement_of list =
+    One 'semi'
     or When ('#' before '!') Attribute
-    or LET_STMT ⟨ 'let' ▸ Pattern ! ▸ ⁅ ':' ▸ AnyType ! ⁆ ▸ ⁅ '=' ▸ Expression ! ⁆ ▸ ⁅ LET_ELSE ⟨ 'else' ▸ Block ! ⟩ ⁆ ▸ 'semi' ! ⟩
+    or LET_STMT ⟨ One 'let' ▸ Pattern ! ▸ ⁅ One ':' ▸ AnyType ! ⁆ ▸ ⁅ One '=' ▸ Expression ! ⁆ ▸ ⁅ LET_ELSE ⟨ One 'else' ▸ Block ! ⟩ ⁆ ▸ One 'semi' ! ⟩
     or When item_begins Item
-    or BlockLike ▸ (When goes_on ((more Postfix) ⁺ ▸ end) or EXPR_STMT <⟨ 'semi' ⟩ or When ends Nothing or EXPR_STMT <⟨ Nothing ⟩)
-    or Expression ▸ end
+    or BlockLike ▸ (When goes_on ((more postfix) ⁺ ▸ more list.end) or EXPR_STMT <⟨ One 'semi' ⟩ or When list.ends Nothing or EXPR_STMT <⟨ Nothing ⟩)
+    or Expression ▸ more list.end
     or Skip ExpectedStatement
 
 -- what stands behind an expression that needs a `;`, unless it is the last of its list
-abbrev end_of : (ends : Look) → Rule
-end_of ends = EXPR_STMT <⟨ 'semi' ⟩ or When ends Nothing or EXPR_STMT <⟨ 'semi' ! ⟩
+abbrev end_of : Listing → Rule
+end_of list = EXPR_STMT <⟨ One 'semi' ⟩ or When list.ends Nothing or EXPR_STMT <⟨ One 'semi' ! ⟩
 
--- A block's list ends at its `}`; the statements of a macro end where the input does.
 unfoldable pub statements : (others : Production → Rule) → Production → Rule
-statements others statement_list = STMT_LIST ⟨ 'l_curly' ▸ off ((Unless (until 'r_curly') Statement) *) ▸ 'r_curly' ! ⟩
+statements others statement_list = STMT_LIST ⟨ One 'l_curly' ▸ off (all_of in_block) ▸ One 'r_curly' ! ⟩
 statements others block = BLOCK_EXPR ⟨ StatementList ⟩
-statements others statement = statement_of (until 'r_curly') (more StatementEnd)
-statements others statement_end = end_of (until 'r_curly')
-statements others macro_statements = MACRO_STMTS ⟨ (Unless at_end MacroStatement) * ⟩
-statements others macro_statement = statement_of at_end (more MacroStatementEnd)
-statements others macro_statement_end = end_of at_end
+statements others statement = statement_of in_block
+statements others statement_end = end_of in_block
+statements others macro_statements = MACRO_STMTS ⟨ all_of in_macro ⟩
+statements others macro_statement = statement_of in_macro
+statements others macro_statement_end = end_of in_macro
 statements others x = others x

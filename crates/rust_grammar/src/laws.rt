@@ -1,7 +1,7 @@
 //! Laws of the definitions. Each is the contract of a function that makes no call.
 
 ghost use Rattle.rust_grammar.specs.Examples.{ExamplesAreRight};
-ghost use Rattle.rust_grammar.specs.Laws.{CallsBeginAnew, EachProductionHasARule, EntriesAreRooted, EntriesFit, EntriesTakeAllInOrder, OnlyOneBeginning, OnlyOneReading, OperatorsOfEntriesBindByPower, OperatorsOfProductionsBindByPower, PartsLookAhead, ProductionsTakeInOrder, RepetitionsAreReadTurnByTurn, TokenTreesAreBracketed, WholeProductionsBeginAsTheirRules, WholeProductionsMeanTheirRules};
+ghost use Rattle.rust_grammar.specs.Laws.{CallsBeginAnew, CallsHaveGivenNothing, EachProductionHasARule, EntriesAreRooted, EntriesFit, EntriesTakeAllInOrder, NodesHaveGivenNothing, OnlyOneBeginning, OnlyOneReading, OperatorsOfEntriesBindByPower, OperatorsOfProductionsBindByPower, PartsLookAhead, ProductionsTakeInOrder, RepetitionsAreReadTurnByTurn, TokenTreesAreBracketed, WholeProductionsBeginAsTheirRules, WholeProductionsMeanTheirRules};
 ghost use Rattle.rust_grammar.specs.Misplaced.{MisplacedOperatorsAreTold};
 
 /// A production gives what its rule gives, where each production that the rule calls gives what it means; each has a rule, and
@@ -23,10 +23,12 @@ pub fn repetitions_are_read_turn_by_turn()
     ensures { RepetitionsAreReadTurnByTurn }
 {}
 
-/// Looks behind a part are those of the place behind it, and what was given before a call makes no
-/// difference to where that begins.
+/// Looks behind a part are those of the place behind it. A call and a node begin where they would with nothing given, and what
+/// was given makes no difference to where a production begins.
 pub fn looks_are_of_their_place()
     ensures ahead { PartsLookAhead }
+    ensures called { CallsHaveGivenNothing }
+    ensures nodes { NodesHaveGivenNothing }
     ensures anew { CallsBeginAnew }
 {}
 

@@ -109,7 +109,10 @@ static GENERIC_ARG: Rule = or!(
     node!(LIFETIME_ARG, call!(Lifetime)),
     node!(
         ASSOC_TYPE_ARG,
-        then!(near!(node!(NAME_REF, one!(IDENT)), one!(EQ)), want_type!())
+        then!(
+            near!(1, node!(NAME_REF, one!(IDENT)), one!(EQ)),
+            want_type!()
+        )
     ),
     node!(
         CONST_ARG,

@@ -128,7 +128,7 @@ static PATTERN_FIELD: Rule = or!(
     node!(REST_PAT, one!(DOT2)),
     node!(
         RECORD_PAT_FIELD,
-        then!(near!(field_name!(), one!(COLON)), want_pattern!(Pattern))
+        then!(near!(1, field_name!(), one!(COLON)), want_pattern!(Pattern))
     ),
     node!(
         RECORD_PAT_FIELD,

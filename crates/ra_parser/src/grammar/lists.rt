@@ -8,7 +8,7 @@ ghost use Rattle.parser_events.specs.Forest.{Expected};
 ghost use Rattle.ra_parser.specs.Looks.{tokens, spent};
 ghost use Rattle.rust_grammar.specs.Notation.{◌or◌, next, until, stops, one_of};
 ghost use Rattle.rust_grammar.specs.Words.{one, 'comma'};
-ghost use Rattle.rust_grammar.specs.Rule.{Left, Both, Not, Nothing, Say, When};
+ghost use Rattle.rust_grammar.specs.Rule.{Left, Both, Not, Nothing, One, Say, When};
 ghost use Rattle.ra_parser.specs.Stands.{Does, Reads, Saw};
 
 use crate::grammar::{at, current, error, take};
@@ -63,7 +63,7 @@ pub(crate) fn at_unexpected(p: &mut Parser<'_>) -> bool
 
 /// The comma behind an element, or the message that it is missing; none is wanted before the closing token.
 pub(crate) fn comma(p: &mut Parser<'_>, closing: SyntaxKind)
-    ensures reads { (c : Bool) → Reads c ('comma' or When (next (one (raw_of closing))) Nothing or Say (Expected COMMA)) p.old p.new }
+    ensures reads { (c : Bool) → Reads c (One 'comma' or When (next (one (raw_of closing))) Nothing or Say (Expected COMMA)) p.old p.new }
     ensures left { tokens p.new ≤ tokens p.old }
     ensures looks { spent p.new ≤ spent p.old + 2 }
 {

@@ -5,9 +5,11 @@ ghost use Rattle.parser_input.specs.Kinds as kinds;
 ghost use Rattle.parser_events.specs.Forest.{Expected};
 ghost use Rattle.ra_parser.specs.Looks.{tokens, spent};
 ghost use Rattle.rust_grammar.specs.Notation.{◌or◌, ⁅◌⁆, ◌! };
-ghost use Rattle.rust_grammar.specs.Words.{'crate', 'self', 'Self', 'super', 'ident', 'int', 'float', 'char', 'byte', 'string', 'byte_string', 'c_string', 'true', 'false'};
+ghost use Rattle.rust_grammar.specs.Patterns.{literal_token};
+ghost use Rattle.rust_grammar.specs.Words.{'crate', 'self', 'Self', 'super', 'ident'};
 ghost use Rattle.rust_grammar.specs.Calls.{Name, Lifetime, Ref, Literal};
 ghost use Rattle.rust_grammar.specs.Rule as rules;
+ghost use Rattle.rust_grammar.specs.Rule.{One};
 ghost use Rattle.ra_parser.specs.Stands.{looks, Does, Gives, Reads, Saw};
 
 use crate::grammar::{at, complete, current, error, start, take};
@@ -66,7 +68,7 @@ pub(crate) fn opt_lifetime(p: &mut Parser<'_>)
 /// The word of a path's segment.
 fn take_word(p: &mut Parser<'_>)
     requires { 1 ≤ tokens p.old }
-    ensures reads { (c : Bool) → Reads c ('ident' or 'self' or 'super' or 'crate' or 'Self') p.old p.new }
+    ensures reads { (c : Bool) → Reads c (One 'ident' or One 'self' or One 'super' or One 'crate' or One 'Self') p.old p.new }
     ensures left { tokens p.new + 1 ≡ tokens p.old }
     ensures looks { spent p.new + 4095 ≤ spent p.old }
 {
@@ -125,7 +127,7 @@ pub(crate) fn expect_name_ref(p: &mut Parser<'_>)
 /// The token of a literal.
 fn take_literal(p: &mut Parser<'_>)
     requires { 1 ≤ tokens p.old }
-    ensures reads { (c : Bool) → Reads c ('int' or 'float' or 'char' or 'byte' or 'string' or 'byte_string' or 'c_string' or 'true' or 'false') p.old p.new }
+    ensures reads { (c : Bool) → Reads c literal_token p.old p.new }
     ensures left { tokens p.new + 1 ≡ tokens p.old }
     ensures looks { spent p.new + 4095 ≤ spent p.old }
 {

@@ -10,7 +10,7 @@ ghost use Rattle.rust_grammar.specs.Words.{'::'};
 ghost use Rattle.rust_grammar.specs.Calls.{Ref, Path};
 ghost use Rattle.rust_grammar.specs.Shared.{colons_before_more, path_goes_on};
 ghost use Rattle.rust_grammar.specs.Rule as rules;
-ghost use Rattle.rust_grammar.specs.Rule.{Kind, Joint, Both, Nothing, Unless};
+ghost use Rattle.rust_grammar.specs.Rule.{Kind, Joint, Both, Nothing, One, Unless};
 ghost use Rattle.ra_parser.specs.Stands.{looks, Does, Gives, Reads, Saw};
 
 use crate::grammar::names::{at_name_ref, expect_name_ref, name_ref};
@@ -51,7 +51,7 @@ pub(crate) fn at_path(p: &mut Parser<'_>) -> bool
 pub(crate) fn first_word(p: &mut Parser<'_>)
     requires begins { (c : Bool) → Saw c (looks rules.path) p.old true }
     requires some { 1 ≤ tokens p.old }
-    ensures reads { (c : Bool) → Reads c (⁅ '::' ⁆ ▸ Ref ! ▸ Nothing) p.old p.new }
+    ensures reads { (c : Bool) → Reads c (⁅ One '::' ⁆ ▸ Ref ! ▸ Nothing) p.old p.new }
     ensures left { tokens p.new + 1 ≤ tokens p.old }
     ensures looks { spent p.new + 4090 ≤ spent p.old }
 {
@@ -67,7 +67,7 @@ pub(crate) fn first_word(p: &mut Parser<'_>)
 fn first_segment(p: &mut Parser<'_>)
     requires begins { (c : Bool) → Saw c (looks rules.path) p.old true }
     requires some { 1 ≤ tokens p.old }
-    ensures reads { (c : Bool) → Reads c (PATH ⟨ PATH_SEGMENT ⟨ ⁅ '::' ⁆ ▸ Ref ! ▸ Nothing ⟩ ⟩) p.old p.new }
+    ensures reads { (c : Bool) → Reads c (PATH ⟨ PATH_SEGMENT ⟨ ⁅ One '::' ⁆ ▸ Ref ! ▸ Nothing ⟩ ⟩) p.old p.new }
     ensures left { tokens p.new + 1 ≤ tokens p.old }
     ensures looks { spent p.new + 4090 ≤ spent p.old }
 {
@@ -114,7 +114,7 @@ fn expect_segment(p: &mut Parser<'_>)
 fn next_segment(p: &mut Parser<'_>, path: Marker) -> Marker
     requires innermost { IsInnermost path p.old.nodes }
     requires some { 2 ≤ tokens p.old }
-    ensures reads { (c : Bool) → Reads c (PATH <⟨ '::' ▸ (PATH_SEGMENT ⟨ Ref ▸ Nothing ⟩) ! ⟩) p.old p.new }
+    ensures reads { (c : Bool) → Reads c (PATH <⟨ One '::' ▸ (PATH_SEGMENT ⟨ Ref ▸ Nothing ⟩) ! ⟩) p.old p.new }
     ensures marker { IsInnermost result p.new.nodes }
     ensures left { tokens p.new + 2 ≤ tokens p.old }
     ensures looks { spent p.new + 8000 ≤ spent p.old }
@@ -127,7 +127,8 @@ fn next_segment(p: &mut Parser<'_>, path: Marker) -> Marker
 /// The further segments of a path.
 fn next_segments(p: &mut Parser<'_>, path: Marker) -> Marker
     requires { IsInnermost path p.old.nodes }
-    ensures reads { (c : Bool) → Reads c ((Unless colons_before_more (PATH <⟨ '::' ▸ (PATH_SEGMENT ⟨ Ref ▸ Nothing ⟩) ! ⟩)) *) p.old p.new }
+    ensures reads { (c : Bool) → Reads c
+        ((Unless colons_before_more (PATH <⟨ One '::' ▸ (PATH_SEGMENT ⟨ Ref ▸ Nothing ⟩) ! ⟩)) *) p.old p.new }
     ensures ends { (c : Bool) → Saw c path_goes_on p.new false }
     ensures marker { IsInnermost result p.new.nodes }
     ensures left { tokens p.new ≤ tokens p.old }

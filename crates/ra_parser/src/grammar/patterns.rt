@@ -7,7 +7,7 @@ ghost use Rattle.rust_grammar.specs.Shared.{field_name};
 ghost use Rattle.rust_grammar.specs.Words.{':'};
 ghost use Rattle.rust_grammar.specs.Notation.{◌▹◌};
 ghost use Rattle.rust_grammar.specs.Rule as rules;
-ghost use Rattle.rust_grammar.specs.Rule.{begins};
+ghost use Rattle.rust_grammar.specs.Rule.{begins, One};
 ghost use Rattle.ra_parser.specs.Stands.{looks, Does, Saw};
 
 use crate::grammar::names::at_literal;
@@ -67,7 +67,7 @@ pub(crate) fn at_pattern(p: &mut Parser<'_>) -> bool
 
 /// Whether a field by name or number is next, with a colon behind it.
 pub(crate) fn at_named_field(p: &mut Parser<'_>) -> bool
-    ensures sees { (c : Bool) → Saw c (begins looks (field_name ▹ ':')) p.old result }
+    ensures sees { (c : Bool) → Saw c (begins looks (field_name ▹ One ':')) p.old result }
     ensures some { IsTrue result → 1 ≤ tokens p.old }
     ensures same { Does (λ s. s) p.old p.new }
     ensures left { tokens p.new ≡ tokens p.old }

@@ -10,7 +10,7 @@ ghost use Rattle.rust_grammar.specs.Notation.{◌or◌, ◌▸◌, ◌*, ◌!, �
 ghost use Rattle.rust_grammar.specs.Words.{one, 'r_paren', 'r_curly', ']'};
 ghost use Rattle.rust_grammar.specs.Items.{inner_token};
 ghost use Rattle.rust_grammar.specs.Rule as rules;
-ghost use Rattle.rust_grammar.specs.Rule.{Left, Both, Either, Not, Want};
+ghost use Rattle.rust_grammar.specs.Rule.{Left, Both, Either, Not, Want, One};
 ghost use Rattle.ra_parser.specs.Stands.{looks, Does, Gives, Reads, Saw};
 
 use crate::grammar::{complete, current, expect, start, take, take_any};
@@ -33,7 +33,8 @@ pub(crate) fn at_token_tree(p: &mut Parser<'_>) -> bool
 
 /// Whether a token is next that can stand in a token tree: any but a closing bracket.
 fn at_inner(p: &mut Parser<'_>) -> bool
-    ensures sees { (c : Bool) → Saw c (Either (looks rules.token_tree) (Both Left (Not (one_of 0 ('r_paren' ∷ 'r_curly' ∷ ']' ∷ []))))) p.old result }
+    ensures sees { (c : Bool) → Saw c
+        (Either (looks rules.token_tree) (Both Left (Not (one_of 0 ('r_paren' ∷ 'r_curly' ∷ ']' ∷ []))))) p.old result }
     ensures some { IsTrue result → 1 ≤ tokens p.old }
     ensures same { Does (λ s. s) p.old p.new }
     ensures left { tokens p.new ≡ tokens p.old }
@@ -79,9 +80,9 @@ fn bracketed(p: &mut Parser<'_>, opening: SyntaxKind, closing: SyntaxKind)
     requires closing { raw_of closing ≢ kinds.EOF }
     ensures reads { (c : Bool) → Reads c
         (TOKEN_TREE
-        ⟨ one (raw_of opening)
+        ⟨ One (one (raw_of opening))
         ▸ inner_token *
-        ▸ Want (one (raw_of closing)) (Expected (raw_of closing)) ⟩) p.old p.new }
+        ▸ Want (One (one (raw_of closing))) (Expected (raw_of closing)) ⟩) p.old p.new }
     ensures left { tokens p.new + 1 ≤ tokens p.old }
     ensures looks { spent p.new + 4080 ≤ spent p.old }
 {

@@ -11,7 +11,7 @@ ghost use Rattle.rust_grammar.specs.Calls.{Name, Path, UseTree, UseList};
 ghost use Rattle.rust_grammar.specs.Items.{behind_use};
 ghost use Rattle.rust_grammar.specs.Shared.{colons_before_more, path_goes_on};
 ghost use Rattle.rust_grammar.specs.Rule as rules;
-ghost use Rattle.rust_grammar.specs.Rule.{Left, Both, Either, Not, Nothing, Say, Skip, When, Unless};
+ghost use Rattle.rust_grammar.specs.Rule.{Left, Both, Either, Not, Nothing, One, Say, Skip, When, Unless};
 ghost use Rattle.ra_parser.specs.Stands.{looks, Does, Gives, Reads, Saw};
 
 use crate::grammar::lists::{at_list_end, at_unexpected, comma};
@@ -65,7 +65,7 @@ fn at_use_tree(p: &mut Parser<'_>) -> bool
 /// A new name for what is used, or `_`.
 fn rename(p: &mut Parser<'_>)
     requires { 1 ≤ tokens p.old }
-    ensures reads { (c : Bool) → Reads c (RENAME ⟨ 'as' ▸ ('_' or Name !) ⟩) p.old p.new }
+    ensures reads { (c : Bool) → Reads c (RENAME ⟨ One 'as' ▸ (One '_' or Name !) ⟩) p.old p.new }
     ensures left { tokens p.new + 1 ≤ tokens p.old }
     ensures looks { spent p.new + 4090 ≤ spent p.old }
 {
@@ -77,7 +77,7 @@ fn rename(p: &mut Parser<'_>)
 
 /// A name or `_`, or the message that a name is missing.
 pub(crate) fn underscore_or_name(p: &mut Parser<'_>)
-    ensures reads { (c : Bool) → Reads c ('_' or Name !) p.old p.new }
+    ensures reads { (c : Bool) → Reads c (One '_' or Name !) p.old p.new }
     ensures left { tokens p.new ≤ tokens p.old }
     ensures looks { spent p.new ≤ spent p.old + 2 }
 {
@@ -92,7 +92,7 @@ pub(crate) fn underscore_or_name(p: &mut Parser<'_>)
 #[cycle(use_trees)]
 fn star_or_list(p: &mut Parser<'_>)
     requires { 1 ≤ tokens p.old }
-    ensures reads { (c : Bool) → Reads c ('*' or UseList) p.old p.new }
+    ensures reads { (c : Bool) → Reads c (One '*' or UseList) p.old p.new }
     ensures left { tokens p.new + 1 ≤ tokens p.old }
     ensures looks { spent p.new + 3900 ≤ spent p.old }
 {
@@ -139,7 +139,7 @@ fn path_tree(p: &mut Parser<'_>)
 fn behind_colons(p: &mut Parser<'_>)
     requires next { (c : Bool) → Saw c (one_of 0 ('*' ∷ 'l_curly' ∷ [])) p.old true }
     requires some { 1 ≤ tokens p.old }
-    ensures reads { (c : Bool) → Reads c ('*' or UseList or Path ▸ behind_use) p.old p.new }
+    ensures reads { (c : Bool) → Reads c (One '*' or UseList or Path ▸ behind_use) p.old p.new }
     ensures left { tokens p.new + 1 ≤ tokens p.old }
     ensures looks { spent p.new + 3900 ≤ spent p.old }
 {
@@ -156,8 +156,8 @@ fn inside(p: &mut Parser<'_>)
     requires begins { (c : Bool) → Saw c (looks rules.use_tree) p.old true }
     requires some { 1 ≤ tokens p.old }
     ensures reads { (c : Bool) → Reads c
-        (⁅ When colons_before_more '::' ⁆
-        ▸ ('*' or UseList or Path ▸ behind_use)) p.old p.new }
+        (⁅ When colons_before_more (One '::') ⁆
+        ▸ (One '*' or UseList or Path ▸ behind_use)) p.old p.new }
     ensures left { tokens p.new + 1 ≤ tokens p.old }
     ensures looks { spent p.new + 3890 ≤ spent p.old }
 {
@@ -204,7 +204,8 @@ fn use_list(p: &mut Parser<'_>)
 
 /// Whether a list of use trees goes on here.
 fn at_use_turn(p: &mut Parser<'_>) -> bool
-    ensures sees { (c : Bool) → Saw c (Both (Not (until 'r_curly')) (Either (looks rules.use_tree) (Both Left (Not (one_of 0 stops))))) p.old result }
+    ensures sees { (c : Bool) → Saw c
+        (Both (Not (until 'r_curly')) (Either (looks rules.use_tree) (Both Left (Not (one_of 0 stops))))) p.old result }
     ensures some { IsTrue result → 1 ≤ tokens p.old }
     ensures same { Does (λ s. s) p.old p.new }
     ensures left { tokens p.new ≡ tokens p.old }
@@ -227,7 +228,7 @@ fn at_use_turn(p: &mut Parser<'_>) -> bool
 fn use_turn(p: &mut Parser<'_>)
     requires { 1 ≤ tokens p.old }
     ensures reads { Reads false
-        (UseTree ▸ ('comma' or When (next 'r_curly') Nothing or Say (Expected COMMA))
+        (UseTree ▸ (One 'comma' or When (next 'r_curly') Nothing or Say (Expected COMMA))
         or When (Both Left (Not (one_of 0 stops))) (Skip (UnexpectedIn USE_TREE_LIST))) p.old p.new }
     ensures left { tokens p.new + 1 ≤ tokens p.old }
     ensures looks { spent p.new + 3860 ≤ spent p.old }
@@ -245,7 +246,7 @@ fn use_turn(p: &mut Parser<'_>)
 fn use_turns(p: &mut Parser<'_>)
     ensures reads { Reads false
         ((Unless (until 'r_curly')
-        (UseTree ▸ ('comma' or When (next 'r_curly') Nothing or Say (Expected COMMA))
+        (UseTree ▸ (One 'comma' or When (next 'r_curly') Nothing or Say (Expected COMMA))
         or When (Both Left (Not (one_of 0 stops))) (Skip (UnexpectedIn USE_TREE_LIST)))) *) p.old p.new }
     ensures left { tokens p.new ≤ tokens p.old }
     ensures looks { spent p.new ≤ spent p.old + 9 }

@@ -7,7 +7,7 @@ ghost use Rattle.rust_grammar.specs.Words.{'l_paren', 'r_paren', 'in'};
 ghost use Rattle.rust_grammar.specs.Calls.{Path, Visibility};
 ghost use Rattle.rust_grammar.specs.Items.{visibility_goes_on};
 ghost use Rattle.rust_grammar.specs.Rule as rules;
-ghost use Rattle.rust_grammar.specs.Rule.{When};
+ghost use Rattle.rust_grammar.specs.Rule.{When, One};
 ghost use Rattle.ra_parser.specs.Stands.{Does, Gives, Reads, Saw};
 
 use crate::grammar::paths::expect_path;
@@ -40,7 +40,8 @@ fn at_scope(p: &mut Parser<'_>) -> bool
 
 /// The bracket behind `pub`, where it belongs to that.
 fn opt_scope(p: &mut Parser<'_>)
-    ensures reads { (c : Bool) → Reads c ⁅ When visibility_goes_on ('l_paren' ▸ ⁅ 'in' ⁆ ▸ Path ! ▸ 'r_paren' !) ⁆ p.old p.new }
+    ensures reads { (c : Bool) → Reads c
+        ⁅ When visibility_goes_on (One 'l_paren' ▸ ⁅ One 'in' ⁆ ▸ Path ! ▸ One 'r_paren' !) ⁆ p.old p.new }
     ensures left { tokens p.new ≤ tokens p.old }
     ensures looks { spent p.new ≤ spent p.old + 4 }
 {

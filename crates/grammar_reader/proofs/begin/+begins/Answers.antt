@@ -1,14 +1,15 @@
 -- Form by form.
 use Rattle.std.proofs.Common.{ℕ, ◌+◌, ◌-◌, ◌^◌, refl, sym, ap, ◌∙◌, arith, length, min, nat_lt}
 use Rattle.rust_grammar.specs.Rule.{begins, shift}
-use Rattle.rust_grammar.specs.Meaning.{sees}
+use Rattle.rust_grammar.specs.Meaning.{sees, fresh, begins_below}
+use Rattle.rust_grammar.specs.Whole.{whole}
 use Rattle.grammar_reader.specs.Data.{plain, plain_look, named}
 use Rattle.grammar_reader.specs.Size.{size}
 use Rattle.grammar_reader.specs.declared.rule.Rule as rows
 use Rattle.grammar_reader.specs.Looks.{asked}
-use Rattle.grammar_reader.proofs.Asking.{silent-cost, first-cost, second-cost, near-cost, mode-cost, call-cost}
-use Rattle.grammar_reader.proofs.Beginning.{silent-then, first-then, no-then, second-then, no-near, both-near, first-or, second-or, no-unless, unless, in-mode, no-rank, one-rank, one-less, rest-short}
-use Rattle.grammar_reader.proofs.Looking.{still-at, still-short, still-total}
+use Rattle.grammar_reader.proofs.Asking.{silent-cost, first-cost, second-cost, near-cost, mode-cost, call-cost, anew-cost}
+use Rattle.grammar_reader.proofs.Beginning.{silent-then, first-then, no-then, second-then, no-near, both-near, first-or, second-or, no-unless, unless, in-mode, no-rank, one-rank, inside, one-less, rest-short}
+use Rattle.grammar_reader.proofs.Looking.{still-at, still-short, still-total, fresh-at}
 use Rattle.grammar_reader.proofs.Sizes.{falls-in, below-measure}
 use Rattle.grammar_reader.proofs.begin.+begins.Goals as goal
 
@@ -30,11 +31,11 @@ returns-else-not-is_passed-clause-sees t c s at = rw c.in-Then.is (second-then c
 
 pub returns-then-not-begins-clause-sees : goal.returns-then-not-begins-clause-sees
 unfolding begins
-returns-then-not-begins-clause-sees t c s at = rw c.in-Near.is (no-near c.args.place.condition s c.args.ahead c.args.ranks (plain c.in-Near.first.now) (plain c.in-Near.second.now) (c.begins-in-Near.ensures.sees s at) c.if-not-begins.true)
+returns-then-not-begins-clause-sees t c s at = rw c.in-Near.is (no-near c.args.place.condition s c.args.ahead c.args.ranks c.in-Near.width (plain c.in-Near.first.now) (plain c.in-Near.second.now) (c.begins-in-Near.ensures.sees s at) c.if-not-begins.true)
 
 pub returns-else-not-begins-clause-sees : goal.returns-else-not-begins-clause-sees
 unfolding begins
-returns-else-not-begins-clause-sees t c s at = rw c.in-Near.is (both-near c.args.place.condition s c.args.ahead c.args.ranks (plain c.in-Near.first.now) (plain c.in-Near.second.now) c.saturating_add-behind.result (rest-short at c.requires.short) (c.saturating_add-behind.ensures ∙ ap (λ (i : ℕ). min (c.args.ahead + i) (2 ^ 64 - 1)) (c.from.ensures ∙ c.width.ensures)) (c.begins-in-Near.ensures.sees s at) c.if-not-begins.false (c.begins-in-Near-2.ensures.sees s (still-at c.begins-in-Near.ensures.same at)))
+returns-else-not-begins-clause-sees t c s at = rw c.in-Near.is (both-near c.args.place.condition s c.args.ahead c.args.ranks c.in-Near.width (plain c.in-Near.first.now) (plain c.in-Near.second.now) c.saturating_add-behind.result (rest-short at c.requires.short) (c.saturating_add-behind.ensures ∙ ap (λ (i : ℕ). min (c.args.ahead + i) (2 ^ 64 - 1)) c.from.ensures) (c.begins-in-Near.ensures.sees s at) c.if-not-begins.false (c.begins-in-Near-2.ensures.sees s (still-at c.begins-in-Near.ensures.same at)))
 
 pub returns-then-begins-2-clause-sees : goal.returns-then-begins-2-clause-sees
 unfolding begins
@@ -90,7 +91,7 @@ returns-in-Star-clause-sees t c s at = rw c.in-Star.is (c.begins-in-Star.ensures
 
 pub returns-in-Node-clause-sees : goal.returns-in-Node-clause-sees
 unfolding begins
-returns-in-Node-clause-sees t c s at = rw c.in-Node.is (c.begins-in-Node.ensures.sees s at)
+returns-in-Node-clause-sees t c s at = rw c.in-Node.is (inside c.args.place.condition s c.args.ahead (begins (begins_below whole c.args.ranks) (plain c.in-Node.inner.now)) (c.begins-in-Node.ensures.sees (fresh s) (fresh-at at)))
 
 pub returns-in-Wrap-clause-sees : goal.returns-in-Wrap-clause-sees
 unfolding begins
@@ -102,11 +103,13 @@ returns-in-Want-clause-sees t c s at = rw c.in-Want.is (c.begins-in-Want.ensures
 
 pub returns-then-ranks-eq0-clause-sees : goal.returns-then-ranks-eq0-clause-sees
 unfolding begins
-returns-then-ranks-eq0-clause-sees t c s at = rw c.in-Call.is (no-rank c.args.place.condition s c.args.ahead c.args.ranks (named c.in-Call.production) c.if-ranks-eq0.true)
+returns-then-ranks-eq0-clause-sees t c s at = rw c.in-Call.is (inside c.args.place.condition s c.args.ahead (begins_below whole c.args.ranks (named c.in-Call.production)) (no-rank c.args.place.condition (fresh s) c.args.ahead c.args.ranks (named c.in-Call.production) c.if-ranks-eq0.true))
 
 pub returns-else-ranks-eq0-clause-sees : goal.returns-else-ranks-eq0-clause-sees
 unfolding begins
-returns-else-ranks-eq0-clause-sees t c s at = rw c.in-Call.is (one-rank c.args.place.condition s c.args.ahead c.args.ranks (c.args.ranks - 1) (named c.in-Call.production) _ (one-less c.args.ranks c.if-ranks-eq0.false) c.rule_of.ensures.rule (c.begins-in-Call.ensures.sees s at))
+returns-else-ranks-eq0-clause-sees t c s at =
+    rw c.in-Call.is (inside c.args.place.condition s c.args.ahead (begins_below whole c.args.ranks (named c.in-Call.production))
+    (one-rank c.args.place.condition (fresh s) c.args.ahead c.args.ranks (c.args.ranks - 1) (named c.in-Call.production) _ (one-less c.args.ranks c.if-ranks-eq0.false) c.rule_of.ensures.rule (c.begins-in-Call.ensures.sees (fresh s) (fresh-at at))))
 
 pub returns-then-ranks-eq0-2-clause-sees : goal.returns-then-ranks-eq0-2-clause-sees
 unfolding begins
@@ -206,7 +209,7 @@ returns-then-not-begins-clause-looks t c = rw c.in-Near.is (omega (arith, c.begi
 
 pub returns-else-not-begins-clause-looks : goal.returns-else-not-begins-clause-looks
 unfolding begins
-returns-else-not-begins-clause-looks t c = rw c.in-Near.is (near-cost c.args.ranks c.args.p.now.looks (plain c.in-Near.first.now) (plain c.in-Near.second.now) c.begins-in-Near.ensures.looks c.begins-in-Near-2.ensures.looks)
+returns-else-not-begins-clause-looks t c = rw c.in-Near.is (near-cost c.args.ranks c.args.p.now.looks c.in-Near.width (plain c.in-Near.first.now) (plain c.in-Near.second.now) c.begins-in-Near.ensures.looks c.begins-in-Near-2.ensures.looks)
 
 pub returns-then-begins-2-clause-looks : goal.returns-then-begins-2-clause-looks
 unfolding begins asked
@@ -242,7 +245,7 @@ returns-in-Star-clause-looks t c = rw c.in-Star.is c.begins-in-Star.ensures.look
 
 pub returns-in-Node-clause-looks : goal.returns-in-Node-clause-looks
 unfolding begins
-returns-in-Node-clause-looks t c = rw c.in-Node.is c.begins-in-Node.ensures.looks
+returns-in-Node-clause-looks t c = rw c.in-Node.is (anew-cost _ _ c.begins-in-Node.ensures.looks)
 
 pub returns-in-Wrap-clause-looks : goal.returns-in-Wrap-clause-looks
 unfolding begins
@@ -254,7 +257,7 @@ returns-in-Want-clause-looks t c = rw c.in-Want.is c.begins-in-Want.ensures.look
 
 pub returns-else-ranks-eq0-clause-looks : goal.returns-else-ranks-eq0-clause-looks
 unfolding begins
-returns-else-ranks-eq0-clause-looks t c = rw c.in-Call.is (call-cost c.args.ranks (c.args.ranks - 1) _ _ (named c.in-Call.production) _ (one-less c.args.ranks c.if-ranks-eq0.false) c.rule_of.ensures.rule c.begins-in-Call.ensures.looks)
+returns-else-ranks-eq0-clause-looks t c = rw c.in-Call.is (anew-cost _ _ (call-cost c.args.ranks (c.args.ranks - 1) _ _ (named c.in-Call.production) _ (one-less c.args.ranks c.if-ranks-eq0.false) c.rule_of.ensures.rule c.begins-in-Call.ensures.looks))
 
 pub returns-else-ranks-eq0-2-clause-looks : goal.returns-else-ranks-eq0-2-clause-looks
 unfolding begins

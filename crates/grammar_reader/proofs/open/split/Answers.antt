@@ -15,5 +15,5 @@ returns-then-not-joint-clause-does c s below h float =
 pub returns-clause-does : goal.returns-clause-does
 returns-clause-does c s below h float =
     let there = stands-still c.kind_at.ensures.same h in
-    stands-access c.joint_at-joint.result c.args.open.marker _ (next-joint c.kind_at.new.self s _ there.at.rest c.joint_at-joint.ensures) c.if-not-joint.false c.split_float-marker.ensures.nodes c.split_float-marker.ensures.same
-    (split-innermost _ _ _ _ (still-innermost _ c.args.p.now _ c.kind_at.ensures.same c.requires.open) c.split_float-marker.ensures.nodes) c.complete-closed.ensures.nodes c.complete-closed.ensures.same c.complete-closed.ensures.place c.precede.ensures.nodes c.precede.ensures.same there
+    stands-access c.joint_at-joint.result c.args.node.marker _ (next-joint c.kind_at.new.self s _ there.at.rest c.joint_at-joint.ensures) c.if-not-joint.false c.split_float-marker.ensures.nodes c.split_float-marker.ensures.same
+    (split-innermost _ _ _ _ (still-innermost _ c.args.p.now _ c.kind_at.ensures.same c.requires.marker) c.split_float-marker.ensures.nodes) c.complete-closed.ensures.nodes c.complete-closed.ensures.same c.complete-closed.ensures.place c.precede.ensures.nodes c.precede.ensures.same there

@@ -6,4 +6,4 @@ use Rattle.grammar_reader.proofs.open.wrap.Goals as goal
 
 pub returns-clause-does : goal.returns-clause-does
 unfolding is_end leaf say wrapped
-returns-clause-does c s below h = stands-after _ (does-wrap _ _ _ _ _ _ c.requires.open c.complete-closed.ensures.nodes c.complete-closed.ensures.same c.complete-closed.ensures.place c.precede.ensures.nodes c.precede.ensures.same) refl h
+returns-clause-does c s below h = stands-after _ (does-wrap _ _ _ _ _ _ c.requires.marker c.complete-closed.ensures.nodes c.complete-closed.ensures.same c.complete-closed.ensures.place c.precede.ensures.nodes c.precede.ensures.same) refl h

@@ -57,85 +57,85 @@ production-returns-clause-reads t c = λ s below low h b.
     (ap (λ (r : Rule). reads c.args.condition r s) c.rule_of.ensures.rule ∙ sym (whole-means x c.args.condition s))
     (c.read.ensures.reads x s below low h can)
 
-pub read-read-open-requires : goal.read-read-open-requires
+pub read-read-node-requires : goal.read-read-node-requires
 unfolding size
-read-read-open-requires t c =
-    (below-measure c.decreases (falls-read c.in-Then.first.now c.args.rule.now (32 * c.args.caller.began + c.args.caller.ranks) (omega (arith, ap (λ (d : rows.Rule). size (plain d)) c.in-Then.is))), (c.requires.total, (c.requires.short, (c.requires.few, c.requires.«open»))))
+read-read-node-requires t c =
+    (below-measure c.decreases (falls-read c.in-Then.first.now c.args.rule.now (32 * c.args.caller.began + c.args.caller.ranks) (omega (arith, ap (λ (d : rows.Rule). size (plain d)) c.in-Then.is))), (c.requires.total, (c.requires.short, (c.requires.few, c.requires.marker))))
 
 pub read-read-requires : goal.read-read-requires
 unfolding size
 read-read-requires t c =
-    (below-measure c.decreases (falls-read c.in-Then.second.now c.args.rule.now (32 * c.args.caller.began + c.args.caller.ranks) (omega (arith, ap (λ (d : rows.Rule). size (plain d)) c.in-Then.is))), (total-still _ _ _ c.read-open.ensures.input c.requires.total, (short-still _ _ c.read-open.ensures.input c.requires.short, (c.requires.few, c.read-open.ensures.«open»))))
+    (below-measure c.decreases (falls-read c.in-Then.second.now c.args.rule.now (32 * c.args.caller.began + c.args.caller.ranks) (omega (arith, ap (λ (d : rows.Rule). size (plain d)) c.in-Then.is))), (total-still _ _ _ c.read-node.ensures.input c.requires.total, (short-still _ _ c.read-node.ensures.input c.requires.short, (c.requires.few, c.read-node.ensures.marker))))
 
-pub read-read-open-requires-in-Near : goal.read-read-open-requires-in-Near
+pub read-read-node-requires-in-Near : goal.read-read-node-requires-in-Near
 unfolding size
-read-read-open-requires-in-Near t c =
-    (below-measure c.decreases (falls-read c.in-Near.first.now c.args.rule.now (32 * c.args.caller.began + c.args.caller.ranks) (omega (arith, ap (λ (d : rows.Rule). size (plain d)) c.in-Near.is))), (c.requires.total, (c.requires.short, (c.requires.few, c.requires.«open»))))
+read-read-node-requires-in-Near t c =
+    (below-measure c.decreases (falls-read c.in-Near.first.now c.args.rule.now (32 * c.args.caller.began + c.args.caller.ranks) (omega (arith, ap (λ (d : rows.Rule). size (plain d)) c.in-Near.is))), (c.requires.total, (c.requires.short, (c.requires.few, c.requires.marker))))
 
 pub read-read-requires-in-Near : goal.read-read-requires-in-Near
 unfolding size
 read-read-requires-in-Near t c =
-    (below-measure c.decreases (falls-read c.in-Near.second.now c.args.rule.now (32 * c.args.caller.began + c.args.caller.ranks) (omega (arith, ap (λ (d : rows.Rule). size (plain d)) c.in-Near.is))), (total-still _ _ _ c.read-open-in-Near.ensures.input c.requires.total, (short-still _ _ c.read-open-in-Near.ensures.input c.requires.short, (c.requires.few, c.read-open-in-Near.ensures.«open»))))
+    (below-measure c.decreases (falls-read c.in-Near.second.now c.args.rule.now (32 * c.args.caller.began + c.args.caller.ranks) (omega (arith, ap (λ (d : rows.Rule). size (plain d)) c.in-Near.is))), (total-still _ _ _ c.read-node-in-Near.ensures.input c.requires.total, (short-still _ _ c.read-node-in-Near.ensures.input c.requires.short, (c.requires.few, c.read-node-in-Near.ensures.marker))))
 
 pub read-read-requires-then-at : goal.read-read-requires-then-at
 unfolding size
 read-read-requires-then-at t c =
-    (below-measure c.decreases (falls-read c.in-Or.first.now c.args.rule.now (32 * c.args.caller.began + c.args.caller.ranks) (omega (arith, ap (λ (d : rows.Rule). size (plain d)) c.in-Or.is))), (total-still _ _ _ (ap (λ (v : View). v.input) c.at.ensures.same) c.requires.total, (short-still _ _ (ap (λ (v : View). v.input) c.at.ensures.same) c.requires.short, (c.requires.few, still-innermost _ c.args.p.now c.at.new.p c.at.ensures.same c.requires.«open»))))
+    (below-measure c.decreases (falls-read c.in-Or.first.now c.args.rule.now (32 * c.args.caller.began + c.args.caller.ranks) (omega (arith, ap (λ (d : rows.Rule). size (plain d)) c.in-Or.is))), (total-still _ _ _ (ap (λ (v : View). v.input) c.at.ensures.same) c.requires.total, (short-still _ _ (ap (λ (v : View). v.input) c.at.ensures.same) c.requires.short, (c.requires.few, still-innermost _ c.args.p.now c.at.new.p c.at.ensures.same c.requires.marker))))
 
 pub read-read-requires-in-Or : goal.read-read-requires-in-Or
 unfolding size
 read-read-requires-in-Or t c =
-    (below-measure c.decreases (falls-read c.in-Or.second.now c.args.rule.now (32 * c.args.caller.began + c.args.caller.ranks) (omega (arith, ap (λ (d : rows.Rule). size (plain d)) c.in-Or.is))), (total-still _ _ _ (ap (λ (v : View). v.input) c.at.ensures.same) c.requires.total, (short-still _ _ (ap (λ (v : View). v.input) c.at.ensures.same) c.requires.short, (c.requires.few, still-innermost _ c.args.p.now c.at.new.p c.at.ensures.same c.requires.«open»))))
+    (below-measure c.decreases (falls-read c.in-Or.second.now c.args.rule.now (32 * c.args.caller.began + c.args.caller.ranks) (omega (arith, ap (λ (d : rows.Rule). size (plain d)) c.in-Or.is))), (total-still _ _ _ (ap (λ (v : View). v.input) c.at.ensures.same) c.requires.total, (short-still _ _ (ap (λ (v : View). v.input) c.at.ensures.same) c.requires.short, (c.requires.few, still-innermost _ c.args.p.now c.at.new.p c.at.ensures.same c.requires.marker))))
 
 pub read-read-requires-in-When : goal.read-read-requires-in-When
 unfolding size
 read-read-requires-in-When t c =
-    (below-measure c.decreases (falls-read c.in-When.inner.now c.args.rule.now (32 * c.args.caller.began + c.args.caller.ranks) (omega (arith, ap (λ (d : rows.Rule). size (plain d)) c.in-When.is))), (c.requires.total, (c.requires.short, (c.requires.few, c.requires.«open»))))
+    (below-measure c.decreases (falls-read c.in-When.inner.now c.args.rule.now (32 * c.args.caller.began + c.args.caller.ranks) (omega (arith, ap (λ (d : rows.Rule). size (plain d)) c.in-When.is))), (c.requires.total, (c.requires.short, (c.requires.few, c.requires.marker))))
 
 pub read-read-requires-in-Unless : goal.read-read-requires-in-Unless
 unfolding size
 read-read-requires-in-Unless t c =
-    (below-measure c.decreases (falls-read c.in-Unless.inner.now c.args.rule.now (32 * c.args.caller.began + c.args.caller.ranks) (omega (arith, ap (λ (d : rows.Rule). size (plain d)) c.in-Unless.is))), (c.requires.total, (c.requires.short, (c.requires.few, c.requires.«open»))))
+    (below-measure c.decreases (falls-read c.in-Unless.inner.now c.args.rule.now (32 * c.args.caller.began + c.args.caller.ranks) (omega (arith, ap (λ (d : rows.Rule). size (plain d)) c.in-Unless.is))), (c.requires.total, (c.requires.short, (c.requires.few, c.requires.marker))))
 
 pub read-read-requires-then-at-2 : goal.read-read-requires-then-at-2
 unfolding size
 read-read-requires-then-at-2 t c =
-    (below-measure c.decreases (falls-read c.in-Opt.inner.now c.args.rule.now (32 * c.args.caller.began + c.args.caller.ranks) (omega (arith, ap (λ (d : rows.Rule). size (plain d)) c.in-Opt.is))), (total-still _ _ _ (ap (λ (v : View). v.input) c.at-in-Opt.ensures.same) c.requires.total, (short-still _ _ (ap (λ (v : View). v.input) c.at-in-Opt.ensures.same) c.requires.short, (c.requires.few, still-innermost _ c.args.p.now c.at-in-Opt.new.p c.at-in-Opt.ensures.same c.requires.«open»))))
+    (below-measure c.decreases (falls-read c.in-Opt.inner.now c.args.rule.now (32 * c.args.caller.began + c.args.caller.ranks) (omega (arith, ap (λ (d : rows.Rule). size (plain d)) c.in-Opt.is))), (total-still _ _ _ (ap (λ (v : View). v.input) c.at-in-Opt.ensures.same) c.requires.total, (short-still _ _ (ap (λ (v : View). v.input) c.at-in-Opt.ensures.same) c.requires.short, (c.requires.few, still-innermost _ c.args.p.now c.at-in-Opt.new.p c.at-in-Opt.ensures.same c.requires.marker))))
 
 pub read-turns-requires : goal.read-turns-requires
 unfolding size
 read-turns-requires t c =
-    (below-measure c.decreases (falls-turns c.in-Star.inner.now c.args.rule.now (32 * c.args.caller.began + c.args.caller.ranks) (omega (arith, ap (λ (d : rows.Rule). size (plain d)) c.in-Star.is))), (c.requires.total, (c.requires.short, (c.requires.few, c.requires.«open»))))
+    (below-measure c.decreases (falls-turns c.in-Star.inner.now c.args.rule.now (32 * c.args.caller.began + c.args.caller.ranks) (omega (arith, ap (λ (d : rows.Rule). size (plain d)) c.in-Star.is))), (c.requires.total, (c.requires.short, (c.requires.few, c.requires.marker))))
 
-pub read-read-node-requires : goal.read-read-node-requires
+pub read-read-child-requires : goal.read-read-child-requires
 unfolding size
-read-read-node-requires t c =
-    (below-measure c.decreases (falls-read c.in-Node.inner.now c.args.rule.now (32 * c.args.caller.began + c.args.caller.ranks) (omega (arith, ap (λ (d : rows.Rule). size (plain d)) c.in-Node.is))), (total-still _ _ _ c.start-node.ensures.input c.requires.total, (short-still _ _ c.start-node.ensures.input c.requires.short, (c.requires.few, c.start-node.ensures.«open»))))
+read-read-child-requires t c =
+    (below-measure c.decreases (falls-read c.in-Node.inner.now c.args.rule.now (32 * c.args.caller.began + c.args.caller.ranks) (omega (arith, ap (λ (d : rows.Rule). size (plain d)) c.in-Node.is))), (total-still _ _ _ c.start-child.ensures.input c.requires.total, (short-still _ _ c.start-child.ensures.input c.requires.short, (c.requires.few, c.start-child.ensures.marker))))
 
-pub read-read-open-requires-in-Wrap : goal.read-read-open-requires-in-Wrap
+pub read-read-node-requires-in-Wrap : goal.read-read-node-requires-in-Wrap
 unfolding size
-read-read-open-requires-in-Wrap t c =
-    (below-measure c.decreases (falls-read c.in-Wrap.inner.now c.args.rule.now (32 * c.args.caller.began + c.args.caller.ranks) (omega (arith, ap (λ (d : rows.Rule). size (plain d)) c.in-Wrap.is))), (c.requires.total, (c.requires.short, (c.requires.few, c.requires.«open»))))
+read-read-node-requires-in-Wrap t c =
+    (below-measure c.decreases (falls-read c.in-Wrap.inner.now c.args.rule.now (32 * c.args.caller.began + c.args.caller.ranks) (omega (arith, ap (λ (d : rows.Rule). size (plain d)) c.in-Wrap.is))), (c.requires.total, (c.requires.short, (c.requires.few, c.requires.marker))))
 
 pub read-read-requires-then-at-3 : goal.read-read-requires-then-at-3
 unfolding size
 read-read-requires-then-at-3 t c =
-    (below-measure c.decreases (falls-read c.in-Want.inner.now c.args.rule.now (32 * c.args.caller.began + c.args.caller.ranks) (omega (arith, ap (λ (d : rows.Rule). size (plain d)) c.in-Want.is))), (total-still _ _ _ (ap (λ (v : View). v.input) c.at-in-Want.ensures.same) c.requires.total, (short-still _ _ (ap (λ (v : View). v.input) c.at-in-Want.ensures.same) c.requires.short, (c.requires.few, still-innermost _ c.args.p.now c.at-in-Want.new.p c.at-in-Want.ensures.same c.requires.«open»))))
+    (below-measure c.decreases (falls-read c.in-Want.inner.now c.args.rule.now (32 * c.args.caller.began + c.args.caller.ranks) (omega (arith, ap (λ (d : rows.Rule). size (plain d)) c.in-Want.is))), (total-still _ _ _ (ap (λ (v : View). v.input) c.at-in-Want.ensures.same) c.requires.total, (short-still _ _ (ap (λ (v : View). v.input) c.at-in-Want.ensures.same) c.requires.short, (c.requires.few, still-innermost _ c.args.p.now c.at-in-Want.new.p c.at-in-Want.ensures.same c.requires.marker))))
 
 pub read-call-requires : goal.read-call-requires
 unfolding size
 read-call-requires t c =
-    (below-measure c.decreases (falls-call c.args.rule.now (32 * c.args.caller.began + c.args.caller.ranks) (omega (arith, ap (λ (d : rows.Rule). size (plain d)) c.in-Call.is))), (c.requires.total, (c.requires.short, (c.requires.few, c.requires.«open»))))
+    (below-measure c.decreases (falls-call c.args.rule.now (32 * c.args.caller.began + c.args.caller.ranks) (omega (arith, ap (λ (d : rows.Rule). size (plain d)) c.in-Call.is))), (c.requires.total, (c.requires.short, (c.requires.few, c.requires.marker))))
 
 pub read-go_on-requires : goal.read-go_on-requires
 unfolding size
 read-go_on-requires t c =
-    (below-measure c.decreases (falls-call c.args.rule.now (32 * c.args.caller.began + c.args.caller.ranks) (omega (arith, ap (λ (d : rows.Rule). size (plain d)) c.in-Continue.is))), (c.requires.total, (c.requires.short, (c.requires.few, c.requires.«open»))))
+    (below-measure c.decreases (falls-call c.args.rule.now (32 * c.args.caller.began + c.args.caller.ranks) (omega (arith, ap (λ (d : rows.Rule). size (plain d)) c.in-Continue.is))), (c.requires.total, (c.requires.short, (c.requires.few, c.requires.marker))))
 
 pub read-read-requires-in-Mode : goal.read-read-requires-in-Mode
 unfolding size
 read-read-requires-in-Mode t c =
-    (below-measure c.decreases (falls-read c.in-Mode.inner.now c.args.rule.now (32 * c.args.caller.began + c.args.caller.ranks) (omega (arith, ap (λ (d : rows.Rule). size (plain d)) c.in-Mode.is))), (c.requires.total, (c.requires.short, (c.requires.few, c.requires.«open»))))
+    (below-measure c.decreases (falls-read c.in-Mode.inner.now c.args.rule.now (32 * c.args.caller.began + c.args.caller.ranks) (omega (arith, ap (λ (d : rows.Rule). size (plain d)) c.in-Mode.is))), (c.requires.total, (c.requires.short, (c.requires.few, c.requires.marker))))
 
 pub read-returns-in-Nothing-clause-reads : goal.read-returns-in-Nothing-clause-reads
 unfolding read
@@ -153,11 +153,11 @@ read-returns-in-Any-clause-reads t c = rw c.in-Any.is (λ x s below low h can. c
 
 pub read-returns-in-Then-clause-reads : goal.read-returns-in-Then-clause-reads
 unfolding read
-read-returns-in-Then-clause-reads t c = rw c.in-Then.is (λ x s below low h can. c.read.ensures.reads x _ below low (c.read-open.ensures.reads x s below low h can.0) can.1)
+read-returns-in-Then-clause-reads t c = rw c.in-Then.is (λ x s below low h can. c.read.ensures.reads x _ below low (c.read-node.ensures.reads x s below low h can.0) can.1)
 
 pub read-returns-in-Near-clause-reads : goal.read-returns-in-Near-clause-reads
 unfolding read
-read-returns-in-Near-clause-reads t c = rw c.in-Near.is (λ x s below low h can. c.read-in-Near.ensures.reads x _ below low (c.read-open-in-Near.ensures.reads x s below low h can.0) can.1)
+read-returns-in-Near-clause-reads t c = rw c.in-Near.is (λ x s below low h can. c.read-in-Near.ensures.reads x _ below low (c.read-node-in-Near.ensures.reads x s below low h can.0) can.1)
 
 pub read-returns-then-at-clause-reads : goal.read-returns-then-at-clause-reads
 unfolding read
@@ -215,11 +215,11 @@ pub read-returns-in-Node-clause-reads : goal.read-returns-in-Node-clause-reads
 unfolding read
 read-returns-in-Node-clause-reads t c = rw c.in-Node.is (λ x s below low h can.
     stands-closed _ s _ c.close.ensures.closes
-    (c.read-node.ensures.reads x (fresh s) (inside below (marked s.given)) low (stands-opened c.start-node.ensures.opens c.start-node.ensures.given h) can))
+    (c.read-child.ensures.reads x (fresh s) (inside below (marked s.given)) low (stands-opened c.start-child.ensures.opens c.start-child.ensures.given h) can))
 
 pub read-returns-in-Wrap-clause-reads : goal.read-returns-in-Wrap-clause-reads
 unfolding read
-read-returns-in-Wrap-clause-reads t c = rw c.in-Wrap.is (λ x s below low h can. c.wrap.ensures.does _ below (c.read-open-in-Wrap.ensures.reads x s below low h can))
+read-returns-in-Wrap-clause-reads t c = rw c.in-Wrap.is (λ x s below low h can. c.wrap.ensures.does _ below (c.read-node-in-Wrap.ensures.reads x s below low h can))
 
 pub read-returns-in-Say-clause-reads : goal.read-returns-in-Say-clause-reads
 unfolding read
@@ -254,7 +254,7 @@ unfolding read
 turns-returns-then-not-at-clause-reads t c = λ x s below low h can.
     let b = c.turns.invariant.between x s below low h can in
     let e : is_begun c.args.condition (plain c.args.rule.now) b.now ≡ false = sym (c.at.ensures.sees b.now below b.stands) ∙ c.if-not-at.true in
-    subst (λ (u : Reading). Stands c.turns.open.given c.at.new.p u below) (sym (no-turn c.turns.turns c.args.condition (plain c.args.rule.now) b.now e) ∙ b.same) (stands-still c.at.ensures.same b.stands)
+    subst (λ (u : Reading). Stands c.turns.node.given c.at.new.p u below) (sym (no-turn c.turns.turns c.args.condition (plain c.args.rule.now) b.now e) ∙ b.same) (stands-still c.at.ensures.same b.stands)
 
 pub turns-returns-then-tokens_left-before-clause-reads : goal.turns-returns-then-tokens_left-before-clause-reads
 unfolding read
@@ -263,24 +263,24 @@ turns-returns-then-tokens_left-before-clause-reads t c = λ x s below low h can.
     let e : is_begun c.args.condition (plain c.args.rule.now) b.now ≡ true = sym (c.at.ensures.sees b.now below b.stands) ∙ c.if-not-at.false in
     let some : 0 < length s.rest = omega (arith, c.turns-test.true, b.most) in
     let stood = stands-still c.at.ensures.same b.stands in
-    let turn = c.read-open.ensures.reads x b.now below low stood (can b.now some b.shorter e) in
+    let turn = c.read-node.ensures.reads x b.now below low stood (can b.now some b.shorter e) in
     let first : c.tokens_left-before.result ≡ length b.now.rest = c.tokens_left-before.ensures ∙ ap (λ (ts : List Token). length ts) stood.at.rest in
     let then_left : c.tokens_left.result ≡ length (reads c.args.condition (plain c.args.rule.now) b.now).rest = c.tokens_left.ensures ∙ ap (λ (ts : List Token). length ts) turn.at.rest in
-    subst (λ (u : Reading). Stands c.read-open.result.given c.read-open.new.p u below)
+    subst (λ (u : Reading). Stands c.read-node.result.given c.read-node.new.p u below)
     (sym (last-turn c.turns.turns c.args.condition (plain c.args.rule.now) b.now c.turns-test.true e (omega (arith, first, then_left, c.if-tokens_left-before.true))) ∙ b.same) turn
 
 pub turns-turns-preserved : goal.turns-turns-preserved
 turns-turns-preserved t c =
     record {
-      input = c.read-open.ensures.input ∙ ap (λ (v : View). v.input) c.at.ensures.same ∙ c.turns.invariant.input;
-      marker = c.read-open.ensures.«open»;
-      innermost = λ n i. c.read-open.ensures.innermost n (still-innermost n c.turns.p c.at.new.p c.at.ensures.same (c.turns.invariant.innermost n i));
+      input = c.read-node.ensures.input ∙ ap (λ (v : View). v.input) c.at.ensures.same ∙ c.turns.invariant.input;
+      marker = c.read-node.ensures.marker;
+      innermost = λ n i. c.read-node.ensures.innermost n (still-innermost n c.turns.p c.at.new.p c.at.ensures.same (c.turns.invariant.innermost n i));
       between = λ x s below low h can.
           let b = c.turns.invariant.between x s below low h can in
           let e : is_begun c.args.condition (plain c.args.rule.now) b.now ≡ true = sym (c.at.ensures.sees b.now below b.stands) ∙ c.if-not-at.false in
           let some : 0 < length s.rest = omega (arith, c.turns-test.true, b.most) in
           let stood = stands-still c.at.ensures.same b.stands in
-          let turn = c.read-open.ensures.reads x b.now below low stood (can b.now some b.shorter e) in
+          let turn = c.read-node.ensures.reads x b.now below low stood (can b.now some b.shorter e) in
           let first : c.tokens_left-before.result ≡ length b.now.rest = c.tokens_left-before.ensures ∙ ap (λ (ts : List Token). length ts) stood.at.rest in
           let then_left : c.tokens_left.result ≡ length (reads c.args.condition (plain c.args.rule.now) b.now).rest = c.tokens_left.ensures ∙ ap (λ (ts : List Token). length ts) turn.at.rest in
           let fewer : length (reads c.args.condition (plain c.args.rule.now) b.now).rest < length b.now.rest = omega (arith, first, then_left, c.if-tokens_left-before.false) in
@@ -297,7 +297,7 @@ turns-turns-preserved t c =
           let e : is_begun c.args.condition r b.now ≡ true = sym (c.at.ensures.sees b.now below b.stands) ∙ c.if-not-at.false in
           let some : 0 < length s.rest = omega (arith, c.turns-test.true, b.most) in
           let stood = stands-still c.at.ensures.same b.stands in
-          let read = c.read-open.ensures.looks x b.now below low stood (can b.now some b.shorter e) (turn-is-paid r paid) in
+          let read = c.read-node.ensures.looks x b.now below low stood (can b.now some b.shorter e) (turn-is-paid r paid) in
           turn-taken (begin_looks r) (debt r) (idle r) (turns-are-paid r paid) (same-length (ap left c.at.ensures.same)) c.at.ensures.looks
           (omega (arith, c.tokens_left-before.ensures, c.tokens_left.ensures, c.if-tokens_left-before.false)) (c.turns.invariant.spending x s below low h can paid) read;
     }
@@ -306,7 +306,7 @@ pub turns-returns-clause-reads : goal.turns-returns-clause-reads
 unfolding read
 turns-returns-clause-reads t c = λ x s below low h can.
     let b = c.turns.invariant.between x s below low h can in
-    subst (λ (u : Reading). Stands c.turns.open.given c.turns.p u below) (sym (zero-turns c.turns.turns c.args.condition (plain c.args.rule.now) b.now (omega (arith, c.turns-test.false))) ∙ b.same) b.stands
+    subst (λ (u : Reading). Stands c.turns.node.given c.turns.p u below) (sym (zero-turns c.turns.turns c.args.condition (plain c.args.rule.now) b.now (omega (arith, c.turns-test.false))) ∙ b.same) b.stands
 
 pub call-returns-in_default-clause-looks : goal.call-returns-in_default-clause-looks
 call-returns-in_default-clause-looks t c = λ x s below low h b e.
@@ -355,16 +355,16 @@ unfolding read idle debt is_paid
 read-returns-in-Then-clause-looks t c = rw c.in-Then.is (λ x s below low h can paid.
     let a = plain c.in-Then.first.now in
     let b = plain c.in-Then.second.now in
-    after-each-other (idle a) (idle b) (debt a) (debt b) (second-few a b paid) (c.read-open.ensures.looks x s below low h can.0 (first-paid a b paid))
-    (c.read.ensures.looks x _ below low (c.read-open.ensures.reads x s below low h can.0) can.1 (second-paid a b paid)))
+    after-each-other (idle a) (idle b) (debt a) (debt b) (second-few a b paid) (c.read-node.ensures.looks x s below low h can.0 (first-paid a b paid))
+    (c.read.ensures.looks x _ below low (c.read-node.ensures.reads x s below low h can.0) can.1 (second-paid a b paid)))
 
 pub read-returns-in-Near-clause-looks : goal.read-returns-in-Near-clause-looks
 unfolding read idle debt is_paid
 read-returns-in-Near-clause-looks t c = rw c.in-Near.is (λ x s below low h can paid.
     let a = plain c.in-Near.first.now in
     let b = plain c.in-Near.second.now in
-    after-each-other (idle a) (idle b) (debt a) (debt b) (second-few a b paid) (c.read-open-in-Near.ensures.looks x s below low h can.0 (first-paid a b paid))
-    (c.read-in-Near.ensures.looks x _ below low (c.read-open-in-Near.ensures.reads x s below low h can.0) can.1 (second-paid a b paid)))
+    after-each-other (idle a) (idle b) (debt a) (debt b) (second-few a b paid) (c.read-node-in-Near.ensures.looks x s below low h can.0 (first-paid a b paid))
+    (c.read-in-Near.ensures.looks x _ below low (c.read-node-in-Near.ensures.reads x s below low h can.0) can.1 (second-paid a b paid)))
 
 pub read-returns-then-at-clause-looks : goal.read-returns-then-at-clause-looks
 unfolding read idle debt is_paid
@@ -432,15 +432,15 @@ read-returns-in-Star-clause-looks t c = rw c.in-Star.is (λ x s below low h can 
 pub read-returns-in-Node-clause-looks : goal.read-returns-in-Node-clause-looks
 unfolding read idle debt is_paid
 read-returns-in-Node-clause-looks t c = rw c.in-Node.is (λ x s below low h can paid.
-    let inner = c.read-node.ensures.looks x (fresh s) (inside below (marked s.given)) low (stands-opened c.start-node.ensures.opens c.start-node.ensures.given h) can paid in
-    within (same-length c.start-node.ensures.opens.rest) c.start-node.ensures.looks (same-length c.close.ensures.closes.rest) c.close.ensures.looks inner)
+    let inner = c.read-child.ensures.looks x (fresh s) (inside below (marked s.given)) low (stands-opened c.start-child.ensures.opens c.start-child.ensures.given h) can paid in
+    within (same-length c.start-child.ensures.opens.rest) c.start-child.ensures.looks (same-length c.close.ensures.closes.rest) c.close.ensures.looks inner)
 
 pub read-returns-in-Wrap-clause-looks : goal.read-returns-in-Wrap-clause-looks
 unfolding read idle debt is_paid wrapped
 read-returns-in-Wrap-clause-looks t c = rw c.in-Wrap.is (λ x s below low h can paid.
-    let t = c.read-open-in-Wrap.ensures.reads x s below low h can in
+    let t = c.read-node-in-Wrap.ensures.reads x s below low h can in
     let w = c.wrap.ensures.does _ below t in
-    within refl refl (same-left t.at.rest w.at.rest) c.wrap.ensures.looks (c.read-open-in-Wrap.ensures.looks x s below low h can paid))
+    within refl refl (same-left t.at.rest w.at.rest) c.wrap.ensures.looks (c.read-node-in-Wrap.ensures.looks x s below low h can paid))
 
 pub read-returns-in-Say-clause-looks : goal.read-returns-in-Say-clause-looks
 unfolding read idle debt say
@@ -487,7 +487,7 @@ turns-returns-then-tokens_left-before-clause-looks t c = λ x s below low h can 
     let e : is_begun c.args.condition r b.now ≡ true = sym (c.at.ensures.sees b.now below b.stands) ∙ c.if-not-at.false in
     let some : 0 < length s.rest = omega (arith, c.turns-test.true, b.most) in
     let stood = stands-still c.at.ensures.same b.stands in
-    let read = c.read-open.ensures.looks x b.now below low stood (can b.now some b.shorter e) (turn-is-paid r paid) in
+    let read = c.read-node.ensures.looks x b.now below low stood (can b.now some b.shorter e) (turn-is-paid r paid) in
     turn-idle (begin_looks r) (debt r) (idle r) (same-length (ap left c.at.ensures.same)) c.at.ensures.looks
     (omega (arith, c.tokens_left-before.ensures, c.tokens_left.ensures, c.if-tokens_left-before.true)) (c.turns.invariant.spending x s below low h can paid) read
 

@@ -26,10 +26,10 @@ decreases-read l = 16384 * (32 * l.caller.began + l.caller.ranks) + 2 * weight l
 abbrev pub invariant-turns-turns : goal.invariant-turns-turns
 invariant-turns-turns l = record {
   input : l.p.input ≡ l.initial.p.input;
-  marker : IsInnermost l.open.marker l.p.nodes;
+  marker : IsInnermost l.node.marker l.p.nodes;
   innermost : (n : ℕ) → IsInnermost n l.initial.p.nodes → IsInnermost n l.p.nodes;
-  between : Midway l.caller.began l.caller.ranks l.condition (plain l.rule) l.turns l.initial.open.given l.initial.p l.open.given l.p;
-  spending : Spending l.caller.began l.caller.ranks l.condition (plain l.rule) l.initial.open.given l.initial.p l.p;
+  between : Midway l.caller.began l.caller.ranks l.condition (plain l.rule) l.turns l.initial.node.given l.initial.p l.node.given l.p;
+  spending : Spending l.caller.began l.caller.ranks l.condition (plain l.rule) l.initial.node.given l.initial.p l.p;
 }
 
 abbrev pub decreases-turns-turns : goal.decreases-turns-turns

@@ -8,32 +8,32 @@ use Rattle.ra_parser.proofs.entries.take_rest.Goals as goal
 pub tokens-smaller : goal.tokens-smaller
 unfolding somewhere
 tokens-smaller c =
-    let s = somewhere c.tokens.open.given c.tokens.p in
+    let s = somewhere c.tokens.node.given c.tokens.p in
     let some : 1 ≤ length s.rest = omega (arith, c.tokens-test.true, c.tokens_left.ensures) in
-    fewer-left _ s (c.take_any-open.ensures.does s None (stands-somewhere c.tokens.open.given c.tokens.p) some) some
+    fewer-left _ s (c.take_any-node.ensures.does s None (stands-somewhere c.tokens.node.given c.tokens.p) some) some
 
 pub tokens-preserved : goal.tokens-preserved
 unfolding somewhere
 tokens-preserved c = record {
-  input = c.take_any-open.ensures.input ∙ c.tokens.invariant.input;
-  marker = c.take_any-open.ensures.«open»;
+  input = c.take_any-node.ensures.input ∙ c.tokens.invariant.input;
+  marker = c.take_any-node.ensures.marker;
   taking = λ s below h.
       let b = c.tokens.invariant.taking s below h in
       let some : 1 ≤ length b.now.rest = omega (arith, c.tokens-test.true, c.tokens_left.ensures, ap (λ (ts : List Token). length ts) b.stands.at.rest) in
       record {
         now = leaf (ahead 0 b.now.rest).kind 1 b.now;
-        stands = c.take_any-open.ensures.does b.now below b.stands some;
+        stands = c.take_any-node.ensures.does b.now below b.stands some;
         same = token-taken b.now some ∙ b.same;
       };
   looks =
-      let s = somewhere c.tokens.open.given c.tokens.p in
+      let s = somewhere c.tokens.node.given c.tokens.p in
       let some : 1 ≤ length s.rest = omega (arith, c.tokens-test.true, c.tokens_left.ensures) in
-      let fewer = fewer-left _ s (c.take_any-open.ensures.does s None (stands-somewhere c.tokens.open.given c.tokens.p) some) some in
-      omega (arith, fewer, c.take_any-open.ensures.looks, c.tokens.invariant.looks);
+      let fewer = fewer-left _ s (c.take_any-node.ensures.does s None (stands-somewhere c.tokens.node.given c.tokens.p) some) some in
+      omega (arith, fewer, c.take_any-node.ensures.looks, c.tokens.invariant.looks);
 }
 
 pub returns-clause-does : goal.returns-clause-does
 returns-clause-does c s below h =
     let b = c.tokens.invariant.taking s below h in
     let none : length b.now.rest ≤ 0 = omega (arith, c.tokens-test.false, c.tokens_left.ensures, ap (λ (ts : List Token). length ts) b.stands.at.rest) in
-    subst (λ (u : Reading). Stands c.tokens.open.given c.tokens.p u below) (sym (all-taken b.now none) ∙ b.same) b.stands
+    subst (λ (u : Reading). Stands c.tokens.node.given c.tokens.p u below) (sym (all-taken b.now none) ∙ b.same) b.stands

@@ -7,8 +7,8 @@ use Rattle.ra_parser.proofs.entries.take_rest.Given as goal
 abbrev pub invariant-tokens : goal.invariant-tokens
 invariant-tokens l = record {
   input : l.p.input ≡ l.initial.p.input;
-  marker : IsInnermost l.open.marker l.p.nodes;
-  taking : Midway l.initial.open.given l.initial.p l.open.given l.p;
+  marker : IsInnermost l.node.marker l.p.nodes;
+  taking : Midway l.initial.node.given l.initial.p l.node.given l.p;
   looks : l.p.looks + length (left l.p) ≤ l.initial.p.looks + length (left l.initial.p);
 }
 

@@ -6,7 +6,7 @@ use Rattle.ra_parser.specs.Looks.{tokens, spent}
 use Rattle.rust_grammar.specs.Notation.{◌or◌, ◌▸◌, ◌*, next, one_of, stops, until}
 use Rattle.rust_grammar.specs.Words.{'comma', 'r_curly'}
 use Rattle.rust_grammar.specs.Calls.{UseTree}
-use Rattle.rust_grammar.specs.Rule.{Left, Both, Not, Nothing, Say, Skip, When, Unless}
+use Rattle.rust_grammar.specs.Rule.{Left, Both, Not, Nothing, One, Say, Skip, When, Unless}
 use Rattle.ra_parser.proofs.Turns.{TurnsFrom}
 use Rattle.ra_parser.proofs.grammar.use_trees.+use_trees.Given as goal
 
@@ -38,7 +38,7 @@ abbrev pub decreases-use_turns : goal.decreases-use_turns
 decreases-use_turns l = 64 * tokens l.p.now + 6
 
 abbrev pub invariant-use_turns-turns : goal.invariant-use_turns-turns
-invariant-use_turns-turns l = TurnsFrom false (Unless (until 'r_curly') (UseTree ▸ ('comma' or When (next 'r_curly') Nothing or Say (Expected COMMA)) or When (Both Left (Not (one_of 0 stops))) (Skip (UnexpectedIn USE_TREE_LIST)))) l.initial.p l.p × (tokens l.p ≤ tokens l.initial.p) × (spent l.p ≤ spent l.initial.p)
+invariant-use_turns-turns l = TurnsFrom false (Unless (until 'r_curly') (UseTree ▸ (One 'comma' or When (next 'r_curly') Nothing or Say (Expected COMMA)) or When (Both Left (Not (one_of 0 stops))) (Skip (UnexpectedIn USE_TREE_LIST)))) l.initial.p l.p × (tokens l.p ≤ tokens l.initial.p) × (spent l.p ≤ spent l.initial.p)
 
 abbrev pub decreases-use_turns-turns : goal.decreases-use_turns-turns
 decreases-use_turns-turns l = tokens l.p
