@@ -7,7 +7,7 @@ use Rattle.parser_input.specs.Leaf.{Leaf, is_trivia}
 use Rattle.parser_input.specs.Input.{Token, input, token_of}
 use Rattle.parser_input.specs.declared.edition.Edition.{Edition}
 use Rattle.parser_events.specs.Forest as forest
-use Rattle.rust_grammar.specs.Rule.{Production, Rule, One}
+use Rattle.rust_grammar.specs.Rule.{Production, Spelling}
 use Rattle.rust_grammar.specs.Entry.{entry}
 use Rattle.rust_grammar.specs.Spelled.{marks, is_token, is_contextual, is_one_of, is_spelled, is_float, are_next, drop_if, then_after, tokens_after}
 use Rattle.rust_grammar.specs.Whole.{whole}
@@ -38,10 +38,9 @@ unfoldable are_solid_words : List Word → Bool
 are_solid_words [] = true
 are_solid_words (w ∷ ws) = is_solid w.kind && are_solid_words ws
 
-unfoldable are_solid_marks : List Rule → Bool
+unfoldable are_solid_marks : List Spelling → Bool
 are_solid_marks [] = true
-are_solid_marks (One x ∷ rs) = is_solid x.kind && are_solid_marks rs
-are_solid_marks (r ∷ rs) = are_solid_marks rs
+are_solid_marks (x ∷ xs) = is_solid x.kind && are_solid_marks xs
 
 words-solid : are_solid_words words ≡ true
 unfolding are_solid_words is_solid words
@@ -112,14 +111,13 @@ word-solid k (t ∷ ts) s e =
       | inr i ↦ same-kind t.contextual k i (and_r (is_solid t.kind) (is_solid t.contextual) own)
     ]
 
-mark-solid : (rs : List Rule) (k n : ℕ) (ts : List Token) → are_solid_marks rs ≡ true → is_one_of rs k n ts ≡ true → is_solid k ≡ true
+mark-solid : (rs : List Spelling) (k n : ℕ) (ts : List Token) → are_solid_marks rs ≡ true → is_one_of rs k n ts ≡ true → is_solid k ≡ true
 unfolding are_solid_marks is_one_of
 mark-solid [] k n ts s e = absurd (true≢false (sym e))
-mark-solid (One x ∷ rs) k n ts s e = elim (or_cases ((x.kind == k) && (length x.parts == n) && are_next x.parts ts) (is_one_of rs k n ts) e) [
+mark-solid (x ∷ rs) k n ts s e = elim (or_cases ((x.kind == k) && (length x.parts == n) && are_next x.parts ts) (is_one_of rs k n ts) e) [
   | inl i ↦ same-kind x.kind k (and_l (x.kind == k) (length x.parts == n) (and_l _ (are_next x.parts ts) i)) (and_l (is_solid x.kind) (are_solid_marks rs) s)
   | inr i ↦ mark-solid rs k n ts (and_r (is_solid x.kind) (are_solid_marks rs) s) i
 ]
-mark-solid (r ∷ rs) k n ts s e = mark-solid rs k n ts s e
 
 spelled-solid : (k n : ℕ) (ts : List Token) → are_solid ts ≡ true → is_spelled k n ts ≡ true → is_solid k ≡ true
 unfolding is_spelled
