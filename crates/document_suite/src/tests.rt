@@ -2,6 +2,7 @@
 //!
 //! A test asserts when what it made is dropped already, and helpers join facts by `&`: each way out of a function is proved, with
 //! all that is dropped on it.
+mod annotated;
 mod comments;
 mod commits;
 mod edits;

@@ -2,11 +2,15 @@
 mod copy;
 mod doing;
 mod levels;
+mod merge;
+mod spaced;
 mod tree;
 
 use crate::tests::copy::edited_copy;
 use crate::tests::doing::{Do, Gap, answer, found_text};
 use crate::tests::levels::{between, has_level};
+use crate::tests::merge::{merged, unmerged};
+use crate::tests::spaced::spaced;
 use crate::tests::tree::Tree;
 use parser_input::SyntaxKind;
 use std::alloc::Global;
@@ -314,5 +318,77 @@ fn uses_and_attributes_have_lines(rt: HostRuntime) -> Result<(), Fail> {
     assert!(rt; between(alloc, Tree::Items, 7, 1)? == Space::Line(0));
     assert!(rt; between(alloc, Tree::Items, 1, 4)? == Space::Line(2));
     assert!(rt; between(alloc, Tree::Items, 7, 3)? == Space::Line(2));
+    Ok(())
+}
+
+#[test]
+fn editors_of_one_tree_are_merged(rt: HostRuntime) -> Result<(), Fail> {
+    let alloc = rt.alloc();
+    assert!(rt; merged(alloc, 1, 4)?.as_str() == "(, )");
+    assert!(rt; merged(alloc, 1, 1)?.as_str() == "two changes replace one element");
+    Ok(())
+}
+
+#[test]
+fn editors_of_two_trees_are_not(rt: HostRuntime) -> Result<(), Fail> {
+    let found = unmerged(rt.alloc())?;
+    assert!(rt;
+        found.as_str() == "of another tree; (, 2); {\n\n        a\n   }",
+        "{found}"
+    );
+    Ok(())
+}
+
+#[derive(Clone, Copy)]
+struct SpacedRow<'a> {
+    tree: Tree,
+    gap: Gap<'a>,
+    texts: &'a [&'a str],
+    answer: &'static str,
+}
+
+fn put<'a>(tree: Tree, gap: Gap<'a>, texts: &'a [&'a str], answer: &'static str) -> SpacedRow<'a> {
+    SpacedRow {
+        tree,
+        gap,
+        texts,
+        answer,
+    }
+}
+
+#[test]
+fn what_is_put_in_stands_apart(rt: HostRuntime) -> Result<(), Fail> {
+    let statements = Gap {
+        parent: &[1],
+        index: 1,
+    };
+    for row in [
+        put(Tree::Args, gap(2), &["A"], "(1 A, 2) 2..3 3..4"),
+        put(Tree::Args, gap(2), &["A", "B"], "(1 AB, 2) 2..3 3..4 4..5"),
+        put(Tree::Args, gap(0), &["A"], "A (1, 2) 0..1 1..2"),
+        put(Tree::Args, gap(6), &["A"], "(1, 2) A 6..7 7..8"),
+        put(Tree::Args, gap(1), &[], "(1, 2)"),
+        put(Tree::Args, gap(7), &["A"], "of another tree"),
+        put(Tree::List, gap(1), &["USE"], "{\n    use } 1..6 6..9 9..10"),
+        put(Tree::List, gap(1), &["A"], "{ A } 1..2 2..3 3..4"),
+        put(
+            Tree::Lines,
+            statements,
+            &["LET"],
+            "\n    {\n        let;\n\n        a\n   } 6..15 15..19",
+        ),
+    ] {
+        let mut ids = TreeIds::new();
+        let answer = spaced(rt.alloc(), &mut ids, row.tree, row.gap, row.texts)?;
+        assert!(rt; answer.as_str() == row.answer, "{answer}");
+    }
+    Ok(())
+}
+
+#[test]
+fn white_space_takes_numbers(rt: HostRuntime) -> Result<(), Fail> {
+    let mut ids = TreeIds::starting_at(4_294_967_294);
+    let answer = spaced(rt.alloc(), &mut ids, Tree::Args, gap(2), &["A"])?;
+    assert!(rt; answer.as_str() == "no tree number is left", "{answer}");
     Ok(())
 }

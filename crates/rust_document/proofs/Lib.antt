@@ -22,3 +22,4 @@ pub mod Closed
 pub mod Solid
 pub mod Bound
 pub mod Behind
+pub mod AnnotatedRanges

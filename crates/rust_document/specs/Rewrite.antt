@@ -19,9 +19,12 @@ rewritten e = root_of (forest_in (rewriting e))
 abbrev pub changed : Editing → List (ℕ × ℕ)
 changed e = changed_at (rewriting e) 0
 
--- the bytes of what stands at a way in a tree
+-- the bytes of what stands at a place, and at a way in a tree
+abbrev pub bytes_at : Place → ℕ × ℕ
+bytes_at p = (start_of p, end_of p)
+
 abbrev pub bounds_at : Tree → Way → ℕ × ℕ
-bounds_at t w = let p = record { root = t; up = w } in (start_of p, end_of p)
+bounds_at t w = bytes_at (record { root = t; up = w })
 
 -- the ranges in the new text of the elements that come from annotated ones, with the numbers of their annotations, by order of annotation,
 -- then of the tree

@@ -4,7 +4,7 @@ ghost use Rattle.syntax_tree.specs.Handle.{element_of};
 ghost use Rattle.tree_rewrite.specs.Fits.{IsNode};
 ghost use Rattle.tree_rewrite.specs.Marked.{origins};
 ghost use Rattle.syntax_editor.specs.Rewriting.{rewriting};
-ghost use Rattle.rust_document.specs.Committed.{annotated_ends};
+ghost use Rattle.rust_document.specs.Committed.{annotated_ends, bounds_of};
 ghost use Rattle.rust_document.specs.Rewrite.{annotated};
 ghost use Rattle.rust_document.specs.Rewritten.{IsReadBack, RefusesReadBack, IsRewritten, RefusesRewritten};
 
@@ -51,26 +51,38 @@ fn read_back(alloc: Global, edition: Edition, tree: &GreenNode) -> Result<ReadBa
     Err(CommitError::Unfaithful)
 }
 
+/// The bytes of elements, each with its annotation.
+fn ranges_of(
+    alloc: Global,
+    found: &[(SyntaxElement, SyntaxAnnotation)],
+) -> Result<Vec<(TextRange, SyntaxAnnotation)>, AllocError>
+    ensures { IfOk result (λ v. map annotated_ends v.items ≡ map bounds_of found.now) }
+{
+    let mut ranges = Vec::new(alloc);
+    for (element, annotation) in found {
+        let range = element.text_range();
+        ranges.push((range, *annotation))?;
+    }
+    Ok(ranges)
+}
+
 /// The bytes of the annotated elements that stand in the rewritten tree of an editor, whose elements have these origins in preorder.
 fn annotated_ranges(
     alloc: Global,
     editor: &SyntaxEditor,
     tree: GreenNode,
-    origins: &[SyntaxElement],
+    came_from: &[SyntaxElement],
 ) -> Result<Vec<(TextRange, SyntaxAnnotation)>, AllocError>
     requires tree { IsNode (rewriting editor.now) tree }
-    requires origins { map element_of origins.now ≡ origins (rewriting editor.now) }
+    requires origins { map element_of came_from.now ≡ origins (rewriting editor.now) }
     ensures { IfOk result (λ v. map annotated_ends v.items ≡ annotated editor.now) }
 {
     // (the number is of a source of its own: these handles are gone when their ranges are told)
     let Ok(root) = SyntaxNode::new_root(alloc, tree, &mut TreeIds::new()) else {
         return Err(AllocError);
     };
-    let mut ranges = Vec::new(alloc);
-    for (element, annotation) in &editor.annotated_in(alloc, &root, origins)? {
-        ranges.push((element.text_range(), *annotation))?;
-    }
-    Ok(ranges)
+    let found = editor.annotated_in(alloc, &root, came_from)?;
+    ranges_of(alloc, &found)
 }
 
 /// What an editor's changes make of its tree.

@@ -16,6 +16,8 @@ fn editor(alloc: Global, ids: &mut TreeIds) -> Result<SyntaxEditor, Fail> {
     let new = payload(alloc, "-", ids)?;
     let mut marks = Annotations::new();
     editor.add_annotation(&new, marks.next()?)?;
+    let twice = vec![in alloc; new.clone()?, new.clone()?]?;
+    editor.add_annotation_all(alloc, &twice, marks.next()?)?;
     editor.insert(alloc, Position::first_child_of(copy), &new)?;
     Ok(editor)
 }

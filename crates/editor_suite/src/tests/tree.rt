@@ -19,6 +19,12 @@ pub enum Tree {
     Literal,
     /// `a` in braces, on lines of its own: one step before `{`, two behind an empty line before `a`, three spaces before `}`.
     Lines,
+    /// `let;`: a statement.
+    Let,
+    /// `use`: an item.
+    Use,
+    /// `{}`: a list of items.
+    List,
     /// A file without tokens.
     Empty,
     /// Uses and attributes on lines of one step, two and none: elements 1 and 4 are uses, 3, 5 and 7 attributes.
@@ -89,6 +95,23 @@ fn steps(tree: Tree) -> &'static [Step] {
             Step::Close,
             Step::Close,
         ],
+        Tree::Let => &[
+            Step::Open(SyntaxKind::LET_STMT),
+            Step::Leaf(SyntaxKind::LET_KW, "let"),
+            Step::Leaf(SyntaxKind::SEMICOLON, ";"),
+            Step::Close,
+        ],
+        Tree::Use => &[
+            Step::Open(SyntaxKind::USE),
+            Step::Leaf(SyntaxKind::USE_KW, "use"),
+            Step::Close,
+        ],
+        Tree::List => &[
+            Step::Open(SyntaxKind::ITEM_LIST),
+            Step::Leaf(SyntaxKind::L_CURLY, "{"),
+            Step::Leaf(SyntaxKind::R_CURLY, "}"),
+            Step::Close,
+        ],
         Tree::Empty => &[Step::Open(SyntaxKind::SOURCE_FILE), Step::Close],
         Tree::Items => &[
             Step::Open(SyntaxKind::SOURCE_FILE),
@@ -137,10 +160,20 @@ pub(crate) fn root(alloc: Global, tree: Tree, ids: &mut TreeIds) -> Result<Synta
     Ok(SyntaxNode::new_root(alloc, green(alloc, tree)?, ids)?)
 }
 
-/// A literal, or a token of this text.
+/// The tree that a text stands for, if it stands for one.
+fn payload_tree(text: &str) -> Option<Tree> {
+    match text {
+        "LITERAL 3" => Some(Tree::Literal),
+        "LET" => Some(Tree::Let),
+        "USE" => Some(Tree::Use),
+        _ => None,
+    }
+}
+
+/// A node, or a token of this text.
 pub(crate) fn payload(alloc: Global, text: &str, ids: &mut TreeIds) -> Result<SyntaxElement, Fail> {
-    if text == "LITERAL 3" {
-        return Ok(SyntaxElement::Node(root(alloc, Tree::Literal, ids)?));
+    if let Some(tree) = payload_tree(text) {
+        return Ok(SyntaxElement::Node(root(alloc, tree, ids)?));
     }
     let green = GreenToken::new(alloc, raw(SyntaxKind::IDENT), text)?;
     Ok(SyntaxElement::Token(SyntaxToken::detached(alloc, green, ids)?))
