@@ -6,6 +6,7 @@ mod annotated;
 mod comments;
 mod commits;
 mod edits;
+mod merged;
 mod opening;
 mod payloads;
 mod recording;
