@@ -1,7 +1,8 @@
 """The gate: every proof from nothing, the must-fail edits, the tests, and each program on its stored input.
 
     ./test               leaves out the edits that must-fail.ledger has as refused before over the very same sources,
-                         but for a sample of one crate, which the commit picks; tries all others
+                         but for a sample of one crate, which the commit picks; tries all others, but for those past 300, as
+                         after a change of the kit: then the commit picks crates, and the run says how many it left for time
     ./test --whole       tries every edit and does not read the ledger
     ./test --record      as ./test, with no sample; writes to the ledger the edits that were refused, whatever else failed
     ./test --share 2/3   with any of these: tries, of the edits, those of the second of three shares of the crates alone
@@ -27,6 +28,8 @@ from ledger import crate_of
 TOP = os.path.dirname(os.path.dirname(os.path.realpath(__file__)))
 # Edits in a sample, all of one crate: the first of a crate costs a proof of the crate, each further one some seconds.
 SAMPLE = 8
+# Edits that a run tries at most, unless it is asked for all or to record them: it has to end in time.
+MOST = 300
 # A check takes one to four gigabytes. Where there are fewer bytes a core than this, 'rt ci' by its own estimate leaves cores idle.
 BYTES_A_CORE = 5_000_000_000
 REFUSED = re.compile(r"rt: must-fail ([^/\s]+)/(\S+): refused, as it must be")
@@ -45,10 +48,25 @@ def by_crate(edits):
     return groups
 
 
+def commit():
+    """Returns the commit that stands, or nothing where there is none."""
+    asked = subprocess.run(["git", "-C", TOP, "rev-parse", "HEAD"], capture_output=True)
+    return asked.stdout if asked.returncode == 0 else b""
+
+
+def within_time(edits):
+    """Returns the edits of as many crates as a run has time for, all where they are few; picked by the commit."""
+    groups = by_crate(edits)
+    taken = set()
+    for name in sorted(groups, key=lambda name: hashlib.sha256(commit() + name.encode()).hexdigest()):
+        if len(edits) <= MOST or len(taken) + len(groups[name]) <= MOST:
+            taken.update(groups[name])
+    return taken
+
+
 def sample(known):
     """Returns some edits of one crate, picked by the commit; by the sums where there is no commit."""
-    asked = subprocess.run(["git", "-C", TOP, "rev-parse", "HEAD"], capture_output=True)
-    seed = asked.stdout if asked.returncode == 0 else "".join(sorted(known.values())).encode()
+    seed = commit() or "".join(sorted(known.values())).encode()
     slices = [edits[at : at + SAMPLE] for edits in by_crate(known).values() for at in range(0, len(edits), SAMPLE)]
     return slices[int(hashlib.sha256(seed).hexdigest(), 16) % len(slices)] if slices else []
 
@@ -166,8 +184,11 @@ def main():
             stop(f"cannot tell what the edits rest on: {error!r}")
         known = {path: key for path, key in sums.items() if before.get(path) == key}
         again = [] if asked.record or asked.edits or asked.share[1] > 1 else sample(known)
-        tried = {edit for edit in chosen(sums, asked) if edit not in known or edit in again}
-        print(f"test: {len(sums)} must-fail edits: {len(tried)} tried, {len(again)} of them as a sample; {len(sums) - len(tried)} left out", flush=True)
+        wanted = {edit for edit in chosen(sums, asked) if edit not in known or edit in again}
+        has_time = asked.whole or asked.record or asked.edits or asked.share[1] > 1
+        tried = wanted if has_time else within_time(wanted)
+        late = f", {len(wanted) - len(tried)} of them for time" if tried != wanted else ""
+        print(f"test: {len(sums)} must-fail edits: {len(tried)} tried, {len({*again} & tried)} of them as a sample; {len(sums) - len(tried)} left out{late}", flush=True)
         if asked.list:
             print("".join(f"{edit}\n" for edit in sorted(tried)), end="")
             return 0
