@@ -92,6 +92,7 @@ call-cost k j old new x row e i h = subst (λ (n : ℕ). new ≤ old + asked (be
     deeper : new ≤ old + asked (begins_below whole (suc j) x)
     deeper = subst (λ (q : Rule). new ≤ old + asked (begins (begins_below whole j) q)) i h
 
-pub begin-cost : (old new : ℕ) (r : Rule) → new ≤ old + cost 20 old r → new ≤ old + begin_looks r
+-- after one look at the next token
+pub begin-cost : (old mid new : ℕ) (r : Rule) → mid ≤ old + 1 → new ≤ mid + cost 20 mid r → new ≤ old + begin_looks r
 unfolding begin_looks look_of whole
-begin-cost old new r h = h
+begin-cost old mid new r first h = omega (arith, first, h)

@@ -1,4 +1,5 @@
 pub mod Looking
+pub mod Telling
 pub mod PricesTable
 pub mod Spending
 pub mod Asking

@@ -178,9 +178,12 @@ module _ (c : Bool) (s : Reading) (m n k : ℕ) (l : Look) {a : Bool} (e : a ≡
 pub still-total : (total : ℕ) (old new : View) {looks : ℕ} → new ≡ record old { looks = looks } → total ≡ length old.input → total ≡ length new.input
 still-total total old new same h = h ∙ sym (ap (λ (v : View). length v.input) same)
 
--- the kind of the next token, and whether it touches the one after it
+-- the kind of the next token, the one that its word has, and whether it touches the one after it
 pub next-kind : (v : View) (s : Reading) (k : ℕ) → left v ≡ s.rest → k ≡ (token_at v.input (v.position + 0)).kind → k ≡ (ahead 0 s.rest).kind
 next-kind v s k e is = is ∙ ap (λ (t : Token). t.kind) (token-ahead v 0) ∙ ap (λ (ts : List Token). (ahead 0 ts).kind) e
+
+pub next-word : (v : View) (s : Reading) (k : ℕ) → left v ≡ s.rest → k ≡ (token_at v.input (v.position + 0)).contextual → k ≡ (ahead 0 s.rest).contextual
+next-word v s k e is = is ∙ ap (λ (t : Token). t.contextual) (token-ahead v 0) ∙ ap (λ (ts : List Token). (ahead 0 ts).contextual) e
 
 pub next-joint : (v : View) (s : Reading) (b : Bool) → left v ≡ s.rest → b ≡ (token_at v.input (v.position + 0)).joint → b ≡ (ahead 0 s.rest).joint
 next-joint v s b e is = is ∙ ap (λ (t : Token). t.joint) (token-ahead v 0) ∙ ap (λ (ts : List Token). (ahead 0 ts).joint) e

@@ -20,9 +20,9 @@ asked (Both a b) = asked a + asked b
 asked (Either a b) = asked a + asked b
 asked (Not a) = asked a
 
--- the most looks that tell whether a rule begins
+-- the most looks that tell whether a rule begins: one tells the kind of the next token
 unfoldable pub begin_looks : Rule → ℕ
-begin_looks a = asked (begins (look_of whole) a)
+begin_looks a = asked (begins (look_of whole) a) + 1
 
 -- at most so many more looks, or none of this can be
 abbrev pub AtMost : Option ℕ → (old new : ℕ) → Type 0

@@ -37,11 +37,11 @@ surely_takes x = false
 
 -- by rank, the most looks of another that takes no token
 abbrev pub idle_by_rank : List ℕ
-idle_by_rank = 130 ∷ 20 ∷ 50 ∷ 70 ∷ 160 ∷ 170 ∷ 180 ∷ 190 ∷ 200 ∷ 210 ∷ 220 ∷ 230 ∷ 260 ∷ 270 ∷ 280 ∷ 510 ∷ 510 ∷ 810 ∷ 0 ∷ 980 ∷ []
+idle_by_rank = 130 ∷ 30 ∷ 80 ∷ 100 ∷ 220 ∷ 230 ∷ 250 ∷ 260 ∷ 280 ∷ 290 ∷ 300 ∷ 310 ∷ 340 ∷ 350 ∷ 360 ∷ 590 ∷ 600 ∷ 900 ∷ 0 ∷ 1070 ∷ []
 
 -- by rank, the most looks of one that takes tokens, besides 4,096 for each token but one
 abbrev pub debt_by_rank : List ℕ
-debt_by_rank = 1000 ∷ 1050 ∷ 1100 ∷ 1150 ∷ 1250 ∷ 1300 ∷ 1350 ∷ 1400 ∷ 1450 ∷ 1500 ∷ 1550 ∷ 1600 ∷ 1650 ∷ 1700 ∷ 1750 ∷ 2000 ∷ 2000 ∷ 2300 ∷ 0 ∷ 3450 ∷ []
+debt_by_rank = 1100 ∷ 1150 ∷ 1200 ∷ 1250 ∷ 1400 ∷ 1450 ∷ 1500 ∷ 1550 ∷ 1600 ∷ 1650 ∷ 1700 ∷ 1750 ∷ 1800 ∷ 1850 ∷ 1900 ∷ 2150 ∷ 2200 ∷ 2500 ∷ 0 ∷ 3750 ∷ []
 
 -- Where no token is taken: None where that can't be.
 unfoldable pub idle_of : Production → Option ℕ

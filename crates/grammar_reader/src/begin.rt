@@ -1,18 +1,37 @@
 //! Where a rule begins.
 
-ghost use Rattle.std.specs.Prelude.{◌≡◌, ◌<◌, ◌≤◌, ◌+◌, ◌^◌, length};
+ghost use Rattle.std.specs.Prelude.{◌≡◌, ◌<◌, ◌≤◌, ◌+◌, ◌^◌, Bool, IfSome, length};
+ghost use Rattle.parser_input.specs.Kind.{raw_of};
 ghost use Rattle.rust_grammar.specs.Rule as rules;
 ghost use Rattle.rust_grammar.specs.Rule.{shift};
 ghost use Rattle.rust_grammar.specs.Meaning.{Reading, sees, begins_below};
 ghost use Rattle.rust_grammar.specs.Whole.{whole};
-ghost use Rattle.grammar_reader.specs.Data.{plain};
+ghost use Rattle.grammar_reader.specs.Data.{named, plain};
 ghost use Rattle.grammar_reader.specs.Looks.{asked};
-ghost use Rattle.grammar_reader.specs.Stands.{IsAt};
+ghost use Rattle.grammar_reader.specs.Stands.{IsAt, left};
+ghost use Rattle.grammar_reader.specs.Told.{IsNext};
 
+use crate::first::begins_before;
 use crate::look::{Place, is_spelled, is_there, tokens_left};
+use crate::production::Production;
 use crate::rule::Rule;
 use crate::table::{later_atoms, later_bodies, rule_of};
 use parser_events::parser::Parser;
+
+/// Whether a production begins here, if the kind of the next token alone tells.
+fn told_here(place: Place, production: Production, ahead: usize, ranks: u8) -> Option<bool>
+    ensures { IfSome result (λ answer. (c : Bool) (s : Reading) → IfSome place.next (λ kind. IsNext (raw_of kind) s.rest)
+        → answer ≡ sees c s (shift ahead (begins_below whole ranks (named production)))) }
+{
+    if ahead != 0 {
+        return None;
+    }
+    if ranks != 20 {
+        return None;
+    }
+    let kind = place.next?;
+    begins_before(production, kind)
+}
 
 /// Whether the rule begins so many tokens ahead. Of a production that is asked so many calls deep the answer is no, as in the
 /// definition.
@@ -25,6 +44,7 @@ pub fn begins(
 ) -> bool
     requires total { place.total ≡ length p.old.input }
     requires short { length p.old.input < 2 ^ 64 }
+    requires next { IfSome place.next (λ kind. IsNext (raw_of kind) (left p.old)) }
     ensures sees { (s : Reading) → IsAt place.given p.old s
         → result ≡ sees place.condition s (shift ahead (rules.begins (begins_below whole ranks) (plain rule.now))) }
     ensures same { p.new ≡ record p.old { looks = p.new.looks } }
@@ -34,6 +54,7 @@ pub fn begins(
         total: place.total,
         condition: place.condition,
         given: false,
+        next: place.next,
     };
     match rule {
         Rule::Nothing => true,
@@ -83,19 +104,26 @@ pub fn begins(
             if ranks == 0 {
                 return false;
             }
-            begins(p, anew, rule_of(*production), ahead, ranks - 1)
+            match told_here(anew, *production, ahead, ranks) {
+                Some(answer) => answer,
+                None => begins(p, anew, rule_of(*production), ahead, ranks - 1),
+            }
         }
         Rule::Continue(production) => {
             if ranks == 0 {
                 return false;
             }
-            begins(p, place, rule_of(*production), ahead, ranks - 1)
+            match told_here(place, *production, ahead, ranks) {
+                Some(answer) => answer,
+                None => begins(p, place, rule_of(*production), ahead, ranks - 1),
+            }
         }
         Rule::Mode(condition, inner) => {
             let there = Place {
                 total: place.total,
                 condition: *condition,
                 given: place.given,
+                next: place.next,
             };
             begins(p, there, inner, ahead, ranks)
         }

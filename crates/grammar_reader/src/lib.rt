@@ -5,6 +5,7 @@
 #![tactic(auto)]
 
 pub mod begin;
+pub mod first;
 pub mod look;
 mod notation;
 pub mod open;

@@ -1,12 +1,13 @@
 //! Looks at the tokens ahead.
 
-ghost use Rattle.std.specs.Prelude.{◌≡◌, ◌<◌, ◌≤◌, ◌+◌, ◌^◌, length};
+ghost use Rattle.std.specs.Prelude.{◌≡◌, ◌<◌, ◌≤◌, ◌+◌, ◌^◌, IfSome, length};
 ghost use Rattle.parser_input.specs.Kind.{raw_of};
 ghost use Rattle.rust_grammar.specs.Rule.{shift, there_at, Kind, Joint, Both};
 ghost use Rattle.rust_grammar.specs.Meaning.{Reading, sees};
 ghost use Rattle.grammar_reader.specs.Data.{plain_look, spelled};
 ghost use Rattle.grammar_reader.specs.Looks.{asked};
 ghost use Rattle.grammar_reader.specs.Stands.{IsAt, left};
+ghost use Rattle.grammar_reader.specs.Told.{IsNext};
 
 use crate::rule::{Look, Spelling};
 use parser_events::parser::Parser;
@@ -21,6 +22,20 @@ pub struct Place {
     pub condition: bool,
     /// Whether the present production gave something.
     pub given: bool,
+    /// The kind of the next token, where it is known and that is no contextual keyword.
+    pub next: Option<SyntaxKind>,
+}
+
+/// The kind of the next token, unless that is a contextual keyword.
+pub fn next_kind(p: &mut Parser<'_>) -> Option<SyntaxKind>
+    ensures next { IfSome result (λ kind. IsNext (raw_of kind) (left p.new)) }
+    ensures same { p.new ≡ record p.old { looks = p.new.looks } }
+    ensures looks { p.new.looks ≤ p.old.looks + 1 }
+{
+    match p.contextual_at(0) {
+        SyntaxKind::EOF | SyntaxKind::IDENT => Some(p.kind_at(0)),
+        _ => None,
+    }
 }
 
 /// How many tokens are left.

@@ -15,7 +15,7 @@ ghost use Rattle.grammar_reader.specs.Prices.{idle, idle_of, debt, debt_of, is_p
 ghost use Rattle.grammar_reader.specs.Stands.{Stands, left};
 
 use crate::begin::begins;
-use crate::look::{Place, tokens_left};
+use crate::look::{Place, next_kind, tokens_left};
 use crate::open::{Open, close, leave_out, skip, split, start, take, take_any, tell, wrap};
 use crate::production::Production;
 use crate::rule::Rule;
@@ -48,10 +48,12 @@ pub fn at(
     ensures same { p.new ≡ record p.old { looks = p.new.looks } }
     ensures looks { p.new.looks ≤ p.old.looks + begin_looks (plain rule.now) }
 {
+    let next = next_kind(p);
     let place = Place {
         total,
         condition,
         given,
+        next,
     };
     begins(p, place, rule, 0, 20)
 }

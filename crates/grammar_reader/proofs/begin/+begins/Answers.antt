@@ -1,7 +1,9 @@
 -- Form by form.
-use Rattle.std.proofs.Common.{ℕ, ◌+◌, ◌-◌, ◌^◌, refl, sym, ap, ◌∙◌, arith, length, min, nat_lt}
+use Rattle.std.proofs.Common.{◌≡◌, Bool, IfSome, ℕ, ◌+◌, ◌-◌, ◌^◌, refl, sym, ap, ◌∙◌, arith, length, min, nat_lt}
 use Rattle.rust_grammar.specs.Rule.{begins, shift}
-use Rattle.rust_grammar.specs.Meaning.{sees, fresh, begins_below}
+use Rattle.parser_input.specs.Kind.{raw_of}
+use Rattle.rust_grammar.specs.Meaning.{Reading, sees, fresh, begins_below}
+use Rattle.grammar_reader.specs.Told.{IsNext}
 use Rattle.rust_grammar.specs.Whole.{whole}
 use Rattle.grammar_reader.specs.Data.{plain, plain_look, named}
 use Rattle.grammar_reader.specs.Size.{size}
@@ -11,6 +13,7 @@ use Rattle.grammar_reader.proofs.Asking.{silent-cost, first-cost, second-cost, n
 use Rattle.grammar_reader.proofs.Beginning.{silent-then, first-then, no-then, second-then, no-near, both-near, first-or, second-or, no-unless, unless, in-mode, no-rank, one-rank, inside, one-less, rest-short}
 use Rattle.grammar_reader.proofs.Looking.{still-at, still-short, still-total, fresh-at}
 use Rattle.grammar_reader.proofs.Sizes.{falls-in, below-measure}
+use Rattle.grammar_reader.proofs.Telling.{answered, next-there, still-next}
 use Rattle.grammar_reader.proofs.begin.+begins.Goals as goal
 
 pub returns-then-is_silent-clause-sees : goal.returns-then-is_silent-clause-sees
@@ -105,19 +108,31 @@ pub returns-then-ranks-eq0-clause-sees : goal.returns-then-ranks-eq0-clause-sees
 unfolding begins
 returns-then-ranks-eq0-clause-sees t c s at = rw c.in-Call.is (inside c.args.place.condition s c.args.ahead (begins_below whole c.args.ranks (named c.in-Call.production)) (no-rank c.args.place.condition (fresh s) c.args.ahead c.args.ranks (named c.in-Call.production) c.if-ranks-eq0.true))
 
-pub returns-else-ranks-eq0-clause-sees : goal.returns-else-ranks-eq0-clause-sees
-unfolding begins
-returns-else-ranks-eq0-clause-sees t c s at =
+pub returns-in-Some-clause-sees : goal.returns-in-Some-clause-sees
+unfolding begins fresh
+returns-in-Some-clause-sees t c s at =
     rw c.in-Call.is (inside c.args.place.condition s c.args.ahead (begins_below whole c.args.ranks (named c.in-Call.production))
-    (one-rank c.args.place.condition (fresh s) c.args.ahead c.args.ranks (c.args.ranks - 1) (named c.in-Call.production) _ (one-less c.args.ranks c.if-ranks-eq0.false) c.rule_of.ensures.rule (c.begins-in-Call.ensures.sees (fresh s) (fresh-at at))))
+    (answered (λ (b : Bool). (d : Bool) (u : Reading) → IfSome c.args.place.next (λ k. IsNext (raw_of k) u.rest) → b ≡ sees d u (shift c.args.ahead (begins_below whole c.args.ranks (named c.in-Call.production)))) c.in-Some.is c.told_here.ensures c.args.place.condition (fresh s) (next-there c.args.place.next at.rest c.requires.next)))
+
+pub returns-in-Some-told_here-clause-sees : goal.returns-in-Some-told_here-clause-sees
+unfolding begins
+returns-in-Some-told_here-clause-sees t c s at =
+    rw c.in-Continue.is
+    (answered (λ (b : Bool). (d : Bool) (u : Reading) → IfSome c.args.place.next (λ k. IsNext (raw_of k) u.rest) → b ≡ sees d u (shift c.args.ahead (begins_below whole c.args.ranks (named c.in-Continue.production)))) c.in-Some-told_here.is c.told_here-in-Continue.ensures c.args.place.condition s (next-there c.args.place.next at.rest c.requires.next))
+
+pub returns-in-None-clause-sees : goal.returns-in-None-clause-sees
+unfolding begins
+returns-in-None-clause-sees t c s at =
+    rw c.in-Call.is (inside c.args.place.condition s c.args.ahead (begins_below whole c.args.ranks (named c.in-Call.production))
+    (one-rank c.args.place.condition (fresh s) c.args.ahead c.args.ranks (c.args.ranks - 1) (named c.in-Call.production) _ (one-less c.args.ranks c.if-ranks-eq0.false) c.rule_of.ensures.rule (c.begins-in-None.ensures.sees (fresh s) (fresh-at at))))
 
 pub returns-then-ranks-eq0-2-clause-sees : goal.returns-then-ranks-eq0-2-clause-sees
 unfolding begins
 returns-then-ranks-eq0-2-clause-sees t c s at = rw c.in-Continue.is (no-rank c.args.place.condition s c.args.ahead c.args.ranks (named c.in-Continue.production) c.if-ranks-eq0-2.true)
 
-pub returns-else-ranks-eq0-2-clause-sees : goal.returns-else-ranks-eq0-2-clause-sees
+pub returns-in-None-told_here-clause-sees : goal.returns-in-None-told_here-clause-sees
 unfolding begins
-returns-else-ranks-eq0-2-clause-sees t c s at = rw c.in-Continue.is (one-rank c.args.place.condition s c.args.ahead c.args.ranks (c.args.ranks - 1) (named c.in-Continue.production) _ (one-less c.args.ranks c.if-ranks-eq0-2.false) c.rule_of-in-Continue.ensures.rule (c.begins-in-Continue.ensures.sees s at))
+returns-in-None-told_here-clause-sees t c s at = rw c.in-Continue.is (one-rank c.args.place.condition s c.args.ahead c.args.ranks (c.args.ranks - 1) (named c.in-Continue.production) _ (one-less c.args.ranks c.if-ranks-eq0-2.false) c.rule_of-in-None-told_here.ensures.rule (c.begins-in-None-told_here.ensures.sees s at))
 
 pub returns-in-Mode-clause-sees : goal.returns-in-Mode-clause-sees
 unfolding begins
@@ -133,59 +148,59 @@ returns-in-LaterAtoms-clause-sees t c s at = rw (c.in-LaterAtoms.is, sym c.later
 
 pub begins-requires : goal.begins-requires
 unfolding size
-begins-requires t c = (below-measure c.decreases (falls-in c.in-Then.second.now c.args.rule.now c.args.ranks (omega (arith, ap (λ (d : rows.Rule). size (plain d)) c.in-Then.is))), (c.requires.total, c.requires.short))
+begins-requires t c = (below-measure c.decreases (falls-in c.in-Then.second.now c.args.rule.now c.args.ranks (omega (arith, ap (λ (d : rows.Rule). size (plain d)) c.in-Then.is))), (c.requires.total, (c.requires.short, c.requires.next)))
 
 pub begins-requires-in-Then : goal.begins-requires-in-Then
 unfolding size
-begins-requires-in-Then t c = (below-measure c.decreases (falls-in c.in-Then.first.now c.args.rule.now c.args.ranks (omega (arith, ap (λ (d : rows.Rule). size (plain d)) c.in-Then.is))), (c.requires.total, c.requires.short))
+begins-requires-in-Then t c = (below-measure c.decreases (falls-in c.in-Then.first.now c.args.rule.now c.args.ranks (omega (arith, ap (λ (d : rows.Rule). size (plain d)) c.in-Then.is))), (c.requires.total, (c.requires.short, c.requires.next)))
 
 pub begins-requires-in-Then-2 : goal.begins-requires-in-Then-2
 unfolding size
-begins-requires-in-Then-2 t c = (below-measure c.decreases (falls-in c.in-Then.second.now c.args.rule.now c.args.ranks (omega (arith, ap (λ (d : rows.Rule). size (plain d)) c.in-Then.is))), (still-total _ c.args.p.now c.begins-in-Then.new.p c.begins-in-Then.ensures.same c.requires.total, still-short c.args.p.now c.begins-in-Then.new.p c.begins-in-Then.ensures.same c.requires.short))
+begins-requires-in-Then-2 t c = (below-measure c.decreases (falls-in c.in-Then.second.now c.args.rule.now c.args.ranks (omega (arith, ap (λ (d : rows.Rule). size (plain d)) c.in-Then.is))), (still-total _ c.args.p.now c.begins-in-Then.new.p c.begins-in-Then.ensures.same c.requires.total, (still-short c.args.p.now c.begins-in-Then.new.p c.begins-in-Then.ensures.same c.requires.short, still-next _ c.args.p.now c.begins-in-Then.new.p c.begins-in-Then.ensures.same c.requires.next)))
 
 pub begins-requires-in-Near : goal.begins-requires-in-Near
 unfolding size
-begins-requires-in-Near t c = (below-measure c.decreases (falls-in c.in-Near.first.now c.args.rule.now c.args.ranks (omega (arith, ap (λ (d : rows.Rule). size (plain d)) c.in-Near.is))), (c.requires.total, c.requires.short))
+begins-requires-in-Near t c = (below-measure c.decreases (falls-in c.in-Near.first.now c.args.rule.now c.args.ranks (omega (arith, ap (λ (d : rows.Rule). size (plain d)) c.in-Near.is))), (c.requires.total, (c.requires.short, c.requires.next)))
 
 pub begins-requires-in-Near-2 : goal.begins-requires-in-Near-2
 unfolding size
-begins-requires-in-Near-2 t c = (below-measure c.decreases (falls-in c.in-Near.second.now c.args.rule.now c.args.ranks (omega (arith, ap (λ (d : rows.Rule). size (plain d)) c.in-Near.is))), (still-total _ c.args.p.now c.begins-in-Near.new.p c.begins-in-Near.ensures.same c.requires.total, still-short c.args.p.now c.begins-in-Near.new.p c.begins-in-Near.ensures.same c.requires.short))
+begins-requires-in-Near-2 t c = (below-measure c.decreases (falls-in c.in-Near.second.now c.args.rule.now c.args.ranks (omega (arith, ap (λ (d : rows.Rule). size (plain d)) c.in-Near.is))), (still-total _ c.args.p.now c.begins-in-Near.new.p c.begins-in-Near.ensures.same c.requires.total, (still-short c.args.p.now c.begins-in-Near.new.p c.begins-in-Near.ensures.same c.requires.short, still-next _ c.args.p.now c.begins-in-Near.new.p c.begins-in-Near.ensures.same c.requires.next)))
 
 pub begins-requires-in-Or : goal.begins-requires-in-Or
 unfolding size
-begins-requires-in-Or t c = (below-measure c.decreases (falls-in c.in-Or.first.now c.args.rule.now c.args.ranks (omega (arith, ap (λ (d : rows.Rule). size (plain d)) c.in-Or.is))), (c.requires.total, c.requires.short))
+begins-requires-in-Or t c = (below-measure c.decreases (falls-in c.in-Or.first.now c.args.rule.now c.args.ranks (omega (arith, ap (λ (d : rows.Rule). size (plain d)) c.in-Or.is))), (c.requires.total, (c.requires.short, c.requires.next)))
 
 pub begins-requires-in-Or-2 : goal.begins-requires-in-Or-2
 unfolding size
-begins-requires-in-Or-2 t c = (below-measure c.decreases (falls-in c.in-Or.second.now c.args.rule.now c.args.ranks (omega (arith, ap (λ (d : rows.Rule). size (plain d)) c.in-Or.is))), (still-total _ c.args.p.now c.begins-in-Or.new.p c.begins-in-Or.ensures.same c.requires.total, still-short c.args.p.now c.begins-in-Or.new.p c.begins-in-Or.ensures.same c.requires.short))
+begins-requires-in-Or-2 t c = (below-measure c.decreases (falls-in c.in-Or.second.now c.args.rule.now c.args.ranks (omega (arith, ap (λ (d : rows.Rule). size (plain d)) c.in-Or.is))), (still-total _ c.args.p.now c.begins-in-Or.new.p c.begins-in-Or.ensures.same c.requires.total, (still-short c.args.p.now c.begins-in-Or.new.p c.begins-in-Or.ensures.same c.requires.short, still-next _ c.args.p.now c.begins-in-Or.new.p c.begins-in-Or.ensures.same c.requires.next)))
 
 pub begins-requires-in-Unless : goal.begins-requires-in-Unless
 unfolding size
-begins-requires-in-Unless t c = (below-measure c.decreases (falls-in c.in-Unless.inner.now c.args.rule.now c.args.ranks (omega (arith, ap (λ (d : rows.Rule). size (plain d)) c.in-Unless.is))), (still-total _ c.args.p.now c.is_there-in-Unless.new.p c.is_there-in-Unless.ensures.same c.requires.total, still-short c.args.p.now c.is_there-in-Unless.new.p c.is_there-in-Unless.ensures.same c.requires.short))
+begins-requires-in-Unless t c = (below-measure c.decreases (falls-in c.in-Unless.inner.now c.args.rule.now c.args.ranks (omega (arith, ap (λ (d : rows.Rule). size (plain d)) c.in-Unless.is))), (still-total _ c.args.p.now c.is_there-in-Unless.new.p c.is_there-in-Unless.ensures.same c.requires.total, (still-short c.args.p.now c.is_there-in-Unless.new.p c.is_there-in-Unless.ensures.same c.requires.short, still-next _ c.args.p.now c.is_there-in-Unless.new.p c.is_there-in-Unless.ensures.same c.requires.next)))
 
 pub begins-requires-in-Opt : goal.begins-requires-in-Opt
 unfolding size
-begins-requires-in-Opt t c = (below-measure c.decreases (falls-in c.in-Opt.inner.now c.args.rule.now c.args.ranks (omega (arith, ap (λ (d : rows.Rule). size (plain d)) c.in-Opt.is))), (c.requires.total, c.requires.short))
+begins-requires-in-Opt t c = (below-measure c.decreases (falls-in c.in-Opt.inner.now c.args.rule.now c.args.ranks (omega (arith, ap (λ (d : rows.Rule). size (plain d)) c.in-Opt.is))), (c.requires.total, (c.requires.short, c.requires.next)))
 
 pub begins-requires-in-Star : goal.begins-requires-in-Star
 unfolding size
-begins-requires-in-Star t c = (below-measure c.decreases (falls-in c.in-Star.inner.now c.args.rule.now c.args.ranks (omega (arith, ap (λ (d : rows.Rule). size (plain d)) c.in-Star.is))), (c.requires.total, c.requires.short))
+begins-requires-in-Star t c = (below-measure c.decreases (falls-in c.in-Star.inner.now c.args.rule.now c.args.ranks (omega (arith, ap (λ (d : rows.Rule). size (plain d)) c.in-Star.is))), (c.requires.total, (c.requires.short, c.requires.next)))
 
 pub begins-requires-in-Node : goal.begins-requires-in-Node
 unfolding size
-begins-requires-in-Node t c = (below-measure c.decreases (falls-in c.in-Node.inner.now c.args.rule.now c.args.ranks (omega (arith, ap (λ (d : rows.Rule). size (plain d)) c.in-Node.is))), (c.requires.total, c.requires.short))
+begins-requires-in-Node t c = (below-measure c.decreases (falls-in c.in-Node.inner.now c.args.rule.now c.args.ranks (omega (arith, ap (λ (d : rows.Rule). size (plain d)) c.in-Node.is))), (c.requires.total, (c.requires.short, c.requires.next)))
 
 pub begins-requires-in-Wrap : goal.begins-requires-in-Wrap
 unfolding size
-begins-requires-in-Wrap t c = (below-measure c.decreases (falls-in c.in-Wrap.inner.now c.args.rule.now c.args.ranks (omega (arith, ap (λ (d : rows.Rule). size (plain d)) c.in-Wrap.is))), (c.requires.total, c.requires.short))
+begins-requires-in-Wrap t c = (below-measure c.decreases (falls-in c.in-Wrap.inner.now c.args.rule.now c.args.ranks (omega (arith, ap (λ (d : rows.Rule). size (plain d)) c.in-Wrap.is))), (c.requires.total, (c.requires.short, c.requires.next)))
 
 pub begins-requires-in-Want : goal.begins-requires-in-Want
 unfolding size
-begins-requires-in-Want t c = (below-measure c.decreases (falls-in c.in-Want.inner.now c.args.rule.now c.args.ranks (omega (arith, ap (λ (d : rows.Rule). size (plain d)) c.in-Want.is))), (c.requires.total, c.requires.short))
+begins-requires-in-Want t c = (below-measure c.decreases (falls-in c.in-Want.inner.now c.args.rule.now c.args.ranks (omega (arith, ap (λ (d : rows.Rule). size (plain d)) c.in-Want.is))), (c.requires.total, (c.requires.short, c.requires.next)))
 
 pub begins-requires-in-Mode : goal.begins-requires-in-Mode
 unfolding size
-begins-requires-in-Mode t c = (below-measure c.decreases (falls-in c.in-Mode.inner.now c.args.rule.now c.args.ranks (omega (arith, ap (λ (d : rows.Rule). size (plain d)) c.in-Mode.is))), (c.requires.total, c.requires.short))
+begins-requires-in-Mode t c = (below-measure c.decreases (falls-in c.in-Mode.inner.now c.args.rule.now c.args.ranks (omega (arith, ap (λ (d : rows.Rule). size (plain d)) c.in-Mode.is))), (c.requires.total, (c.requires.short, c.requires.next)))
 
 pub returns-then-is_silent-clause-looks : goal.returns-then-is_silent-clause-looks
 unfolding begins
@@ -255,13 +270,13 @@ pub returns-in-Want-clause-looks : goal.returns-in-Want-clause-looks
 unfolding begins
 returns-in-Want-clause-looks t c = rw c.in-Want.is c.begins-in-Want.ensures.looks
 
-pub returns-else-ranks-eq0-clause-looks : goal.returns-else-ranks-eq0-clause-looks
+pub returns-in-None-clause-looks : goal.returns-in-None-clause-looks
 unfolding begins
-returns-else-ranks-eq0-clause-looks t c = rw c.in-Call.is (anew-cost _ _ (call-cost c.args.ranks (c.args.ranks - 1) _ _ (named c.in-Call.production) _ (one-less c.args.ranks c.if-ranks-eq0.false) c.rule_of.ensures.rule c.begins-in-Call.ensures.looks))
+returns-in-None-clause-looks t c = rw c.in-Call.is (anew-cost _ _ (call-cost c.args.ranks (c.args.ranks - 1) _ _ (named c.in-Call.production) _ (one-less c.args.ranks c.if-ranks-eq0.false) c.rule_of.ensures.rule c.begins-in-None.ensures.looks))
 
-pub returns-else-ranks-eq0-2-clause-looks : goal.returns-else-ranks-eq0-2-clause-looks
+pub returns-in-None-told_here-clause-looks : goal.returns-in-None-told_here-clause-looks
 unfolding begins
-returns-else-ranks-eq0-2-clause-looks t c = rw c.in-Continue.is (call-cost c.args.ranks (c.args.ranks - 1) _ _ (named c.in-Continue.production) _ (one-less c.args.ranks c.if-ranks-eq0-2.false) c.rule_of-in-Continue.ensures.rule c.begins-in-Continue.ensures.looks)
+returns-in-None-told_here-clause-looks t c = rw c.in-Continue.is (call-cost c.args.ranks (c.args.ranks - 1) _ _ (named c.in-Continue.production) _ (one-less c.args.ranks c.if-ranks-eq0-2.false) c.rule_of-in-None-told_here.ensures.rule c.begins-in-None-told_here.ensures.looks)
 
 pub returns-in-Mode-clause-looks : goal.returns-in-Mode-clause-looks
 unfolding begins

@@ -1,10 +1,18 @@
 use Rattle.grammar_reader.specs.Data.{plain}
 use Rattle.grammar_reader.proofs.Asking.{begin-cost}
 use Rattle.grammar_reader.proofs.Beginning.{begun-here}
+use Rattle.grammar_reader.proofs.Looking.{still-at, still-short, still-total}
 use Rattle.grammar_reader.proofs.reader.at.Goals as goal
 
+pub begins-requires : goal.begins-requires
+begins-requires c = record {
+  total = still-total _ c.args.p.now _ c.next_kind-next.ensures.same c.requires.total;
+  short = still-short c.args.p.now _ c.next_kind-next.ensures.same c.requires.short;
+  next = c.next_kind-next.ensures.next;
+}
+
 pub returns-clause-sees : goal.returns-clause-sees
-returns-clause-sees c s below h = begun-here _ s _ (c.begins.ensures.sees s (record { rest = h.at.rest; gave = h.at.gave }))
+returns-clause-sees c s below h = begun-here _ s _ (c.begins.ensures.sees s (still-at {old = c.args.p.now} c.next_kind-next.ensures.same (record { rest = h.at.rest; gave = h.at.gave })))
 
 pub returns-clause-looks : goal.returns-clause-looks
-returns-clause-looks c = begin-cost _ _ (plain c.args.rule.now) c.begins.ensures.looks
+returns-clause-looks c = begin-cost _ _ _ (plain c.args.rule.now) c.next_kind-next.ensures.looks c.begins.ensures.looks

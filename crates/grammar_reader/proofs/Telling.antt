@@ -1,0 +1,170 @@
+-- What the kind of the next token tells is so.
+use Rattle.std.proofs.Common.{◌≡◌, ◌⊎◌, ◌+◌, ℕ, zero, suc, ◌<◌, ◌==◌, ◌&&◌, ◌||◌, Bool, true, false, not, nat_eq, nat_lt, List, [], ◌∷◌, length, Option, Some, None, IfSome, refl, sym, ap, subst, ◌∙◌, arith, inl, inr, if◌then◌else◌, true≢false}
+use Rattle.std.proofs.lemmas.Bool.{eqb-true, cases_lt, lt-ltb}
+use Rattle.parser_input.specs.Kinds.{EOF}
+use Rattle.parser_input.specs.Input.{Token}
+use Rattle.parser_input.specs.Kind.{raw_of}
+use Rattle.parser_input.specs.declared.syntax_kind.SyntaxKind.{SyntaxKind}
+use Rattle.parser_input.specs.declared.syntax_kind.SyntaxKind.TheVariants as words
+use Rattle.parser_input.specs.Recorded.{token_at}
+use Rattle.parser_events.specs.Forest as forest
+use Rattle.parser_events.specs.View.{View}
+use Rattle.grammar_reader.specs.Stands.{left}
+use Rattle.rust_grammar.specs.Rule.{Production, Look, Always, Never, Kind, Contextual, Joint, Left, InCondition, Given, Both, Either, Not, shift}
+use Rattle.rust_grammar.specs.Meaning.{Reading, ahead, sees, look_of, begins_below}
+use Rattle.rust_grammar.specs.Whole.{whole}
+use Rattle.rust_grammar.proofs.Plain.{and_l, and_r}
+use Rattle.grammar_reader.specs.Told.{IsNext, is_plain, denied, both_told, one_told, told, is_in, is_told, is_right_at, are_right}
+use Rattle.grammar_reader.proofs.Beginning.{shift-none}
+use Rattle.grammar_reader.proofs.Looking.{next-kind, next-word}
+
+abbrev pub Right : Option Bool → Bool → Type 0
+Right o x = IfSome o (λ b. x ≡ b)
+
+right-denied : (o : Option Bool) (x : Bool) → Right o x → Right (denied o) (not x)
+unfolding denied
+right-denied None x h = tt
+right-denied (Some b) x h = ap not h
+
+right-both : (o p : Option Bool) (x y : Bool) → Right o x → Right p y → Right (both_told o p) (if x then y else false)
+unfolding both_told
+right-both (Some false) p x y h i = rw h refl
+right-both (Some true) None x y h i = tt
+right-both (Some true) (Some b) x y h i = rw h i
+right-both None (Some true) x y h i = tt
+right-both None None x y h i = tt
+right-both None (Some false) x y h i = second x
+  where
+    second : (a : Bool) → (if a then y else false) ≡ false
+    second true = i
+    second false = refl
+
+right-one : (o p : Option Bool) (x y : Bool) → Right o x → Right p y → Right (one_told o p) (if x then true else y)
+unfolding one_told
+right-one (Some true) p x y h i = rw h refl
+right-one (Some false) None x y h i = tt
+right-one (Some false) (Some b) x y h i = rw h i
+right-one None (Some false) x y h i = tt
+right-one None None x y h i = tt
+right-one None (Some true) x y h i = second x
+  where
+    second : (a : Bool) → (if a then true else y) ≡ true
+    second true = refl
+    second false = i
+
+-- a token is left where its kind is not that of the end
+some-left : (k : ℕ) (ts : List Token) → (ahead 0 ts).kind ≡ k → Right (if k == EOF then None else Some true) (nat_lt 0 (length ts))
+unfolding ahead
+some-left k [] e = subst (λ (n : ℕ). Right (if n == EOF then None else Some true) false) e tt
+some-left k (t ∷ ts) e = subst (λ (b : Bool). Right (if k == EOF then None else Some true) b) (sym (lt-ltb 0 (length (t ∷ ts)) (omega arith))) (kept (k == EOF))
+  where
+    kept : (b : Bool) → Right (if b then None else Some true) true
+    kept true = tt
+    kept false = refl
+
+-- a token that is no contextual keyword is not one of another kind
+no-word : (contextual j : ℕ) → is_plain contextual ≡ true → Right (if is_plain j then None else Some false) (contextual == j)
+no-word contextual j e = cases (is_plain j) (contextual == j) refl refl
+  where
+    cases : (b d : Bool) → is_plain j ≡ b → (contextual == j) ≡ d → Right (if b then None else Some false) d
+    cases true d f g = tt
+    cases false false f g = refl
+    cases false true f g = absurd (true≢false (sym e ∙ ap is_plain (eqb-true contextual j g) ∙ f))
+
+module _ (c : Bool) (s : Reading) (k : ℕ) (next : IsNext k s.rest) where
+  pub right : (l : Look) → Right (told k l) (sees c s l)
+  unfolding told sees
+  right Always = refl
+  right Never = refl
+  right (Kind zero j) = ap (λ (n : ℕ). n == j) next.kind_is
+  right (Kind (suc n) j) = tt
+  right (Contextual zero j) = no-word (ahead 0 s.rest).contextual j next.plain
+  right (Contextual (suc n) j) = tt
+  right (Joint n) = tt
+  right Left = some-left k s.rest next.kind_is
+  right InCondition = tt
+  right Given = tt
+  right (Both a b) = right-both (told k a) (told k b) (sees c s a) (sees c s b) (right a) (right b)
+  right (Either a b) = right-one (told k a) (told k b) (sees c s a) (sees c s b) (right a) (right b)
+  right (Not a) = right-denied (told k a) (sees c s a) (right a)
+
+twenty-deep : (c : Bool) (s : Reading) (x : Production) (b : Bool) → sees c s (look_of whole x) ≡ b → sees c s (begins_below whole 20 x) ≡ b
+unfolding look_of whole
+twenty-deep c s x b e = e
+
+-- What is told of a production, of the place itself, is seen there.
+pub first-seen : (c : Bool) (s : Reading) (m ranks k : ℕ) (x : Production) (b : Bool) → m ≡ 0 → ranks ≡ 20 → IsNext k s.rest → told k (look_of whole x) ≡ Some b → b ≡ sees c s (shift m (begins_below whole ranks x))
+first-seen c s m ranks k x b e f next h =
+    subst (λ (i : ℕ). b ≡ sees c s (shift i (begins_below whole ranks x))) (sym e)
+    (subst (λ (n : ℕ). b ≡ sees c s (shift 0 (begins_below whole n x))) (sym f)
+    (sym (ap (λ (l : Look). sees c s l) (shift-none (begins_below whole 20 x))
+    ∙ twenty-deep c s x b (subst (λ (o : Option Bool). Right o (sees c s (look_of whole x))) h (right c s k next (look_of whole x))))))
+
+-- so it is of an answer that may be missing
+pub told-there :
+    (place : Option SyntaxKind) (kind : SyntaxKind) (m ranks : ℕ) (x : Production) (o : Option Bool)
+    → m ≡ 0 → ranks ≡ 20 → place ≡ Some kind → IfSome o (λ b. told (raw_of kind) (look_of whole x) ≡ Some b)
+    → IfSome o (λ b. (c : Bool) (s : Reading) → IfSome place (λ k. IsNext (raw_of k) s.rest) → b ≡ sees c s (shift m (begins_below whole ranks x)))
+told-there place kind m ranks x None e f g h = tt
+told-there place kind m ranks x (Some b) e f g h = λ c s next.
+    first-seen c s m ranks (raw_of kind) x b e f (subst (λ (q : Option SyntaxKind). IfSome q (λ k. IsNext (raw_of k) s.rest)) g next) h
+
+pub answered : (P : Bool → Type 0) {o : Option Bool} {b : Bool} → o ≡ Some b → IfSome o P → P b
+answered P e h = subst (λ (o : Option Bool). IfSome o P) e h
+
+-- the next token, by looks at it
+pub next-known :
+    (old new : View) (kind word : ℕ) {looks : ℕ} → new ≡ record old { looks = looks } → kind ≡ (token_at old.input (old.position + 0)).kind
+    → word ≡ (token_at old.input (old.position + 0)).contextual → is_plain word ≡ true → IsNext kind (left new)
+next-known old new kind word same k w e =
+    let here : Reading = record { given = forest.End; rest = left old } in
+    let known : IsNext kind (left old) = record {
+      kind_is = sym (next-kind old here kind refl k);
+      plain = ap is_plain (sym (next-word old here word refl w)) ∙ e;
+    } in
+    subst (λ (v : View). IsNext kind (left v)) (sym same) known
+
+pub plain-word : (k : SyntaxKind) → (k ≡ words.EOF) ⊎ (k ≡ words.IDENT) → is_plain (raw_of k) ≡ true
+unfolding is_plain
+plain-word k (inl e) = ap (λ (w : SyntaxKind). is_plain (raw_of w)) e
+plain-word k (inr e) = ap (λ (w : SyntaxKind). is_plain (raw_of w)) e
+
+-- The next token stays where only looks were made.
+pub still-next : (o : Option SyntaxKind) (old new : View) {looks : ℕ} → new ≡ record old { looks = looks } → IfSome o (λ k. IsNext (raw_of k) (left old)) → IfSome o (λ k. IsNext (raw_of k) (left new))
+still-next o old new same h = subst (λ (v : View). IfSome o (λ k. IsNext (raw_of k) (left v))) (sym same) h
+
+pub next-there : (o : Option SyntaxKind) {us ts : List Token} → us ≡ ts → IfSome o (λ k. IsNext (raw_of k) us) → IfSome o (λ k. IsNext (raw_of k) ts)
+next-there o e h = subst (λ (vs : List Token). IfSome o (λ k. IsNext (raw_of k) vs)) e h
+
+-- Sets that are right at each kind below a number are so at one of them.
+pub right-at : (n k sure unsure : ℕ) (l : Look) → k < n → are_right n sure unsure l ≡ true → is_right_at sure unsure k l ≡ true
+unfolding are_right
+right-at zero k sure unsure l h e = absurd (omega (arith, h))
+right-at (suc n) k sure unsure l h e = elim (cases_lt k n) [
+  | inl p ↦ right-at n k sure unsure l p (and_r (is_right_at sure unsure n l) (are_right n sure unsure l) e)
+  | inr p ↦ subst (λ (i : ℕ). is_right_at sure unsure i l ≡ true) (omega (arith, h, p)) (and_l (is_right_at sure unsure n l) (are_right n sure unsure l) e)
+]
+
+told-so : (o : Option Bool) (b : Bool) → is_told o b ≡ true → o ≡ Some b
+unfolding is_told
+told-so None b e = absurd (true≢false (sym e))
+told-so (Some true) true e = refl
+told-so (Some true) false e = absurd (true≢false (sym e))
+told-so (Some false) true e = absurd (true≢false (sym e))
+told-so (Some false) false e = refl
+
+chosen : (b x y : Bool) → b ≡ true → (if b then x else y) ≡ true → x ≡ true
+chosen true x y e h = h
+chosen false x y e h = absurd (true≢false (sym e))
+
+other : (b x y : Bool) → b ≡ false → (if b then x else y) ≡ true → y ≡ true
+other true x y e h = absurd (true≢false e)
+other false x y e h = h
+
+pub surely : (sure unsure k : ℕ) (l : Look) → k < 128 → are_right 128 sure unsure l ≡ true → is_in sure k ≡ true → told k l ≡ Some true
+unfolding is_right_at
+surely sure unsure k l h e i = told-so (told k l) true (chosen (is_in sure k) _ _ i (right-at 128 k sure unsure l h e))
+
+pub surely-not : (sure unsure k : ℕ) (l : Look) → k < 128 → are_right 128 sure unsure l ≡ true → is_in sure k ≡ false → is_in unsure k ≡ false → told k l ≡ Some false
+unfolding is_right_at
+surely-not sure unsure k l h e i j = told-so (told k l) false (other (is_in unsure k) _ _ j (other (is_in sure k) _ _ i (right-at 128 k sure unsure l h e)))

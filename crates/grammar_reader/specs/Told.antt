@@ -1,0 +1,72 @@
+-- What the kind of the next token tells of a look.
+use Rattle.std.specs.Prelude.{◌≡◌, ℕ, zero, suc, ◌/◌, ◌%◌, ◌^◌, ◌==◌, ◌||◌, ◌&&◌, Bool, true, false, not, List, Option, Some, None, if◌then◌else◌}
+use Rattle.parser_input.specs.Kinds.{EOF, IDENT}
+use Rattle.parser_input.specs.Input.{Token}
+use Rattle.rust_grammar.specs.Rule.{Look, Always, Never, Kind, Contextual, Joint, Left, InCondition, Given, Both, Either, Not}
+use Rattle.rust_grammar.specs.Meaning.{ahead}
+
+-- no word that is a contextual keyword has this as its contextual kind
+unfoldable pub is_plain : ℕ → Bool
+is_plain contextual = (contextual == EOF) || (contextual == IDENT)
+
+-- The next token has this kind, and is no contextual keyword.
+pub record IsNext (kind : ℕ) (tokens : List Token) : Type 0 where
+  pub kind_is : (ahead 0 tokens).kind ≡ kind
+  pub plain : is_plain (ahead 0 tokens).contextual ≡ true
+
+-- Answers that may be missing.
+unfoldable pub denied : Option Bool → Option Bool
+denied None = None
+denied (Some b) = Some (not b)
+
+unfoldable pub both_told : Option Bool → Option Bool → Option Bool
+both_told (Some false) b = Some false
+both_told (Some true) b = b
+both_told None (Some false) = Some false
+both_told None (Some true) = None
+both_told None None = None
+
+unfoldable pub one_told : Option Bool → Option Bool → Option Bool
+one_told (Some true) b = Some true
+one_told (Some false) b = b
+one_told None (Some true) = Some true
+one_told None (Some false) = None
+one_told None None = None
+
+-- what a look answers before a token of this kind that is no contextual keyword, where that alone tells
+unfoldable pub told : ℕ → Look → Option Bool
+told k Always = Some true
+told k Never = Some false
+told k (Kind zero j) = Some (k == j)
+told k (Kind (suc n) j) = None
+told k (Contextual zero j) = if is_plain j then None else Some false
+told k (Contextual (suc n) j) = None
+told k (Joint n) = None
+told k Left = if k == EOF then None else Some true
+told k InCondition = None
+told k Given = None
+told k (Both a b) = both_told (told k a) (told k b)
+told k (Either a b) = one_told (told k a) (told k b)
+told k (Not a) = denied (told k a)
+
+-- whether a kind is in a set, which is a number with a bit for each kind that is in it
+unfoldable pub is_in : (set kind : ℕ) → Bool
+is_in set kind = (set / 2 ^ kind) % 2 == 1
+
+unfoldable pub is_told : Option Bool → Bool → Bool
+is_told None b = false
+is_told (Some true) b = b
+is_told (Some false) b = not b
+
+-- At a kind of the first set the look is surely there, at one of the second it is open whether it is, at any other it surely is not.
+unfoldable pub is_right_at : (sure unsure kind : ℕ) → Look → Bool
+is_right_at sure unsure kind l =
+    let yes = is_told (told kind l) true in
+    let no = is_told (told kind l) false in
+    let other = if is_in unsure kind then true else no in
+    if is_in sure kind then yes else other
+
+-- so it is at each kind below this one
+unfoldable pub are_right : ℕ → (sure unsure : ℕ) → Look → Bool
+are_right zero sure unsure l = true
+are_right (suc n) sure unsure l = is_right_at sure unsure n l && are_right n sure unsure l

@@ -1,0 +1,328 @@
+//! Where productions begin, as far as the kind of the next token alone tells.
+
+ghost use Rattle.std.specs.Prelude.{◌≡◌, ◌<◌, IfSome, Some, true};
+ghost use Rattle.parser_input.specs.Kind.{raw_of};
+ghost use Rattle.rust_grammar.specs.Meaning.{look_of};
+ghost use Rattle.rust_grammar.specs.Whole.{whole};
+ghost use Rattle.grammar_reader.specs.Data.{named};
+ghost use Rattle.grammar_reader.specs.Told.{are_right, is_in, told};
+
+use crate::production::Production;
+use parser_input::syntax_kind::SyntaxKind;
+
+/// Kinds of tokens, each a bit of a number. No kind may stand in two parts of a sum.
+macro_rules! kinds {
+    ($($kind:ident)*) => { 0 $(+ (1 << (SyntaxKind::$kind as u32)))* };
+}
+
+/// The words that a segment of a path can be.
+macro_rules! refs {
+    () => { kinds!(IDENT CRATE_KW SELF_KW SELF_TYPE_KW SUPER_KW) };
+}
+
+macro_rules! literals {
+    () => { kinds!(INT_NUMBER FLOAT_NUMBER CHAR BYTE STRING BYTE_STRING C_STRING FALSE_KW TRUE_KW) };
+}
+
+macro_rules! types {
+    () => { refs!() + kinds!(L_PAREN L_BRACK BANG AMP STAR UNDERSCORE IMPL_KW DYN_KW) };
+}
+
+macro_rules! single_patterns {
+    () => { refs!() + literals!() + kinds!(L_PAREN L_BRACK MINUS AMP UNDERSCORE MUT_KW REF_KW) };
+}
+
+macro_rules! block_likes {
+    () => { kinds!(L_CURLY FOR_KW IF_KW LOOP_KW MATCH_KW UNSAFE_KW WHILE_KW) };
+}
+
+macro_rules! atoms {
+    () => {
+        refs!()
+            + literals!()
+            + block_likes!()
+            + kinds!(L_PAREN L_BRACK PIPE BREAK_KW CONTINUE_KW MOVE_KW RETURN_KW)
+    };
+}
+
+macro_rules! operands {
+    () => { atoms!() + kinds!(BANG MINUS AMP STAR) };
+}
+
+/// Before which kinds of the next token a production surely begins, and before which more tokens tell; before others it does not.
+pub struct First {
+    sure: u128,
+    unsure: u128,
+}
+
+static ANY_TOKEN: First = First {
+    sure: u128::MAX - kinds!(EOF),
+    unsure: kinds!(EOF),
+};
+
+static L_CURLY: First = First {
+    sure: kinds!(L_CURLY),
+    unsure: kinds!(),
+};
+
+static L_PAREN: First = First {
+    sure: kinds!(L_PAREN),
+    unsure: kinds!(),
+};
+
+static PUB: First = First {
+    sure: kinds!(PUB_KW),
+    unsure: kinds!(),
+};
+
+static POUND: First = First {
+    sure: kinds!(POUND),
+    unsure: kinds!(),
+};
+
+static PATH: First = First {
+    sure: refs!(),
+    unsure: kinds!(COLON),
+};
+
+static BRACKET: First = First {
+    sure: kinds!(L_PAREN L_CURLY L_BRACK),
+    unsure: kinds!(),
+};
+
+static USE_TREE: First = First {
+    sure: refs!() + kinds!(L_CURLY STAR),
+    unsure: kinds!(COLON),
+};
+
+static PATTERN: First = First {
+    sure: single_patterns!() + kinds!(PIPE),
+    unsure: kinds!(DOT COLON),
+};
+
+static NAME: First = First {
+    sure: kinds!(IDENT),
+    unsure: kinds!(),
+};
+
+static LIFETIME: First = First {
+    sure: kinds!(LIFETIME_IDENT),
+    unsure: kinds!(),
+};
+
+static NAME_REF: First = First {
+    sure: refs!(),
+    unsure: kinds!(),
+};
+
+static GENERIC_ARGS: First = First {
+    sure: kinds!(L_ANGLE),
+    unsure: kinds!(COLON),
+};
+
+static GENERIC_ARG: First = First {
+    sure: types!() + literals!() + kinds!(MINUS LIFETIME_IDENT),
+    unsure: kinds!(COLON),
+};
+
+static L_ANGLE: First = First {
+    sure: kinds!(L_ANGLE),
+    unsure: kinds!(),
+};
+
+static GENERIC_PARAM: First = First {
+    sure: kinds!(IDENT LIFETIME_IDENT),
+    unsure: kinds!(),
+};
+
+static BOUND: First = First {
+    sure: refs!() + kinds!(QUESTION LIFETIME_IDENT),
+    unsure: kinds!(COLON),
+};
+
+static WHERE: First = First {
+    sure: kinds!(WHERE_KW),
+    unsure: kinds!(),
+};
+
+static WHERE_PRED: First = First {
+    sure: types!() + kinds!(LIFETIME_IDENT),
+    unsure: kinds!(COLON),
+};
+
+static TYPE: First = First {
+    sure: types!(),
+    unsure: kinds!(COLON),
+};
+
+static ARROW: First = First {
+    sure: kinds!(),
+    unsure: kinds!(MINUS),
+};
+
+static SINGLE_PATTERN: First = First {
+    sure: single_patterns!(),
+    unsure: kinds!(DOT COLON),
+};
+
+static PATTERN_FIELD: First = First {
+    sure: kinds!(IDENT MUT_KW REF_KW),
+    unsure: kinds!(DOT INT_NUMBER),
+};
+
+static LITERAL: First = First {
+    sure: literals!(),
+    unsure: kinds!(),
+};
+
+static STATEMENT_END: First = First {
+    sure: kinds!(SEMICOLON R_CURLY),
+    unsure: kinds!(EOF),
+};
+
+static MACRO_STATEMENT_END: First = First {
+    sure: kinds!(SEMICOLON),
+    unsure: kinds!(EOF),
+};
+
+static EXPRESSION: First = First {
+    sure: operands!(),
+    unsure: kinds!(DOT COLON LET_KW),
+};
+
+static ANYWHERE: First = First {
+    sure: u128::MAX,
+    unsure: kinds!(),
+};
+
+static OPERAND: First = First {
+    sure: operands!(),
+    unsure: kinds!(COLON LET_KW),
+};
+
+static POSTFIX: First = First {
+    sure: kinds!(L_PAREN L_BRACK QUESTION),
+    unsure: kinds!(DOT),
+};
+
+static ATOM: First = First {
+    sure: atoms!(),
+    unsure: kinds!(COLON LET_KW),
+};
+
+static FIELD_VALUE: First = First {
+    sure: refs!(),
+    unsure: kinds!(DOT COLON INT_NUMBER),
+};
+
+static BLOCK_LIKE: First = First {
+    sure: block_likes!(),
+    unsure: kinds!(IDENT),
+};
+
+static IF: First = First {
+    sure: kinds!(IF_KW),
+    unsure: kinds!(),
+};
+
+/// Where a production begins. It is told of places alone whose next token is no contextual keyword.
+fn first_of(production: Production) -> &'static First
+    ensures { are_right 128 result.now.sure result.now.unsure (look_of whole (named production)) ≡ true }
+{
+    match production {
+        Production::SourceFile => &ANY_TOKEN,
+        Production::MacroItems => &ANY_TOKEN,
+        Production::MacroStatements => &ANY_TOKEN,
+        Production::Item => &ANY_TOKEN,
+        Production::Body => &ANY_TOKEN,
+        Production::AssocItems => &L_CURLY,
+        Production::Variants => &L_CURLY,
+        Production::RecordFields => &L_CURLY,
+        Production::TupleFields => &L_PAREN,
+        Production::Visibility => &PUB,
+        Production::Attribute => &POUND,
+        Production::Meta => &PATH,
+        Production::TokenTree => &BRACKET,
+        Production::UseTree => &USE_TREE,
+        Production::UseList => &L_CURLY,
+        Production::Params => &L_PAREN,
+        Production::Param => &PATTERN,
+        Production::Name => &NAME,
+        Production::Lifetime => &LIFETIME,
+        Production::NameRef => &NAME_REF,
+        Production::Path => &PATH,
+        Production::TypePath => &PATH,
+        Production::ExprPath => &PATH,
+        Production::GenericArgs => &GENERIC_ARGS,
+        Production::GenericArg => &GENERIC_ARG,
+        Production::GenericParams => &L_ANGLE,
+        Production::GenericParam => &GENERIC_PARAM,
+        Production::Bounds => &BOUND,
+        Production::Bound => &BOUND,
+        Production::WhereClause => &WHERE,
+        Production::WherePred => &WHERE_PRED,
+        Production::AnyType => &TYPE,
+        Production::RetType => &ARROW,
+        Production::Pattern => &PATTERN,
+        Production::SinglePattern => &SINGLE_PATTERN,
+        Production::PatternFields => &L_CURLY,
+        Production::PatternField => &PATTERN_FIELD,
+        Production::Literal => &LITERAL,
+        Production::StatementList => &L_CURLY,
+        Production::Block => &L_CURLY,
+        Production::Statement => &ANY_TOKEN,
+        Production::MacroStatement => &ANY_TOKEN,
+        Production::StatementEnd => &STATEMENT_END,
+        Production::MacroStatementEnd => &MACRO_STATEMENT_END,
+        Production::Expression => &EXPRESSION,
+        Production::Operation => &EXPRESSION,
+        Production::OperationTail => &ANYWHERE,
+        Production::Disjunction => &OPERAND,
+        Production::Conjunction => &OPERAND,
+        Production::Comparison => &OPERAND,
+        Production::BitOr => &OPERAND,
+        Production::BitXor => &OPERAND,
+        Production::BitAnd => &OPERAND,
+        Production::BitShift => &OPERAND,
+        Production::Sum => &OPERAND,
+        Production::Product => &OPERAND,
+        Production::Cast => &OPERAND,
+        Production::Prefixed => &OPERAND,
+        Production::Postfix => &POSTFIX,
+        Production::AfterDot => &ANYWHERE,
+        Production::Arguments => &L_PAREN,
+        Production::Atom => &ATOM,
+        Production::FieldValues => &L_CURLY,
+        Production::FieldValue => &FIELD_VALUE,
+        Production::BlockLike => &BLOCK_LIKE,
+        Production::IfExpr => &IF,
+        Production::MatchArms => &L_CURLY,
+        Production::MatchArm => &PATTERN,
+    }
+}
+
+/// Whether a kind is in a set.
+fn has(set: u128, kind: u16) -> bool
+    requires { kind < 128 }
+    ensures { result ≡ is_in set kind }
+{
+    (set >> kind) % 2 == 1
+}
+
+/// Whether a production begins before a token of this kind that is no contextual keyword, if that alone tells.
+pub fn begins_before(production: Production, kind: SyntaxKind) -> Option<bool>
+    ensures { IfSome result (λ answer. told (raw_of kind) (look_of whole (named production)) ≡ Some answer) }
+{
+    let kind = kind.to_raw();
+    if kind >= 128 {
+        return None;
+    }
+    let first = first_of(production);
+    if has(first.sure, kind) {
+        return Some(true);
+    }
+    if has(first.unsure, kind) {
+        return None;
+    }
+    Some(false)
+}
