@@ -1,5 +1,5 @@
 -- The rules of the whole grammar take no more looks than goes by their rank.
-use Rattle.std.proofs.Common.{◌≡◌, ℕ, Bool, true, false, ◌&&◌, nat_le, Option, Some, None, refl}
+use Rattle.std.proofs.Common.{◌≡◌, ◌+◌, ℕ, Bool, true, false, ◌&&◌, nat_le, Option, Some, None, refl}
 use Rattle.rust_grammar.specs.Rule.{Production, source_file, macro_items, macro_statements, item, body, assoc_items, variants, record_fields, tuple_fields, visibility, attribute, meta, token_tree, use_tree, use_list, params, param, name, lifetime, name_ref, path, type_path, expr_path, generic_args, generic_arg, generic_params, generic_param, bounds, bound, where_clause, where_pred, any_type, ret_type, pattern, single_pattern, pattern_fields, pattern_field, literal, statement_list, block, statement, macro_statement, statement_end, macro_statement_end, expression, operation, operation_tail, disjunction, conjunction, comparison, bit_or, bit_xor, bit_and, bit_shift, sum, product, cast, prefixed, postfix, after_dot, arguments, atom, field_values, field_value, block_like, if_expr, match_arms, match_arm, begins, passes, is_silent, shift, in_mode, anew, there_at}
 use Rattle.rust_grammar.specs.Notation.{row, one_of, any_of, is_longer, no_longer, longest}
 use Rattle.rust_grammar.specs.Meaning.{look_of, begins_below}
@@ -19,8 +19,9 @@ no_more None b = true
 no_more (Some m) None = false
 no_more (Some m) (Some n) = nat_le m n
 
+-- one look may tell before that a production is passed by
 unfoldable pub is_priced : Production → Bool
-is_priced x = is_paid (rule x) && no_more (idle (rule x)) (idle_of x) && nat_le (debt (rule x)) (debt_of x)
+is_priced x = is_paid (rule x) && no_more (in_turn (Some 1) (idle (rule x))) (idle_of x) && nat_le (1 + debt (rule x)) (debt_of x)
 
 pub all_priced : (x : Production) → is_priced x ≡ true
 unfolding is_priced no_more asked begin_looks surely_takes idle_of debt_of in_turn either most idle debt is_paid look_of begins_below begins passes is_silent shift in_mode anew there_at rule rank whole row one_of any_of is_longer no_longer longest paths types patterns expressions statements items

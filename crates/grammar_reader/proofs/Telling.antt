@@ -1,6 +1,6 @@
 -- What the kind of the next token tells is so.
-use Rattle.std.proofs.Common.{◌≡◌, ◌⊎◌, ◌+◌, ℕ, zero, suc, ◌<◌, ◌==◌, ◌&&◌, ◌||◌, Bool, true, false, not, nat_eq, nat_lt, List, [], ◌∷◌, length, Option, Some, None, IfSome, refl, sym, ap, subst, ◌∙◌, arith, inl, inr, if◌then◌else◌, true≢false}
-use Rattle.std.proofs.lemmas.Bool.{eqb-true, cases_lt, lt-ltb}
+use Rattle.std.proofs.Common.{◌≡◌, ◌⊎◌, ◌+◌, ℕ, zero, suc, ◌<◌, ◌==◌, ◌||◌, Bool, true, false, not, nat_lt, List, [], ◌∷◌, length, Option, Some, None, IfSome, IsTrue, refl, sym, ap, subst, ◌∙◌, arith, inl, inr, if◌then◌else◌, true≢false}
+use Rattle.std.proofs.lemmas.Bool.{eqb-true, cases_lt, lt-ltb, or_cases}
 use Rattle.parser_input.specs.Kinds.{EOF}
 use Rattle.parser_input.specs.Input.{Token}
 use Rattle.parser_input.specs.Kind.{raw_of}
@@ -10,11 +10,13 @@ use Rattle.parser_input.specs.Recorded.{token_at}
 use Rattle.parser_events.specs.Forest as forest
 use Rattle.parser_events.specs.View.{View}
 use Rattle.grammar_reader.specs.Stands.{left}
-use Rattle.rust_grammar.specs.Rule.{Production, Look, Always, Never, Kind, Contextual, Joint, Left, InCondition, Given, Both, Either, Not, shift}
-use Rattle.rust_grammar.specs.Meaning.{Reading, ahead, sees, look_of, begins_below}
-use Rattle.rust_grammar.specs.Whole.{whole}
+use Rattle.rust_grammar.specs.Rule.{Production, operation_tail, Rule, Nothing, One, Any, Then, Near, Or, Opt, Star, Node, Wrap, Want, Say, Skip, Split, When, Unless, Call, Continue, Mode, begins, Look, Always, Never, Kind, Contextual, Joint, Left, InCondition, Given, Both, Either, Not, shift}
+use Rattle.rust_grammar.specs.Meaning.{Reading, ahead, sees, read, meaning, look_of, begins_below}
+use Rattle.rust_grammar.specs.Whole.{rule, whole}
+use Rattle.rust_grammar.specs.Laws.{reads}
 use Rattle.rust_grammar.proofs.Plain.{and_l, and_r}
-use Rattle.grammar_reader.specs.Told.{IsNext, is_plain, denied, both_told, one_told, told, is_in, is_told, is_right_at, are_right}
+use Rattle.rust_grammar.proofs.WholeTable.{whole-means}
+use Rattle.grammar_reader.specs.Told.{IsNext, is_plain, denied, both_told, one_told, told, is_in, is_told, is_right_at, are_right, gives_nothing, all_give_nothing}
 use Rattle.grammar_reader.proofs.Beginning.{shift-none}
 use Rattle.grammar_reader.proofs.Looking.{next-kind, next-word}
 
@@ -168,3 +170,51 @@ surely sure unsure k l h e i = told-so (told k l) true (chosen (is_in sure k) _ 
 pub surely-not : (sure unsure k : ℕ) (l : Look) → k < 128 → are_right 128 sure unsure l ≡ true → is_in sure k ≡ false → is_in unsure k ≡ false → told k l ≡ Some false
 unfolding is_right_at
 surely-not sure unsure k l h e i j = told-so (told k l) false (other (is_in unsure k) _ _ j (other (is_in sure k) _ _ i (right-at 128 k sure unsure l h e)))
+
+-- A choice that gives nothing before a kind.
+module _ (c : Bool) (s : Reading) (k : ℕ) (next : IsNext k s.rest) where
+  pub none-given : (r : Rule) → gives_nothing k r ≡ true → reads c r s ≡ s
+  unfolding read gives_nothing
+  none-given Nothing e = refl
+  none-given (Or a b) e =
+      let no : sees c s (begins (look_of whole) a) ≡ false = subst (λ (o : Option Bool). Right o (sees c s (begins (look_of whole) a))) (told-so (told k (begins (look_of whole) a)) false (and_l (is_told (told k (begins (look_of whole) a)) false) (gives_nothing k b) e)) (right c s k next (begins (look_of whole) a)) in
+      let more = none-given b (and_r (is_told (told k (begins (look_of whole) a)) false) (gives_nothing k b) e) in
+      rw no more
+  none-given (One x) e = absurd (true≢false (sym e))
+  none-given Any e = absurd (true≢false (sym e))
+  none-given (Then a b) e = absurd (true≢false (sym e))
+  none-given (Near w a b) e = absurd (true≢false (sym e))
+  none-given (When l a) e = absurd (true≢false (sym e))
+  none-given (Unless l a) e = absurd (true≢false (sym e))
+  none-given (Opt a) e = absurd (true≢false (sym e))
+  none-given (Star a) e = absurd (true≢false (sym e))
+  none-given (Node n a) e = absurd (true≢false (sym e))
+  none-given (Wrap n a) e = absurd (true≢false (sym e))
+  none-given (Want a m) e = absurd (true≢false (sym e))
+  none-given (Say m) e = absurd (true≢false (sym e))
+  none-given (Skip m) e = absurd (true≢false (sym e))
+  none-given Split e = absurd (true≢false (sym e))
+  none-given (Call x) e = absurd (true≢false (sym e))
+  none-given (Continue x) e = absurd (true≢false (sym e))
+  none-given (Mode d a) e = absurd (true≢false (sym e))
+
+  pub tail-passed : gives_nothing k (rule operation_tail) ≡ true → meaning whole operation_tail c s ≡ s
+  tail-passed e = whole-means operation_tail c s ∙ none-given (rule operation_tail) e
+
+pub not-so : (b : Bool) → IsTrue (not b) → b ≡ false
+not-so true h = absurd (true≢false (sym h))
+not-so false h = refl
+
+nothing-at : (n k others : ℕ) (r : Rule) → k < n → all_give_nothing n others r ≡ true → (is_in others k || gives_nothing k r) ≡ true
+unfolding all_give_nothing
+nothing-at zero k others r h e = absurd (omega (arith, h))
+nothing-at (suc n) k others r h e = elim (cases_lt k n) [
+  | inl p ↦ nothing-at n k others r p (and_r (is_in others n || gives_nothing n r) (all_give_nothing n others r) e)
+  | inr p ↦ subst (λ (i : ℕ). (is_in others i || gives_nothing i r) ≡ true) (omega (arith, h, p)) (and_l (is_in others n || gives_nothing n r) (all_give_nothing n others r) e)
+]
+
+pub nothing-before : (k others : ℕ) (r : Rule) → k < 128 → all_give_nothing 128 others r ≡ true → is_in others k ≡ false → gives_nothing k r ≡ true
+nothing-before k others r h e i = elim (or_cases (is_in others k) (gives_nothing k r) (nothing-at 128 k others r h e)) [
+  | inl f ↦ absurd (true≢false (sym f ∙ i))
+  | inr f ↦ f
+]

@@ -2,8 +2,9 @@
 use Rattle.std.specs.Prelude.{◌≡◌, ℕ, zero, suc, ◌/◌, ◌%◌, ◌^◌, ◌==◌, ◌||◌, ◌&&◌, Bool, true, false, not, List, Option, Some, None, if◌then◌else◌}
 use Rattle.parser_input.specs.Kinds.{EOF, IDENT}
 use Rattle.parser_input.specs.Input.{Token}
-use Rattle.rust_grammar.specs.Rule.{Look, Always, Never, Kind, Contextual, Joint, Left, InCondition, Given, Both, Either, Not}
-use Rattle.rust_grammar.specs.Meaning.{ahead}
+use Rattle.rust_grammar.specs.Rule.{Look, Always, Never, Kind, Contextual, Joint, Left, InCondition, Given, Both, Either, Not, Rule, Nothing, Or, begins}
+use Rattle.rust_grammar.specs.Meaning.{ahead, look_of}
+use Rattle.rust_grammar.specs.Whole.{whole}
 
 -- no word that is a contextual keyword has this as its contextual kind
 unfoldable pub is_plain : ℕ → Bool
@@ -70,3 +71,14 @@ is_right_at sure unsure kind l =
 unfoldable pub are_right : ℕ → (sure unsure : ℕ) → Look → Bool
 are_right zero sure unsure l = true
 are_right (suc n) sure unsure l = is_right_at sure unsure n l && are_right n sure unsure l
+
+-- whether a choice that may give nothing gives nothing before a token of this kind
+unfoldable pub gives_nothing : ℕ → Rule → Bool
+gives_nothing k Nothing = true
+gives_nothing k (Or a b) = is_told (told k (begins (look_of whole) a)) false && gives_nothing k b
+gives_nothing k r = false
+
+-- so it is at each kind below this one that is not in the set
+unfoldable pub all_give_nothing : ℕ → (others : ℕ) → Rule → Bool
+all_give_nothing zero others r = true
+all_give_nothing (suc n) others r = (is_in others n || gives_nothing n r) && all_give_nothing n others r

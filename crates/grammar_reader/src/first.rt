@@ -1,11 +1,12 @@
 //! Where productions begin, as far as the kind of the next token alone tells.
 
-ghost use Rattle.std.specs.Prelude.{◌≡◌, ◌<◌, IfSome, Some, true};
+ghost use Rattle.std.specs.Prelude.{◌≡◌, ◌<◌, IfSome, IsTrue, Some, true};
 ghost use Rattle.parser_input.specs.Kind.{raw_of};
 ghost use Rattle.rust_grammar.specs.Meaning.{look_of};
-ghost use Rattle.rust_grammar.specs.Whole.{whole};
+ghost use Rattle.rust_grammar.specs.Rule as rules;
+ghost use Rattle.rust_grammar.specs.Whole.{rule, whole};
 ghost use Rattle.grammar_reader.specs.Data.{named};
-ghost use Rattle.grammar_reader.specs.Told.{are_right, is_in, told};
+ghost use Rattle.grammar_reader.specs.Told.{all_give_nothing, are_right, gives_nothing, is_in, told};
 
 use crate::production::Production;
 use parser_input::syntax_kind::SyntaxKind;
@@ -325,4 +326,25 @@ pub fn begins_before(production: Production, kind: SyntaxKind) -> Option<bool>
         return None;
     }
     Some(false)
+}
+
+/// The kinds before which an operation may go on, by a range or an assignment.
+static OPERATION_TAIL: u128 =
+    kinds!(DOT EQ PLUS MINUS STAR SLASH PERCENT AMP CARET PIPE L_ANGLE R_ANGLE);
+
+fn operation_tail() -> u128
+    ensures { all_give_nothing 128 result (rule rules.operation_tail) ≡ true }
+{
+    OPERATION_TAIL
+}
+
+/// Whether an operation ends before a token of this kind that is no contextual keyword.
+pub fn operation_ends_before(kind: SyntaxKind) -> bool
+    ensures { IsTrue result → gives_nothing (raw_of kind) (rule rules.operation_tail) ≡ true }
+{
+    let kind = kind.to_raw();
+    if kind >= 128 {
+        return false;
+    }
+    !has(operation_tail(), kind)
 }

@@ -1,6 +1,6 @@
 //! Reads what a rule says: one function for all forms.
 
-ghost use Rattle.std.specs.Prelude.{◌≡◌, ◌≤◌, ◌<◌, ◌+◌, ◌*◌, ◌^◌, ℕ, List, Option, IfSome, true, length};
+ghost use Rattle.std.specs.Prelude.{◌≡◌, ◌≤◌, ◌<◌, ◌+◌, ◌*◌, ◌^◌, ℕ, Bool, List, Option, IfSome, IsTrue, true, length};
 ghost use Rattle.parser_events.specs.Marked.{Marked};
 ghost use Rattle.parser_events.specs.Stack.{IsInnermost};
 ghost use Rattle.rust_grammar.specs.Rule as rules;
@@ -15,6 +15,7 @@ ghost use Rattle.grammar_reader.specs.Prices.{idle, idle_of, debt, debt_of, is_p
 ghost use Rattle.grammar_reader.specs.Stands.{Stands, left};
 
 use crate::begin::begins;
+use crate::first::operation_ends_before;
 use crate::look::{Place, next_kind, tokens_left};
 use crate::open::{Open, close, leave_out, skip, split, start, take, take_any, tell, wrap};
 use crate::production::Production;
@@ -78,6 +79,25 @@ fn ranks_below(p: &Parser<'_>, caller: Caller) -> Option<u8>
     Some(caller.ranks - 1)
 }
 
+/// Whether a production is passed by here, as the next token tells: nothing is read of it.
+fn passes_by(p: &mut Parser<'_>, production: Production) -> bool
+    ensures nothing { IsTrue result → (c : Bool) (s : Reading) → left p.old ≡ s.rest
+        → meaning whole (named production) c s ≡ s }
+    ensures tail { IsTrue result → named production ≡ rules.operation_tail }
+    ensures same { p.new ≡ record p.old { looks = p.new.looks } }
+    ensures looks { p.new.looks ≤ p.old.looks + 1 }
+{
+    match production {
+        Production::OperationTail => {
+            let Some(kind) = next_kind(p) else {
+                return false;
+            };
+            operation_ends_before(kind)
+        }
+        _ => false,
+    }
+}
+
 /// Reads a production as a continuation of the present one. How many looks it makes is bounded by its rank, and by 4,096 for each
 /// token that it takes.
 #[cycle(reader)]
@@ -103,6 +123,9 @@ pub fn production(
         → Stands node.given p.old s below → IsBegun (named production) condition s
         → Costs (idle_of (named production)) (debt_of (named production)) p.old p.new }
 {
+    if passes_by(p, production) {
+        return node;
+    }
     let began = tokens_left(p, total);
     let caller = Caller {
         began,

@@ -1,5 +1,5 @@
 -- The sets tell.
-use Rattle.std.proofs.Common.{◌≡◌, ℕ, ◌<◌, Some, true, false, sym, subst, ◌∙◌, arith}
+use Rattle.std.proofs.Common.{◌≡◌, ℕ, Some, true, false, sym, subst, ◌∙◌, arith}
 use Rattle.rust_grammar.specs.Meaning.{look_of}
 use Rattle.rust_grammar.specs.Whole.{whole}
 use Rattle.grammar_reader.specs.Data.{named}

@@ -1,5 +1,4 @@
 -- What the looks answer.
-use Rattle.parser_events.specs.View.{View}
 use Rattle.grammar_reader.proofs.Telling.{next-known, plain-word}
 use Rattle.grammar_reader.proofs.look.next_kind.Goals as goal
 

@@ -19,7 +19,7 @@ use Rattle.grammar_reader.proofs.Standing.{inside, stands-still, stands-opened, 
 use Rattle.rust_grammar.proofs.Plain.{and_l, and_r}
 use Rattle.grammar_reader.specs.Looks.{begin_looks}
 use Rattle.grammar_reader.specs.Prices.{idle, debt, is_paid, either}
-use Rattle.grammar_reader.proofs.Spending.{no-token, some-tokens, after-each-other, first-of, second-of, same-length, same-left, fewer-left, tested, tested-read, tested-alone, within, as-priced, rule-paid, turn-taken, turn-idle, turn-refused, turns-over, turn-is-paid, turns-are-paid, first-paid, second-paid, second-few}
+use Rattle.grammar_reader.proofs.Spending.{no-token, some-tokens, after-each-other, first-of, second-of, same-length, same-left, fewer-left, tested, tested-read, tested-alone, within, as-priced, rule-paid, turn-taken, turn-idle, turn-refused, turns-over, tail-passed-by, turn-is-paid, turns-are-paid, first-paid, second-paid, second-few}
 use Rattle.grammar_reader.proofs.Turning.{no-turn, last-turn, next-turn, zero-turns}
 use Rattle.grammar_reader.proofs.reader.+reader.Goals as goal
 use Rattle.grammar_reader.proofs.reader.+reader.Goals.{call-then-given, call-else-given}
@@ -49,13 +49,22 @@ call-returns-clause-reads t c = λ x s below low h b e.
       | call-else-given w ↦ subst (λ (g : Bool). Stands g c.leave_out-gave.new.p (behind s (meaning whole (named c.args.called) c.args.condition (fresh s))) below) (ap both w.if-given.false ∙ sym c.leave_out-gave.ensures.given ∙ sym w.result-is) out
     ]
 
+pub production-returns-then-passes_by-clause-reads : goal.production-returns-then-passes_by-clause-reads
+production-returns-then-passes_by-clause-reads t c = λ s below low h b.
+    subst (λ (u : Reading). Stands c.args.node.given c.passes_by.new.p u below) (sym (c.passes_by.ensures.nothing c.if-passes_by.true c.args.condition s h.at.rest)) (stands-still c.passes_by.ensures.same h)
+
+pub production-returns-then-passes_by-clause-looks : goal.production-returns-then-passes_by-clause-looks
+production-returns-then-passes_by-clause-looks t c = λ s below low h b.
+    tail-passed-by (named c.args.production) (c.passes_by.ensures.tail c.if-passes_by.true) (same-length (ap left c.passes_by.ensures.same)) c.passes_by.ensures.looks
+
 pub production-returns-clause-reads : goal.production-returns-clause-reads
 production-returns-clause-reads t c = λ s below low h b.
     let x = named c.args.production in
-    let can = row-can-read x c.args.condition s (c.tokens_left-began.ensures ∙ same-length h.at.rest) c.rule_of.ensures.rule b in
+    let still = stands-still c.passes_by.ensures.same h in
+    let can = row-can-read x c.args.condition s (c.tokens_left-began.ensures ∙ same-length still.at.rest) c.rule_of.ensures.rule b in
     subst (λ (u : Reading). Stands c.read.result.given c.read.new.p u below)
     (ap (λ (r : Rule). reads c.args.condition r s) c.rule_of.ensures.rule ∙ sym (whole-means x c.args.condition s))
-    (c.read.ensures.reads x s below low h can)
+    (c.read.ensures.reads x s below low still can)
 
 pub read-read-node-requires : goal.read-read-node-requires
 unfolding size
@@ -331,8 +340,10 @@ call-returns-clause-looks t c = λ x s below low h b e.
 pub production-returns-clause-looks : goal.production-returns-clause-looks
 production-returns-clause-looks t c = λ s below low h b.
     let x = named c.args.production in
-    let can = row-can-read x c.args.condition s (c.tokens_left-began.ensures ∙ same-length h.at.rest) c.rule_of.ensures.rule b in
-    as-priced x _ c.rule_of.ensures.rule (c.read.ensures.looks x s below low h can (rule-paid x _ c.rule_of.ensures.rule))
+    let still = stands-still c.passes_by.ensures.same h in
+    let can = row-can-read x c.args.condition s (c.tokens_left-began.ensures ∙ same-length still.at.rest) c.rule_of.ensures.rule b in
+    as-priced x _ c.rule_of.ensures.rule
+    (tested 1 (idle _) (debt _) (same-length (ap left c.passes_by.ensures.same)) c.passes_by.ensures.looks (c.read.ensures.looks x s below low still can (rule-paid x _ c.rule_of.ensures.rule)))
 
 pub read-returns-in-Nothing-clause-looks : goal.read-returns-in-Nothing-clause-looks
 unfolding idle debt
