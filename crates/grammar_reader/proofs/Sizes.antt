@@ -188,3 +188,11 @@ falls-turns a b n h = omega (arith, falls a b h)
 
 pub falls-call : (large : rows.Rule) (n : ℕ) → 0 < size (plain large) → 16384 * n + 1 < 16384 * n + 2 * weight large
 falls-call b n h = omega (arith, h)
+
+-- a part of a row, below the reading of that as a layer
+pub falls-layer : (small : rows.Rule) (n : ℕ) → size (plain small) < 2048 → 16384 * n + 2 * weight small < 16384 * n + 16382
+falls-layer a n h = omega (arith, h, least (is_reference a))
+  where
+    least : (b : Bool) → (if b then 1 else 0) ≤ 1
+    least true = omega arith
+    least false = omega arith

@@ -28,6 +28,12 @@ both-at-most None j old mid new h k = absurd h
 both-at-most (Some m) None old mid new h k = absurd k
 both-at-most (Some m) (Some n) old mid new h k = omega (arith, h, k)
 
+look-at-most : (i j : Option ℕ) (old mid next new : ℕ) → AtMost i old mid → next ≤ mid + 1 → AtMost j next new → AtMost (in_turn (Some 1) (in_turn i j)) old new
+unfolding in_turn
+look-at-most None j old mid next new h o k = absurd h
+look-at-most (Some m) None old mid next new h o k = absurd k
+look-at-most (Some m) (Some n) old mid next new h o k = omega (arith, h, o, k)
+
 then-at-most : (i : Option ℕ) (e : ℕ) (old mid : ℕ) → AtMost i old mid → mid + e ≤ old + most (in_turn i (Some e))
 unfolding in_turn most
 then-at-most None e old mid h = absurd h
@@ -80,6 +86,24 @@ after-each-other i j d e z (inr g) (inr h) =
     let more = le-max_left (d + most j) (most (in_turn i (Some e))) in
     inr (record { some = omega (arith, g.some, h.some); looks = omega (arith, g.looks, h.looks, z, more) })
 
+-- with a look between them
+pub after-each-other-look :
+    (i j : Option ℕ) (d e : ℕ) {old mid next new : View}
+    → e ≤ 4096 → Costs i d old mid → length (left next) ≡ length (left mid) → next.looks ≤ mid.looks + 1 → Costs j e next new
+    → Costs (in_turn (Some 1) (in_turn i j)) (1 + max (d + most j) (most (in_turn i (Some e)))) old new
+after-each-other-look i j d e z (inl g) same one (inl h) = inl (record { none = h.none ∙ same ∙ g.none; looks = look-at-most i j _ _ _ _ g.looks one h.looks })
+after-each-other-look i j d e z (inl g) same one (inr h) =
+    let few = then-at-most i e _ _ g.looks in
+    let more = le-max_right (d + most j) (most (in_turn i (Some e))) in
+    inr (record { some = omega (arith, g.none, same, h.some); looks = omega (arith, g.none, same, one, h.looks, few, more) })
+after-each-other-look i j d e z (inr g) same one (inl h) =
+    let few = at-most j _ _ h.looks in
+    let more = le-max_left (d + most j) (most (in_turn i (Some e))) in
+    inr (record { some = omega (arith, g.some, same, h.none); looks = omega (arith, g.looks, same, one, h.none, few, more) })
+after-each-other-look i j d e z (inr g) same one (inr h) =
+    let more = le-max_left (d + most j) (most (in_turn i (Some e))) in
+    inr (record { some = omega (arith, g.some, same, h.some); looks = omega (arith, g.looks, same, one, h.looks, z, more) })
+
 -- one or the other
 pub first-of : (i j : Option ℕ) (d e : ℕ) {old new : View} → Costs i d old new → Costs (either i j) (max d e) old new
 first-of i j d e (inl h) = inl (record { none = h.none; looks = first-at-most i j _ _ h.looks })
@@ -117,18 +141,18 @@ within {i} {d} {old} {first} {last} {new} same e same2 f (inl h) = inl (record {
 })
 within {i} {d} {old} {first} {last} {new} same e same2 f (inr h) = inr (record { some = omega (arith, same, same2, h.some); looks = omega (arith, same, e, same2, f, h.looks) })
 
--- a production, by the table, after one look
-pub as-priced : (x : Production) (r : Rule) {old new : View} → r ≡ rule x → Costs (in_turn (Some 1) (idle r)) (1 + debt r) old new → Costs (idle_of x) (debt_of x) old new
+-- a production, by the table, after two looks at most
+pub as-priced : (x : Production) (r : Rule) {old new : View} → r ≡ rule x → Costs (in_turn (Some 1) (in_turn (Some 1) (idle r))) (1 + (1 + debt r)) old new → Costs (idle_of x) (debt_of x) old new
 unfolding is_priced
-as-priced x r {old} {new} e h = priced (subst (λ (q : Rule). Costs (in_turn (Some 1) (idle q)) (1 + debt q) old new) e h)
+as-priced x r {old} {new} e h = priced (subst (λ (q : Rule). Costs (in_turn (Some 1) (in_turn (Some 1) (idle q))) (1 + (1 + debt q)) old new) e h)
   where
-    priced : Costs (in_turn (Some 1) (idle (rule x))) (1 + debt (rule x)) old new → Costs (idle_of x) (debt_of x) old new
-    priced (inl g) = inl (record { none = g.none; looks = more-at-most (in_turn (Some 1) (idle (rule x))) (idle_of x) _ _ (and_r (is_paid (rule x)) _ (and_l _ (nat_le (1 + debt (rule x)) (debt_of x)) (all_priced x))) g.looks })
-    priced (inr g) = let le = leb-true (1 + debt (rule x)) (debt_of x) (and_r (is_paid (rule x) && no_more (in_turn (Some 1) (idle (rule x))) (idle_of x)) _ (all_priced x)) in inr (record { some = g.some; looks = omega (arith, g.looks, le) })
+    priced : Costs (in_turn (Some 1) (in_turn (Some 1) (idle (rule x)))) (1 + (1 + debt (rule x))) old new → Costs (idle_of x) (debt_of x) old new
+    priced (inl g) = inl (record { none = g.none; looks = more-at-most (in_turn (Some 1) (in_turn (Some 1) (idle (rule x)))) (idle_of x) _ _ (and_r (is_paid (rule x)) _ (and_l _ (nat_le (1 + (1 + debt (rule x))) (debt_of x)) (all_priced x))) g.looks })
+    priced (inr g) = let le = leb-true (1 + (1 + debt (rule x))) (debt_of x) (and_r (is_paid (rule x) && no_more (in_turn (Some 1) (in_turn (Some 1) (idle (rule x)))) (idle_of x)) _ (all_priced x)) in inr (record { some = g.some; looks = omega (arith, g.looks, le) })
 
 pub rule-paid : (x : Production) (r : Rule) → r ≡ rule x → is_paid r ≡ true
 unfolding is_priced
-rule-paid x r e = ap is_paid e ∙ and_l (is_paid (rule x)) _ (and_l _ (nat_le (1 + debt (rule x)) (debt_of x)) (all_priced x))
+rule-paid x r e = ap is_paid e ∙ and_l (is_paid (rule x)) _ (and_l _ (nat_le (1 + (1 + debt (rule x))) (debt_of x)) (all_priced x))
 
 -- an operation's tail that is passed by
 pub tail-passed-by : (x : Production) {old new : View} → x ≡ operation_tail → length (left new) ≡ length (left old) → new.looks ≤ old.looks + 1 → Costs (idle_of x) (debt_of x) old new

@@ -16,9 +16,12 @@ use Rattle.rust_grammar.specs.Whole.{rule, whole}
 use Rattle.rust_grammar.specs.Laws.{reads}
 use Rattle.rust_grammar.proofs.Plain.{and_l, and_r}
 use Rattle.rust_grammar.proofs.WholeTable.{whole-means}
-use Rattle.grammar_reader.specs.Told.{IsNext, is_plain, denied, both_told, one_told, told, is_in, is_told, is_right_at, are_right, gives_nothing, all_give_nothing}
+use Rattle.grammar_reader.specs.Told.{IsNext, is_plain, denied, both_told, one_told, told, is_in, is_told, is_right_at, are_right, gives_nothing, all_give_nothing, ends_before, all_end_before}
 use Rattle.grammar_reader.proofs.Beginning.{shift-none}
 use Rattle.grammar_reader.proofs.Looking.{next-kind, next-word}
+use Rattle.grammar_reader.proofs.Turning.{no-turn}
+use Rattle.grammar_reader.specs.Looks.{Costs}
+use Rattle.grammar_reader.specs.Prices.{idle, debt}
 
 abbrev pub Right : Option Bool → Bool → Type 0
 Right o x = IfSome o (λ b. x ≡ b)
@@ -215,6 +218,68 @@ nothing-at (suc n) k others r h e = elim (cases_lt k n) [
 
 pub nothing-before : (k others : ℕ) (r : Rule) → k < 128 → all_give_nothing 128 others r ≡ true → is_in others k ≡ false → gives_nothing k r ≡ true
 nothing-before k others r h e i = elim (or_cases (is_in others k) (gives_nothing k r) (nothing-at 128 k others r h e)) [
+  | inl f ↦ absurd (true≢false (sym f ∙ i))
+  | inr f ↦ f
+]
+
+-- A repetition that has no turn before a kind.
+module _ (c : Bool) (s : Reading) (k : ℕ) (next : IsNext k s.rest) (a : Rule) where
+  pub layer-ended : (b : Rule) → ends_before k (Then a b) ≡ true → reads c b s ≡ s
+  unfolding read ends_before
+  layer-ended (Star b) e =
+      let no : sees c s (begins (look_of whole) b) ≡ false = subst (λ (o : Option Bool). Right o (sees c s (begins (look_of whole) b))) (told-so (told k (begins (look_of whole) b)) false e) (right c s k next (begins (look_of whole) b)) in
+      no-turn (length s.rest) c b s no
+  layer-ended Nothing e = absurd (true≢false (sym e))
+  layer-ended (One x) e = absurd (true≢false (sym e))
+  layer-ended Any e = absurd (true≢false (sym e))
+  layer-ended (Then d f) e = absurd (true≢false (sym e))
+  layer-ended (Near w d f) e = absurd (true≢false (sym e))
+  layer-ended (Or d f) e = absurd (true≢false (sym e))
+  layer-ended (When l d) e = absurd (true≢false (sym e))
+  layer-ended (Unless l d) e = absurd (true≢false (sym e))
+  layer-ended (Opt d) e = absurd (true≢false (sym e))
+  layer-ended (Node n d) e = absurd (true≢false (sym e))
+  layer-ended (Wrap n d) e = absurd (true≢false (sym e))
+  layer-ended (Want d m) e = absurd (true≢false (sym e))
+  layer-ended (Say m) e = absurd (true≢false (sym e))
+  layer-ended (Skip m) e = absurd (true≢false (sym e))
+  layer-ended Split e = absurd (true≢false (sym e))
+  layer-ended (Call x) e = absurd (true≢false (sym e))
+  layer-ended (Continue x) e = absurd (true≢false (sym e))
+  layer-ended (Mode m d) e = absurd (true≢false (sym e))
+
+pub layer-idle : (k : ℕ) (a b : Rule) (v : View) → ends_before k (Then a b) ≡ true → Costs (idle b) (debt b) v v
+unfolding ends_before idle debt
+layer-idle k a (Star b) v e = inl (record { none = refl; looks = omega arith })
+layer-idle k a Nothing v e = absurd (true≢false (sym e))
+layer-idle k a (One x) v e = absurd (true≢false (sym e))
+layer-idle k a Any v e = absurd (true≢false (sym e))
+layer-idle k a (Then d f) v e = absurd (true≢false (sym e))
+layer-idle k a (Near w d f) v e = absurd (true≢false (sym e))
+layer-idle k a (Or d f) v e = absurd (true≢false (sym e))
+layer-idle k a (When l d) v e = absurd (true≢false (sym e))
+layer-idle k a (Unless l d) v e = absurd (true≢false (sym e))
+layer-idle k a (Opt d) v e = absurd (true≢false (sym e))
+layer-idle k a (Node n d) v e = absurd (true≢false (sym e))
+layer-idle k a (Wrap n d) v e = absurd (true≢false (sym e))
+layer-idle k a (Want d m) v e = absurd (true≢false (sym e))
+layer-idle k a (Say m) v e = absurd (true≢false (sym e))
+layer-idle k a (Skip m) v e = absurd (true≢false (sym e))
+layer-idle k a Split v e = absurd (true≢false (sym e))
+layer-idle k a (Call x) v e = absurd (true≢false (sym e))
+layer-idle k a (Continue x) v e = absurd (true≢false (sym e))
+layer-idle k a (Mode m d) v e = absurd (true≢false (sym e))
+
+end-at : (n k others : ℕ) (r : Rule) → k < n → all_end_before n others r ≡ true → (is_in others k || ends_before k r) ≡ true
+unfolding all_end_before
+end-at zero k others r h e = absurd (omega (arith, h))
+end-at (suc n) k others r h e = elim (cases_lt k n) [
+  | inl p ↦ end-at n k others r p (and_r (is_in others n || ends_before n r) (all_end_before n others r) e)
+  | inr p ↦ subst (λ (i : ℕ). (is_in others i || ends_before i r) ≡ true) (omega (arith, h, p)) (and_l (is_in others n || ends_before n r) (all_end_before n others r) e)
+]
+
+pub end-before : (k others : ℕ) (r : Rule) → k < 128 → all_end_before 128 others r ≡ true → is_in others k ≡ false → ends_before k r ≡ true
+end-before k others r h e i = elim (or_cases (is_in others k) (ends_before k r) (end-at 128 k others r h e)) [
   | inl f ↦ absurd (true≢false (sym f ∙ i))
   | inr f ↦ f
 ]

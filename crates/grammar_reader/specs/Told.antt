@@ -2,7 +2,7 @@
 use Rattle.std.specs.Prelude.{◌≡◌, ℕ, zero, suc, ◌/◌, ◌%◌, ◌^◌, ◌==◌, ◌||◌, ◌&&◌, Bool, true, false, not, List, Option, Some, None, if◌then◌else◌}
 use Rattle.parser_input.specs.Kinds.{EOF, IDENT}
 use Rattle.parser_input.specs.Input.{Token}
-use Rattle.rust_grammar.specs.Rule.{Look, Always, Never, Kind, Contextual, Joint, Left, InCondition, Given, Both, Either, Not, Rule, Nothing, Or, begins}
+use Rattle.rust_grammar.specs.Rule.{Look, Always, Never, Kind, Contextual, Joint, Left, InCondition, Given, Both, Either, Not, Rule, Nothing, Or, Star, Then, begins}
 use Rattle.rust_grammar.specs.Meaning.{ahead, look_of}
 use Rattle.rust_grammar.specs.Whole.{whole}
 
@@ -82,3 +82,12 @@ gives_nothing k r = false
 unfoldable pub all_give_nothing : ℕ → (others : ℕ) → Rule → Bool
 all_give_nothing zero others r = true
 all_give_nothing (suc n) others r = (is_in others n || gives_nothing n r) && all_give_nothing n others r
+
+-- whether a repetition behind an operand has no turn before a token of this kind
+unfoldable pub ends_before : ℕ → Rule → Bool
+ends_before k (Then a (Star b)) = is_told (told k (begins (look_of whole) b)) false
+ends_before k r = false
+
+unfoldable pub all_end_before : ℕ → (others : ℕ) → Rule → Bool
+all_end_before zero others r = true
+all_end_before (suc n) others r = (is_in others n || ends_before n r) && all_end_before n others r

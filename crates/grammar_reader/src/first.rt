@@ -4,9 +4,10 @@ ghost use Rattle.std.specs.Prelude.{◌≡◌, ◌<◌, IfSome, IsTrue, Some, tr
 ghost use Rattle.parser_input.specs.Kind.{raw_of};
 ghost use Rattle.rust_grammar.specs.Meaning.{look_of};
 ghost use Rattle.rust_grammar.specs.Rule as rules;
+ghost use Rattle.rust_grammar.specs.Rule.{Rule};
 ghost use Rattle.rust_grammar.specs.Whole.{rule, whole};
 ghost use Rattle.grammar_reader.specs.Data.{named};
-ghost use Rattle.grammar_reader.specs.Told.{all_give_nothing, are_right, gives_nothing, is_in, told};
+ghost use Rattle.grammar_reader.specs.Told.{all_end_before, all_give_nothing, ends_before, are_right, gives_nothing, is_in, told};
 
 use crate::production::Production;
 use parser_input::syntax_kind::SyntaxKind;
@@ -347,4 +348,50 @@ pub fn operation_ends_before(kind: SyntaxKind) -> bool
         return false;
     }
     !has(operation_tail(), kind)
+}
+
+static PIPES: u128 = kinds!(PIPE);
+
+static AMPERSANDS: u128 = kinds!(AMP);
+
+static COMPARISON_OPERATORS: u128 = kinds!(EQ BANG L_ANGLE R_ANGLE);
+
+static BIT_XOR_OPERATORS: u128 = kinds!(CARET);
+
+static BIT_SHIFT_OPERATORS: u128 = kinds!(L_ANGLE R_ANGLE);
+
+static SUM_OPERATORS: u128 = kinds!(PLUS MINUS);
+
+static PRODUCT_OPERATORS: u128 = kinds!(STAR SLASH PERCENT);
+
+static CAST_OPERATORS: u128 = kinds!(AS_KW);
+
+/// The kinds before which a layer of operators may have another turn, if it is one.
+pub fn operators_of(production: Production) -> Option<u128>
+    ensures { IfSome result (λ others. all_end_before 128 others (rule (named production)) ≡ true) }
+{
+    match production {
+        Production::Disjunction => Some(PIPES),
+        Production::Conjunction => Some(AMPERSANDS),
+        Production::Comparison => Some(COMPARISON_OPERATORS),
+        Production::BitOr => Some(PIPES),
+        Production::BitXor => Some(BIT_XOR_OPERATORS),
+        Production::BitAnd => Some(AMPERSANDS),
+        Production::BitShift => Some(BIT_SHIFT_OPERATORS),
+        Production::Sum => Some(SUM_OPERATORS),
+        Production::Product => Some(PRODUCT_OPERATORS),
+        Production::Cast => Some(CAST_OPERATORS),
+        _ => None,
+    }
+}
+
+/// Whether a layer with these operators ends before a token of this kind that is no contextual keyword.
+pub fn layer_ends_before(operators: u128, kind: SyntaxKind) -> bool
+    ensures { IsTrue result → (r : Rule) → all_end_before 128 operators r ≡ true → ends_before (raw_of kind) r ≡ true }
+{
+    let kind = kind.to_raw();
+    if kind >= 128 {
+        return false;
+    }
+    !has(operators, kind)
 }

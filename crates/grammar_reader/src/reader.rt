@@ -1,6 +1,6 @@
 //! Reads what a rule says: one function for all forms.
 
-ghost use Rattle.std.specs.Prelude.{◌≡◌, ◌≤◌, ◌<◌, ◌+◌, ◌*◌, ◌^◌, ℕ, Bool, List, Option, IfSome, IsTrue, true, length};
+ghost use Rattle.std.specs.Prelude.{◌≡◌, ◌≤◌, ◌<◌, ◌+◌, ◌*◌, ◌^◌, ℕ, Bool, List, Option, Some, IfSome, IsTrue, true, false, length};
 ghost use Rattle.parser_events.specs.Marked.{Marked};
 ghost use Rattle.parser_events.specs.Stack.{IsInnermost};
 ghost use Rattle.rust_grammar.specs.Rule as rules;
@@ -11,11 +11,13 @@ ghost use Rattle.rust_grammar.specs.Laws.{reads};
 ghost use Rattle.grammar_reader.specs.CanRead.{CanRead, HasRank, IsBelow, is_begun};
 ghost use Rattle.grammar_reader.specs.Data.{named, plain};
 ghost use Rattle.grammar_reader.specs.Looks.{begin_looks, Costs};
-ghost use Rattle.grammar_reader.specs.Prices.{idle, idle_of, debt, debt_of, is_paid};
+ghost use Rattle.grammar_reader.specs.Prices.{in_turn, idle, idle_of, debt, debt_of, is_paid};
+ghost use Rattle.grammar_reader.specs.Size.{size};
 ghost use Rattle.grammar_reader.specs.Stands.{Stands, left};
+ghost use Rattle.grammar_reader.specs.Told.{all_end_before};
 
 use crate::begin::begins;
-use crate::first::operation_ends_before;
+use crate::first::{layer_ends_before, operation_ends_before, operators_of};
 use crate::look::{Place, next_kind, tokens_left};
 use crate::open::{Open, close, leave_out, skip, split, start, take, take_any, tell, wrap};
 use crate::production::Production;
@@ -132,7 +134,63 @@ pub fn production(
         ranks,
         total,
     };
-    read(p, node, rule_of(production), condition, caller)
+    let row = rule_of(production);
+    let Some(operators) = operators_of(production) else {
+        return read(p, node, row, condition, caller);
+    };
+    layer(p, node, row, operators, condition, caller)
+}
+
+/// Whether a layer with these operators ends here: nothing more is read of it.
+fn layer_ends(p: &mut Parser<'_>, operators: u128) -> bool
+    ensures ends { IsTrue result → (c : Bool) (s : Reading) (a b : rules.Rule) → left p.old ≡ s.rest
+        → all_end_before 128 operators (rules.Then a b) ≡ true → reads c b s ≡ s }
+    ensures idle { IsTrue result → (a b : rules.Rule) → all_end_before 128 operators (rules.Then a b) ≡ true
+        → Costs (idle b) (debt b) p.new p.new }
+    ensures same { p.new ≡ record p.old { looks = p.new.looks } }
+    ensures looks { p.new.looks ≤ p.old.looks + 1 }
+{
+    let Some(kind) = next_kind(p) else {
+        return false;
+    };
+    layer_ends_before(operators, kind)
+}
+
+/// Reads a layer of operators: its turns are not asked for where the next token is none of its operators.
+#[cycle(reader)]
+fn layer(
+    p: &mut Parser<'_>,
+    node: Open,
+    row: &'static Rule,
+    operators: u128,
+    condition: bool,
+    caller: Caller,
+) -> Open
+    requires total { caller.total ≡ length p.old.input }
+    requires short { length p.old.input < 2 ^ 64 }
+    requires few { caller.ranks ≤ 20 }
+    requires marker { IsInnermost node.marker p.old.nodes }
+    requires small { size (plain row.now) < 2048 }
+    requires operators { all_end_before 128 operators (plain row.now) ≡ true }
+    ensures input { p.new.input ≡ p.old.input }
+    ensures marker { IsInnermost result.marker p.new.nodes }
+    ensures innermost { (n : ℕ) → IsInnermost n p.old.nodes → IsInnermost n p.new.nodes }
+    ensures reads { (x : rules.Production) (s : Reading) (below : Option (List Marked)) → rank x ≤ caller.ranks
+        → Stands node.given p.old s below → CanRead x caller.began condition (plain row.now) s
+        → Stands result.given p.new (reads condition (plain row.now) s) below }
+    ensures looks { (x : rules.Production) (s : Reading) (below : Option (List Marked)) → rank x ≤ caller.ranks
+        → Stands node.given p.old s below → CanRead x caller.began condition (plain row.now) s
+        → is_paid (plain row.now) ≡ true
+        → Costs (in_turn (Some 1) (idle (plain row.now))) (1 + debt (plain row.now)) p.old p.new }
+{
+    let Rule::Then(operand, turns) = row else {
+        return read(p, node, row, condition, caller);
+    };
+    let node = read(p, node, operand, condition, caller);
+    if layer_ends(p, operators) {
+        return node;
+    }
+    read(p, node, turns, condition, caller)
 }
 
 /// Reads a production in a node that is left out in the end.

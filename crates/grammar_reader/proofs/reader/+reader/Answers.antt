@@ -1,5 +1,5 @@
 -- Form by form.
-use Rattle.std.proofs.Common.{◌≡◌, ℕ, ◌+◌, ◌*◌, ◌<◌, ◌≤◌, max, Bool, true, false, List, Option, None, refl, sym, ap, subst, ◌∙◌, arith, length, if◌then◌else◌}
+use Rattle.std.proofs.Common.{◌≡◌, Some, ℕ, ◌+◌, ◌*◌, ◌<◌, ◌≤◌, max, Bool, true, false, List, Option, None, refl, sym, ap, subst, ◌∙◌, arith, length, if◌then◌else◌}
 use Rattle.parser_events.specs.Marked.{marked}
 use Rattle.parser_events.specs.View.{View}
 use Rattle.parser_input.specs.Input.{Token}
@@ -14,12 +14,13 @@ use Rattle.grammar_reader.specs.Data.{plain, named}
 use Rattle.grammar_reader.specs.Size.{size}
 use Rattle.grammar_reader.specs.Stands.{Stands, left}
 use Rattle.grammar_reader.specs.declared.rule.Rule as rows
-use Rattle.grammar_reader.proofs.Sizes.{falls-read, falls-turns, falls-call, below-measure}
+use Rattle.grammar_reader.proofs.Sizes.{falls-read, falls-turns, falls-call, falls-layer, below-measure}
 use Rattle.grammar_reader.proofs.Standing.{inside, stands-still, stands-opened, stands-closed, stands-left-out, still-innermost, total-still, short-still}
 use Rattle.rust_grammar.proofs.Plain.{and_l, and_r}
 use Rattle.grammar_reader.specs.Looks.{begin_looks}
-use Rattle.grammar_reader.specs.Prices.{idle, debt, is_paid, either}
-use Rattle.grammar_reader.proofs.Spending.{no-token, some-tokens, after-each-other, first-of, second-of, same-length, same-left, fewer-left, tested, tested-read, tested-alone, within, as-priced, rule-paid, turn-taken, turn-idle, turn-refused, turns-over, tail-passed-by, turn-is-paid, turns-are-paid, first-paid, second-paid, second-few}
+use Rattle.grammar_reader.specs.Prices.{in_turn, idle, debt, is_paid, either}
+use Rattle.grammar_reader.specs.Told.{all_end_before}
+use Rattle.grammar_reader.proofs.Spending.{no-token, some-tokens, after-each-other, after-each-other-look, first-of, second-of, same-length, same-left, fewer-left, tested, tested-read, tested-alone, within, as-priced, rule-paid, turn-taken, turn-idle, turn-refused, turns-over, tail-passed-by, turn-is-paid, turns-are-paid, first-paid, second-paid, second-few}
 use Rattle.grammar_reader.proofs.Turning.{no-turn, last-turn, next-turn, zero-turns}
 use Rattle.grammar_reader.proofs.reader.+reader.Goals as goal
 use Rattle.grammar_reader.proofs.reader.+reader.Goals.{call-then-given, call-else-given}
@@ -61,10 +62,64 @@ pub production-returns-clause-reads : goal.production-returns-clause-reads
 production-returns-clause-reads t c = λ s below low h b.
     let x = named c.args.production in
     let still = stands-still c.passes_by.ensures.same h in
-    let can = row-can-read x c.args.condition s (c.tokens_left-began.ensures ∙ same-length still.at.rest) c.rule_of.ensures.rule b in
+    let can = row-can-read x c.args.condition s (c.tokens_left-began.ensures ∙ same-length still.at.rest) c.rule_of-row.ensures.rule b in
+    subst (λ (u : Reading). Stands c.layer.result.given c.layer.new.p u below)
+    (ap (λ (r : Rule). reads c.args.condition r s) c.rule_of-row.ensures.rule ∙ sym (whole-means x c.args.condition s))
+    (c.layer.ensures.reads x s below low still can)
+
+pub production-returns-in_default-clause-reads : goal.production-returns-in_default-clause-reads
+production-returns-in_default-clause-reads t c = λ s below low h b.
+    let x = named c.args.production in
+    let still = stands-still c.passes_by.ensures.same h in
+    let can = row-can-read x c.args.condition s (c.tokens_left-began.ensures ∙ same-length still.at.rest) c.rule_of-row.ensures.rule b in
     subst (λ (u : Reading). Stands c.read.result.given c.read.new.p u below)
-    (ap (λ (r : Rule). reads c.args.condition r s) c.rule_of.ensures.rule ∙ sym (whole-means x c.args.condition s))
+    (ap (λ (r : Rule). reads c.args.condition r s) c.rule_of-row.ensures.rule ∙ sym (whole-means x c.args.condition s))
     (c.read.ensures.reads x s below low still can)
+
+pub layer-read-node-requires : goal.layer-read-node-requires
+unfolding size
+layer-read-node-requires t c =
+    (below-measure c.decreases (falls-layer c.in-Then.operand.now (32 * c.args.caller.began + c.args.caller.ranks) (omega (arith, ap (λ (d : rows.Rule). size (plain d)) c.in-Then.is, c.requires.small))), (c.requires.total, (c.requires.short, (c.requires.few, c.requires.marker))))
+
+pub layer-read-requires-2 : goal.layer-read-requires-2
+unfolding size
+layer-read-requires-2 t c =
+    let input = ap (λ (v : View). v.input) c.layer_ends.ensures.same ∙ c.read-node.ensures.input in
+    (below-measure c.decreases (falls-layer c.in-Then.turns.now (32 * c.args.caller.began + c.args.caller.ranks) (omega (arith, ap (λ (d : rows.Rule). size (plain d)) c.in-Then.is, c.requires.small))), (total-still _ _ _ input c.requires.total, (short-still _ _ input c.requires.short, (c.requires.few, still-innermost _ c.read-node.new.p c.layer_ends.new.p c.layer_ends.ensures.same c.read-node.ensures.marker))))
+
+pub layer-returns-in_default-clause-looks : goal.layer-returns-in_default-clause-looks
+layer-returns-in_default-clause-looks t c = λ x s below low h can paid. tested 1 (idle _) (debt _) refl (omega arith) (c.read.ensures.looks x s below low h can paid)
+
+pub layer-returns-then-layer_ends-clause-reads : goal.layer-returns-then-layer_ends-clause-reads
+unfolding read
+layer-returns-then-layer_ends-clause-reads t c = rw c.in-Then.is (λ x s below low h can.
+    let first = c.read-node.ensures.reads x s below low h can.0 in
+    let all = subst (λ (d : rows.Rule). all_end_before 128 c.args.operators (plain d) ≡ true) c.in-Then.is c.requires.operators in
+    subst (λ (u : Reading). Stands c.read-node.result.given c.layer_ends.new.p u below)
+    (sym (c.layer_ends.ensures.ends c.if-layer_ends.true c.args.condition _ (plain c.in-Then.operand.now) (plain c.in-Then.turns.now) first.at.rest all)) (stands-still c.layer_ends.ensures.same first))
+
+pub layer-returns-clause-reads : goal.layer-returns-clause-reads
+unfolding read
+layer-returns-clause-reads t c = rw c.in-Then.is (λ x s below low h can.
+    c.read-2.ensures.reads x _ below low (stands-still c.layer_ends.ensures.same (c.read-node.ensures.reads x s below low h can.0)) can.1)
+
+pub layer-returns-then-layer_ends-clause-looks : goal.layer-returns-then-layer_ends-clause-looks
+unfolding read idle debt is_paid
+layer-returns-then-layer_ends-clause-looks t c = rw c.in-Then.is (λ x s below low h can paid.
+    let a = plain c.in-Then.operand.now in
+    let b = plain c.in-Then.turns.now in
+    let all = subst (λ (d : rows.Rule). all_end_before 128 c.args.operators (plain d) ≡ true) c.in-Then.is c.requires.operators in
+    after-each-other-look (idle a) (idle b) (debt a) (debt b) (second-few a b paid) (c.read-node.ensures.looks x s below low h can.0 (first-paid a b paid))
+    (same-length (ap left c.layer_ends.ensures.same)) c.layer_ends.ensures.looks (c.layer_ends.ensures.idle c.if-layer_ends.true a b all))
+
+pub layer-returns-clause-looks : goal.layer-returns-clause-looks
+unfolding read idle debt is_paid
+layer-returns-clause-looks t c = rw c.in-Then.is (λ x s below low h can paid.
+    let a = plain c.in-Then.operand.now in
+    let b = plain c.in-Then.turns.now in
+    let first = c.read-node.ensures.reads x s below low h can.0 in
+    after-each-other-look (idle a) (idle b) (debt a) (debt b) (second-few a b paid) (c.read-node.ensures.looks x s below low h can.0 (first-paid a b paid))
+    (same-length (ap left c.layer_ends.ensures.same)) c.layer_ends.ensures.looks (c.read-2.ensures.looks x _ below low (stands-still c.layer_ends.ensures.same first) can.1 (second-paid a b paid)))
 
 pub read-read-node-requires : goal.read-read-node-requires
 unfolding size
@@ -341,9 +396,18 @@ pub production-returns-clause-looks : goal.production-returns-clause-looks
 production-returns-clause-looks t c = λ s below low h b.
     let x = named c.args.production in
     let still = stands-still c.passes_by.ensures.same h in
-    let can = row-can-read x c.args.condition s (c.tokens_left-began.ensures ∙ same-length still.at.rest) c.rule_of.ensures.rule b in
-    as-priced x _ c.rule_of.ensures.rule
-    (tested 1 (idle _) (debt _) (same-length (ap left c.passes_by.ensures.same)) c.passes_by.ensures.looks (c.read.ensures.looks x s below low still can (rule-paid x _ c.rule_of.ensures.rule)))
+    let can = row-can-read x c.args.condition s (c.tokens_left-began.ensures ∙ same-length still.at.rest) c.rule_of-row.ensures.rule b in
+    as-priced x _ c.rule_of-row.ensures.rule
+    (tested 1 (in_turn (Some 1) (idle _)) (1 + debt _) (same-length (ap left c.passes_by.ensures.same)) c.passes_by.ensures.looks (c.layer.ensures.looks x s below low still can (rule-paid x _ c.rule_of-row.ensures.rule)))
+
+pub production-returns-in_default-clause-looks : goal.production-returns-in_default-clause-looks
+production-returns-in_default-clause-looks t c = λ s below low h b.
+    let x = named c.args.production in
+    let still = stands-still c.passes_by.ensures.same h in
+    let can = row-can-read x c.args.condition s (c.tokens_left-began.ensures ∙ same-length still.at.rest) c.rule_of-row.ensures.rule b in
+    as-priced x _ c.rule_of-row.ensures.rule
+    (tested 1 (in_turn (Some 1) (idle _)) (1 + debt _) (same-length (ap left c.passes_by.ensures.same)) c.passes_by.ensures.looks
+    (tested 1 (idle _) (debt _) {old = c.passes_by.new.p} {mid = c.passes_by.new.p} refl (omega arith) (c.read.ensures.looks x s below low still can (rule-paid x _ c.rule_of-row.ensures.rule))))
 
 pub read-returns-in-Nothing-clause-looks : goal.read-returns-in-Nothing-clause-looks
 unfolding idle debt

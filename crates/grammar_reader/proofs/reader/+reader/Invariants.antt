@@ -11,6 +11,9 @@ use Rattle.grammar_reader.proofs.reader.+reader.Given as goal
 abbrev pub decreases-production : goal.decreases-production
 decreases-production l = 16384 * (32 * length (left l.p.now) + l.ranks) + 16383
 
+abbrev pub decreases-layer : goal.decreases-layer
+decreases-layer l = 16384 * (32 * l.caller.began + l.caller.ranks) + 16382
+
 abbrev pub decreases-call : goal.decreases-call
 decreases-call l = 16384 * (32 * l.caller.began + l.caller.ranks) + 1
 
