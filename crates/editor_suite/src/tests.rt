@@ -4,6 +4,7 @@ mod doing;
 mod levels;
 mod merge;
 mod spaced;
+mod told;
 mod tree;
 
 use crate::tests::copy::edited_copy;
@@ -11,6 +12,7 @@ use crate::tests::doing::{Do, Gap, answer, found_text};
 use crate::tests::levels::{between, has_level};
 use crate::tests::merge::{merged, unmerged};
 use crate::tests::spaced::spaced;
+use crate::tests::told::told;
 use crate::tests::tree::Tree;
 use parser_input::SyntaxKind;
 use std::alloc::Global;
@@ -390,5 +392,15 @@ fn white_space_takes_numbers(rt: HostRuntime) -> Result<(), Fail> {
     let mut ids = TreeIds::starting_at(4_294_967_294);
     let answer = spaced(rt.alloc(), &mut ids, Tree::Args, gap(2), &["A"])?;
     assert!(rt; answer.as_str() == "no tree number is left", "{answer}");
+    Ok(())
+}
+
+#[test]
+fn edits_tell_of_their_elements(rt: HostRuntime) -> Result<(), Fail> {
+    let told = told(rt.alloc())?;
+    let expected = " 1..2 4..5; 1..2 4..5; 2..3;; 1..2 put 4..5 put 2..3 comma";
+    let is_told = told.as_str() == expected;
+    drop(told);
+    assert!(rt; is_told);
     Ok(())
 }

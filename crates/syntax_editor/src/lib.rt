@@ -5,10 +5,12 @@
 
 pub mod again;
 pub mod annotation;
+pub mod edit;
 pub mod editor;
 pub mod error;
 pub mod factory;
 pub mod find;
+mod groups;
 pub mod indent_level;
 pub mod make_error;
 pub mod merging;
@@ -20,11 +22,11 @@ pub mod target;
 pub mod whitespace;
 
 pub use annotation::{Annotations, SyntaxAnnotation};
+pub use edit::SyntaxEdit;
 pub use editor::SyntaxEditor;
 pub use error::{FinishError, MergeError, RecordError, RewriteError, WhitespaceError};
 pub use factory::SyntaxFactory;
 pub use indent_level::IndentLevel;
 pub use make_error::MakeError;
 pub use merging::Unmerged;
-pub use rewriting::SyntaxEdit;
 pub use whitespace::Space;
