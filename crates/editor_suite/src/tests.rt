@@ -6,6 +6,7 @@ mod merge;
 mod spaced;
 mod told;
 mod tree;
+mod typed;
 
 use crate::tests::copy::edited_copy;
 use crate::tests::doing::{Do, Gap, answer, found_text};
@@ -14,6 +15,7 @@ use crate::tests::merge::{merged, unmerged};
 use crate::tests::spaced::spaced;
 use crate::tests::told::told;
 use crate::tests::tree::Tree;
+use crate::tests::typed::{casts, typed_copy};
 use parser_input::SyntaxKind;
 use std::alloc::Global;
 use std::test::Fail;
@@ -403,4 +405,24 @@ fn edits_tell_of_their_elements(rt: HostRuntime) -> Result<(), Fail> {
     drop(told);
     assert!(rt; is_told);
     Ok(())
+}
+
+#[test]
+fn typed_nodes_are_edited_as_copies(rt: HostRuntime) -> Result<(), Fail> {
+    let copy = typed_copy(rt.alloc())?;
+    let is_copy = copy.as_str() == "2 {\n\n        a\n   } true";
+    drop(copy);
+    assert!(rt; is_copy);
+    Ok(())
+}
+
+#[test]
+fn kinds_have_one_type_each(rt: HostRuntime) {
+    assert!(rt; casts(SyntaxKind::SOURCE_FILE) == [true, false, false, false, false, false]);
+    assert!(rt; casts(SyntaxKind::STRUCT) == [false, true, false, false, false, false]);
+    assert!(rt; casts(SyntaxKind::FN) == [false, false, true, false, false, false]);
+    assert!(rt; casts(SyntaxKind::USE) == [false, false, false, true, false, false]);
+    assert!(rt; casts(SyntaxKind::ITEM_LIST) == [false, false, false, false, true, false]);
+    assert!(rt; casts(SyntaxKind::STMT_LIST) == [false, false, false, false, false, true]);
+    assert!(rt; casts(SyntaxKind::ENUM) == [false, false, false, false, false, false]);
 }
