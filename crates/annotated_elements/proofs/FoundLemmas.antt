@@ -11,8 +11,9 @@ use Rattle.rowan.specs.declared.utility_types.WalkEvent.TheVariants.{Enter, Leav
 use Rattle.syntax_tree.specs.Element.{Way, Element, element_at, same_element}
 use Rattle.syntax_tree.specs.Handle.{element_of, with_cursor}
 use Rattle.syntax_tree.specs.Search.{elements}
-use Rattle.tree_rewrite.specs.Marked.{Marked, nothing, inner, token, Mark, forest_in, origins, if_put, changed_from, changed}
+use Rattle.tree_rewrite.specs.Marked.{Marked, nothing, inner, token, Mark, forest_in, origins, put_marks, if_put, changed_from, changed}
 use Rattle.tree_rewrite.specs.Fits.{IsNode}
+use Rattle.annotated_elements.specs.Changed.{ArePutMarks}
 use Rattle.annotated_elements.specs.Found.{marks_from, marks, picked, found, AreOrigins}
 use Rattle.annotated_elements.proofs.PickLemmas.{if_picked, picked-more, picked-append, picked-map, picked-pairs}
 
@@ -120,3 +121,39 @@ pub changed_agree : (m : Marked) → changed m ≡ picked (λ k. k.put) (marks m
 changed_agree nothing = refl
 changed_agree (inner m k f r) = one_put m [] _ (marks_from f [] 0) (changed-marks f [] 0)
 changed_agree (token m l r) = one_put m [] [] [] refl
+
+-- ---- what is picked by its mark
+abbrev put_in : List (Way × Mark) → List Bool
+put_in ks = map (λ x. x.1.put) ks
+
+marks-put : (m : Marked) (w : Way) (i : ℕ) → put_marks m ≡ put_in (marks_from m w i)
+marks-put nothing w i = refl
+marks-put (inner m k f r) w i =
+    ap (λ l. m.put ∷ l)
+    ((λ j. marks-put f (i ∷ w) 0 j ++ marks-put r w (i + 1) j)
+    ∙ sym (map-append (λ x. x.1.put) (marks_from f (i ∷ w) 0) (marks_from r w (i + 1))))
+marks-put (token m l r) w i = ap (λ l. m.put ∷ l) (marks-put r w (i + 1))
+
+none_else : (r : Marked) → forest_in r ≡ empty → put_marks r ≡ []
+none_else nothing h = refl
+none_else (inner m k f r) h = cc
+none_else (token m l r) h = cc
+
+put_agree : (m : Marked) (t : Tree) → IsNode m t → put_marks m ≡ put_in (marks m)
+put_agree nothing t h = cc
+put_agree (token m l r) t h = cc
+put_agree (inner m k f r) t h =
+    let behind : forest_in r ≡ empty = cc in
+    ap (λ l. m.put ∷ l) (ap (λ l. put_marks f ++ l) (none_else r behind) ∙ append-nil (put_marks f) ∙ marks-put f [] 0)
+
+pub changed_beside : (m : Marked) (root : Element) (bs : List Bool) → ArePutMarks m root bs
+    → map element_of (picked (λ b. b) (zip (elements root) bs)) ≡ map (element_at root.number root.place.root) (changed m)
+changed_beside m root bs h =
+    let t = root.place.root in
+    let n = root.number in
+    let both = origins_agree m t n h.tree in
+    let is_root : root ≡ element_at n t [] = λ i. element_at n t (h.top i) in
+    picked-map (λ (b : Bool). b) element_of (elements root) bs
+    ∙ (λ i. picked (λ b. b) (zip ((ap (λ r. map element_of (elements r)) is_root ∙ both.0) i) ((h.marks ∙ put_agree m t h.tree) i)))
+    ∙ picked-pairs (λ (b : Bool). b) (element_at n t) (λ k. k.put) (marks m)
+    ∙ ap (map (element_at n t)) (sym (changed_agree m))

@@ -41,7 +41,7 @@ fn is_at(element: &SyntaxElement, tree: u32, way: &[usize]) -> Result<bool, Allo
 }
 
 /// Adds an element, if told so.
-fn push_if(
+pub(crate) fn push_if(
     is_there: bool,
     element: SyntaxElement,
     to: &mut Vec<SyntaxElement>,

@@ -5,6 +5,7 @@
 #![tactic(auto)]
 
 pub mod annotated;
+pub mod changed;
 pub mod following;
 pub mod found;
 pub mod laws;

@@ -4,14 +4,18 @@ mod doing;
 mod levels;
 mod merge;
 mod spaced;
+mod told;
 mod tree;
+mod typed;
 
 use crate::tests::copy::edited_copy;
 use crate::tests::doing::{Do, Gap, answer, found_text};
 use crate::tests::levels::{between, has_level};
 use crate::tests::merge::{merged, unmerged};
 use crate::tests::spaced::spaced;
+use crate::tests::told::told;
 use crate::tests::tree::Tree;
+use crate::tests::typed::{casts, typed_copy};
 use parser_input::SyntaxKind;
 use std::alloc::Global;
 use std::test::Fail;
@@ -391,4 +395,34 @@ fn white_space_takes_numbers(rt: HostRuntime) -> Result<(), Fail> {
     let answer = spaced(rt.alloc(), &mut ids, Tree::Args, gap(2), &["A"])?;
     assert!(rt; answer.as_str() == "no tree number is left", "{answer}");
     Ok(())
+}
+
+#[test]
+fn edits_tell_of_their_elements(rt: HostRuntime) -> Result<(), Fail> {
+    let told = told(rt.alloc())?;
+    let expected = " 1..2 4..5; 1..2 4..5; 2..3;; 1..2 put 4..5 put 2..3 comma";
+    let is_told = told.as_str() == expected;
+    drop(told);
+    assert!(rt; is_told);
+    Ok(())
+}
+
+#[test]
+fn typed_nodes_are_edited_as_copies(rt: HostRuntime) -> Result<(), Fail> {
+    let copy = typed_copy(rt.alloc())?;
+    let is_copy = copy.as_str() == "2 {\n\n        a\n   } true";
+    drop(copy);
+    assert!(rt; is_copy);
+    Ok(())
+}
+
+#[test]
+fn kinds_have_one_type_each(rt: HostRuntime) {
+    assert!(rt; casts(SyntaxKind::SOURCE_FILE) == [true, false, false, false, false, false]);
+    assert!(rt; casts(SyntaxKind::STRUCT) == [false, true, false, false, false, false]);
+    assert!(rt; casts(SyntaxKind::FN) == [false, false, true, false, false, false]);
+    assert!(rt; casts(SyntaxKind::USE) == [false, false, false, true, false, false]);
+    assert!(rt; casts(SyntaxKind::ITEM_LIST) == [false, false, false, false, true, false]);
+    assert!(rt; casts(SyntaxKind::STMT_LIST) == [false, false, false, false, false, true]);
+    assert!(rt; casts(SyntaxKind::ENUM) == [false, false, false, false, false, false]);
 }

@@ -2,10 +2,10 @@
 ghost use Rattle.std.specs.Prelude.{◌≡◌, ◌≤◌, [], reverse, IfOk, IsSome, Some};
 ghost use Rattle.rowan_green.specs.Forest.{Tree};
 ghost use Rattle.rowan_green.specs.declared.utility_types.NodeOrToken.TheVariants.{Node, Token};
-ghost use Rattle.rowan.specs.Place.{Place, above, term_at, kind_at, text_at, start_of, end_of, index_of, top_of};
+ghost use Rattle.rowan.specs.Place.{Place, above, below, term_at, kind_at, text_at, start_of, end_of, index_of, top_of};
 ghost use Rattle.rowan.specs.Ranges.{child_at_range, LeadsTo};
 ghost use Rattle.rowan.specs.Leaves.{tokens_in, tokens_after, tokens_before};
-ghost use Rattle.rowan.specs.Around.{Cursor, children, children_back, siblings_after, siblings_before, nodes, first};
+ghost use Rattle.rowan.specs.Around.{Cursor, cursor_at, children, children_back, siblings_after, siblings_before, nodes, first};
 
 use crate::cursor;
 use crate::language::Language;
@@ -145,6 +145,17 @@ impl<L: Language> SyntaxNode<L> {
         ensures { IfOk result (λ r. r ≡ first (children self.now)) }
     {
         Ok(element_of(self.cursor.first_child_or_token(alloc)?))
+    }
+
+    /// The child of this number, counted from 0, nodes and tokens alike. No cursor is made for those before it.
+    pub fn nth_child_or_token(
+        &self,
+        alloc: Global,
+        number: usize,
+    ) -> Result<Option<SyntaxElement<L>>, AllocError>
+        ensures { IfOk result (λ r. r ≡ cursor_at (below self.now number)) }
+    {
+        Ok(element_of(self.cursor.nth_child_or_token(alloc, number)?))
     }
 
     /// The last child, node or token.

@@ -3,7 +3,7 @@
 ghost use Rattle.std.specs.Prelude.{◌≡◌, ◌+◌, ◌<◌, ◌≤◌, ◌^◌, length, IfOk, OnErr, IsSome};
 ghost use Rattle.std.specs.Option.{option_copied};
 ghost use Rattle.rowan.specs.Place.{above, below, terms_below, start_of, end_of, index_of, top_of};
-ghost use Rattle.rowan.specs.Around.{place_in, children, children_back, children_before, children_from, siblings_after, siblings_before, nodes, first};
+ghost use Rattle.rowan.specs.Around.{cursor_at, place_in, children, children_back, children_before, children_from, siblings_after, siblings_before, nodes, first};
 
 use crate::cursor::{SyntaxElement, SyntaxNode, SyntaxToken};
 use rowan_green::NodeOrToken;
@@ -14,6 +14,31 @@ impl SyntaxNode {
         ensures { IfOk result (λ r. r ≡ first (children self.now)) }
     {
         self.child(alloc, 0, self.start())
+    }
+
+    /// The child of this number, if there are so many. Adds up the lengths of those before it.
+    pub fn nth_child_or_token(
+        &self,
+        alloc: Global,
+        number: usize,
+    ) -> Result<Option<SyntaxElement>, AllocError>
+        ensures { IfOk result (λ r. r ≡ cursor_at (below self.now number)) }
+    {
+        let green = self.green();
+        if green.child(number).is_none() {
+            return Ok(None);
+        }
+        prove!(self.start() <= u32::MAX);
+        let mut offset = self.start();
+        let mut index = 0;
+        while index < number {
+            let Some(child) = green.child(index) else {
+                unreachable!()
+            };
+            offset += child.text_len().0;
+            index += 1;
+        }
+        self.child(alloc, number, offset)
     }
 
     pub fn last_child_or_token(&self, alloc: Global) -> Result<Option<SyntaxElement>, AllocError>

@@ -5,3 +5,4 @@ pub mod LineFeeds
 pub mod Roots
 pub mod Spaces
 pub mod FoundAgain
+pub mod GroupLemmas

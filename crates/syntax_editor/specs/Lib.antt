@@ -10,3 +10,6 @@ pub mod Between
 pub mod Found
 pub mod Spaced
 pub mod Again
+pub mod Edit
+pub mod Groups
+pub mod Finished

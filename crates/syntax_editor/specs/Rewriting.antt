@@ -1,15 +1,10 @@
 -- The edited tree with all recorded changes made, and why it is refused.
-use Rattle.std.specs.Prelude.{◌≡◌, ℕ, ◌^◌, [], map, None, true, false}
-use Rattle.rowan_green.specs.Forest.{Tree}
-use Rattle.syntax_tree.specs.Element.{element_at}
-use Rattle.syntax_tree.specs.Handle.{element_of}
+use Rattle.std.specs.Prelude.{◌≡◌, ℕ, ◌^◌, None, true, false}
 use Rattle.tree_rewrite.specs.Change.{has_collision}
-use Rattle.tree_rewrite.specs.Changed.{AreChanged}
-use Rattle.tree_rewrite.specs.Fits.{new_fits, IsNode}
-use Rattle.tree_rewrite.specs.Marked.{Marked, origins}
+use Rattle.tree_rewrite.specs.Fits.{new_fits}
+use Rattle.tree_rewrite.specs.Marked.{Marked}
 use Rattle.tree_rewrite.specs.Rewrite.{jobs, is_placeable, rewrite}
 use Rattle.syntax_editor.specs.Editing.{Editing}
-use Rattle.syntax_editor.specs.declared.rewriting.SyntaxEdit.{SyntaxEdit}
 use Rattle.syntax_editor.specs.declared.error.RewriteError.{RewriteError}
 use Rattle.syntax_editor.specs.declared.error.RewriteError.TheVariants as rewrites
 use Rattle.syntax_editor.specs.declared.error.FinishError.{FinishError}
@@ -49,12 +44,3 @@ RefusesFinish e number finishes.MissingMapping = MissesMapping e
 RefusesFinish e number finishes.TooLong = IsTooLong e
 RefusesFinish e number finishes.NoTreeNumber = IsPlaceable e × (number ≡ 2 ^ 32)
 RefusesFinish e number finishes.NoMemory = Unit {0}
-
--- the old tree; the new one, under this number; what changed; and where each element came from
-pub record IsFinished (e : Editing) (number : ℕ) (r : SyntaxEdit) : Type 0 where
-  pub tree : Tree
-  pub rewritten : IsNode (rewriting e) tree
-  pub old_root : r.old_root ≡ e.top
-  pub new_root : r.new_root ≡ element_at number tree []
-  pub changed : AreChanged r.changed.items (rewriting e)
-  pub origins : map element_of r.origins.items ≡ origins (rewriting e)

@@ -11,7 +11,7 @@ use syntax_tree::{Spent, SyntaxElement};
 /// A mark, told apart from others by its number.
 #[derive(Clone, Copy, Debug, PartialEq, Eq)]
 pub struct SyntaxAnnotation {
-    number: u32,
+    pub(crate) number: u32,
 }
 
 /// A source of marks, which gives each number once, from 1 to 4,294,967,295. A contract sees the number that is next, 2^32 where

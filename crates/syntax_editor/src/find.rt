@@ -4,7 +4,7 @@ ghost use Rattle.rowan.specs.Place.{kind_at, start_of};
 ghost use Rattle.syntax_tree.specs.declared.element.SyntaxElement.TheVariants.{Node};
 ghost use Rattle.syntax_editor.specs.Found.{found};
 
-use crate::rewriting::SyntaxEdit;
+use crate::edit::SyntaxEdit;
 use std::alloc::{AllocError, Global};
 use syntax_tree::{SyntaxElement, SyntaxNode};
 

@@ -5,26 +5,31 @@
 
 pub mod again;
 pub mod annotation;
+pub mod edit;
 pub mod editor;
 pub mod error;
 pub mod factory;
 pub mod find;
+mod groups;
 pub mod indent_level;
 pub mod make_error;
 pub mod merging;
+pub mod nodes;
 pub mod recorded;
 pub mod recording;
 pub mod rewriting;
 pub mod spaced;
 pub mod target;
+pub mod typed;
 pub mod whitespace;
 
 pub use annotation::{Annotations, SyntaxAnnotation};
+pub use edit::SyntaxEdit;
 pub use editor::SyntaxEditor;
 pub use error::{FinishError, MergeError, RecordError, RewriteError, WhitespaceError};
 pub use factory::SyntaxFactory;
 pub use indent_level::IndentLevel;
 pub use make_error::MakeError;
 pub use merging::Unmerged;
-pub use rewriting::SyntaxEdit;
+pub use nodes::{Fn, HasAttrs, ItemList, SourceFile, StmtList, Struct, Use};
 pub use whitespace::Space;

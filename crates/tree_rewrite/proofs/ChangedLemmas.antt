@@ -75,11 +75,11 @@ put-join b nothing n = refl
 put-join b (inner m k f r) n = ap (inner (record { origin = m.origin; put = b }) k f) (put-join b r n)
 put-join b (token m l r) n = ap (token (record { origin = m.origin; put = b }) l) (put-join b r n)
 
-told-join : (o : Option Bool) (m n : Marked) → as_told o (join m n) ≡ join (as_told o m) (as_told o n)
+pub told-join : (o : Option Bool) (m n : Marked) → as_told o (join m n) ≡ join (as_told o m) (as_told o n)
 told-join None m n = refl
 told-join (Some b) m n = put-join b m n
 
-told-put : (o : Option Bool) (b : Bool) (m : Marked) → as_told o (with_put b m) ≡ as_told (Some (or_told o b)) m
+pub told-put : (o : Option Bool) (b : Bool) (m : Marked) → as_told o (with_put b m) ≡ as_told (Some (or_told o b)) m
 told-put None b m = refl
 told-put (Some c) b m = put-twice c b m
 

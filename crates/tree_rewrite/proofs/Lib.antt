@@ -18,4 +18,5 @@ pub mod ExecuteLemmas
 pub mod RootLemmas
 pub mod CameLemmas
 pub mod ChangedLemmas
+pub mod PutMarkLemmas
 pub mod RangeLemmas

@@ -15,4 +15,5 @@ pub mod Fits
 pub mod Came
 pub mod Changed
 pub mod Tracking
+pub mod Puts
 pub mod Growing

@@ -53,7 +53,7 @@ fn push_if(is_there: bool, start: u32, end: u32, to: &mut Vec<TextRange>) -> Res
 }
 
 /// Whether it is told that elements were put in.
-fn is_put(told: Option<bool>) -> bool
+pub(crate) fn is_put(told: Option<bool>) -> bool
     ensures { result ≡ is_put told }
 {
     match told {

@@ -22,6 +22,7 @@ pub mod nesting;
 pub mod origins;
 pub mod piece;
 pub mod plan;
+mod put;
 pub mod sheet;
 pub mod tree_change;
 pub mod ways;

@@ -1,13 +1,21 @@
 //! Where the elements of a rewritten tree came from.
 ghost use Rattle.std.specs.Prelude.{◌≡◌, ◌++◌, map, IfOk, OnOk};
 ghost use Rattle.syntax_tree.specs.Handle.{element_of};
-ghost use Rattle.tree_rewrite.specs.Marked.{Marked, origins, blank, reading_of};
+ghost use Rattle.tree_rewrite.specs.Marked.{Marked, origins, put_marks, blank, reading_of};
 ghost use Rattle.tree_rewrite.specs.Pieces.{Say};
 ghost use Rattle.tree_rewrite.specs.Came.{origins_by, all_origins};
 
 use crate::piece::Piece;
+use crate::put::Puts;
 use std::alloc::{AllocError, Global};
 use syntax_tree::{SyntaxElement, SyntaxNode, SyntaxToken};
+
+/// Where elements came from, and whether each was put in by a change that lies in no other.
+#[derive(Drop)]
+pub struct Origins {
+    pub elements: Vec<SyntaxElement>,
+    pub put: Vec<bool>,
+}
 
 /// Adds a node and all elements below it, in preorder.
 fn push_walk(
@@ -50,13 +58,21 @@ fn push_piece(alloc: Global, piece: &Piece, to: &mut Vec<SyntaxElement>) -> Resu
     Ok(())
 }
 
-/// Where the elements that pieces say came from, in preorder.
-pub fn origins_of(alloc: Global, pieces: &[Piece]) -> Result<Vec<SyntaxElement>, AllocError>
-    ensures { (m : Marked) → Say pieces.now m → IfOk result (λ v. map element_of v.items ≡ origins m) }
+/// Where the elements that pieces say came from, and which of them were put in, in preorder.
+pub fn origins_of(alloc: Global, pieces: &[Piece]) -> Result<Origins, AllocError>
+    ensures elements { (m : Marked) → Say pieces.now m → IfOk result (λ o. map element_of o.elements.items ≡ origins m) }
+    ensures put { (m : Marked) → Say pieces.now m → IfOk result (λ o. o.put.items ≡ put_marks m) }
 {
-    let mut origins = Vec::new(alloc);
+    let mut elements = Vec::new(alloc);
+    let mut puts = Puts::new(alloc);
     for piece in pieces {
-        push_piece(alloc, piece, &mut origins)?;
+        let before = elements.len();
+        push_piece(alloc, piece, &mut elements)?;
+        puts.step(piece, &elements[before..])?;
     }
-    Ok(origins)
+    let Puts { marks, .. } = puts;
+    Ok(Origins {
+        elements,
+        put: marks,
+    })
 }

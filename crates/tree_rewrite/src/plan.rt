@@ -4,7 +4,7 @@ ghost use Rattle.std.specs.List.{All};
 ghost use Rattle.rowan_green.specs.Forest.{Tree};
 ghost use Rattle.syntax_tree.specs.Handle.{element_of};
 ghost use Rattle.tree_rewrite.specs.Change.{has_collision};
-ghost use Rattle.tree_rewrite.specs.Marked.{origins};
+ghost use Rattle.tree_rewrite.specs.Marked.{origins, put_marks};
 ghost use Rattle.tree_rewrite.specs.Rewrite.{jobs, rewritten};
 ghost use Rattle.tree_rewrite.specs.Orders.{is_order};
 ghost use Rattle.tree_rewrite.specs.Recorded.{recorded, IsOrdered, KeepsOneRoot};
@@ -24,7 +24,7 @@ use crate::job::{Job, is_order};
 use crate::kept::jobs_of;
 use crate::lists::on_sheet;
 use crate::nesting::has_collision;
-use crate::origins::origins_of;
+use crate::origins::{Origins, origins_of};
 use crate::piece::Piece;
 use crate::tree_change::TreeChange;
 use rowan_green::{GreenNode, TextRange};
@@ -47,6 +47,8 @@ pub struct Rewritten {
     pub changed: Vec<TextRange>,
     /// Where each of its elements came from, in preorder.
     pub origins: Vec<SyntaxElement>,
+    /// Whether each of its elements was put in by a change that lies in no other, in preorder.
+    pub put: Vec<bool>,
 }
 
 impl Model for Plan {
@@ -123,6 +125,7 @@ impl Plan {
         ensures changed { IfOk result (λ r. AreChanged r.changed.items (rewritten self.now.top (reverse self.now.jobs))) }
         ensures origins { IfOk result (λ r. map element_of r.origins.items
             ≡ origins (rewritten self.now.top (reverse self.now.jobs))) }
+        ensures put { IfOk result (λ r. r.put.items ≡ put_marks (rewritten self.now.top (reverse self.now.jobs))) }
         ensures fits { OnOk result (new_fits (rewritten self.now.top (reverse self.now.jobs)) ≡ true) }
         ensures refused { IfErr result (RefusesRewrite (rewritten self.now.top (reverse self.now.jobs))) }
     {
@@ -133,11 +136,12 @@ impl Plan {
         };
         let _fits = green.text_len();
         let changed = changed_of(alloc, &pieces)?;
-        let origins = origins_of(alloc, &pieces)?;
+        let Origins { elements, put } = origins_of(alloc, &pieces)?;
         Ok(Rewritten {
             green,
             changed,
-            origins,
+            origins: elements,
+            put,
         })
     }
 

@@ -2,7 +2,7 @@ use Rattle.std.proofs.Common.{◌≡◌}
 use Rattle.rowan.specs.Place.{kind_at, start_of}
 use Rattle.syntax_tree.specs.Handle.{elements_left}
 use Rattle.syntax_editor.specs.Found.{found, node_in}
-use Rattle.syntax_editor.proofs.rewriting.SyntaxEdit.find_element.Given as goal
+use Rattle.syntax_editor.proofs.edit.SyntaxEdit.find_element.Given as goal
 
 abbrev pub invariant-loop-element : goal.invariant-loop-element
 invariant-loop-element l = record {

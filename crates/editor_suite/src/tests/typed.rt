@@ -1,0 +1,41 @@
+//! Editors of typed nodes.
+use crate::tests::tree::{Tree, root};
+use parser_input::SyntaxKind;
+use std::alloc::Global;
+use std::test::Fail;
+use syntax_editor::{Fn, ItemList, SourceFile, StmtList, Struct, SyntaxEditor, Use};
+use syntax_tree::{AstNode, SyntaxElement, TreeIds};
+
+/// Which of the types a kind can be cast to: a file, a struct, a function, a use, items, statements.
+pub(crate) fn casts(kind: SyntaxKind) -> [bool; 6] {
+    [
+        SourceFile::can_cast(kind),
+        Struct::can_cast(kind),
+        Fn::can_cast(kind),
+        Use::can_cast(kind),
+        ItemList::can_cast(kind),
+        StmtList::can_cast(kind),
+    ]
+}
+
+/// The statements of a block.
+fn statements(alloc: Global, ids: &mut TreeIds) -> Result<StmtList, Fail> {
+    let root = root(alloc, Tree::Lines, ids)?;
+    let Some(SyntaxElement::Node(node)) = root.element_at(alloc, &[1])? else {
+        return Err(Fail::new("no statements"));
+    };
+    match StmtList::cast(node) {
+        Some(list) => Ok(list),
+        None => Err(Fail::new("of another type")),
+    }
+}
+
+/// The number and the text of the tree that is edited for the statements of a block, and whether it is that of the typed root.
+pub(crate) fn typed_copy(alloc: Global) -> Result<String, Fail> {
+    let mut ids = TreeIds::new();
+    let list = statements(alloc, &mut ids)?;
+    let (editor, root) = SyntaxEditor::with_ast_node(alloc, &list, &mut ids)?;
+    let is_root = *editor.root() == *root.syntax();
+    let text = editor.root().cursor().text()?;
+    Ok(format!(in alloc; "{} {text} {is_root}", editor.root().tree())?)
+}
