@@ -30,6 +30,10 @@ fn open(alloc: Global, text: &str) -> Result<Document, OpenError> {
     Document::open(alloc, Edition::Edition2021, text, &mut TreeIds::new())
 }
 
+fn has_text(document: &Document, text: &str) -> bool {
+    document.text() == text
+}
+
 fn range(start: u32, end: u32) -> TextRange {
     if end < start {
         return TextRange::empty(TextSize::new(start));

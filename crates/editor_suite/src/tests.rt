@@ -22,230 +22,200 @@ use std::test::Fail;
 use syntax_editor::{IndentLevel, Space, SyntaxFactory};
 use syntax_tree::TreeIds;
 
-#[derive(Clone, Copy)]
-struct Row<'a> {
-    tree: Tree,
-    doings: &'a [Do<'a>],
-    answer: &'static str,
+/// A tree, what is done to it, and what comes of that.
+type Row = (Tree, &'static [Do<'static>], &'static str);
+
+fn passes(alloc: Global, (tree, doings, expected): &Row) -> Result<bool, Fail> {
+    let answer = answer(alloc, *tree, doings)?;
+    Ok(answer.as_str() == *expected)
 }
 
-fn tried<'a>(tree: Tree, doings: &'a [Do<'a>], answer: &'static str) -> Row<'a> {
-    Row {
-        tree,
-        doings,
-        answer,
-    }
-}
-
-fn passes(alloc: Global, row: &Row<'_>) -> Result<bool, Fail> {
-    let answer = answer(alloc, row.tree, row.doings)?;
-    Ok(answer.as_str() == row.answer)
-}
-
-/// Before the child of this number of the root.
-fn gap(index: usize) -> Gap<'static> {
-    Gap { parent: &[], index }
-}
+const TWICE: &[Row] = &[
+    (
+        Tree::Args,
+        &[
+            Do::Replace(&[1], "LITERAL 3"),
+            Do::Replace(&[4], "LITERAL 3"),
+        ],
+        "(3, 3) 1..2 4..5",
+    ),
+    (
+        Tree::Args,
+        &[Do::Replace(&[1], "_"), Do::Replace(&[4], "_")],
+        "(_, _) 1..2 4..5",
+    ),
+    (
+        Tree::Args,
+        &[Do::Insert((&[], 1), &["()"]), Do::Insert((&[], 4), &["()"])],
+        "(()1, ()2) 1..3 6..8",
+    ),
+];
 
 #[test]
 fn one_payload_serves_twice(rt: HostRuntime) -> Result<(), Fail> {
-    for row in [
-        tried(
-            Tree::Args,
-            &[
-                Do::Replace(&[1], "LITERAL 3"),
-                Do::Replace(&[4], "LITERAL 3"),
-            ],
-            "(3, 3) 1..2 4..5",
-        ),
-        tried(
-            Tree::Args,
-            &[Do::Replace(&[1], "_"), Do::Replace(&[4], "_")],
-            "(_, _) 1..2 4..5",
-        ),
-        tried(
-            Tree::Args,
-            &[Do::Insert(gap(1), &["()"]), Do::Insert(gap(4), &["()"])],
-            "(()1, ()2) 1..3 6..8",
-        ),
-    ] {
-        assert!(rt; passes(rt.alloc(), &row)?);
+    for row in TWICE {
+        assert!(rt; passes(rt.alloc(), row)?, "{}", row.2);
     }
     Ok(())
 }
+
+const GAPS: &[Row] = &[
+    (
+        Tree::Args,
+        &[Do::Insert((&[], 1), &["A"]), Do::Insert((&[], 1), &["B"])],
+        "(BA1, 2) 1..2 2..3",
+    ),
+    (
+        Tree::Args,
+        &[Do::Insert((&[], 1), &["A", "B"])],
+        "(AB1, 2) 1..2 2..3",
+    ),
+    (
+        Tree::Args,
+        &[Do::Insert((&[], 6), &["A"]), Do::Insert((&[], 7), &["B"])],
+        "Foreign (1, 2)A 6..7",
+    ),
+];
 
 #[test]
 fn gaps_have_the_last_first(rt: HostRuntime) -> Result<(), Fail> {
-    for row in [
-        tried(
-            Tree::Args,
-            &[Do::Insert(gap(1), &["A"]), Do::Insert(gap(1), &["B"])],
-            "(BA1, 2) 1..2 2..3",
-        ),
-        tried(
-            Tree::Args,
-            &[Do::Insert(gap(1), &["A", "B"])],
-            "(AB1, 2) 1..2 2..3",
-        ),
-        tried(
-            Tree::Args,
-            &[Do::Insert(gap(6), &["A"]), Do::Insert(gap(7), &["B"])],
-            "Foreign (1, 2)A 6..7",
-        ),
-    ] {
-        assert!(rt; passes(rt.alloc(), &row)?);
+    for row in GAPS {
+        assert!(rt; passes(rt.alloc(), row)?, "{}", row.2);
     }
     Ok(())
 }
+
+const DELETIONS: &[Row] = &[
+    (
+        Tree::Args,
+        &[Do::Delete(&[1]), Do::Replace(&[1], "3"), Do::Deleted(&[1])],
+        "true (, 2)",
+    ),
+    (
+        Tree::Args,
+        &[Do::Replace(&[1], "3"), Do::Delete(&[1]), Do::Deleted(&[1])],
+        "true (, 2)",
+    ),
+    (
+        Tree::Args,
+        &[
+            Do::Replace(&[1], "3"),
+            Do::Replace(&[1], "4"),
+            Do::Deleted(&[1]),
+        ],
+        "false (4, 2) 1..2",
+    ),
+];
 
 #[test]
 fn deletions_stay(rt: HostRuntime) -> Result<(), Fail> {
-    for row in [
-        tried(
-            Tree::Args,
-            &[Do::Delete(&[1]), Do::Replace(&[1], "3"), Do::Deleted(&[1])],
-            "true (, 2)",
-        ),
-        tried(
-            Tree::Args,
-            &[Do::Replace(&[1], "3"), Do::Delete(&[1]), Do::Deleted(&[1])],
-            "true (, 2)",
-        ),
-        tried(
-            Tree::Args,
-            &[
-                Do::Replace(&[1], "3"),
-                Do::Replace(&[1], "4"),
-                Do::Deleted(&[1]),
-            ],
-            "false (4, 2) 1..2",
-        ),
-    ] {
-        assert!(rt; passes(rt.alloc(), &row)?);
+    for row in DELETIONS {
+        assert!(rt; passes(rt.alloc(), row)?, "{}", row.2);
     }
     Ok(())
 }
+
+const SECOND: &[Row] = &[
+    (Tree::Args, &[Do::Delete(&[1]), Do::Delete(&[1])], "(, 2)"),
+    (
+        Tree::Args,
+        &[Do::Remove(&[1]), Do::Deleted(&[1])],
+        "false (, 2)",
+    ),
+    (
+        Tree::Args,
+        &[Do::Remove(&[1]), Do::Delete(&[1])],
+        "Intersecting",
+    ),
+];
 
 #[test]
 fn a_second_change_is_one_more(rt: HostRuntime) -> Result<(), Fail> {
-    for row in [
-        tried(Tree::Args, &[Do::Delete(&[1]), Do::Delete(&[1])], "(, 2)"),
-        tried(
-            Tree::Args,
-            &[Do::Remove(&[1]), Do::Deleted(&[1])],
-            "false (, 2)",
-        ),
-        tried(
-            Tree::Args,
-            &[Do::Remove(&[1]), Do::Delete(&[1])],
-            "Intersecting",
-        ),
-    ] {
-        assert!(rt; passes(rt.alloc(), &row)?);
+    for row in SECOND {
+        assert!(rt; passes(rt.alloc(), row)?, "{}", row.2);
     }
     Ok(())
 }
+
+const ROWS: &[Row] = &[
+    (
+        Tree::Args,
+        &[Do::DeleteAll(&[1], &[1]), Do::Delete(&[1])],
+        "(, 2)",
+    ),
+    (
+        Tree::Args,
+        &[Do::ReplaceAll(&[1], &[4], &["a", "b"])],
+        "(ab) 1..2 2..3",
+    ),
+    (
+        Tree::Args,
+        &[
+            Do::DeleteAll(&[2], &[3]),
+            Do::Insert((&[], 2), &["+"]),
+            Do::Insert((&[], 3), &["-"]),
+        ],
+        "(1+2) 2..3",
+    ),
+];
 
 #[test]
 fn rows_are_changed(rt: HostRuntime) -> Result<(), Fail> {
-    for row in [
-        tried(
-            Tree::Args,
-            &[Do::DeleteAll(&[1], &[1]), Do::Delete(&[1])],
-            "(, 2)",
-        ),
-        tried(
-            Tree::Args,
-            &[Do::ReplaceAll(&[1], &[4], &["a", "b"])],
-            "(ab) 1..2 2..3",
-        ),
-        tried(
-            Tree::Args,
-            &[
-                Do::DeleteAll(&[2], &[3]),
-                Do::Insert(gap(2), &["+"]),
-                Do::Insert(gap(3), &["-"]),
-            ],
-            "(1+2) 2..3",
-        ),
-    ] {
-        assert!(rt; passes(rt.alloc(), &row)?);
+    for row in ROWS {
+        assert!(rt; passes(rt.alloc(), row)?, "{}", row.2);
     }
     Ok(())
 }
+
+const REFUSED: &[Row] = &[
+    (Tree::Args, &[Do::DeleteAll(&[4], &[1])], "BadRange (1, 2)"),
+    (
+        Tree::Args,
+        &[Do::DeleteAll(&[1], &[0, 1])],
+        "BadRange (1, 2)",
+    ),
+    (Tree::Args, &[Do::Delete(&[])], "BadTarget (1, 2)"),
+    (Tree::Args, &[Do::DeleteAll(&[], &[])], "BadTarget (1, 2)"),
+    (Tree::Args, &[Do::Replace(&[], "_")], "BadTarget (1, 2)"),
+    (
+        Tree::Args,
+        &[Do::Many(&[], &["LITERAL 3"])],
+        "BadTarget (1, 2)",
+    ),
+    (Tree::Args, &[Do::Replace(&[], "LITERAL 3")], "3 0..1"),
+    (Tree::Args, &[Do::Foreign(&[1])], "Foreign (1, 2)"),
+];
 
 #[test]
 fn changes_are_refused(rt: HostRuntime) -> Result<(), Fail> {
-    for row in [
-        tried(Tree::Args, &[Do::DeleteAll(&[4], &[1])], "BadRange (1, 2)"),
-        tried(
-            Tree::Args,
-            &[Do::DeleteAll(&[1], &[0, 1])],
-            "BadRange (1, 2)",
-        ),
-        tried(Tree::Args, &[Do::Delete(&[])], "BadTarget (1, 2)"),
-        tried(Tree::Args, &[Do::DeleteAll(&[], &[])], "BadTarget (1, 2)"),
-        tried(Tree::Args, &[Do::Replace(&[], "_")], "BadTarget (1, 2)"),
-        tried(
-            Tree::Args,
-            &[Do::Many(&[], &["LITERAL 3"])],
-            "BadTarget (1, 2)",
-        ),
-        tried(Tree::Args, &[Do::Replace(&[], "LITERAL 3")], "3 0..1"),
-        tried(Tree::Args, &[Do::Foreign(&[1])], "Foreign (1, 2)"),
-    ] {
-        assert!(rt; passes(rt.alloc(), &row)?);
+    for row in REFUSED {
+        assert!(rt; passes(rt.alloc(), row)?, "{}", row.2);
     }
     Ok(())
 }
 
+const NESTED: &[Row] = &[
+    (
+        Tree::Nested,
+        &[Do::Wrap(true), Do::Insert((&[0], 0), &["b"])],
+        "(ba) 0..4",
+    ),
+    (
+        Tree::Nested,
+        &[Do::Wrap(false), Do::Insert((&[0], 0), &["b"])],
+        "MissingMapping",
+    ),
+    (
+        Tree::Nested,
+        &[Do::Delete(&[0]), Do::Insert((&[0], 0), &["b"])],
+        "",
+    ),
+];
+
 #[test]
 fn nested_changes_move(rt: HostRuntime) -> Result<(), Fail> {
-    for row in [
-        tried(
-            Tree::Nested,
-            &[
-                Do::Wrap(true),
-                Do::Insert(
-                    Gap {
-                        parent: &[0],
-                        index: 0,
-                    },
-                    &["b"],
-                ),
-            ],
-            "(ba) 0..4",
-        ),
-        tried(
-            Tree::Nested,
-            &[
-                Do::Wrap(false),
-                Do::Insert(
-                    Gap {
-                        parent: &[0],
-                        index: 0,
-                    },
-                    &["b"],
-                ),
-            ],
-            "MissingMapping",
-        ),
-        tried(
-            Tree::Nested,
-            &[
-                Do::Delete(&[0]),
-                Do::Insert(
-                    Gap {
-                        parent: &[0],
-                        index: 0,
-                    },
-                    &["b"],
-                ),
-            ],
-            "",
-        ),
-    ] {
-        assert!(rt; passes(rt.alloc(), &row)?);
+    for row in NESTED {
+        assert!(rt; passes(rt.alloc(), row)?, "{}", row.2);
     }
     Ok(())
 }
@@ -264,72 +234,118 @@ fn copies_are_edited(rt: HostRuntime) -> Result<(), Fail> {
     Ok(())
 }
 
+/// Whether white space and a comma are made.
+fn are_tokens(alloc: Global, ids: &mut TreeIds) -> Result<bool, Fail> {
+    let space = SyntaxFactory.whitespace(alloc, "\n", ids)?;
+    let comma = SyntaxFactory.token(alloc, SyntaxKind::COMMA, ",", ids)?;
+    let is_space = (space.kind() == SyntaxKind::WHITESPACE) & (space.text() == "\n");
+    Ok(is_space & (comma.kind() == SyntaxKind::COMMA) & (comma.text() == ","))
+}
+
 #[test]
 fn tokens_are_made(rt: HostRuntime) -> Result<(), Fail> {
-    let alloc = rt.alloc();
-    let mut ids = TreeIds::new();
-    let token = SyntaxFactory.whitespace(alloc, "\n", &mut ids)?;
-    assert!(rt; token.kind() == SyntaxKind::WHITESPACE && token.text() == "\n");
-    let token = SyntaxFactory.token(alloc, SyntaxKind::COMMA, ",", &mut ids)?;
-    assert!(rt; token.kind() == SyntaxKind::COMMA && token.text() == ",");
+    assert!(rt; are_tokens(rt.alloc(), &mut TreeIds::new())?);
     Ok(())
+}
+
+/// The spaces of one level more than the first.
+fn two_levels(alloc: Global) -> Result<String, Fail> {
+    let mut level = IndentLevel::from(1);
+    level += 1;
+    Ok(format!(in alloc; "{level}{}", level.is_zero())?)
 }
 
 #[test]
 fn levels_stop_at_255(rt: HostRuntime) -> Result<(), Fail> {
-    let mut level = IndentLevel(250) + 10;
-    assert!(rt; level == IndentLevel(255));
+    assert!(rt; IndentLevel(250) + 10 == IndentLevel(255));
     assert!(rt; IndentLevel::zero().is_zero());
-    level = IndentLevel::from(1);
-    level += 1;
-    let spaces = format!(in rt.alloc(); "{level}")?;
-    assert!(rt; !level.is_zero() && spaces.as_str() == "        ");
+    assert!(rt; two_levels(rt.alloc())?.as_str() == "        false");
     Ok(())
 }
 
+/// A tree, the way of an element, and its level.
+type Level = (Tree, &'static [usize], u8);
+
+const LEVELS: &[Level] = &[
+    (Tree::Lines, &[], 1),
+    (Tree::Lines, &[0, 1], 1),
+    (Tree::Lines, &[1, 1], 2),
+    (Tree::Lines, &[2, 1], 2),
+    (Tree::Lines, &[4, 1], 0),
+];
+
+/// An element in no line is at level 0.
+const NO_LINES: &[Level] = &[(Tree::Args, &[4], 0), (Tree::Empty, &[], 0)];
+
 #[test]
 fn levels_are_those_of_lines(rt: HostRuntime) -> Result<(), Fail> {
-    let alloc = rt.alloc();
-    assert!(rt; has_level(alloc, Tree::Lines, &[], 1)?);
-    assert!(rt; has_level(alloc, Tree::Lines, &[0, 1], 1)?);
-    assert!(rt; has_level(alloc, Tree::Lines, &[1, 1], 2)?);
-    assert!(rt; has_level(alloc, Tree::Lines, &[2, 1], 2)?);
-    assert!(rt; has_level(alloc, Tree::Lines, &[4, 1], 0)?);
+    for (tree, way, level) in LEVELS {
+        assert!(rt; has_level(rt.alloc(), *tree, way, *level)?);
+    }
     Ok(())
 }
 
 #[test]
 fn levels_need_a_line(rt: HostRuntime) -> Result<(), Fail> {
-    let alloc = rt.alloc();
-    assert!(rt; has_level(alloc, Tree::Args, &[4], 0)?);
-    assert!(rt; has_level(alloc, Tree::Empty, &[], 0)?);
+    for (tree, way, level) in NO_LINES {
+        assert!(rt; has_level(rt.alloc(), *tree, way, *level)?);
+    }
     Ok(())
 }
+
+/// A tree, two children of its root, and what comes between them.
+type Between = (Tree, usize, usize, Space);
+
+fn is_between(alloc: Global, (tree, left, right, space): &Between) -> Result<bool, Fail> {
+    Ok(between(alloc, *tree, *left, *right)? == *space)
+}
+
+const NEIGHBOURS: &[Between] = &[
+    (Tree::Args, 1, 2, Space::Nothing),
+    (Tree::Args, 2, 4, Space::Blank),
+    (Tree::Args, 3, 4, Space::Nothing),
+    (Tree::Items, 1, 3, Space::Blank),
+];
 
 #[test]
 fn neighbours_touch_or_stand_apart(rt: HostRuntime) -> Result<(), Fail> {
-    let alloc = rt.alloc();
-    assert!(rt; between(alloc, Tree::Args, 1, 2)? == Space::Nothing);
-    assert!(rt; between(alloc, Tree::Args, 2, 4)? == Space::Blank);
-    assert!(rt; between(alloc, Tree::Args, 3, 4)? == Space::Nothing);
-    assert!(rt; between(alloc, Tree::Items, 1, 3)? == Space::Blank);
+    for row in NEIGHBOURS {
+        assert!(rt; is_between(rt.alloc(), row)?);
+    }
     Ok(())
 }
 
+const LINES: &[Between] = &[
+    (Tree::Items, 7, 1, Space::Line(0)),
+    (Tree::Items, 1, 4, Space::Line(2)),
+    (Tree::Items, 7, 3, Space::Line(2)),
+];
+
 #[test]
 fn uses_and_attributes_have_lines(rt: HostRuntime) -> Result<(), Fail> {
-    let alloc = rt.alloc();
-    assert!(rt; between(alloc, Tree::Items, 7, 1)? == Space::Line(0));
-    assert!(rt; between(alloc, Tree::Items, 1, 4)? == Space::Line(2));
-    assert!(rt; between(alloc, Tree::Items, 7, 3)? == Space::Line(2));
+    for row in LINES {
+        assert!(rt; is_between(rt.alloc(), row)?);
+    }
     Ok(())
+}
+
+const MERGED: &[(usize, usize, &str)] = &[
+    (1, 4, "(, )"),
+    (1, 1, "two changes replace one element"),
+];
+
+fn is_merged(alloc: Global, one: usize, other: usize, expected: &str) -> Result<bool, Fail> {
+    Ok(merged(alloc, one, other)?.as_str() == expected)
 }
 
 #[test]
 fn editors_of_one_tree_are_merged(rt: HostRuntime) -> Result<(), Fail> {
-    let alloc = rt.alloc();
-    assert!(rt; merged(alloc, 1, 4)?.as_str() == "(, )");
-    assert!(rt; merged(alloc, 1, 1)?.as_str() == "two changes replace one element");
+    for (one, other, expected) in MERGED {
+        assert!(rt;
+            is_merged(rt.alloc(), *one, *other, expected)?,
+            "{expected}"
+        );
+    }
     Ok(())
 }
 
@@ -343,57 +359,63 @@ fn editors_of_two_trees_are_not(rt: HostRuntime) -> Result<(), Fail> {
     Ok(())
 }
 
-#[derive(Clone, Copy)]
-struct SpacedRow<'a> {
-    tree: Tree,
-    gap: Gap<'a>,
-    texts: &'a [&'a str],
-    answer: &'static str,
+/// A tree, a gap in it, what is put there, and what comes of that.
+type SpacedRow = (Tree, Gap<'static>, &'static [&'static str], &'static str);
+
+fn is_spaced(
+    alloc: Global,
+    ids: &mut TreeIds,
+    (tree, gap, texts, expected): &SpacedRow,
+) -> Result<bool, Fail> {
+    let answer = spaced(alloc, ids, *tree, *gap, texts)?;
+    Ok(answer.as_str() == *expected)
 }
 
-fn put<'a>(tree: Tree, gap: Gap<'a>, texts: &'a [&'a str], answer: &'static str) -> SpacedRow<'a> {
-    SpacedRow {
-        tree,
-        gap,
-        texts,
-        answer,
-    }
-}
+const SPACED: &[SpacedRow] = &[
+    (Tree::Args, (&[], 2), &["A"], "(1 A, 2) 2..3 3..4"),
+    (
+        Tree::Args,
+        (&[], 2),
+        &["A", "B"],
+        "(1 AB, 2) 2..3 3..4 4..5",
+    ),
+    (Tree::Args, (&[], 0), &["A"], "A (1, 2) 0..1 1..2"),
+    (Tree::Args, (&[], 6), &["A"], "(1, 2) A 6..7 7..8"),
+    (Tree::Args, (&[], 1), &[], "(1, 2)"),
+    (Tree::Args, (&[], 7), &["A"], "of another tree"),
+    (
+        Tree::List,
+        (&[], 1),
+        &["USE"],
+        "{\n    use } 1..6 6..9 9..10",
+    ),
+    (Tree::List, (&[], 1), &["A"], "{ A } 1..2 2..3 3..4"),
+    (
+        Tree::Lines,
+        (&[1], 1),
+        &["LET"],
+        "\n    {\n        let;\n\n        a\n   } 6..15 15..19",
+    ),
+];
 
 #[test]
 fn what_is_put_in_stands_apart(rt: HostRuntime) -> Result<(), Fail> {
-    let statements = Gap {
-        parent: &[1],
-        index: 1,
-    };
-    for row in [
-        put(Tree::Args, gap(2), &["A"], "(1 A, 2) 2..3 3..4"),
-        put(Tree::Args, gap(2), &["A", "B"], "(1 AB, 2) 2..3 3..4 4..5"),
-        put(Tree::Args, gap(0), &["A"], "A (1, 2) 0..1 1..2"),
-        put(Tree::Args, gap(6), &["A"], "(1, 2) A 6..7 7..8"),
-        put(Tree::Args, gap(1), &[], "(1, 2)"),
-        put(Tree::Args, gap(7), &["A"], "of another tree"),
-        put(Tree::List, gap(1), &["USE"], "{\n    use } 1..6 6..9 9..10"),
-        put(Tree::List, gap(1), &["A"], "{ A } 1..2 2..3 3..4"),
-        put(
-            Tree::Lines,
-            statements,
-            &["LET"],
-            "\n    {\n        let;\n\n        a\n   } 6..15 15..19",
-        ),
-    ] {
-        let mut ids = TreeIds::new();
-        let answer = spaced(rt.alloc(), &mut ids, row.tree, row.gap, row.texts)?;
-        assert!(rt; answer.as_str() == row.answer, "{answer}");
+    for row in SPACED {
+        assert!(rt;
+            is_spaced(rt.alloc(), &mut TreeIds::new(), row)?,
+            "{}",
+            row.3
+        );
     }
     Ok(())
 }
 
+const NO_NUMBER: SpacedRow = (Tree::Args, (&[], 2), &["A"], "no tree number is left");
+
 #[test]
 fn white_space_takes_numbers(rt: HostRuntime) -> Result<(), Fail> {
     let mut ids = TreeIds::starting_at(4_294_967_294);
-    let answer = spaced(rt.alloc(), &mut ids, Tree::Args, gap(2), &["A"])?;
-    assert!(rt; answer.as_str() == "no tree number is left", "{answer}");
+    assert!(rt; is_spaced(rt.alloc(), &mut ids, &NO_NUMBER)?);
     Ok(())
 }
 

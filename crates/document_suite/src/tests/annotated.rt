@@ -1,29 +1,66 @@
 //! Annotated elements, found again where a commit put them.
-use super::{Place, found, open, range, replacing};
+use super::{Place, found, open, range};
 use parser_input::edition::Edition;
 use parser_input::syntax_kind::SyntaxKind;
 use ra_parser::TopEntryPoint;
-use rust_document::{Annotations, Committed, PayloadEntry, SyntaxAnnotation, payload};
+use rust_document::{
+    Annotations, Committed, Document, PayloadEntry, SyntaxAnnotation, SyntaxEditor, payload,
+};
 use std::alloc::Global;
 use std::test::Fail;
-use syntax_tree::TreeIds;
+use syntax_tree::{SyntaxElement, TreeIds};
 
 /// The literals of `fn f() { g(1, 2); }`.
 const ONE: Place = (SyntaxKind::LITERAL, 11, 12);
 
 const TWO: Place = (SyntaxKind::LITERAL, 14, 15);
 
-/// What a commit tells that puts one annotated expression in the place of both literals.
+/// Records that an element is put for the one at a place of a document.
+fn put_at(
+    alloc: Global,
+    document: &Document,
+    editor: &mut SyntaxEditor,
+    place: Place,
+    new: &SyntaxElement,
+) -> Result<(), Fail> {
+    let target = found(alloc, document, place)?;
+    Ok(editor.replace(alloc, &target, new)?)
+}
+
+/// Records that an annotated element is put for both literals.
+fn record(
+    alloc: Global,
+    document: &Document,
+    editor: &mut SyntaxEditor,
+    new: &SyntaxElement,
+    mark: SyntaxAnnotation,
+) -> Result<(), Fail> {
+    put_at(alloc, document, editor, ONE, new)?;
+    put_at(alloc, document, editor, TWO, new)?;
+    editor.add_annotation(new, mark)?;
+    Ok(())
+}
+
+/// An editor that puts one annotated expression in the place of both literals.
+fn recorded(
+    alloc: Global,
+    document: &Document,
+    put: &str,
+    mark: SyntaxAnnotation,
+    ids: &mut TreeIds,
+) -> Result<SyntaxEditor, Fail> {
+    let entry = PayloadEntry::Top(TopEntryPoint::Expr);
+    let new = payload(alloc, entry, Edition::Edition2021, put, ids)?;
+    let mut editor = document.editor(alloc)?;
+    record(alloc, document, &mut editor, &new, mark)?;
+    Ok(editor)
+}
+
+/// What a commit tells that does so.
 fn committed(alloc: Global, put: &str, mark: SyntaxAnnotation) -> Result<Committed, Fail> {
     let mut ids = TreeIds::starting_at(2);
     let mut document = open(alloc, "fn f() { g(1, 2); }")?;
-    let entry = PayloadEntry::Top(TopEntryPoint::Expr);
-    let new = payload(alloc, entry, Edition::Edition2021, put, &mut ids)?;
-    let one = found(alloc, &document, ONE)?;
-    let two = found(alloc, &document, TWO)?;
-    let editor = replacing(alloc, document.editor(alloc)?, &one, &new)?;
-    let mut editor = replacing(alloc, editor, &two, &new)?;
-    editor.add_annotation(&new, mark)?;
+    let editor = recorded(alloc, &document, put, mark, &mut ids)?;
     Ok(document.commit(alloc, editor, &mut ids)?)
 }
 

@@ -104,9 +104,11 @@ const INSIDE: Row = Row {
     errors: &[(6, "expected NAME")],
 };
 
+const PLACED: &[Row] = &[ATTACHED, APART, OUTER, INNER, INSIDE];
+
 #[test]
 fn comments_are_placed(rt: HostRuntime) -> Result<(), Fail> {
-    for row in [ATTACHED, APART, OUTER, INNER, INSIDE] {
+    for row in PLACED {
         assert!(rt; is_read(rt.alloc(), row)?, "{}", row.text);
     }
     Ok(())

@@ -1,5 +1,5 @@
 //! Commits: what is changed, and what is refused and changes nothing.
-use super::{IDENT, Place, ROOT, SPACE, found, open, range, replacing, spaces};
+use super::{IDENT, Place, ROOT, SPACE, found, has_text, open, range, replacing, spaces};
 use parser_input::edition::Edition;
 use rowan_green::TextRange;
 use rust_document::{
@@ -57,55 +57,73 @@ fn put(
 struct Row {
     edition: Edition,
     token: (Edition, &'static str),
-    answer: Result<Option<TextRange>, CommitError>,
+    answer: Result<(u32, u32), CommitError>,
     text: &'static str,
     number: u32,
 }
 
+/// Whether a document answers this to a token that is put for its name.
+fn is_answer(
+    alloc: Global,
+    document: &mut Document,
+    row: &Row,
+    ids: &mut TreeIds,
+) -> Result<bool, Fail> {
+    let editor = put(alloc, document, IDENT, row.token, ids)?;
+    let answer = commit(alloc, document, editor, ids);
+    Ok(match row.answer {
+        Ok((start, end)) => answer == Ok(Some(range(start, end))),
+        Err(error) => answer == Err(error),
+    })
+}
+
 /// Whether a commit does what its row says.
-fn is_answered(alloc: Global, row: Row) -> Result<bool, Fail> {
+fn is_answered(alloc: Global, row: &Row) -> Result<bool, Fail> {
     let mut ids = TreeIds::new();
     let mut document = Document::open(alloc, row.edition, "struct S;", &mut ids)?;
-    let editor = put(alloc, &document, IDENT, row.token, &mut ids)?;
-    let answer = commit(alloc, &mut document, editor, &mut ids);
+    let answered = is_answer(alloc, &mut document, row, &mut ids)?;
     let number = document.root().tree() == row.number;
-    Ok((answer == row.answer) & number & (document.text() == row.text))
+    Ok(answered & number & has_text(&document, row.text))
 }
+
+const OLD: Edition = Edition::Edition2015;
+
+const NEW: Edition = Edition::Edition2021;
+
+const TOKENS: &[Row] = &[
+    Row {
+        edition: NEW,
+        token: (NEW, "Tee"),
+        answer: Ok((7, 10)),
+        text: "struct Tee;",
+        number: 3,
+    },
+    Row {
+        edition: OLD,
+        token: (OLD, "async"),
+        answer: Ok((7, 12)),
+        text: "struct async;",
+        number: 3,
+    },
+    Row {
+        edition: NEW,
+        token: (NEW, "struct"),
+        answer: Err(CommitError::Unfaithful),
+        text: "struct S;",
+        number: 1,
+    },
+    Row {
+        edition: NEW,
+        token: (OLD, "async"),
+        answer: Err(CommitError::Unfaithful),
+        text: "struct S;",
+        number: 1,
+    },
+];
 
 #[test]
 fn tokens_for_a_name(rt: HostRuntime) -> Result<(), Fail> {
-    let (old, new) = (Edition::Edition2015, Edition::Edition2021);
-    let row = |edition, token, answer, text, number| Row {
-        edition,
-        token,
-        answer,
-        text,
-        number,
-    };
-    for row in [
-        row(new, (new, "Tee"), Ok(Some(range(7, 10))), "struct Tee;", 3),
-        row(
-            old,
-            (old, "async"),
-            Ok(Some(range(7, 12))),
-            "struct async;",
-            3,
-        ),
-        row(
-            new,
-            (new, "struct"),
-            Err(CommitError::Unfaithful),
-            "struct S;",
-            1,
-        ),
-        row(
-            new,
-            (old, "async"),
-            Err(CommitError::Unfaithful),
-            "struct S;",
-            1,
-        ),
-    ] {
+    for row in TOKENS {
         assert!(rt; is_answered(rt.alloc(), row)?, "{}", row.token.1);
     }
     Ok(())

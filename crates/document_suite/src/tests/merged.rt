@@ -19,20 +19,30 @@ fn deleting(alloc: Global, document: &Document, place: Place) -> Result<SyntaxEd
     Ok(editor)
 }
 
+/// An editor that deletes two elements, put together of one for each.
+fn merged(
+    alloc: Global,
+    document: &Document,
+    (one, other): (Place, Place),
+) -> Result<SyntaxEditor, Fail> {
+    let mut editor = deleting(alloc, document, one)?;
+    let second = deleting(alloc, document, other)?;
+    if editor.merge(second).is_err() {
+        return Err(Fail::new("not merged"));
+    }
+    Ok(editor)
+}
+
 /// Whether two editors put together, each of which deletes a struct, are refused so, and the text is this then.
 fn is_answered(
     alloc: Global,
-    (one, other): (Place, Place),
+    places: (Place, Place),
     refusal: Option<CommitError>,
     becomes: &str,
 ) -> Result<bool, Fail> {
     let mut ids = TreeIds::starting_at(2);
     let mut document = open(alloc, "struct S; struct T;")?;
-    let mut editor = deleting(alloc, &document, one)?;
-    let second = deleting(alloc, &document, other)?;
-    if editor.merge(second).is_err() {
-        return Err(Fail::new("not merged"));
-    }
+    let editor = merged(alloc, &document, places)?;
     let refused = document.commit(alloc, editor, &mut ids).err();
     Ok((refused == refusal) & (document.text() == becomes))
 }

@@ -45,50 +45,64 @@ fn read_as(
     Ok(first.then_some(seen))
 }
 
+/// An entry, a text that it reads, and the kind of what that is.
+type Tree = (TopEntryPoint, &'static str, SyntaxKind);
+
+const TREES: &[Tree] = &[
+    (TopEntryPoint::Expr, "2 + 2 == 5", SyntaxKind::BIN_EXPR),
+    (TopEntryPoint::Ty, "&mut [u8]", SyntaxKind::REF_TYPE),
+    (TopEntryPoint::Pattern, "Some(_) | None", SyntaxKind::OR_PAT),
+    (
+        TopEntryPoint::SourceFile,
+        "fn f() {}",
+        SyntaxKind::SOURCE_FILE,
+    ),
+    (
+        TopEntryPoint::MacroItems,
+        "fn f() {}",
+        SyntaxKind::MACRO_ITEMS,
+    ),
+    (
+        TopEntryPoint::MacroStmts,
+        "let x = 1;",
+        SyntaxKind::MACRO_STMTS,
+    ),
+    (TopEntryPoint::MetaItem, "derive(Debug)", SyntaxKind::META),
+];
+
+fn is_tree(alloc: Global, (top, text, kind): &Tree, ids: &mut TreeIds) -> bool {
+    match read_as(alloc, *top, text, ids) {
+        Ok(Some(element)) => element.0 == *kind,
+        _ => false,
+    }
+}
+
 #[test]
 fn trees(rt: HostRuntime) {
     let mut ids = TreeIds::new();
-    for (top, text, kind) in [
-        (TopEntryPoint::Expr, "2 + 2 == 5", SyntaxKind::BIN_EXPR),
-        (TopEntryPoint::Ty, "&mut [u8]", SyntaxKind::REF_TYPE),
-        (TopEntryPoint::Pattern, "Some(_) | None", SyntaxKind::OR_PAT),
-        (
-            TopEntryPoint::SourceFile,
-            "fn f() {}",
-            SyntaxKind::SOURCE_FILE,
-        ),
-        (
-            TopEntryPoint::MacroItems,
-            "fn f() {}",
-            SyntaxKind::MACRO_ITEMS,
-        ),
-        (
-            TopEntryPoint::MacroStmts,
-            "let x = 1;",
-            SyntaxKind::MACRO_STMTS,
-        ),
-        (TopEntryPoint::MetaItem, "derive(Debug)", SyntaxKind::META),
-    ] {
-        let read = read_as(rt.alloc(), top, text, &mut ids).ok().flatten();
-        assert!(rt; read.is_some_and(|element| element.0 == kind), "{text}");
+    for tree in TREES {
+        assert!(rt; is_tree(rt.alloc(), tree, &mut ids), "{}", tree.1);
     }
     assert!(rt; ids.next() == Ok(8));
+}
+
+const WITH_MESSAGES: &[(TopEntryPoint, &str)] = &[
+    (TopEntryPoint::Ty, ";"),
+    (TopEntryPoint::Expr, "1 2"),
+    (TopEntryPoint::Expr, ".. + 1"),
+    (TopEntryPoint::Pattern, ""),
+    (TopEntryPoint::Expr, "\"a"),
+];
+
+fn has_message(alloc: Global, top: TopEntryPoint, text: &str, ids: &mut TreeIds) -> bool {
+    read_as(alloc, top, text, ids) == Err(PayloadError::Message)
 }
 
 #[test]
 fn texts_with_messages(rt: HostRuntime) {
     let mut ids = TreeIds::new();
-    for (top, text) in [
-        (TopEntryPoint::Ty, ";"),
-        (TopEntryPoint::Expr, "1 2"),
-        (TopEntryPoint::Expr, ".. + 1"),
-        (TopEntryPoint::Pattern, ""),
-        (TopEntryPoint::Expr, "\"a"),
-    ] {
-        assert!(rt;
-            read_as(rt.alloc(), top, text, &mut ids) == Err(PayloadError::Message),
-            "{text}"
-        );
+    for (top, text) in WITH_MESSAGES {
+        assert!(rt; has_message(rt.alloc(), *top, text, &mut ids), "{text}");
     }
     assert!(rt; ids.next() == Ok(1));
 }
@@ -101,19 +115,25 @@ fn other_tokens(rt: HostRuntime) {
     assert!(rt; mark == Ok(Some((SyntaxKind::UNDERSCORE, 1, range(0, 1)))));
 }
 
+const OTHER_TEXTS: &[(&str, PayloadError)] = &[
+    ("a b", PayloadError::NotOneToken),
+    ("", PayloadError::NotOneToken),
+    ("a {", PayloadError::NotOneToken),
+    ("#!/bin/sh", PayloadError::NotOneToken),
+    ("\"a", PayloadError::Message),
+    ("a 'b \"c", PayloadError::Message),
+    ("#!/bin/sh \"", PayloadError::Message),
+];
+
+fn is_refused(alloc: Global, text: &str, expected: PayloadError, ids: &mut TreeIds) -> bool {
+    seen(alloc, text, ids) == Err(expected)
+}
+
 #[test]
 fn other_texts(rt: HostRuntime) {
     let mut ids = TreeIds::new();
-    for (text, expected) in [
-        ("a b", PayloadError::NotOneToken),
-        ("", PayloadError::NotOneToken),
-        ("a {", PayloadError::NotOneToken),
-        ("#!/bin/sh", PayloadError::NotOneToken),
-        ("\"a", PayloadError::Message),
-        ("a 'b \"c", PayloadError::Message),
-        ("#!/bin/sh \"", PayloadError::Message),
-    ] {
-        assert!(rt; seen(rt.alloc(), text, &mut ids) == Err(expected));
+    for (text, expected) in OTHER_TEXTS {
+        assert!(rt; is_refused(rt.alloc(), text, *expected, &mut ids), "{text}");
     }
     assert!(rt; ids.next() == Ok(1));
 }

@@ -1,5 +1,5 @@
 //! What an editor records, and what it refuses.
-use super::{IDENT, Place, ROOT, SEMICOLON, found, open, replacing};
+use super::{IDENT, Place, ROOT, SEMICOLON, found, open};
 use parser_input::edition::Edition;
 use parser_input::syntax_kind::SyntaxKind;
 use rust_document::{Document, PayloadEntry, RecordError, SyntaxEditor, payload};
@@ -38,27 +38,46 @@ fn of_another(
     answer_to(alloc, &target)
 }
 
+/// A text, the number of its tree, an element of it, and what is answered to that.
+type Target = (&'static str, u32, Place, Option<RecordError>);
+
+const TARGETS: &[Target] = &[
+    ("struct S;", 2, IDENT, Some(RecordError::Foreign)),
+    (
+        "S; S ;",
+        1,
+        (SyntaxKind::SEMICOLON, 5, 6),
+        Some(RecordError::Foreign),
+    ),
+    ("struct S;", 1, ROOT, Some(RecordError::BadTarget)),
+    ("struct T;", 1, IDENT, None),
+];
+
+fn is_answered(alloc: Global, (text, number, place, expected): &Target) -> Result<bool, Fail> {
+    Ok(of_another(alloc, text, *number, *place)? == *expected)
+}
+
 #[test]
 fn targets(rt: HostRuntime) -> Result<(), Fail> {
-    let second = (SyntaxKind::SEMICOLON, 5, 6);
-    for (text, number, place, expected) in [
-        ("struct S;", 2, IDENT, Some(RecordError::Foreign)),
-        ("S; S ;", 1, second, Some(RecordError::Foreign)),
-        ("struct S;", 1, ROOT, Some(RecordError::BadTarget)),
-        ("struct T;", 1, IDENT, None),
-    ] {
-        assert!(rt; of_another(rt.alloc(), text, number, place)? == expected);
+    for target in TARGETS {
+        assert!(rt; is_answered(rt.alloc(), target)?, "{}", target.0);
     }
+    Ok(())
+}
+
+/// Records twice that the name of `struct S;` is put for itself.
+fn put_name(alloc: Global, document: &Document, editor: &mut SyntaxEditor) -> Result<(), Fail> {
+    let name = found(alloc, document, IDENT)?;
+    editor.replace(alloc, &name, &name)?;
+    editor.replace(alloc, &name, &name)?;
     Ok(())
 }
 
 /// What an editor answers to a token for the semicolon of `struct S;`, where something is put for its name already, twice: every
 /// element may be recorded.
 fn answer_to_second(alloc: Global, document: &Document) -> Result<Option<RecordError>, Fail> {
-    let name = found(alloc, document, IDENT)?;
-    let editor = document.editor(alloc)?;
-    let editor = replacing(alloc, editor, &name, &name)?;
-    let editor = replacing(alloc, editor, &name, &name)?;
+    let mut editor = document.editor(alloc)?;
+    put_name(alloc, document, &mut editor)?;
     let semicolon = found(alloc, document, SEMICOLON)?;
     answer(alloc, editor, &semicolon)
 }

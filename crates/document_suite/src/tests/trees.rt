@@ -5,7 +5,7 @@ use rowan_green::{GreenElement, GreenNode};
 use std::alloc::{AllocError, Global};
 use std::test::Fail;
 use syntax_tree::elements::{node, token};
-use syntax_tree::{SyntaxNode, SyntaxToken, TreeError, TreeIds};
+use syntax_tree::{SyntaxElement, SyntaxNode, SyntaxToken, TreeError, TreeIds};
 
 #[test]
 fn numbers(rt: HostRuntime) {
@@ -15,16 +15,28 @@ fn numbers(rt: HostRuntime) {
     assert!(rt; last.next() == Ok(u32::MAX) && last.next().is_err() && last.next().is_err());
 }
 
-/// Of the name of `struct S;` how deep it stands, where it begins, and whether it stands at its own way; none where it is not found.
+/// Of an element how deep it stands, where it begins, and whether it stands at its own way.
+fn place_of(
+    alloc: Global,
+    root: &SyntaxNode,
+    element: &SyntaxElement,
+) -> Result<(usize, u32, bool), AllocError> {
+    let way = element.way(alloc)?;
+    let again = root.element_at(alloc, &way)?.is_some();
+    Ok((way.len(), element.text_range().start().0, again))
+}
+
+/// The same of the name below the root of `struct S;`; none where it is not found.
+fn place_below(alloc: Global, root: &SyntaxNode) -> Result<Option<(usize, u32, bool)>, AllocError> {
+    match root.find(alloc, SyntaxKind::IDENT, range(7, 8))? {
+        Some(name) => Ok(Some(place_of(alloc, root, &name)?)),
+        None => Ok(None),
+    }
+}
+
 fn place_of_name(alloc: Global) -> Result<Option<(usize, u32, bool)>, Fail> {
     let document = open(alloc, "struct S;")?;
-    let root = document.root();
-    let Some(name) = root.find(alloc, SyntaxKind::IDENT, range(7, 8))? else {
-        return Ok(None);
-    };
-    let way = name.way(alloc)?;
-    let again = root.element_at(alloc, &way)?.is_some();
-    Ok(Some((way.len(), name.text_range().start().0, again)))
+    Ok(place_below(alloc, document.root())?)
 }
 
 #[test]

@@ -5,12 +5,8 @@ use std::test::Fail;
 use syntax_editor::{FinishError, RecordError, SyntaxEdit, SyntaxEditor};
 use syntax_tree::{Position, SyntaxElement, SyntaxMappingBuilder, SyntaxNode, TreeIds};
 
-/// Before the child of this number.
-#[derive(Clone, Copy)]
-pub struct Gap<'a> {
-    pub parent: &'a [usize],
-    pub index: usize,
-}
+/// The way of a parent, and the number of its child that the gap is before.
+pub type Gap<'a> = (&'a [usize], usize);
 
 /// Elements are named by their ways, payloads by their texts. `Remove` replaces one by none; `Wrap` replaces the path by one in
 /// parentheses, mapped to or not.
@@ -68,20 +64,24 @@ impl Bench {
         Ok(all)
     }
 
-    fn insert(&mut self, gap: Gap<'_>, texts: &[&'static str]) -> Result<(), Fail> {
-        let SyntaxElement::Node(parent) = self.element(gap.parent)? else {
-            return Err(Fail::new("a token has no gaps"));
-        };
-        let place = Position {
-            parent,
-            index: gap.index,
-        };
-        let new = self.all(texts)?;
+    fn place(&self, (parent, index): Gap<'_>) -> Result<Position, Fail> {
+        match self.element(parent)? {
+            SyntaxElement::Node(parent) => Ok(Position { parent, index }),
+            SyntaxElement::Token(_) => Err(Fail::new("a token has no gaps")),
+        }
+    }
+
+    fn insert_at(&mut self, place: Position, new: Vec<SyntaxElement>) -> Result<(), Fail> {
         let recorded = match new.as_slice() {
             [one] => self.editor.insert(self.alloc, place, one),
             _ => self.editor.insert_all(self.alloc, place, new),
         };
         self.tell(recorded)
+    }
+
+    fn insert(&mut self, gap: Gap<'_>, texts: &[&'static str]) -> Result<(), Fail> {
+        let new = self.all(texts)?;
+        self.insert_at(self.place(gap)?, new)
     }
 
     /// What was recorded in a tree of another number.
@@ -96,23 +96,22 @@ impl Bench {
         }
     }
 
+    /// The path in the file is mapped to the one in parentheses.
+    fn map(&mut self, parens: &SyntaxNode) -> Result<(), Fail> {
+        let mut builder = SyntaxMappingBuilder::new(self.alloc, parens.clone()?)?;
+        let input = path(self.alloc, self.editor.root())?;
+        builder.map_node(self.alloc, input, path(self.alloc, parens)?)?;
+        builder.finish(self.editor.mappings())?;
+        Ok(())
+    }
+
     /// The path in the file becomes one in parentheses, to which it is mapped or not.
     fn wrap(&mut self, is_mapped: bool) -> Result<(), Fail> {
-        let old = self.element(&[0])?;
         let parens = root(self.alloc, Tree::Wrapped, &mut self.ids)?;
         if is_mapped {
-            let mut builder = SyntaxMappingBuilder::new(self.alloc, parens.clone()?)?;
-            builder.map_node(
-                self.alloc,
-                path(self.alloc, self.editor.root())?,
-                path(self.alloc, &parens)?,
-            )?;
-            builder.finish(self.editor.mappings())?;
+            self.map(&parens)?;
         }
-        let recorded = self
-            .editor
-            .replace(self.alloc, &old, &SyntaxElement::Node(parens));
-        self.tell(recorded)
+        self.replace_by(&[0], &SyntaxElement::Node(parens))
     }
 
     fn deleted(&mut self, way: &[usize]) -> Result<(), Fail> {
@@ -122,11 +121,15 @@ impl Bench {
         Ok(self.out.push_str(word)?)
     }
 
-    fn replace(&mut self, way: &[usize], text: &'static str) -> Result<(), Fail> {
+    fn replace_by(&mut self, way: &[usize], new: &SyntaxElement) -> Result<(), Fail> {
         let old = self.element(way)?;
-        let new = self.payload(text)?;
-        let recorded = self.editor.replace(self.alloc, &old, &new);
+        let recorded = self.editor.replace(self.alloc, &old, new);
         self.tell(recorded)
+    }
+
+    fn replace(&mut self, way: &[usize], text: &'static str) -> Result<(), Fail> {
+        let new = self.payload(text)?;
+        self.replace_by(way, &new)
     }
 
     fn delete(&mut self, way: &[usize]) -> Result<(), Fail> {
@@ -205,32 +208,51 @@ fn path(alloc: Global, root: &SyntaxNode) -> Result<SyntaxNode, Fail> {
     }
 }
 
-/// The refusals, then the new text with the bytes that changed, or why there is none.
-pub(crate) fn answer(alloc: Global, tree: Tree, doings: &[Do<'_>]) -> Result<String, Fail> {
+/// An editor of a tree, for which nothing is recorded.
+fn new_bench(alloc: Global, tree: Tree) -> Result<Bench, Fail> {
     let mut ids = TreeIds::new();
     let root = root(alloc, tree, &mut ids)?;
     let (editor, _root) = SyntaxEditor::new(alloc, root, &mut ids)?;
-    let mut bench = Bench {
+    let bench = Bench {
         alloc,
         ids,
         editor,
         payloads: Vec::new(alloc),
         out: String::new(alloc),
     };
+    Ok(bench)
+}
+
+/// The refusals, then the new text with the bytes that changed, or why there is none.
+pub(crate) fn answer(alloc: Global, tree: Tree, doings: &[Do<'_>]) -> Result<String, Fail> {
+    let mut bench = new_bench(alloc, tree)?;
     for doing in doings {
         bench.run(*doing)?;
     }
+    finished(alloc, bench)
+}
+
+/// What is told so far, and what the editor gives.
+fn finished(alloc: Global, bench: Bench) -> Result<String, Fail> {
     let Bench {
         mut ids,
         editor,
         mut out,
         ..
     } = bench;
-    match editor.finish(alloc, &mut ids) {
-        Ok(edit) => show(alloc, &mut out, &edit)?,
-        Err(refusal) => out.push_str(name_of(refusal)?)?,
-    }
+    tell_end(alloc, &mut out, editor.finish(alloc, &mut ids))?;
     Ok(out)
+}
+
+fn tell_end(
+    alloc: Global,
+    out: &mut String,
+    end: Result<SyntaxEdit, FinishError>,
+) -> Result<(), Fail> {
+    match end {
+        Ok(edit) => show(alloc, out, &edit),
+        Err(refusal) => Ok(out.push_str(name_of(refusal)?)?),
+    }
 }
 
 /// The new text, and the bytes of it that changed.
@@ -255,19 +277,40 @@ fn name_of(refusal: FinishError) -> Result<&'static str, Fail> {
     }
 }
 
+/// The node at a way.
+pub(crate) fn node_at(alloc: Global, root: &SyntaxNode, way: &[usize]) -> Result<SyntaxNode, Fail> {
+    match root.element_at(alloc, way)? {
+        Some(SyntaxElement::Node(node)) => Ok(node),
+        _ => Err(Fail::new("no such node")),
+    }
+}
+
+/// What comes of a tree once one of its nodes is replaced by a literal.
+fn replaced(
+    alloc: Global,
+    mut editor: SyntaxEditor,
+    old: &SyntaxNode,
+    ids: &mut TreeIds,
+) -> Result<SyntaxEdit, Fail> {
+    let new = payload(alloc, "LITERAL 3", ids)?;
+    let old = SyntaxElement::Node(old.clone()?);
+    editor.replace(alloc, &old, &new)?;
+    Ok(editor.finish(alloc, ids)?)
+}
+
+/// The text of what stands where a node stood.
+fn text_at(alloc: Global, edit: &SyntaxEdit, old: &SyntaxNode) -> Result<String, Fail> {
+    match edit.find_element(alloc, old)? {
+        Some(node) => Ok(format!(in alloc; "{}", node.cursor().text()?)?),
+        None => Err(Fail::new("nothing is found")),
+    }
+}
+
 /// The text of what stands, once the second literal is replaced, where that stood.
 pub(crate) fn found_text(alloc: Global) -> Result<String, Fail> {
     let mut ids = TreeIds::new();
     let root = root(alloc, Tree::Args, &mut ids)?;
-    let Some(SyntaxElement::Node(old)) = root.element_at(alloc, &[4])? else {
-        return Err(Fail::new("no literal"));
-    };
-    let new = payload(alloc, "LITERAL 3", &mut ids)?;
-    let mut editor = SyntaxEditor::of_root(alloc, root);
-    editor.replace(alloc, &SyntaxElement::Node(old.clone()?), &new)?;
-    let edit = editor.finish(alloc, &mut ids)?;
-    match edit.find_element(alloc, &old)? {
-        Some(node) => Ok(format!(in alloc; "{}", node.cursor().text()?)?),
-        None => Err(Fail::new("nothing is found")),
-    }
+    let old = node_at(alloc, &root, &[4])?;
+    let edit = replaced(alloc, SyntaxEditor::of_root(alloc, root), &old, &mut ids)?;
+    text_at(alloc, &edit, &old)
 }

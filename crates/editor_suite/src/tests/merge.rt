@@ -3,7 +3,7 @@ use crate::tests::doing::show;
 use crate::tests::tree::{Tree, root};
 use std::alloc::Global;
 use std::test::Fail;
-use syntax_editor::SyntaxEditor;
+use syntax_editor::{SyntaxEditor, Unmerged};
 use syntax_tree::{SyntaxNode, TreeIds};
 
 /// An editor of a root's tree that deletes the child of a number.
@@ -19,6 +19,17 @@ fn deleting(
     let (mut editor, _root) = SyntaxEditor::new(alloc, root.clone()?, ids)?;
     editor.delete(alloc, &element)?;
     Ok(editor)
+}
+
+/// An editor of a tree of its own that deletes the child of a number.
+fn deleting_in(
+    alloc: Global,
+    tree: Tree,
+    child: usize,
+    ids: &mut TreeIds,
+) -> Result<SyntaxEditor, Fail> {
+    let root = root(alloc, tree, ids)?;
+    deleting(alloc, &root, child, ids)
 }
 
 /// What a finished editor gives, or why it was refused.
@@ -39,10 +50,19 @@ pub(crate) fn finished(
 pub(crate) fn merged(alloc: Global, one: usize, other: usize) -> Result<String, Fail> {
     let mut ids = TreeIds::new();
     let root = root(alloc, Tree::Args, &mut ids)?;
-    let mut first = deleting(alloc, &root, one, &mut ids)?;
+    let first = deleting(alloc, &root, one, &mut ids)?;
     let second = deleting(alloc, &root, other, &mut ids)?;
+    put_together(alloc, first, second, &mut ids)
+}
+
+fn put_together(
+    alloc: Global,
+    mut first: SyntaxEditor,
+    second: SyntaxEditor,
+    ids: &mut TreeIds,
+) -> Result<String, Fail> {
     match first.merge(second) {
-        Ok(()) => finished(alloc, first, &mut ids),
+        Ok(()) => finished(alloc, first, ids),
         Err(unmerged) => Ok(format!(in alloc; "{}", unmerged.error)?),
     }
 }
@@ -51,17 +71,34 @@ pub(crate) fn merged(alloc: Global, one: usize, other: usize) -> Result<String, 
 pub(crate) fn unmerged(alloc: Global) -> Result<String, Fail> {
     let mut ids = TreeIds::new();
     let mut others = TreeIds::new();
-    let args = root(alloc, Tree::Args, &mut ids)?;
-    let lines = root(alloc, Tree::Lines, &mut others)?;
-    let mut first = deleting(alloc, &args, 1, &mut ids)?;
-    let second = deleting(alloc, &lines, 0, &mut others)?;
+    let mut first = deleting_in(alloc, Tree::Args, 1, &mut ids)?;
+    let second = deleting_in(alloc, Tree::Lines, 0, &mut others)?;
     match first.merge(second) {
         Ok(()) => Err(Fail::new("merged")),
-        Err(unmerged) => {
-            let error = unmerged.error;
-            let one = finished(alloc, first, &mut ids)?;
-            let two = finished(alloc, unmerged.editor, &mut others)?;
-            Ok(format!(in alloc; "{error}; {one}; {two}")?)
-        }
+        Err(unmerged) => show_both(alloc, (first, &mut ids), (unmerged, &mut others)),
     }
+}
+
+/// Why two editors were not merged, and what each gives.
+fn show_both(
+    alloc: Global,
+    (first, ids): (SyntaxEditor, &mut TreeIds),
+    (unmerged, others): (Unmerged, &mut TreeIds),
+) -> Result<String, Fail> {
+    let mut out = format!(in alloc; "{}", unmerged.error)?;
+    show_finished(alloc, &mut out, first, ids)?;
+    show_finished(alloc, &mut out, unmerged.editor, others)?;
+    Ok(out)
+}
+
+/// What a finished editor gives, behind what is written already.
+fn show_finished(
+    alloc: Global,
+    out: &mut String,
+    editor: SyntaxEditor,
+    ids: &mut TreeIds,
+) -> Result<(), Fail> {
+    let text = finished(alloc, editor, ids)?;
+    out.push_str("; ")?;
+    Ok(out.push_str(text.as_str())?)
 }

@@ -1,5 +1,5 @@
 //! Elements that are put in with white space around them.
-use crate::tests::doing::Gap;
+use crate::tests::doing::{Gap, node_at};
 use crate::tests::merge::finished;
 use crate::tests::tree::{Tree, payload, root};
 use std::alloc::Global;
@@ -16,18 +16,30 @@ pub(crate) fn spaced(
     texts: &[&str],
 ) -> Result<String, Fail> {
     let root = root(alloc, tree, ids)?;
-    let Some(SyntaxElement::Node(parent)) = root.element_at(alloc, gap.parent)? else {
-        return Err(Fail::new("no such node"));
-    };
-    let place = Position {
-        parent,
-        index: gap.index,
-    };
+    let (parent, index) = gap;
+    let parent = node_at(alloc, &root, parent)?;
+    let new = payloads(alloc, ids, texts)?;
+    let place = Position { parent, index };
+    put(alloc, SyntaxEditor::of_root(alloc, root), place, new, ids)
+}
+
+/// The elements that texts stand for.
+fn payloads(alloc: Global, ids: &mut TreeIds, texts: &[&str]) -> Result<Vec<SyntaxElement>, Fail> {
     let mut new = Vec::new(alloc);
     for text in texts {
         new.push(payload(alloc, *text, ids)?)?;
     }
-    let mut editor = SyntaxEditor::of_root(alloc, root);
+    Ok(new)
+}
+
+/// What an editor gives once elements are put in a gap.
+fn put(
+    alloc: Global,
+    mut editor: SyntaxEditor,
+    place: Position,
+    new: Vec<SyntaxElement>,
+    ids: &mut TreeIds,
+) -> Result<String, Fail> {
     let recorded = match new.as_slice() {
         [one] => editor.insert_with_whitespace(alloc, place, one, ids),
         _ => editor.insert_all_with_whitespace(alloc, place, new, ids),

@@ -2,82 +2,151 @@
 use parser_input::{Edition, Input, LexedStr, SyntaxKind};
 use std::alloc::{AllocError, Global};
 
+/// What stands at a place of an input.
+type Place = (usize, SyntaxKind, SyntaxKind, bool);
+
+/// What the parser sees of a token: its kind, its contextual kind, and whether it is joint.
+type Seen = (SyntaxKind, SyntaxKind, bool);
+
+const THREE: &[Place] = &[
+    (0, SyntaxKind::IDENT, SyntaxKind::UNION_KW, true),
+    (1, SyntaxKind::BANG, SyntaxKind::EOF, false),
+    (2, SyntaxKind::IDENT, SyntaxKind::IDENT, false),
+    (3, SyntaxKind::EOF, SyntaxKind::EOF, false),
+    (usize::MAX, SyntaxKind::EOF, SyntaxKind::EOF, false),
+];
+
+fn push_joint_word(input: &mut Input) -> Result<(), AllocError> {
+    input.push_ident(SyntaxKind::UNION_KW)?;
+    input.was_joint();
+    Ok(())
+}
+
+fn push_bang(input: &mut Input) -> Result<(), AllocError> {
+    input.push(SyntaxKind::BANG)
+}
+
+fn push_three(input: &mut Input) -> Result<(), AllocError> {
+    push_joint_word(input)?;
+    push_bang(input)?;
+    input.push_ident(SyntaxKind::IDENT)
+}
+
+fn is_at(input: &Input, place: usize, kind: SyntaxKind, contextual: SyntaxKind) -> bool {
+    (input.kind(place) == kind) & (input.contextual_kind(place) == contextual)
+}
+
+fn stands(input: &Input, (place, kind, contextual, joint): &Place) -> bool {
+    is_at(input, *place, *kind, *contextual) & (input.is_joint(*place) == *joint)
+}
+
 #[test]
 fn an_input_of_three_tokens(rt: HostRuntime) -> Result<(), AllocError> {
     let mut input = Input::with_capacity(rt.alloc(), 2)?;
-    assert_eq!(rt; input.len(), 0);
-    assert_eq!(rt; input.kind(0), SyntaxKind::EOF);
-    input.push_ident(SyntaxKind::UNION_KW)?;
-    input.was_joint();
-    input.push(SyntaxKind::BANG)?;
-    input.push_ident(SyntaxKind::IDENT)?;
-    assert_eq!(rt; input.len(), 3);
-    for (place, kind, contextual, joint) in [
-        (0, SyntaxKind::IDENT, SyntaxKind::UNION_KW, true),
-        (1, SyntaxKind::BANG, SyntaxKind::EOF, false),
-        (2, SyntaxKind::IDENT, SyntaxKind::IDENT, false),
-        (3, SyntaxKind::EOF, SyntaxKind::EOF, false),
-        (usize::MAX, SyntaxKind::EOF, SyntaxKind::EOF, false),
-    ] {
-        assert_eq!(rt; input.kind(place), kind, "at {place}");
-        assert_eq!(rt; input.contextual_kind(place), contextual, "at {place}");
-        assert_eq!(rt; input.is_joint(place), joint, "at {place}");
+    assert!(rt; (input.len() == 0) & (input.kind(0) == SyntaxKind::EOF));
+    push_three(&mut input)?;
+    assert!(rt; input.len() == 3);
+    for place in THREE {
+        assert!(rt; stands(&input, place), "at {}", place.0);
     }
     Ok(())
+}
+
+// Whether the input has these tokens and no other.
+fn has(input: &Input, tokens: &[Seen]) -> bool {
+    let mut same = input.len() == tokens.len();
+    for (i, (kind, contextual, joint)) in tokens.iter().enumerate() {
+        same = same & stands(input, &(i, *kind, *contextual, *joint));
+    }
+    same
 }
 
 // What the parser sees of a text, token by token.
-fn sees(
-    alloc: Global,
-    text: &str,
-    tokens: &[(SyntaxKind, SyntaxKind, bool)],
-) -> Result<bool, AllocError> {
+fn sees(alloc: Global, text: &str, tokens: &[Seen]) -> Result<bool, AllocError> {
     let lexed = LexedStr::new(alloc, Edition::Edition2015, text)?;
     let input = lexed.to_input(alloc)?;
-    let mut same = input.len() == tokens.len();
-    for (i, (kind, contextual, joint)) in tokens.iter().enumerate() {
-        same = same
-            && input.kind(i) == *kind
-            && input.contextual_kind(i) == *contextual
-            && input.is_joint(i) == *joint;
-    }
-    Ok(same)
+    Ok(has(&input, tokens))
 }
+
+const JOINT_BY_THEIR_ENDS: &[(&str, &[Seen])] = &[
+    (
+        "x.0.1",
+        &[
+            (SyntaxKind::IDENT, SyntaxKind::IDENT, true),
+            (SyntaxKind::DOT, SyntaxKind::EOF, true),
+            (SyntaxKind::FLOAT_NUMBER, SyntaxKind::EOF, true),
+        ],
+    ),
+    (
+        "x.0.",
+        &[
+            (SyntaxKind::IDENT, SyntaxKind::IDENT, true),
+            (SyntaxKind::DOT, SyntaxKind::EOF, true),
+            (SyntaxKind::FLOAT_NUMBER, SyntaxKind::EOF, false),
+        ],
+    ),
+    (
+        "0.1 .",
+        &[
+            (SyntaxKind::FLOAT_NUMBER, SyntaxKind::EOF, true),
+            (SyntaxKind::DOT, SyntaxKind::EOF, false),
+        ],
+    ),
+];
 
 #[test]
 fn floats_are_joint_by_their_ends(rt: HostRuntime) -> Result<(), AllocError> {
-    let x = (SyntaxKind::IDENT, SyntaxKind::IDENT, true);
-    let dot = (SyntaxKind::DOT, SyntaxKind::EOF, true);
-    let whole = (SyntaxKind::FLOAT_NUMBER, SyntaxKind::EOF, true);
-    let open = (SyntaxKind::FLOAT_NUMBER, SyntaxKind::EOF, false);
-    assert!(rt; sees(rt.alloc(), "x.0.1", &[x, dot, whole])?);
-    assert!(rt; sees(rt.alloc(), "x.0.", &[x, dot, open])?);
-    assert!(rt;
-        sees(
-            rt.alloc(),
-            "0.1 .",
-            &[whole, (SyntaxKind::DOT, SyntaxKind::EOF, false)]
-        )?
-    );
+    for (text, tokens) in JOINT_BY_THEIR_ENDS {
+        assert!(rt; sees(rt.alloc(), text, tokens)?, "at {text}");
+    }
     Ok(())
 }
+
+const PARTED: &[(&str, &[Seen])] = &[
+    (
+        "a << b",
+        &[
+            (SyntaxKind::IDENT, SyntaxKind::IDENT, false),
+            (SyntaxKind::L_ANGLE, SyntaxKind::EOF, true),
+            (SyntaxKind::L_ANGLE, SyntaxKind::EOF, false),
+            (SyntaxKind::IDENT, SyntaxKind::IDENT, false),
+        ],
+    ),
+    (
+        "a < </**/ b",
+        &[
+            (SyntaxKind::IDENT, SyntaxKind::IDENT, false),
+            (SyntaxKind::L_ANGLE, SyntaxKind::EOF, false),
+            (SyntaxKind::L_ANGLE, SyntaxKind::EOF, false),
+            (SyntaxKind::IDENT, SyntaxKind::IDENT, false),
+        ],
+    ),
+];
 
 #[test]
 fn trivia_part_tokens(rt: HostRuntime) -> Result<(), AllocError> {
-    let a = (SyntaxKind::IDENT, SyntaxKind::IDENT, false);
-    let joint = (SyntaxKind::L_ANGLE, SyntaxKind::EOF, true);
-    let apart = (SyntaxKind::L_ANGLE, SyntaxKind::EOF, false);
-    assert!(rt; sees(rt.alloc(), "a << b", &[a, joint, apart, a])?);
-    assert!(rt; sees(rt.alloc(), "a < </**/ b", &[a, apart, apart, a])?);
+    for (text, tokens) in PARTED {
+        assert!(rt; sees(rt.alloc(), text, tokens)?, "at {text}");
+    }
     Ok(())
 }
 
+const CONTEXTUAL: &[(&str, &[Seen])] = &[
+    (
+        "dyn union\"a\"",
+        &[
+            (SyntaxKind::IDENT, SyntaxKind::DYN_KW, false),
+            (SyntaxKind::IDENT, SyntaxKind::UNION_KW, true),
+            (SyntaxKind::STRING, SyntaxKind::EOF, false),
+        ],
+    ),
+    (" // dyn\n", &[]),
+];
+
 #[test]
 fn contextual_words(rt: HostRuntime) -> Result<(), AllocError> {
-    let dynamic = (SyntaxKind::IDENT, SyntaxKind::DYN_KW, false);
-    let union = (SyntaxKind::IDENT, SyntaxKind::UNION_KW, true);
-    let text = (SyntaxKind::STRING, SyntaxKind::EOF, false);
-    assert!(rt; sees(rt.alloc(), "dyn union\"a\"", &[dynamic, union, text])?);
-    assert!(rt; sees(rt.alloc(), " // dyn\n", &[])?);
+    for (text, tokens) in CONTEXTUAL {
+        assert!(rt; sees(rt.alloc(), text, tokens)?, "at {text}");
+    }
     Ok(())
 }

@@ -3,110 +3,164 @@ use parser_input::frontmatter::{ScriptSource, is_rust_whitespace};
 use parser_input::frontmatter_error::FrontmatterError;
 use std::ops::Range;
 
-fn span(range: Option<Range<usize>>) -> Option<(usize, usize)> {
-    range.map(|range| (range.start, range.end))
+fn is_span(range: Option<Range<usize>>, start: usize, end: usize) -> bool {
+    match range {
+        Some(range) => (range.start, range.end) == (start, end),
+        None => false,
+    }
+}
+
+fn has_spans(source: &ScriptSource<'_>) -> bool {
+    is_span(source.shebang_span(), 0, 3)
+        & is_span(source.open_span(), 4, 7)
+        & is_span(source.info_span(), 8, 12)
+        & is_span(source.frontmatter_span(), 13, 19)
+        & is_span(source.close_span(), 19, 22)
+        & is_span(Some(source.content_span()), 23, 23)
+}
+
+fn has_texts(source: &ScriptSource<'_>) -> bool {
+    (source.shebang() == Some("#!x"))
+        & (source.info() == Some("toml"))
+        & (source.frontmatter() == Some("a = 1\n"))
+        & (source.content() == "")
+}
+
+fn has_all(source: Result<ScriptSource<'_>, FrontmatterError>) -> bool {
+    match source {
+        Ok(source) => has_spans(&source) & has_texts(&source),
+        Err(_) => false,
+    }
 }
 
 #[test]
 fn a_shebang_and_a_frontmatter(rt: HostRuntime) {
-    let source = ScriptSource::parse("#!x\n--- toml\na = 1\n---\n");
-    assert!(rt; source.is_ok());
-    if let Ok(source) = source {
-        assert_eq!(rt; source.shebang(), Some("#!x"));
-        assert_eq!(rt; span(source.shebang_span()), Some((0, 3)));
-        assert_eq!(rt; span(source.open_span()), Some((4, 7)));
-        assert_eq!(rt; source.info(), Some("toml"));
-        assert_eq!(rt; span(source.info_span()), Some((8, 12)));
-        assert_eq!(rt; source.frontmatter(), Some("a = 1\n"));
-        assert_eq!(rt; span(source.frontmatter_span()), Some((13, 19)));
-        assert_eq!(rt; span(source.close_span()), Some((19, 22)));
-        assert_eq!(rt; source.content(), "");
-        let content = source.content_span();
-        assert_eq!(rt; (content.start, content.end), (23, 23));
+    assert!(rt; has_all(ScriptSource::parse("#!x\n--- toml\na = 1\n---\n")));
+}
+
+/// A text without a frontmatter, its shebang and its content.
+type Bare = (&'static str, Option<&'static str>, &'static str);
+
+// A front without a line feed is not passed over, and an attribute is no shebang.
+const BARE: &[Bare] = &[
+    ("", None, ""),
+    ("struct S;", None, "struct S;"),
+    ("  ---", None, "  ---"),
+    ("\n  ---\n  ---\n", None, "\n  ---\n  ---\n"),
+    ("#![a]\nfn", None, "#![a]\nfn"),
+    ("#!x\r\nfn", Some("#!x"), "\r\nfn"),
+    ("#!x", Some("#!x"), ""),
+];
+
+fn is_bare(source: &ScriptSource<'_>, (_, shebang, content): &Bare) -> bool {
+    (source.shebang() == *shebang)
+        & (source.content() == *content)
+        & source.frontmatter().is_none()
+        & source.info().is_none()
+        & source.open_span().is_none()
+}
+
+fn parses_bare(row: &Bare) -> bool {
+    match ScriptSource::parse(row.0) {
+        Ok(source) => is_bare(&source, row),
+        Err(_) => false,
     }
 }
 
 #[test]
 fn texts_without_frontmatter(rt: HostRuntime) {
-    // A front without a line feed is not passed over, and an attribute is no shebang.
-    for (text, shebang, content) in [
-        ("", None, ""),
-        ("struct S;", None, "struct S;"),
-        ("  ---", None, "  ---"),
-        ("\n  ---\n  ---\n", None, "\n  ---\n  ---\n"),
-        ("#![a]\nfn", None, "#![a]\nfn"),
-        ("#!x\r\nfn", Some("#!x"), "\r\nfn"),
-        ("#!x", Some("#!x"), ""),
-    ] {
-        let source = ScriptSource::parse(text);
-        assert!(rt; source.is_ok(), "at {text}");
-        if let Ok(source) = source {
-            assert_eq!(rt; source.shebang(), shebang, "at {text}");
-            assert_eq!(rt; source.content(), content, "at {text}");
-            assert_eq!(rt; source.frontmatter(), None, "at {text}");
-            assert_eq!(rt; source.info(), None, "at {text}");
-            assert_eq!(rt; span(source.open_span()), None, "at {text}");
-        }
+    for row in BARE {
+        assert!(rt; parses_bare(row), "at {}", row.0);
+    }
+}
+
+/// A text, the info and the lines of its frontmatter, and its content.
+type Front = (
+    &'static str,
+    Option<&'static str>,
+    &'static str,
+    &'static str,
+);
+
+// White space around the info goes, other lines of dashes are passed over, and a carriage return is no part of a line.
+const FRONTS: &[Front] = &[
+    ("---\n---\nstruct S;", None, "", "struct S;"),
+    ("---\n---", None, "", ""),
+    (
+        "\n \n--- \t\n--\n----\n--- x\n--- \t\r\nfn",
+        None,
+        "--\n----\n--- x\n",
+        "fn",
+    ),
+    ("---- a  b \r\n---\n----\n", Some("a  b"), "---\n", ""),
+    ("---\u{2003}é\u{85}\n---\n", Some("\u{2003}é"), "", ""),
+];
+
+fn is_front(source: &ScriptSource<'_>, (_, info, frontmatter, content): &Front) -> bool {
+    (source.info() == *info)
+        & (source.frontmatter() == Some(*frontmatter))
+        & (source.content() == *content)
+}
+
+fn parses_front(row: &Front) -> bool {
+    match ScriptSource::parse(row.0) {
+        Ok(source) => is_front(&source, row),
+        Err(_) => false,
     }
 }
 
 #[test]
 fn frontmatters_by_their_lines(rt: HostRuntime) {
-    // White space around the info goes, other lines of dashes are passed over, and a carriage return is no part of a line.
-    for (text, info, frontmatter, content) in [
-        ("---\n---\nstruct S;", None, "", "struct S;"),
-        ("---\n---", None, "", ""),
-        (
-            "\n \n--- \t\n--\n----\n--- x\n--- \t\r\nfn",
-            None,
-            "--\n----\n--- x\n",
-            "fn",
-        ),
-        ("---- a  b \r\n---\n----\n", Some("a  b"), "---\n", ""),
-        ("---\u{2003}é\u{85}\n---\n", Some("\u{2003}é"), "", ""),
-    ] {
-        let source = ScriptSource::parse(text);
-        assert!(rt; source.is_ok(), "at {text}");
-        if let Ok(source) = source {
-            assert_eq!(rt; source.info(), info, "at {text}");
-            assert_eq!(rt; source.frontmatter(), Some(frontmatter), "at {text}");
-            assert_eq!(rt; source.content(), content, "at {text}");
-        }
+    for row in FRONTS {
+        assert!(rt; parses_front(row), "at {}", row.0);
+    }
+}
+
+/// A text, whether it has too few dashes, and where the dashes are that are wrong.
+type Refused = (&'static str, bool, usize, usize);
+
+const REFUSED: &[Refused] = &[
+    ("-\n", true, 0, 1),
+    ("#!x\n--é", true, 4, 6),
+    ("---", false, 0, 3),
+    ("----\n---\nstruct S;", false, 0, 4),
+    (" \n---\n ---\n", false, 2, 5),
+];
+
+fn is_refusal(refusal: &FrontmatterError, (_, too_few, start, end): &Refused) -> bool {
+    let is_too_few = matches!(refusal, FrontmatterError::TooFewDashes { .. });
+    is_span(Some(refusal.primary_span()), *start, *end) & (is_too_few == *too_few)
+}
+
+fn is_refused(row: &Refused) -> bool {
+    match ScriptSource::parse(row.0) {
+        Ok(_) => false,
+        Err(refusal) => is_refusal(&refusal, row),
     }
 }
 
 #[test]
 fn frontmatters_that_are_refused(rt: HostRuntime) {
-    for (text, too_few, start, end) in [
-        ("-\n", true, 0, 1),
-        ("#!x\n--é", true, 4, 6),
-        ("---", false, 0, 3),
-        ("----\n---\nstruct S;", false, 0, 4),
-        (" \n---\n ---\n", false, 2, 5),
-    ] {
-        match ScriptSource::parse(text) {
-            Ok(_) => assert!(rt; false, "at {text}"),
-            Err(refusal) => {
-                let dashes = refusal.primary_span();
-                assert_eq!(rt; (dashes.start, dashes.end), (start, end), "at {text}");
-                let is_too_few = matches!(&refusal, FrontmatterError::TooFewDashes { .. });
-                assert_eq!(rt; is_too_few, too_few, "at {text}");
-            }
-        }
+    for row in REFUSED {
+        assert!(rt; is_refused(row), "at {}", row.0);
     }
 }
 
+const WHITE: &[char] = &[
+    '\t', '\n', '\u{B}', '\u{C}', '\r', ' ', '\u{85}', '\u{200E}', '\u{200F}', '\u{2028}',
+    '\u{2029}',
+];
+
+const NOT_WHITE: &[char] = &[
+    '\0', 'a', '\u{8}', '\u{E}', '\u{A0}', '\u{2003}', '\u{3000}',
+];
+
 #[test]
 fn white_space_of_rust(rt: HostRuntime) {
-    for c in [
-        '\t', '\n', '\u{B}', '\u{C}', '\r', ' ', '\u{85}', '\u{200E}', '\u{200F}', '\u{2028}',
-        '\u{2029}',
-    ] {
-        assert!(rt; is_rust_whitespace(c));
+    for c in WHITE {
+        assert!(rt; is_rust_whitespace(*c));
     }
-    for c in [
-        '\0', 'a', '\u{8}', '\u{E}', '\u{A0}', '\u{2003}', '\u{3000}',
-    ] {
-        assert!(rt; !is_rust_whitespace(c));
+    for c in NOT_WHITE {
+        assert!(rt; !is_rust_whitespace(*c));
     }
 }
