@@ -1,5 +1,6 @@
 -- The ranges of annotated elements, by where these stand in the rewritten tree.
-use Rattle.std.proofs.Common.{◌≡◌, ℕ, List, [], ◌∷◌, map, refl, ap, sym, ◌∙◌}
+use Rattle.std.proofs.Common.{◌≡◌, ℕ, List, [], map, ap, sym, ◌∙◌}
+use Rattle.std.proofs.lemmas.Simd.{map-map}
 use Rattle.rowan_green.specs.Forest.{Tree}
 use Rattle.rowan.specs.Place.{start_of, end_of}
 use Rattle.syntax_tree.specs.Element.{Way, element_at}
@@ -14,17 +15,13 @@ use Rattle.rust_document.specs.Committed.{bounds_of}
 use Rattle.rust_document.specs.Reading.{root_of}
 use Rattle.rust_document.specs.Rewrite.{annotated, bounds_at, rewritten}
 
-map-twice : {A B C : Type 0} (f : B → C) (g : A → B) (xs : List A) → map f (map g xs) ≡ map (λ x. f (g x)) xs
-map-twice f g [] = refl
-map-twice f g (x ∷ xs) = ap (λ l. f (g x) ∷ l) (map-twice f g xs)
-
 pub ranges-found : (e : Editing) (t : Tree) (n : ℕ) (found : List (SyntaxElement × SyntaxAnnotation)) → IsNode (rewriting e) t
     → map inside.annotated found ≡ map (annotated_at (element_at n t [])) (found_again e) → map bounds_of found ≡ annotated e
 ranges-found e t n found is same =
     let bounds : Annotated → (ℕ × ℕ) × ℕ = λ a. ((start_of a.element.place, end_of a.element.place), a.annotation) in
     let in_tree : Tree → List ((ℕ × ℕ) × ℕ) = λ u. map (λ (x : Way × ℕ). (bounds_at u x.0, x.1)) (found_again e) in
     let own : rewritten e ≡ t = ap root_of is in
-    sym (map-twice bounds inside.annotated found)
+    sym (map-map bounds inside.annotated found)
     ∙ ap (map bounds) same
-    ∙ map-twice bounds (annotated_at (element_at n t [])) (found_again e)
+    ∙ map-map bounds (annotated_at (element_at n t [])) (found_again e)
     ∙ ap in_tree (sym own)

@@ -1,6 +1,7 @@
 -- Annotations as the editor holds them, and by their numbers, lead to the same elements.
 use Rattle.std.proofs.Common.{◌≡◌, ℕ, List, [], ◌∷◌, ◌++◌, map, refl, ap, sym, ◌∙◌}
 use Rattle.std.proofs.lemmas.List.{map-append}
+use Rattle.std.proofs.lemmas.Simd.{map-map}
 use Rattle.syntax_tree.specs.Element.{Way, Element, element_at}
 use Rattle.syntax_tree.specs.Handle.{element_of}
 use Rattle.syntax_tree.specs.Mapping.{Mapping}
@@ -15,10 +16,6 @@ use Rattle.syntax_editor.specs.Editing.{Annotated}
 use Rattle.syntax_editor.specs.Inside.{annotated}
 use Rattle.syntax_editor.specs.declared.annotation.SyntaxAnnotation.{SyntaxAnnotation}
 
-map-twice : {A B C : Type 0} (f : B → C) (g : A → B) (xs : List A) → map f (map g xs) ≡ map (λ x. f (g x)) xs
-map-twice f g [] = refl
-map-twice f g (x ∷ xs) = ap (λ l. f (g x) ∷ l) (map-twice f g xs)
-
 by-numbers : (ms : Mapping) (xs : List (Element × SyntaxAnnotation)) (m : Marked)
     → specs.annotated ms (map (λ x. (x.0, x.1.number)) xs) m ≡ map (λ x. (x.0, x.1.number)) (specs.annotated ms xs m)
 by-numbers ms [] m = refl
@@ -27,7 +24,7 @@ by-numbers ms (x ∷ xs) m =
     let with : Way → Way × SyntaxAnnotation = λ w. (w, x.1) in
     let numbers : Way × SyntaxAnnotation → Way × ℕ = λ y. (y.0, y.1.number) in
     ap (λ l. map (λ w. (w, x.1.number)) ways ++ l) (by-numbers ms xs m)
-    ∙ ap (λ l. l ++ map numbers (specs.annotated ms xs m)) (sym (map-twice numbers with ways))
+    ∙ ap (λ l. l ++ map numbers (specs.annotated ms xs m)) (sym (map-map numbers with ways))
     ∙ sym (map-append numbers (map with ways) (specs.annotated ms xs m))
 
 pub seen-again : (ms : Mapping) (held : List (SyntaxElement × SyntaxAnnotation)) (found : List (SyntaxElement × SyntaxAnnotation)) (m : Marked) (root : Element)
@@ -40,10 +37,10 @@ seen-again ms held found m root is =
     let own : Element × SyntaxAnnotation → Element × ℕ = λ y. (y.0, y.1.number) in
     let place : Way × SyntaxAnnotation → Element × SyntaxAnnotation = λ x. (element_at root.number root.place.root x.0, x.1) in
     let ways : List (Way × SyntaxAnnotation) = specs.annotated ms (elements_of held) m in
-    let seen : map numbered (map annotated held) ≡ map own (elements_of held) = map-twice numbered annotated held ∙ sym (map-twice own parts held) in
-    sym (map-twice as_one parts found)
+    let seen : map numbered (map annotated held) ≡ map own (elements_of held) = map-map numbered annotated held ∙ sym (map-map own parts held) in
+    sym (map-map as_one parts found)
     ∙ ap (map as_one) is
-    ∙ map-twice as_one place ways
-    ∙ sym (map-twice (annotated_at root) numbers ways)
+    ∙ map-map as_one place ways
+    ∙ sym (map-map (annotated_at root) numbers ways)
     ∙ ap (map (annotated_at root)) (sym (by-numbers ms (elements_of held) m))
     ∙ ap (λ xs. map (annotated_at root) (specs.annotated ms xs m)) (sym seen)

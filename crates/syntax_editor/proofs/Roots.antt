@@ -1,5 +1,5 @@
 -- The green node of a root.
-use Rattle.std.proofs.Common.{◌≡◌, List, [], sym, ◌∙◌, ap}
+use Rattle.std.proofs.Common.{◌≡◌, [], sym, ◌∙◌, ap}
 use Rattle.std.specs.Prelude.{Option, Some}
 use Rattle.rowan_green.specs.Forest.{Tree}
 use Rattle.rowan_green.specs.Term.{Term}

@@ -14,7 +14,7 @@ use Rattle.syntax_tree.specs.declared.element.SyntaxElement.TheVariants.{Node}
 use Rattle.syntax_editor.specs.Between.{kind_of, between}
 use Rattle.syntax_editor.specs.Editing.{Editing}
 use Rattle.syntax_editor.specs.Indent.{line_feed, space, spaces, level_of}
-use Rattle.syntax_editor.specs.Recording.{Recording, inserting, is_gap}
+use Rattle.syntax_editor.specs.Recording.{Recording, inserting}
 use Rattle.syntax_editor.specs.declared.error.WhitespaceError.{WhitespaceError}
 use Rattle.syntax_editor.specs.declared.error.WhitespaceError.TheVariants.{Foreign, NoTreeNumber, NoMemory}
 use Rattle.syntax_editor.specs.declared.whitespace.Space.{Space}

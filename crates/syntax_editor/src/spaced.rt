@@ -1,8 +1,6 @@
 //! Elements that are put in with white space around them.
 ghost use Rattle.std.specs.Prelude.{◌≡◌, true, ◌≤◌, ◌+◌, ◌∷◌, [], map, IfOk, IfErr, OnOk};
-ghost use Rattle.rowan.specs.Place.{kind_at};
 ghost use Rattle.syntax_tree.specs.Handle.{element_of};
-ghost use Rattle.syntax_editor.specs.Between.{kind_of};
 ghost use Rattle.syntax_editor.specs.Editing.{with_changes};
 ghost use Rattle.syntax_editor.specs.Recording.{Recorded, is_gap};
 ghost use Rattle.syntax_editor.specs.Spaced.{is_statement, begins_line, child, space_before, space_after, space_before_all, space_after_all, text_of, token_of, token_count, spaced, spaced_count, inserting_spaced, number_after, RefusesSpaced};

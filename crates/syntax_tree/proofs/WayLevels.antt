@@ -1,12 +1,12 @@
 -- The element that a way leads to, level by level.
-use Rattle.std.proofs.Common.{◌≡◌, ℕ, zero, suc, ◌+◌, ◌-◌, ◌<◌, ◌≤◌, List, [], ◌∷◌, ◌++◌, length, take, drop, map, refl, ap, sym, ◌∙◌, arith, append_assoc, get_or, Option, Some, None, option_map, slice_get}
+use Rattle.std.proofs.Common.{◌≡◌, ℕ, suc, ◌+◌, ◌-◌, ◌<◌, ◌≤◌, [], ◌∷◌, ◌++◌, length, take, refl, ap, sym, ◌∙◌, arith, append_assoc, get_or, Option, Some, None, option_map, slice_get}
 use Rattle.std.proofs.Math.Seq.{take-suc}
 use Rattle.std.proofs.lemmas.Option.{slice_get_past, same_Some, none-some}
 use Rattle.rowan_green.specs.Forest.{Tree}
 use Rattle.rowan_green.specs.Term.{Term}
 use Rattle.rowan_green.specs.declared.utility_types.NodeOrToken.TheVariants.{Node, Token}
-use Rattle.rowan.specs.Place.{Place, below, term_by, terms_below, children_in}
-use Rattle.rowan.specs.Around.{numbered, children, cursor_of}
+use Rattle.rowan.specs.Place.{Place, below, term_by, children_in}
+use Rattle.rowan.specs.Around.{cursor_of, cursor_in}
 use Rattle.syntax_tree.specs.Element.{Way, Element, element_at}
 use Rattle.syntax_tree.specs.Handle.{element_of, with_number, with_cursor, standing_at}
 
@@ -14,17 +14,10 @@ cursor_stands : (n : ℕ) (p : Place) (e : Term) → element_of (with_cursor n (
 cursor_stands n p (Node t) = refl
 cursor_stands n p (Token l) = refl
 
--- a child by its number
-pub numbered_at : (n : ℕ) (p : Place) (j i : ℕ) (es : List Term)
-    → option_map element_of (slice_get (map (with_cursor n) (numbered p j es)) i) ≡ option_map (λ _. with_number n (below p (j + i))) (slice_get es i)
-numbered_at n p j zero [] = refl
-numbered_at n p j (suc i) [] = refl
-numbered_at n p j zero (e ∷ es) =
-    let here : j + zero ≡ j = omega arith in
-    ap Some (cursor_stands n (below p j) e) ∙ ap (λ (k : ℕ). Some (with_number n (below p k))) (sym here)
-numbered_at n p j (suc i) (e ∷ es) =
-    let next : (j + 1) + i ≡ j + suc i = omega arith in
-    numbered_at n p (j + 1) i es ∙ ap (λ (k : ℕ). option_map (λ _. with_number n (below p k)) (slice_get es i)) next
+-- what stands at a place, by its cursor
+pub by_cursor : (n : ℕ) (p : Place) (o : Option Term) → option_map element_of (option_map (with_cursor n) (cursor_in p o)) ≡ option_map (λ _. with_number n p) o
+by_cursor n p None = refl
+by_cursor n p (Some e) = ap Some (cursor_stands n p e)
 
 one_less : (w up : Way) (n : ℕ) → n < length w → take n w ++ get_or w n 0 ∷ up ≡ take (suc n) w ++ up
 one_less w up n h = sym (ap (λ (v : Way). v ++ up) (take-suc w n 0 h) ∙ append_assoc (take n w) (get_or w n 0 ∷ []) up)
@@ -40,12 +33,6 @@ pub nothing_below : (t : Tree) (front up : Way) → term_by t up ≡ None → te
 nothing_below t [] up h = h
 nothing_below t (i ∷ front) up h =
     ap (λ (o : Option Term). slice_get (children_in o) i) (nothing_below t front up h) ∙ slice_get_past [] i (omega arith)
-
-pub child_is : (n : ℕ) (p : Place) (i : ℕ)
-    → option_map element_of (slice_get (map (with_cursor n) (children p)) i) ≡ standing_at (with_number n p) (i ∷ p.up)
-child_is n p i =
-    numbered_at n p 0 i (drop 0 (terms_below p))
-    ∙ ap (λ (k : ℕ). option_map (λ _. with_number n (below p k)) (slice_get (drop 0 (terms_below p)) i)) (omega arith)
 
 -- what stands at a way has that way
 stands_is : (e : Element) (w : Way) (o : Option Term) (x : Element) → option_map (λ _. element_at e.number e.place.root w) o ≡ Some x → x ≡ element_at e.number e.place.root w

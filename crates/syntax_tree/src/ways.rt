@@ -4,6 +4,7 @@ ghost use Rattle.syntax_tree.specs.Handle.{element_of, standing_at};
 
 use crate::element::SyntaxElement;
 use crate::handle::SyntaxNode;
+use crate::iter::numbered;
 use std::alloc::{AllocError, Global};
 
 impl SyntaxNode {
@@ -11,15 +12,11 @@ impl SyntaxNode {
     fn child(&self, alloc: Global, number: usize) -> Result<Option<SyntaxElement>, AllocError>
         ensures { IfOk result (λ r. option_map element_of r ≡ standing_at self.now (number ∷ self.now.place.up)) }
     {
-        let mut left = number;
-        for child in self.children_with_tokens(alloc)? {
-            let child = child?;
-            if left == 0 {
-                return Ok(Some(child));
-            }
-            left -= 1;
+        let found = self.cursor().nth_child_or_token(alloc, number)?;
+        match found {
+            Some(cursor) => Ok(Some(numbered(self.tree(), cursor))),
+            None => Ok(None),
         }
-        Ok(None)
     }
 }
 

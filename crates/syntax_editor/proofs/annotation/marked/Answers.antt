@@ -1,6 +1,5 @@
 use Rattle.std.proofs.Common.{◌≡◌, ◌+◌, List, [], ◌∷◌, ◌++◌, map, take, ap, sym, ◌∙◌, rules}
 use Rattle.std.proofs.lemmas.List.{take_more, map-append}
-use Rattle.syntax_tree.specs.Element.{Element}
 use Rattle.syntax_tree.specs.Handle.{element_of}
 use Rattle.syntax_editor.specs.Editing.{Annotated, with_annotation}
 use Rattle.syntax_editor.specs.Inside.{annotated}

@@ -1,5 +1,5 @@
 -- The trees of two roots are one where number and green node are.
-use Rattle.std.proofs.Common.{◌≡◌, ap, sym, ◌∙◌, arith}
+use Rattle.std.proofs.Common.{◌≡◌, ap, sym, ◌∙◌}
 use Rattle.rowan.specs.Place.{term_at}
 use Rattle.rowan_green.specs.Same.{same_tree-Decides}
 use Rattle.syntax_editor.specs.Editing.{Editing}

@@ -1,24 +1,21 @@
--- The child of a number is what is left at the head of the children once so many are passed.
-use Rattle.std.proofs.Common.{◌≡◌, [], ◌∷◌, Some, None, ap, sym, ◌∙◌, arith, option_map, slice_get}
-use Rattle.std.proofs.lemmas.Option.{slice_get_past}
-use Rattle.rowan.proofs.Walks.{first_given}
-use Rattle.syntax_tree.specs.Handle.{element_of}
-use Rattle.syntax_tree.proofs.WayLevels.{child_is}
+use Rattle.std.proofs.Common.{Some, option_map, ap, sym, ◌∙◌}
+use Rattle.rowan.specs.Around.{cursor_at}
+use Rattle.rowan.specs.Place.{below, term_at}
+use Rattle.syntax_tree.specs.Handle.{element_of, with_cursor}
+use Rattle.syntax_tree.proofs.WayLevels.{by_cursor}
 use Rattle.syntax_tree.proofs.handle.SyntaxNode.child.Goals as goal
 
-pub returns-then-left-eq0 : goal.returns-then-left-eq0
-returns-then-left-eq0 c =
-    let h = child_is c.args.self.now.number c.args.self.now.place c.args.number in
-    let s = ap (option_map element_of) c.loop-child.invariant.same ∙ h in
-    let e = first_given _ _ _ _ c.in_ok-child.was c.in-Some.ensures.steps in
-    let first : slice_get c.loop-child.child-iterator c.loop-child.left ≡ Some c.in_ok-child.child =
-    ap (λ xs. slice_get xs c.loop-child.left) e ∙ ap (slice_get (c.in_ok-child.child ∷ c.next.new.self)) c.if-left-eq0.true in
-    ap (option_map element_of) (sym first) ∙ s
+pub returns-in-Some : goal.returns-in-Some
+returns-in-Some c =
+    let n = c.args.self.now.number in
+    let p = below c.args.self.now.place c.args.number in
+    let at_place = c.in_ok-found.ensures ∙ ap (λ q. cursor_at (below q c.args.number)) c.cursor.ensures in
+    ap (λ e. Some (element_of e)) (c.numbered.ensures ∙ ap (λ m. with_cursor m c.in-Some.cursor) c.tree.ensures)
+    ∙ ap (option_map element_of) (ap (option_map (with_cursor n)) (sym c.in-Some.is ∙ at_place)) ∙ by_cursor n p (term_at p)
 
-pub returns : goal.returns
-returns c =
-    let h = child_is c.args.self.now.number c.args.self.now.place c.args.number in
-    let s = ap (option_map element_of) c.loop-child.invariant.same ∙ h in
-    let none : slice_get c.loop-child.child-iterator c.loop-child.left ≡ None =
-    ap (λ xs. slice_get xs c.loop-child.left) c.in-None.ensures.steps.0 ∙ slice_get_past [] c.loop-child.left (omega arith) in
-    ap (option_map element_of) (sym none) ∙ s
+pub returns-in-None : goal.returns-in-None
+returns-in-None c =
+    let n = c.args.self.now.number in
+    let p = below c.args.self.now.place c.args.number in
+    let at_place = c.in_ok-found.ensures ∙ ap (λ q. cursor_at (below q c.args.number)) c.cursor.ensures in
+    ap (option_map element_of) (ap (option_map (with_cursor n)) (sym c.in-None.is ∙ at_place)) ∙ by_cursor n p (term_at p)
