@@ -21,6 +21,7 @@ fn what_is_found_is_mapped(rt: HostRuntime) {
 enum Ask {
     TokensAt(u32),
     ChildAt(u32, u32),
+    Nth(usize),
     Covering(u32, u32),
     FirstList,
     NotFromRoot,
@@ -35,15 +36,8 @@ enum Ask {
     NotFound,
 }
 
-#[derive(Clone, Copy)]
-struct Row {
-    ask: Ask,
-    answer: &'static str,
-}
-
-fn asked(ask: Ask, answer: &'static str) -> Row {
-    Row { ask, answer }
-}
+/// A question, and what must be written for its answer.
+type Row = (Ask, &'static str);
 
 /// The tokens that touch an offset.
 fn tokens_at(alloc: Global, out: &mut String, root: &Node, offset: u32) -> Result<(), Fail> {
@@ -82,6 +76,7 @@ fn of_words(alloc: Global, out: &mut String, ask: Ask, root: &Node) -> Result<()
             out,
             root.child_or_token_at_range(alloc, range(start, end)),
         ),
+        Ask::Nth(number) => show_item(alloc, out, root.nth_child_or_token(alloc, number)),
         _ => Ok(()),
     }
 }
@@ -165,14 +160,31 @@ fn typed_children(alloc: Global, out: &mut String, root: &Node) -> Result<(), Fa
     Ok(())
 }
 
+fn first_found(alloc: Global, out: &mut String, root: &Node) -> Result<(), Fail> {
+    let list = first_list(alloc)?;
+    found(alloc, out, &list, root)
+}
+
+fn first_typed_found(alloc: Global, out: &mut String, root: &Node) -> Result<(), Fail> {
+    typed_found(alloc, out, first_list(alloc)?, root)
+}
+
+fn typed_child(alloc: Global, out: &mut String, root: &Node) -> Result<(), Fail> {
+    show_list(alloc, out, support::child::<ListNode>(alloc, root)?)
+}
+
+fn first_not_found(alloc: Global, out: &mut String) -> Result<(), Fail> {
+    typed_not_found(alloc, out, first_list(alloc)?)
+}
+
 fn of_sample(alloc: Global, out: &mut String, ask: Ask, root: &Node) -> Result<(), Fail> {
     match ask {
-        Ask::FirstList => found(alloc, out, &first_list(alloc)?, root),
+        Ask::FirstList => first_found(alloc, out, root),
         Ask::LastList => last_found(alloc, out, root),
-        Ask::TypedPointer => typed_found(alloc, out, first_list(alloc)?, root),
-        Ask::TypedChild => show_list(alloc, out, support::child::<ListNode>(alloc, root)?),
+        Ask::TypedPointer => first_typed_found(alloc, out, root),
+        Ask::TypedChild => typed_child(alloc, out, root),
         Ask::TypedChildren => typed_children(alloc, out, root),
-        Ask::TypedNotFound => typed_not_found(alloc, out, first_list(alloc)?),
+        Ask::TypedNotFound => first_not_found(alloc, out),
         Ask::WordBeforeAll => show_item(alloc, out, support::token(alloc, root, Kind(3))),
         Ask::NotFound => not_found(alloc, out, root),
         _ => Ok(()),
@@ -186,46 +198,69 @@ fn of_list(alloc: Global, out: &mut String, ask: Ask, list: &Node) -> Result<(),
     }
 }
 
-fn answer(alloc: Global, out: &mut String, ask: Ask) -> Result<(), Fail> {
+fn answer_of_tree(alloc: Global, out: &mut String, ask: Ask, words: &str) -> Result<(), Fail> {
+    let root = tree(alloc, words)?;
     match ask {
-        Ask::TokensAt(_) | Ask::ChildAt(_, _) | Ask::Covering(_, _) => {
-            of_words(alloc, out, ask, &tree(alloc, "{ ab cd }")?)
+        Ask::TokensAt(_) | Ask::ChildAt(_, _) | Ask::Nth(_) | Ask::Covering(_, _) => {
+            of_words(alloc, out, ask, &root)
         }
-        Ask::NotFromRoot | Ask::ReplacedNode => of_list(alloc, out, ask, &first_list(alloc)?),
-        Ask::ReplacedToken => replaced_token(alloc, out, &comma(alloc)?),
-        _ => of_sample(alloc, out, ask, &tree(alloc, SAMPLE)?),
+        _ => of_sample(alloc, out, ask, &root),
     }
 }
 
-fn is_met(alloc: Global, row: Row) -> Result<bool, Fail> {
-    let mut out = String::new(alloc);
-    answer(alloc, &mut out, row.ask)?;
-    Ok(out.as_str() == row.answer)
+fn answer_of_list(alloc: Global, out: &mut String, ask: Ask) -> Result<(), Fail> {
+    let list = first_list(alloc)?;
+    of_list(alloc, out, ask, &list)
 }
+
+fn answer_of_comma(alloc: Global, out: &mut String) -> Result<(), Fail> {
+    let comma = comma(alloc)?;
+    replaced_token(alloc, out, &comma)
+}
+
+fn answer(alloc: Global, out: &mut String, ask: Ask) -> Result<(), Fail> {
+    match ask {
+        Ask::TokensAt(_) | Ask::ChildAt(_, _) | Ask::Nth(_) | Ask::Covering(_, _) => {
+            answer_of_tree(alloc, out, ask, "{ ab cd }")
+        }
+        Ask::NotFromRoot | Ask::ReplacedNode => answer_of_list(alloc, out, ask),
+        Ask::ReplacedToken => answer_of_comma(alloc, out),
+        _ => answer_of_tree(alloc, out, ask, SAMPLE),
+    }
+}
+
+fn is_met(alloc: Global, (ask, expected): &Row) -> Result<bool, Fail> {
+    let mut out = String::new(alloc);
+    answer(alloc, &mut out, *ask)?;
+    Ok(out.as_str() == *expected)
+}
+
+const FINDING: &[Row] = &[
+    (Ask::TokensAt(2), "WORD@0..2 WORD@2..4 "),
+    (Ask::TokensAt(3), "WORD@2..4 "),
+    (Ask::ChildAt(2, 2), "WORD@0..2 "),
+    (Ask::ChildAt(1, 3), "none "),
+    (Ask::Nth(1), "WORD@2..4 "),
+    (Ask::Nth(2), "none "),
+    (Ask::Covering(2, 2), "WORD@0..2 "),
+    (Ask::Covering(1, 3), "ROOT@0..4 "),
+    (Ask::FirstList, "LIST@2..5 "),
+    (Ask::NotFromRoot, "none "),
+    (Ask::LastList, "LIST@7..7 "),
+    (Ask::TypedPointer, "LIST@2..5 LIST@0..3 "),
+    (Ask::TypedChild, "LIST@2..5 LIST@0..3 "),
+    (Ask::TypedChildren, "LIST@2..5 LIST@6..7 LIST@7..7 "),
+    (Ask::TypedNotFound, "not found"),
+    (Ask::ReplacedNode, "ab;e,cd"),
+    (Ask::ReplacedToken, "ab.cd;e,"),
+    (Ask::WordBeforeAll, "WORD@0..2 "),
+    (Ask::NotFound, "not found"),
+];
 
 #[test]
 fn finding(rt: HostRuntime) -> Result<(), Fail> {
-    let alloc = rt.alloc();
-    for row in [
-        asked(Ask::TokensAt(2), "WORD@0..2 WORD@2..4 "),
-        asked(Ask::TokensAt(3), "WORD@2..4 "),
-        asked(Ask::ChildAt(2, 2), "WORD@0..2 "),
-        asked(Ask::ChildAt(1, 3), "none "),
-        asked(Ask::Covering(2, 2), "WORD@0..2 "),
-        asked(Ask::Covering(1, 3), "ROOT@0..4 "),
-        asked(Ask::FirstList, "LIST@2..5 "),
-        asked(Ask::NotFromRoot, "none "),
-        asked(Ask::LastList, "LIST@7..7 "),
-        asked(Ask::TypedPointer, "LIST@2..5 LIST@0..3 "),
-        asked(Ask::TypedChild, "LIST@2..5 LIST@0..3 "),
-        asked(Ask::TypedChildren, "LIST@2..5 LIST@6..7 LIST@7..7 "),
-        asked(Ask::TypedNotFound, "not found"),
-        asked(Ask::ReplacedNode, "ab;e,cd"),
-        asked(Ask::ReplacedToken, "ab.cd;e,"),
-        asked(Ask::WordBeforeAll, "WORD@0..2 "),
-        asked(Ask::NotFound, "not found"),
-    ] {
-        assert!(rt; is_met(alloc, row)?, "{}", row.answer);
+    for row in FINDING {
+        assert!(rt; is_met(rt.alloc(), row)?, "{}", row.1);
     }
     Ok(())
 }
@@ -252,9 +287,13 @@ fn casts_by_kind(list: Node, root: Node) -> bool {
     }
 }
 
+fn list_casts_by_kind(alloc: Global) -> Result<bool, Fail> {
+    let list = first_list(alloc)?;
+    Ok(casts_by_kind(list, tree(alloc, SAMPLE)?))
+}
+
 #[test]
 fn kinds_are_told_apart(rt: HostRuntime) -> Result<(), Fail> {
-    let alloc = rt.alloc();
-    assert!(rt; casts_by_kind(first_list(alloc)?, tree(alloc, SAMPLE)?));
+    assert!(rt; list_casts_by_kind(rt.alloc())?);
     Ok(())
 }

@@ -5,23 +5,18 @@ use rowan_green::{GreenError, GreenNode, GreenNodeBuilder, SyntaxKind};
 use std::alloc::Global;
 use std::test::Fail;
 
+const LINES: &str =
+    "ROOT@0..3\n  WORD@0..2 \"ab\"\n  LIST@2..3\n    COMMA@2..3 \",\"\n  LIST@3..3\n";
+
+fn have_lines(alloc: Global) -> Result<bool, Fail> {
+    let root = tree(alloc, "{ ab ( , ) ( ) }")?;
+    Ok(root.debug_tree(alloc)?.as_str() == LINES)
+}
+
 #[test]
 fn elements_have_a_line_each(rt: HostRuntime) -> Result<(), Fail> {
-    let shown = tree(rt.alloc(), "{ ab ( , ) ( ) }")?.debug_tree(rt.alloc())?;
-    let lines = "ROOT@0..3\n  WORD@0..2 \"ab\"\n  LIST@2..3\n    COMMA@2..3 \",\"\n  LIST@3..3\n";
-    assert!(rt; shown.as_str() == lines);
+    assert!(rt; have_lines(rt.alloc())?);
     Ok(())
-}
-
-/// A token's text, and what its line ends with.
-#[derive(Clone, Copy)]
-struct Row {
-    text: &'static str,
-    line: &'static str,
-}
-
-fn printed(text: &'static str, line: &'static str) -> Row {
-    Row { text, line }
 }
 
 /// A root with one token.
@@ -41,27 +36,32 @@ fn line_of(alloc: Global, text: &str) -> Result<String, Fail> {
     Ok(root.debug_tree(alloc)?)
 }
 
+/// A token's text, and what its line ends with.
+const CUT: &[(&str, &str)] = &[
+    (
+        "abcdefghijklmnopqrstuvwx",
+        "  WORD@0..24 \"abcdefghijklmnopqrstuvwx\"\n",
+    ),
+    (
+        "abcdefghijklmnopqrstuvwxy",
+        "  WORD@0..25 \"abcdefghijklmnopqrstu ...\"\n",
+    ),
+    (
+        "abcdefghijklmnopqrst\u{e9}uvw",
+        "  WORD@0..25 \"abcdefghijklmnopqrst\u{e9} ...\"\n",
+    ),
+    ("a\"b\n", "  WORD@0..4 \"a\\\"b\\n\"\n"),
+    ("", "  WORD@0..0 \"\"\n"),
+];
+
+fn has_line(alloc: Global, text: &str, line: &str) -> Result<bool, Fail> {
+    Ok(line_of(alloc, text)?.as_str().ends_with(line))
+}
+
 #[test]
 fn long_texts_are_cut(rt: HostRuntime) -> Result<(), Fail> {
-    let rows = [
-        printed(
-            "abcdefghijklmnopqrstuvwx",
-            "  WORD@0..24 \"abcdefghijklmnopqrstuvwx\"\n",
-        ),
-        printed(
-            "abcdefghijklmnopqrstuvwxy",
-            "  WORD@0..25 \"abcdefghijklmnopqrstu ...\"\n",
-        ),
-        printed(
-            "abcdefghijklmnopqrst\u{e9}uvw",
-            "  WORD@0..25 \"abcdefghijklmnopqrst\u{e9} ...\"\n",
-        ),
-        printed("a\"b\n", "  WORD@0..4 \"a\\\"b\\n\"\n"),
-        printed("", "  WORD@0..0 \"\"\n"),
-    ];
-    for row in rows {
-        let shown = line_of(rt.alloc(), row.text)?;
-        assert!(rt; shown.as_str().ends_with(row.line));
+    for (text, line) in CUT {
+        assert!(rt; has_line(rt.alloc(), text, line)?, "{line}");
     }
     Ok(())
 }

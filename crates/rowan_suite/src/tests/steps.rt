@@ -26,15 +26,8 @@ enum Ask {
     EmptyNodes,
 }
 
-#[derive(Clone, Copy)]
-struct Row {
-    ask: Ask,
-    answer: &'static str,
-}
-
-fn asked(ask: Ask, answer: &'static str) -> Row {
-    Row { ask, answer }
-}
+/// A question, and what must be written for its answer.
+type Row = (Ask, &'static str);
 
 fn child_steps(alloc: Global, out: &mut String, node: &Node) -> Result<(), Fail> {
     show_item(alloc, out, node.first_child(alloc))?;
@@ -135,52 +128,76 @@ fn answer_of_root(alloc: Global, out: &mut String, ask: Ask, root: &Node) -> Res
     }
 }
 
+fn answer_of_list(alloc: Global, out: &mut String, ask: Ask) -> Result<(), Fail> {
+    let list = first_list(alloc)?;
+    answer_of_node(alloc, out, ask, &list)
+}
+
+fn answer_of_comma(alloc: Global, out: &mut String, ask: Ask) -> Result<(), Fail> {
+    let comma = comma(alloc)?;
+    answer_of_token(alloc, out, ask, &comma)
+}
+
+fn answer_of_comma_element(alloc: Global, out: &mut String, ask: Ask) -> Result<(), Fail> {
+    let comma = Element::from(comma(alloc)?);
+    answer_of_element(alloc, out, ask, &comma)
+}
+
+fn first_of_empty(alloc: Global, out: &mut String) -> Result<(), Fail> {
+    let root = tree(alloc, "{ ( ) a }")?;
+    show_item(alloc, out, root.first_token(alloc))
+}
+
+fn answer_of_sample(alloc: Global, out: &mut String, ask: Ask) -> Result<(), Fail> {
+    let root = tree(alloc, SAMPLE)?;
+    answer_of_root(alloc, out, ask, &root)
+}
+
 fn answer(alloc: Global, out: &mut String, ask: Ask) -> Result<(), Fail> {
     match ask {
         Ask::SiblingSteps | Ask::Siblings | Ask::SiblingsBack | Ask::SiblingsAndTokens => {
-            answer_of_node(alloc, out, ask, &first_list(alloc)?)
+            answer_of_list(alloc, out, ask)
         }
         Ask::TokenSteps | Ask::SiblingsOfToken | Ask::AncestorsOfToken => {
-            answer_of_token(alloc, out, ask, &comma(alloc)?)
+            answer_of_comma(alloc, out, ask)
         }
-        Ask::ElementSteps | Ask::AncestorsOfElement => {
-            answer_of_element(alloc, out, ask, &Element::from(comma(alloc)?))
-        }
-        Ask::EmptyNodes => show_item(alloc, out, tree(alloc, "{ ( ) a }")?.first_token(alloc)),
-        _ => answer_of_root(alloc, out, ask, &tree(alloc, SAMPLE)?),
+        Ask::ElementSteps | Ask::AncestorsOfElement => answer_of_comma_element(alloc, out, ask),
+        Ask::EmptyNodes => first_of_empty(alloc, out),
+        _ => answer_of_sample(alloc, out, ask),
     }
 }
 
-fn is_met(alloc: Global, row: Row) -> Result<bool, Fail> {
+fn is_met(alloc: Global, (ask, expected): &Row) -> Result<bool, Fail> {
     let mut out = String::new(alloc);
-    answer(alloc, &mut out, row.ask)?;
-    Ok(out.as_str() == row.answer)
+    answer(alloc, &mut out, *ask)?;
+    Ok(out.as_str() == *expected)
 }
+
+const STEPS: &[Row] = &[
+    (Ask::ChildSteps, "LIST@2..5 LIST@7..7 WORD@0..2 LIST@7..7 "),
+    (Ask::SiblingSteps, "none LIST@6..7 WORD@0..2 COMMA@5..6 "),
+    (Ask::TokenSteps, "none LIST@3..3 LIST@2..5 ROOT@0..7 "),
+    (Ask::ElementSteps, "none LIST@3..3 LIST@2..5 ROOT@0..7 "),
+    (
+        Ask::Children,
+        "WORD@0..2 LIST@2..5 COMMA@5..6 LIST@6..7 LIST@7..7 ",
+    ),
+    (Ask::ChildNodes, "LIST@2..5 LIST@6..7 LIST@7..7 "),
+    (Ask::Siblings, "LIST@2..5 LIST@6..7 LIST@7..7 "),
+    (Ask::SiblingsBack, "LIST@2..5 "),
+    (Ask::SiblingsAndTokens, "LIST@2..5 WORD@0..2 "),
+    (Ask::SiblingsOfToken, "COMMA@2..3 LIST@3..3 WORD@3..5 "),
+    (Ask::Ancestors, "ROOT@0..7 "),
+    (Ask::AncestorsOfToken, "LIST@2..5 ROOT@0..7 "),
+    (Ask::AncestorsOfElement, "LIST@2..5 ROOT@0..7 "),
+    (Ask::Tokens, "WORD@3..5 WORD@0..2 none WORD@6..7 "),
+    (Ask::EmptyNodes, "WORD@0..1 "),
+];
 
 #[test]
 fn steps(rt: HostRuntime) -> Result<(), Fail> {
-    let alloc = rt.alloc();
-    for row in [
-        asked(Ask::ChildSteps, "LIST@2..5 LIST@7..7 WORD@0..2 LIST@7..7 "),
-        asked(Ask::SiblingSteps, "none LIST@6..7 WORD@0..2 COMMA@5..6 "),
-        asked(Ask::TokenSteps, "none LIST@3..3 LIST@2..5 ROOT@0..7 "),
-        asked(Ask::ElementSteps, "none LIST@3..3 LIST@2..5 ROOT@0..7 "),
-        asked(
-            Ask::Children,
-            "WORD@0..2 LIST@2..5 COMMA@5..6 LIST@6..7 LIST@7..7 ",
-        ),
-        asked(Ask::ChildNodes, "LIST@2..5 LIST@6..7 LIST@7..7 "),
-        asked(Ask::Siblings, "LIST@2..5 LIST@6..7 LIST@7..7 "),
-        asked(Ask::SiblingsBack, "LIST@2..5 "),
-        asked(Ask::SiblingsAndTokens, "LIST@2..5 WORD@0..2 "),
-        asked(Ask::SiblingsOfToken, "COMMA@2..3 LIST@3..3 WORD@3..5 "),
-        asked(Ask::Ancestors, "ROOT@0..7 "),
-        asked(Ask::AncestorsOfToken, "LIST@2..5 ROOT@0..7 "),
-        asked(Ask::AncestorsOfElement, "LIST@2..5 ROOT@0..7 "),
-        asked(Ask::Tokens, "WORD@3..5 WORD@0..2 none WORD@6..7 "),
-        asked(Ask::EmptyNodes, "WORD@0..1 "),
-    ] {
-        assert!(rt; is_met(alloc, row)?, "{}", row.answer);
+    for row in STEPS {
+        assert!(rt; is_met(rt.alloc(), row)?, "{}", row.1);
     }
     Ok(())
 }
@@ -195,11 +212,15 @@ fn number_of_comma(alloc: Global) -> Result<usize, Fail> {
     Ok(Element::from(comma(alloc)?).index())
 }
 
+fn reading_of_comma(alloc: Global) -> Result<Option<(Kind, usize, u32)>, Fail> {
+    let comma = comma(alloc)?;
+    Ok(reading(&comma, ","))
+}
+
 #[test]
 fn readings(rt: HostRuntime) -> Result<(), Fail> {
-    let alloc = rt.alloc();
-    assert!(rt; reading(&comma(alloc)?, ",") == Some((Kind(4), 0, 2)));
-    assert!(rt; number_of_comma(alloc)? == 0);
+    assert!(rt; reading_of_comma(rt.alloc())? == Some((Kind(4), 0, 2)));
+    assert!(rt; number_of_comma(rt.alloc())? == 0);
     Ok(())
 }
 
@@ -219,10 +240,21 @@ fn tokens_agree(alloc: Global, token: &Token, same: &Token) -> Result<bool, Allo
     }
 }
 
+fn lists_agree(alloc: Global) -> Result<bool, Fail> {
+    let list = first_list(alloc)?;
+    let same = first_list(alloc)?;
+    Ok(nodes_agree(alloc, &list, &same)?)
+}
+
+fn commas_agree(alloc: Global) -> Result<bool, Fail> {
+    let token = comma(alloc)?;
+    let same = comma(alloc)?;
+    Ok(tokens_agree(alloc, &token, &same)?)
+}
+
 #[test]
 fn cursors_are_equal_by_place(rt: HostRuntime) -> Result<(), Fail> {
-    let alloc = rt.alloc();
-    assert!(rt; nodes_agree(alloc, &first_list(alloc)?, &first_list(alloc)?)?);
-    assert!(rt; tokens_agree(alloc, &comma(alloc)?, &comma(alloc)?)?);
+    assert!(rt; lists_agree(rt.alloc())?);
+    assert!(rt; commas_agree(rt.alloc())?);
     Ok(())
 }

@@ -44,20 +44,8 @@ enum Ask {
     Shown,
 }
 
-#[derive(Clone, Copy)]
-struct Row {
-    pieces: &'static str,
-    ask: Ask,
-    answer: &'static str,
-}
-
-fn asked(pieces: &'static str, ask: Ask, answer: &'static str) -> Row {
-    Row {
-        pieces,
-        ask,
-        answer,
-    }
-}
+/// Pieces, a question of their text, and what must be written for its answer.
+type Row = (&'static str, Ask, &'static str);
 
 fn show_number(alloc: Global, number: u64) -> Result<String, AllocError> {
     format!(in alloc; "{number}")
@@ -112,6 +100,11 @@ fn length_before(text: &SyntaxText, stop: &str) -> u64 {
     }
 }
 
+fn is_same(alloc: Global, text: &SyntaxText, pieces: &str) -> Result<bool, GreenError> {
+    let other = text_of(alloc, pieces)?;
+    Ok(*text == other)
+}
+
 fn answer(alloc: Global, text: &SyntaxText, ask: Ask) -> Result<String, Fail> {
     Ok(match ask {
         Ask::Find(wanted) => show_place(alloc, text.find_char(wanted))?,
@@ -121,55 +114,51 @@ fn answer(alloc: Global, text: &SyntaxText, ask: Ask) -> Result<String, Fail> {
         Ask::CountOfPieces => show_number(alloc, count_of_pieces(text))?,
         Ask::LengthBefore(stop) => show_number(alloc, length_before(text, stop))?,
         Ask::Is(other) => show_test(alloc, text.eq_str(other))?,
-        Ask::Same(pieces) => show_test(alloc, *text == text_of(alloc, pieces)?)?,
+        Ask::Same(pieces) => show_test(alloc, is_same(alloc, text, pieces)?)?,
         Ask::Shown => format!(in alloc; "{text}")?,
     })
 }
 
-fn is_met(alloc: Global, row: Row) -> Result<bool, Fail> {
-    let text = text_of(alloc, row.pieces)?;
-    let answer = answer(alloc, &text, row.ask)?;
-    Ok(answer.as_str() == row.answer)
+fn is_met(alloc: Global, (pieces, ask, expected): &Row) -> Result<bool, Fail> {
+    let text = text_of(alloc, pieces)?;
+    let answer = answer(alloc, &text, *ask)?;
+    Ok(answer.as_str() == *expected)
 }
+
+const READ: &[Row] = &[
+    ("ab \u{e9} cd", Ask::Find('a'), "0"),
+    ("ab \u{e9} cd", Ask::Find('\u{e9}'), "2"),
+    ("ab \u{e9} cd", Ask::Find('d'), "5"),
+    ("ab \u{e9} cd", Ask::Find('\u{e8}'), "none"),
+    ("ab ba", Ask::Find('b'), "1"),
+    ("ab \u{e9} cd", Ask::Has('c'), "yes"),
+    ("ab \u{e9} cd", Ask::Has('e'), "no"),
+    ("ab \u{e9} cd", Ask::At(1), "b"),
+    ("ab \u{e9} cd", Ask::At(2), "\u{e9}"),
+    ("ab \u{e9} cd", Ask::At(3), "none"),
+    ("ab \u{e9} cd", Ask::At(4), "c"),
+    ("ab \u{e9} cd", Ask::At(6), "none"),
+    ("ab \u{e9} cd", Ask::At(4294967295), "none"),
+    ("ab \u{e9} cd", Ask::Pieces, "|ab|\u{e9}|cd"),
+    ("ab  cd", Ask::Pieces, "|ab|cd"),
+    ("ab  cd", Ask::CountOfPieces, "2"),
+    ("ab \u{e9} cd", Ask::LengthBefore("cd"), "4"),
+    ("ab \u{e9} cd", Ask::LengthBefore("d"), "6"),
+    ("ab \u{e9} cd", Ask::Is("ab\u{e9}cd"), "yes"),
+    ("ab \u{e9} cd", Ask::Is("ab\u{e9}c"), "no"),
+    ("ab \u{e9} cd", Ask::Is("ab\u{e8}cd"), "no"),
+    ("ab cd", Ask::Is("abcde"), "no"),
+    ("{ abc }ab", Ask::Same("{ abc } ab"), "yes"),
+    ("{ abc }ab", Ask::Same("{ abc } aB"), "no"),
+    ("{ abc }ab", Ask::Same("{abc }"), "no"),
+    ("ab \u{e9} cd", Ask::Shown, "ab\u{e9}cd"),
+];
 
 #[test]
 fn texts_are_read(rt: HostRuntime) -> Result<(), Fail> {
-    let rows = [
-        asked("ab \u{e9} cd", Ask::Find('a'), "0"),
-        asked("ab \u{e9} cd", Ask::Find('\u{e9}'), "2"),
-        asked("ab \u{e9} cd", Ask::Find('d'), "5"),
-        asked("ab \u{e9} cd", Ask::Find('\u{e8}'), "none"),
-        asked("ab ba", Ask::Find('b'), "1"),
-        asked("ab \u{e9} cd", Ask::Has('c'), "yes"),
-        asked("ab \u{e9} cd", Ask::Has('e'), "no"),
-        asked("ab \u{e9} cd", Ask::At(1), "b"),
-        asked("ab \u{e9} cd", Ask::At(2), "\u{e9}"),
-        asked("ab \u{e9} cd", Ask::At(3), "none"),
-        asked("ab \u{e9} cd", Ask::At(4), "c"),
-        asked("ab \u{e9} cd", Ask::At(6), "none"),
-        asked("ab \u{e9} cd", Ask::At(4294967295), "none"),
-        asked("ab \u{e9} cd", Ask::Pieces, "|ab|\u{e9}|cd"),
-        asked("ab  cd", Ask::Pieces, "|ab|cd"),
-        asked("ab  cd", Ask::CountOfPieces, "2"),
-        asked("ab \u{e9} cd", Ask::LengthBefore("cd"), "4"),
-        asked("ab \u{e9} cd", Ask::LengthBefore("d"), "6"),
-        asked("ab \u{e9} cd", Ask::Is("ab\u{e9}cd"), "yes"),
-        asked("ab \u{e9} cd", Ask::Is("ab\u{e9}c"), "no"),
-        asked("ab \u{e9} cd", Ask::Is("ab\u{e8}cd"), "no"),
-        asked("ab cd", Ask::Is("abcde"), "no"),
-        asked("{ abc }ab", Ask::Same("{ abc } ab"), "yes"),
-        asked("{ abc }ab", Ask::Same("{ abc } aB"), "no"),
-        asked("{ abc }ab", Ask::Same("{abc }"), "no"),
-        asked("ab \u{e9} cd", Ask::Shown, "ab\u{e9}cd"),
-    ];
-    let alloc = rt.alloc();
-    let mut unmet = 0u32;
-    for row in rows {
-        if !is_met(alloc, row)? {
-            unmet = unmet.wrapping_add(1);
-        }
+    for row in READ {
+        assert!(rt; is_met(rt.alloc(), row)?, "{} of {}", row.2, row.0);
     }
-    assert!(rt; unmet == 0);
     Ok(())
 }
 
@@ -180,52 +169,47 @@ fn text_lengths(node: &Node) -> Result<(u32, u32), AllocError> {
     Ok((text.len().0, end.len().0))
 }
 
+fn list_lengths(alloc: Global) -> Result<(u32, u32), Fail> {
+    let list = first_list(alloc)?;
+    Ok(text_lengths(&list)?)
+}
+
 #[test]
 fn texts(rt: HostRuntime) -> Result<(), Fail> {
-    let alloc = rt.alloc();
-    assert!(rt; text_lengths(&first_list(alloc)?)? == (3, 0));
+    assert!(rt; list_lengths(rt.alloc())? == (3, 0));
     Ok(())
 }
 
 /// Two trees, and whether they have one text.
-#[derive(Clone, Copy)]
-struct Pair {
-    first: &'static str,
-    second: &'static str,
-    equal: bool,
+type Pair = (&'static str, &'static str, bool);
+
+fn tree_text(alloc: Global, words: &str) -> Result<SyntaxText, GreenError> {
+    let root = tree(alloc, words)?;
+    Ok(root.text()?)
 }
 
-fn compared(first: &'static str, second: &'static str, equal: bool) -> Pair {
-    Pair {
-        first,
-        second,
-        equal,
-    }
+fn is_told(alloc: Global, (first, second, equal): &Pair) -> Result<bool, GreenError> {
+    let first = tree_text(alloc, first)?;
+    let second = tree_text(alloc, second)?;
+    Ok((first == second) == *equal)
 }
 
-fn are_equal(alloc: Global, pair: Pair) -> Result<bool, GreenError> {
-    let first = tree(alloc, pair.first)?.text()?;
-    let second = tree(alloc, pair.second)?.text()?;
-    Ok(first == second)
-}
+const PAIRS: &[Pair] = &[
+    (
+        "{ ab ( , ( ) cd ) ; ( e ) }",
+        "{ ( a ( b ) , ) c ( d ; e ) }",
+        true,
+    ),
+    ("{ ( abc ) ( d ) }", "{ ( ) ( a ) ( bcd ) }", true),
+    ("{ ( abc ) ( d ) }", "{ ( a ) ( bce ) }", false),
+    ("{ ( ( abcd ) ) }", "{ a b c d }", true),
+    ("{ ( ab ( c ) ) x }", "{ ( a ( bx ) ) c }", false),
+];
 
 #[test]
 fn trees_cut_a_text_as_they_like(rt: HostRuntime) -> Result<(), Fail> {
-    let rows = [
-        compared(
-            "{ ab ( , ( ) cd ) ; ( e ) }",
-            "{ ( a ( b ) , ) c ( d ; e ) }",
-            true,
-        ),
-        compared("{ ( abc ) ( d ) }", "{ ( ) ( a ) ( bcd ) }", true),
-        compared("{ ( abc ) ( d ) }", "{ ( a ) ( bce ) }", false),
-        compared("{ ( ( abcd ) ) }", "{ a b c d }", true),
-        compared("{ ( ab ( c ) ) x }", "{ ( a ( bx ) ) c }", false),
-    ];
-    let mut right = true;
-    for row in rows {
-        right = right & (are_equal(rt.alloc(), row)? == row.equal);
+    for pair in PAIRS {
+        assert!(rt; is_told(rt.alloc(), pair)?, "{}", pair.0);
     }
-    assert!(rt; right);
     Ok(())
 }

@@ -1,5 +1,5 @@
 //! Walks through a tree.
-use super::{Element, Shown, first_list, show_all};
+use super::{Element, Node, Shown, first_list, show_all};
 use crate::Lists;
 use rowan::{Preorder, PreorderWithTokens};
 use std::alloc::{AllocError, Global};
@@ -16,15 +16,8 @@ enum Ask {
     SkippedWalk,
 }
 
-#[derive(Clone, Copy)]
-struct Row {
-    ask: Ask,
-    answer: &'static str,
-}
-
-fn asked(ask: Ask, answer: &'static str) -> Row {
-    Row { ask, answer }
-}
+/// A question, and what must be written for its answer.
+type Row = (Ask, &'static str);
 
 /// A walk from after the subtree of the second element on.
 fn behind_second(
@@ -43,49 +36,58 @@ fn skipped(mut walk: Preorder<Lists>) -> Result<Preorder<Lists>, AllocError> {
 
 fn answer(alloc: Global, out: &mut String, ask: Ask) -> Result<(), Fail> {
     let list = first_list(alloc)?;
+    answer_of(alloc, out, ask, &list)
+}
+
+fn answer_of(alloc: Global, out: &mut String, ask: Ask, list: &Node) -> Result<(), Fail> {
     match ask {
         Ask::WithTokens => show_all(alloc, out, list.preorder_with_tokens(alloc)?),
         Ask::Nodes => show_all(alloc, out, list.preorder(alloc)?),
         Ask::Descendants => show_all(alloc, out, list.descendants(alloc)?),
         Ask::DescendantsWithTokens => show_all(alloc, out, list.descendants_with_tokens(alloc)?),
-        Ask::SkippedSubtree => {
-            show_all(
-                alloc,
-                out,
-                behind_second(list.preorder_with_tokens(alloc)?)?,
-            )
-        }
-        Ask::SkippedWalk => show_all(alloc, out, skipped(list.preorder(alloc)?)?),
+        Ask::SkippedSubtree => show_behind_second(alloc, out, list),
+        Ask::SkippedWalk => show_skipped(alloc, out, list),
     }
 }
 
-fn is_met(alloc: Global, row: Row) -> Result<bool, Fail> {
-    let mut out = String::new(alloc);
-    answer(alloc, &mut out, row.ask)?;
-    Ok(out.as_str() == row.answer)
+fn show_behind_second(alloc: Global, out: &mut String, list: &Node) -> Result<(), Fail> {
+    let walk = list.preorder_with_tokens(alloc)?;
+    show_all(alloc, out, behind_second(walk)?)
 }
+
+fn show_skipped(alloc: Global, out: &mut String, list: &Node) -> Result<(), Fail> {
+    let walk = list.preorder(alloc)?;
+    show_all(alloc, out, skipped(walk)?)
+}
+
+fn is_met(alloc: Global, (ask, expected): &Row) -> Result<bool, Fail> {
+    let mut out = String::new(alloc);
+    answer(alloc, &mut out, *ask)?;
+    Ok(out.as_str() == *expected)
+}
+
+const WALKS: &[Row] = &[
+    (
+        Ask::WithTokens,
+        "+LIST@2..5 +COMMA@2..3 -COMMA@2..3 +LIST@3..3 -LIST@3..3 +WORD@3..5 -WORD@3..5 -LIST@2..5 ",
+    ),
+    (Ask::Nodes, "+LIST@2..5 +LIST@3..3 -LIST@3..3 -LIST@2..5 "),
+    (Ask::Descendants, "LIST@2..5 LIST@3..3 "),
+    (
+        Ask::DescendantsWithTokens,
+        "LIST@2..5 COMMA@2..3 LIST@3..3 WORD@3..5 ",
+    ),
+    (
+        Ask::SkippedSubtree,
+        "-COMMA@2..3 +LIST@3..3 -LIST@3..3 +WORD@3..5 -WORD@3..5 -LIST@2..5 ",
+    ),
+    (Ask::SkippedWalk, ""),
+];
 
 #[test]
 fn walks(rt: HostRuntime) -> Result<(), Fail> {
-    let alloc = rt.alloc();
-    for row in [
-        asked(
-            Ask::WithTokens,
-            "+LIST@2..5 +COMMA@2..3 -COMMA@2..3 +LIST@3..3 -LIST@3..3 +WORD@3..5 -WORD@3..5 -LIST@2..5 ",
-        ),
-        asked(Ask::Nodes, "+LIST@2..5 +LIST@3..3 -LIST@3..3 -LIST@2..5 "),
-        asked(Ask::Descendants, "LIST@2..5 LIST@3..3 "),
-        asked(
-            Ask::DescendantsWithTokens,
-            "LIST@2..5 COMMA@2..3 LIST@3..3 WORD@3..5 ",
-        ),
-        asked(
-            Ask::SkippedSubtree,
-            "-COMMA@2..3 +LIST@3..3 -LIST@3..3 +WORD@3..5 -WORD@3..5 -LIST@2..5 ",
-        ),
-        asked(Ask::SkippedWalk, ""),
-    ] {
-        assert!(rt; is_met(alloc, row)?, "{}", row.answer);
+    for row in WALKS {
+        assert!(rt; is_met(rt.alloc(), row)?, "{}", row.1);
     }
     Ok(())
 }
