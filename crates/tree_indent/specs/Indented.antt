@@ -1,0 +1,31 @@
+-- Nodes by more steps, or by fewer, as trees of their own.
+use Rattle.std.specs.Prelude.{◌≡◌, ℕ, ◌^◌, [], Option, Some}
+use Rattle.rowan_green.specs.Forest.{Tree}
+use Rattle.rowan_green.specs.Term.{Term}
+use Rattle.rowan_green.specs.declared.utility_types.NodeOrToken.TheVariants.{Node}
+use Rattle.syntax_tree.specs.Element.{Element, term_of, element_at}
+use Rattle.syntax_tree.specs.declared.element.SyntaxElement.TheVariants as elements
+use Rattle.syntax_editor.specs.Indent.{level_of}
+use Rattle.syntax_editor.specs.declared.indent_level.IndentLevel.{IndentLevel}
+use Rattle.syntax_editor.specs.declared.make_error.MakeError.{MakeError}
+use Rattle.syntax_editor.specs.declared.make_error.MakeError.TheVariants.{NoMemory, NoTreeNumber, TooLong}
+use Rattle.tree_indent.specs.Shifted.{shifted_tree, FitsTree}
+use Rattle.tree_indent.specs.declared.shift.Shift.{Shift}
+
+abbrev pub own_level : Element → IndentLevel
+own_level e = record { 0 = level_of (elements.Node e) }
+
+-- the root of a tree of this number: the shifted node
+abbrev pub IsShifted : Shift → Element → ℕ → Element → Type 0
+IsShifted s e n root = (t : Tree) × (term_of e ≡ Some (Node t)) × (root ≡ element_at n (shifted_tree s t) [])
+
+-- the shifted node may stand as a tree
+abbrev pub FitsShifted : Shift → Option Term → Type 0
+FitsShifted s (Some (Node t)) = FitsTree (shifted_tree s t)
+FitsShifted s _ = ⊥
+
+-- too long only where that may not stand; for want of a number only where none is left; for want of memory at any point
+abbrev pub RefusesShifted : Shift → Element → ℕ → MakeError → Type 0
+RefusesShifted s e number NoMemory = Unit {0}
+RefusesShifted s e number NoTreeNumber = number ≡ 2 ^ 32
+RefusesShifted s e number TooLong = FitsShifted s (term_of e) → ⊥

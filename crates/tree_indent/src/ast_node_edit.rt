@@ -1,0 +1,64 @@
+//! Typed nodes by more steps, or by fewer.
+ghost use Rattle.std.specs.Prelude.{◌≡◌, ◌+◌, IfOk, IfErr, OnOk};
+ghost use Rattle.tree_indent.specs.Indented.{IsShifted, RefusesShifted, own_level};
+ghost use Rattle.tree_indent.specs.declared.shift.Shift.TheVariants.{In, Out};
+
+use crate::edit;
+use std::alloc::{AllocError, Global};
+use syntax_editor::{IndentLevel, MakeError};
+use syntax_tree::{AstNode, TreeIds};
+
+/// Typed nodes are set in and out as their nodes are. Each call gives the root of a tree of its own, of the same type.
+pub trait AstNodeEdit: AstNode {
+    /// The level of the node's first token.
+    fn indent_level(&self, alloc: Global) -> Result<IndentLevel, AllocError>
+        ensures { IfOk result (λ level. level ≡ own_level (Self.stands self.now)) }
+    {
+        IndentLevel::from_node(alloc, self.syntax())
+    }
+
+    /// By the steps of a level more.
+    fn indent(
+        &self,
+        alloc: Global,
+        level: IndentLevel,
+        ids: &mut TreeIds,
+    ) -> Result<Self, MakeError>
+        ensures ok { IfOk result (λ x. IsShifted (In level) (Self.stands self.now) ids.old (Self.stands x)) }
+        ensures number { OnOk result (ids.new ≡ ids.old + 1) }
+        ensures refused { IfErr result (RefusesShifted (In level) (Self.stands self.now) ids.old) }
+        ensures kept { IfErr result (λ _. ids.new ≡ ids.old) }
+    {
+        let root = edit::indent(alloc, self.syntax(), level, ids)?;
+        Ok(Self::cast(root).unwrap())
+    }
+
+    /// By the steps of a level less.
+    fn dedent(
+        &self,
+        alloc: Global,
+        level: IndentLevel,
+        ids: &mut TreeIds,
+    ) -> Result<Self, MakeError>
+        ensures ok { IfOk result (λ x. IsShifted (Out level) (Self.stands self.now) ids.old (Self.stands x)) }
+        ensures number { OnOk result (ids.new ≡ ids.old + 1) }
+        ensures refused { IfErr result (RefusesShifted (Out level) (Self.stands self.now) ids.old) }
+        ensures kept { IfErr result (λ _. ids.new ≡ ids.old) }
+    {
+        let root = edit::dedent(alloc, self.syntax(), level, ids)?;
+        Ok(Self::cast(root).unwrap())
+    }
+
+    /// By the steps of its own level less.
+    fn reset_indent(&self, alloc: Global, ids: &mut TreeIds) -> Result<Self, MakeError>
+        ensures ok { IfOk result (λ x. IsShifted (Out (own_level (Self.stands self.now))) (Self.stands self.now) ids.old (Self.stands x)) }
+        ensures number { OnOk result (ids.new ≡ ids.old + 1) }
+        ensures refused { IfErr result (RefusesShifted (Out (own_level (Self.stands self.now))) (Self.stands self.now) ids.old) }
+        ensures kept { IfErr result (λ _. ids.new ≡ ids.old) }
+    {
+        let root = edit::reset_indent(alloc, self.syntax(), ids)?;
+        Ok(Self::cast(root).unwrap())
+    }
+}
+
+impl<N: AstNode> AstNodeEdit for N {}

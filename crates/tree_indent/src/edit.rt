@@ -1,0 +1,85 @@
+//! Nodes by more steps, or by fewer, as roots of trees of their own.
+ghost use Rattle.std.specs.Prelude.{◌≡◌, ◌+◌, [], IfOk, IfErr, OnOk, Some};
+ghost use Rattle.rowan_green.specs.Forest.{Tree};
+ghost use Rattle.rowan_green.specs.declared.utility_types.NodeOrToken.TheVariants.{Node};
+ghost use Rattle.syntax_tree.specs.Element.{term_of, element_at};
+ghost use Rattle.tree_indent.specs.Indented.{IsShifted, RefusesShifted, own_level};
+ghost use Rattle.tree_indent.specs.declared.shift.Shift.TheVariants.{In, Out};
+
+use crate::shift::Shift;
+use crate::trees::shifted_tree;
+use rowan_green::GreenError;
+use std::alloc::Global;
+use syntax_editor::{IndentLevel, MakeError};
+use syntax_tree::{SyntaxNode, TreeIds};
+
+/// The node in a tree of its own, whose number is the next of `ids`, with the spaces of a level behind each token of white space that has
+/// a line feed. Refuses as too long where a text or a list of children would be, then for want of a number. A refusal takes no number.
+pub fn indent(
+    alloc: Global,
+    node: &SyntaxNode,
+    level: IndentLevel,
+    ids: &mut TreeIds,
+) -> Result<SyntaxNode, MakeError>
+    ensures ok { IfOk result (IsShifted (In level) node.now ids.old) }
+    ensures number { OnOk result (ids.new ≡ ids.old + 1) }
+    ensures refused { IfErr result (RefusesShifted (In level) node.now ids.old) }
+    ensures kept { IfErr result (λ _. ids.new ≡ ids.old) }
+{
+    shifted(alloc, node, Shift::In(level), ids)
+}
+
+/// The node in a tree of its own, whose number is the next of `ids`. In its white space the spaces of a level are dropped behind each line
+/// feed that has them behind it. Refuses as `indent` does.
+pub fn dedent(
+    alloc: Global,
+    node: &SyntaxNode,
+    level: IndentLevel,
+    ids: &mut TreeIds,
+) -> Result<SyntaxNode, MakeError>
+    ensures ok { IfOk result (IsShifted (Out level) node.now ids.old) }
+    ensures number { OnOk result (ids.new ≡ ids.old + 1) }
+    ensures refused { IfErr result (RefusesShifted (Out level) node.now ids.old) }
+    ensures kept { IfErr result (λ _. ids.new ≡ ids.old) }
+{
+    shifted(alloc, node, Shift::Out(level), ids)
+}
+
+/// The same by the node's own level.
+pub fn reset_indent(
+    alloc: Global,
+    node: &SyntaxNode,
+    ids: &mut TreeIds,
+) -> Result<SyntaxNode, MakeError>
+    ensures ok { IfOk result (IsShifted (Out (own_level node.now)) node.now ids.old) }
+    ensures number { OnOk result (ids.new ≡ ids.old + 1) }
+    ensures refused { IfErr result (RefusesShifted (Out (own_level node.now)) node.now ids.old) }
+    ensures kept { IfErr result (λ _. ids.new ≡ ids.old) }
+{
+    let level = match IndentLevel::from_node(alloc, node) {
+        Ok(level) => level,
+        Err(_) => return Err(MakeError::NoMemory),
+    };
+    dedent(alloc, node, level, ids)
+}
+
+/// The node by more steps, or by fewer, in a tree of its own.
+fn shifted(
+    alloc: Global,
+    node: &SyntaxNode,
+    shift: Shift,
+    ids: &mut TreeIds,
+) -> Result<SyntaxNode, MakeError>
+    ensures ok { IfOk result (IsShifted shift node.now ids.old) }
+    ensures number { OnOk result (ids.new ≡ ids.old + 1) }
+    ensures refused { IfErr result (RefusesShifted shift node.now ids.old) }
+    ensures kept { IfErr result (λ _. ids.new ≡ ids.old) }
+{
+    let green = match shifted_tree(alloc, node.cursor().green(), shift) {
+        Ok(green) => green,
+        Err(GreenError::NoMemory) => return Err(MakeError::NoMemory),
+        Err(GreenError::TooLong) => return Err(MakeError::TooLong),
+        Err(GreenError::Unbalanced) => unreachable!(),
+    };
+    Ok(SyntaxNode::new_root(alloc, green, ids)?)
+}

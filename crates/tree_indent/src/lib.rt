@@ -1,0 +1,13 @@
+//! Nodes whose lines are set in by more steps, or by fewer, as new trees.
+#![tactic(auto)]
+
+pub mod ast_node_edit;
+pub mod edit;
+pub mod shift;
+pub mod trees;
+
+pub use ast_node_edit::AstNodeEdit;
+pub use edit::{dedent, indent, reset_indent};
+
+#[cfg(test)]
+mod tests;

@@ -1,0 +1,74 @@
+//! White space by more steps, or by fewer.
+ghost use Rattle.std.specs.Prelude.{◌≡◌, ◌==◌, IfOk, IfErr, string_bytes};
+ghost use Rattle.std.specs.List.{list_any};
+ghost use Rattle.rowan_green.specs.Refusal.{RefusesUnless};
+ghost use Rattle.rowan_green.specs.Term.{FitsToken};
+ghost use Rattle.syntax_editor.specs.Indent.{line_feed};
+ghost use Rattle.tree_indent.specs.Shifted.{set_in, set_out, shifted_text, shifted_leaf};
+
+use parser_input::SyntaxKind;
+use rowan_green::{GreenError, GreenToken};
+use std::alloc::{AllocError, Global};
+use syntax_editor::IndentLevel;
+
+/// By so many steps more, or fewer.
+#[derive(Clone, Copy)]
+pub enum Shift {
+    In(IndentLevel),
+    Out(IndentLevel),
+}
+
+fn has_line_feed(text: &str) -> bool
+    ensures { result ≡ list_any (λ c. c == line_feed) text.now }
+{
+    for byte in text.as_bytes() {
+        if *byte == b'\n' {
+            return true;
+        }
+    }
+    false
+}
+
+/// A text with the spaces of a level behind it, if it has a line feed.
+fn set_in(alloc: Global, text: &str, level: IndentLevel) -> Result<String, AllocError>
+    ensures { IfOk result (λ t. string_bytes t ≡ set_in level.0 text.now) }
+{
+    if has_line_feed(text) {
+        return format!(in alloc; "{text}{level}");
+    }
+    String::from_str(alloc, text)
+}
+
+/// A text without the spaces of a level behind its line feeds.
+fn set_out(alloc: Global, text: &str, level: IndentLevel) -> Result<String, AllocError>
+    ensures { IfOk result (λ t. string_bytes t ≡ set_out level.0 text.now) }
+{
+    let margin = format!(in alloc; "\n{level}")?;
+    text.replace(alloc, &margin, "\n")
+}
+
+/// A text by more steps, or by fewer.
+fn shifted_text(alloc: Global, text: &str, shift: Shift) -> Result<String, AllocError>
+    ensures { IfOk result (λ t. string_bytes t ≡ shifted_text shift text.now) }
+{
+    match shift {
+        Shift::In(level) => set_in(alloc, text, level),
+        Shift::Out(level) => set_out(alloc, text, level),
+    }
+}
+
+/// A token of white space by more steps, or by fewer; any other as it was.
+pub(crate) fn shifted_token(
+    alloc: Global,
+    token: &GreenToken,
+    shift: Shift,
+) -> Result<GreenToken, GreenError>
+    ensures ok { IfOk result (λ t. t ≡ shifted_leaf shift token.now) }
+    ensures refused { IfErr result (RefusesUnless (FitsToken (shifted_leaf shift token.now).text)) }
+{
+    if token.kind().0 != SyntaxKind::WHITESPACE.to_raw() {
+        return Ok(token.clone()?);
+    }
+    let text = shifted_text(alloc, token.text(), shift)?;
+    GreenToken::new(alloc, token.kind(), text.as_str())
+}

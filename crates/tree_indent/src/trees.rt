@@ -1,0 +1,41 @@
+//! Trees whose lines are set in by more steps, or by fewer.
+ghost use Rattle.std.specs.Prelude.{◌≡◌, IfOk, IfErr};
+ghost use Rattle.rowan_green.specs.Refusal.{RefusesUnless};
+ghost use Rattle.rowan_green.specs.Term.{tree_of, FitsNode};
+ghost use Rattle.tree_indent.specs.Shifted.{shifted_tree, FitsTree};
+
+use crate::shift::{Shift, shifted_token};
+use rowan_green::{GreenElement, GreenError, GreenNode, NodeOrToken, SyntaxKind};
+use std::alloc::Global;
+
+/// The tree with each token of white space changed.
+pub(crate) fn shifted_tree(
+    alloc: Global,
+    node: &GreenNode,
+    shift: Shift,
+) -> Result<GreenNode, GreenError>
+    ensures ok { IfOk result (λ n. n ≡ shifted_tree shift node.now) }
+    ensures refused { IfErr result (RefusesUnless (FitsTree (shifted_tree shift node.now))) }
+{
+    let mut children = Vec::new(alloc);
+    for child in node.children() {
+        let new = match child {
+            NodeOrToken::Node(inner) => NodeOrToken::Node(shifted_tree(alloc, inner, shift)?),
+            NodeOrToken::Token(token) => NodeOrToken::Token(shifted_token(alloc, token, shift)?),
+        };
+        children.push(new)?;
+    }
+    node_of(alloc, node.kind(), children)
+}
+
+/// The node of these children.
+fn node_of(
+    alloc: Global,
+    kind: SyntaxKind,
+    children: Vec<GreenElement>,
+) -> Result<GreenNode, GreenError>
+    ensures ok { IfOk result (λ n. n ≡ tree_of kind.0 children.items) }
+    ensures refused { IfErr result (RefusesUnless (FitsNode children.items)) }
+{
+    GreenNode::new(alloc, kind, children.into_iter())
+}
