@@ -12,7 +12,7 @@ use Rattle.rust_grammar.specs.Begun.{IsBegun}
 use Rattle.rust_grammar.proofs.Plain.{and_l, and_r}
 use Rattle.rust_grammar.proofs.Known.{implies, implied, cut, cut-seen}
 use Rattle.rust_grammar.proofs.Elsewhere.{anew-seen, without, without-seen, asked, asked-seen, IsMode}
-use Rattle.rust_grammar.proofs.Spelling.{safe, after, at}
+use Rattle.rust_grammar.proofs.Spelling.{safe, look_after, at}
 use Rattle.rust_grammar.proofs.Spelled.{spelled-there, after-seen, at-seen, begun}
 use Rattle.rust_grammar.proofs.SpelledTable.{claims, known, all_safe}
 use Rattle.rust_grammar.proofs.InOrder.{known-there, productions-sound}
@@ -68,12 +68,12 @@ safe-can Nothing m k c s e mode h = tt
 safe-can (One x) m k c s e mode h = leaf-there x.kind (length x.parts) s.rest (spelled-there k x c s e h)
 safe-can Any m k c s e mode h = some-there k c s e h
 safe-can (Then a b) m k c s e mode h = (
-  safe-can a m k c s (and_l (safe claims m k a) (safe claims m (after claims k a) b) e) mode h,
-  safe-can b m (after claims k a) c (reads c a s) (and_r (safe claims m k a) (safe claims m (after claims k a) b) e) mode (after-seen claims (meaning whole) productions-sound a k c s h),
+  safe-can a m k c s (and_l (safe claims m k a) (safe claims m (look_after claims k a) b) e) mode h,
+  safe-can b m (look_after claims k a) c (reads c a s) (and_r (safe claims m k a) (safe claims m (look_after claims k a) b) e) mode (after-seen claims (meaning whole) productions-sound a k c s h),
 )
 safe-can (Near w a b) m k c s e mode h = (
-  safe-can a m k c s (and_l (safe claims m k a) (safe claims m (after claims k a) b) e) mode h,
-  safe-can b m (after claims k a) c (reads c a s) (and_r (safe claims m k a) (safe claims m (after claims k a) b) e) mode (after-seen claims (meaning whole) productions-sound a k c s h),
+  safe-can a m k c s (and_l (safe claims m k a) (safe claims m (look_after claims k a) b) e) mode h,
+  safe-can b m (look_after claims k a) c (reads c a s) (and_r (safe claims m k a) (safe claims m (look_after claims k a) b) e) mode (after-seen claims (meaning whole) productions-sound a k c s h),
 )
 safe-can (Or a b) m k c s e mode h =
     let l = begins (look_of whole) a in (

@@ -8,7 +8,7 @@ use Rattle.rust_grammar.specs.Whole.{rule, whole}
 use Rattle.rust_grammar.specs.Begun.{IsBegun}
 use Rattle.rust_grammar.proofs.Fine.{fine, takes, ranked, ranked_at_end, fails}
 use Rattle.rust_grammar.proofs.Plain as plain
-use Rattle.rust_grammar.proofs.Plain.{and_l, and_r, some_or_none, all_facts, low, agrees, ends, falls, after, fails-sound}
+use Rattle.rust_grammar.proofs.Plain.{and_l, and_r, some_or_none, all_facts, low, agrees, ends, falls, fewer-after, fails-sound}
 use Rattle.rust_grammar.proofs.WholeTable.{claim, all_fine}
 use Rattle.grammar_reader.specs.CanRead.{CanTake, CanRead, IsBelow}
 use Rattle.grammar_reader.proofs.Begun.{rule-begun}
@@ -34,12 +34,12 @@ module _ (x : Production) (n : ℕ) where
   below z (Then a b) t c s e le lt can =
       let p = agrees whole claim x n (meaning whole) agreed facts z a t c s (and_l _ _ e) le lt in (
         below z a t c s (and_l _ _ e) le lt can.0,
-        below z b (t || takes claim a) c (reads c a s) (and_r _ _ e) (omega (arith, p.shrinks, le)) (after whole claim x n (meaning whole) agreed a t c s z le lt p) can.1,
+        below z b (t || takes claim a) c (reads c a s) (and_r _ _ e) (omega (arith, p.shrinks, le)) (fewer-after whole claim x n (meaning whole) agreed a t c s z le lt p) can.1,
       )
   below z (Near w a b) t c s e le lt can =
       let p = agrees whole claim x n (meaning whole) agreed facts z a t c s (and_l _ _ e) le lt in (
         below z a t c s (and_l _ _ e) le lt can.0,
-        below z b (t || takes claim a) c (reads c a s) (and_r _ _ e) (omega (arith, p.shrinks, le)) (after whole claim x n (meaning whole) agreed a t c s z le lt p) can.1,
+        below z b (t || takes claim a) c (reads c a s) (and_r _ _ e) (omega (arith, p.shrinks, le)) (fewer-after whole claim x n (meaning whole) agreed a t c s z le lt p) can.1,
       )
   below z (Or a b) t c s e le lt can = (λ f. below z a t c s (and_l _ _ e) le lt (can.0 f), λ f. below z b t c s (and_r _ _ e) le lt (can.1 f))
   below z (Opt a) t c s e le lt can = λ f. below z a t c s e le lt (can f)

@@ -10,3 +10,4 @@ pub mod Turning
 pub mod Beginning
 pub mod Moves
 pub mod Standing
+pub mod Layering

@@ -4,12 +4,12 @@ use Rattle.std.proofs.lemmas.List.{drop-drop}
 use Rattle.parser_events.specs.Forest as forest
 use Rattle.parser_events.specs.Forest.{Message, ◌then◌}
 use Rattle.parser_events.specs.Marked as marks
-use Rattle.parser_events.specs.Marked.{Marked, ◌beside◌, marked, size, front, behind}
+use Rattle.parser_events.specs.Marked.{Marked, ◌beside◌, marked, size, front, after}
 use Rattle.parser_events.specs.Stack as stack
 use Rattle.parser_events.specs.Stack.{Becomes, with_tree, with_node, closed, left_out, level, IsInnermost, IsChild, IsAmong, Place, place_of, total_size}
 use Rattle.parser_events.specs.View.{View}
 use Rattle.parser_events.proofs.Forests.{marked-then}
-use Rattle.parser_events.proofs.Stacks.{front-beside, behind-beside}
+use Rattle.parser_events.proofs.Stacks.{front-beside, after-beside}
 use Rattle.grammar_reader.specs.Stands.{left, Holds}
 use Rattle.rust_grammar.specs.Meaning.{leaf, say, wrapped}
 use Rattle.grammar_reader.specs.Moves.{Opens, Closes, Leaves, Does}
@@ -151,8 +151,8 @@ around-closed kind around place (Some o) (Some m) (Some n) i b p w f (g ∷ belo
     let before : place.before ≡ size g + total_size below = ap (λ (q : Place). q.before) (p ∙ ap place_of h) in
     let n_is : place.before - total_size below ≡ size g = omega (arith, before) in
     w ∙ ap (stack.wrapped place.before) was
-    ∙ ap (λ (k : ℕ). behind k whole ∷ front k whole ∷ below) n_is
-    ∙ ap (λ (t : Marked). t ∷ front (size g) whole ∷ below) (behind-beside g (marks.Node kind f marks.End))
+    ∙ ap (λ (k : ℕ). after k whole ∷ front k whole ∷ below) n_is
+    ∙ ap (λ (t : Marked). t ∷ front (size g) whole ∷ below) (after-beside g (marks.Node kind f marks.End))
     ∙ ap (λ (t : Marked). marks.Node kind f marks.End ∷ t ∷ below) (front-beside g (marks.Node kind f marks.End))
 
 -- a node is closed, and one is opened around it: so far all that the present production gave stands in that

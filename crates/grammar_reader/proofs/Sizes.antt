@@ -1,5 +1,5 @@
 -- No row of the table is large.
-use Rattle.std.proofs.Common.{◌≡◌, ◌<◌, ◌≤◌, ◌+◌, ◌*◌, ℕ, Bool, true, false, nat_lt, refl, subst, sym, arith, if◌then◌else◌}
+use Rattle.std.proofs.Common.{◌≡◌, ◌<◌, ◌≤◌, ◌+◌, ◌-◌, ◌*◌, ℕ, Bool, true, false, nat_lt, refl, subst, sym, arith, if◌then◌else◌}
 use Rattle.std.proofs.lemmas.Bool.{ltb-true}
 use Rattle.rust_grammar.specs.Expressions.{expressions}
 use Rattle.rust_grammar.specs.Items.{items}
@@ -189,9 +189,9 @@ falls-turns a b n h = omega (arith, falls a b h)
 pub falls-call : (large : rows.Rule) (n : ℕ) → 0 < size (plain large) → 16384 * n + 1 < 16384 * n + 2 * weight large
 falls-call b n h = omega (arith, h)
 
--- a part of a row, below the reading of that as a layer
-pub falls-layer : (small : rows.Rule) (n : ℕ) → size (plain small) < 2048 → 16384 * n + 2 * weight small < 16384 * n + 16382
-falls-layer a n h = omega (arith, h, least (is_reference a))
+-- the turns of a layer, below the reading of that and of those above it
+pub falls-climb : (small : rows.Rule) (n height : ℕ) → size (plain small) < 2048 → height ≤ 10 → 16384 * n + 2 * weight small < 16384 * n + (16381 - height)
+falls-climb a n height h low = omega (arith, h, low, least (is_reference a))
   where
     least : (b : Bool) → (if b then 1 else 0) ≤ 1
     least true = omega arith

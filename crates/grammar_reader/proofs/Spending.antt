@@ -116,7 +116,7 @@ second-of i j d e (inr h) = let more = le-max_right d e in inr (record { some = 
 pub same-length : {us ts : List Token} → us ≡ ts → length us ≡ length ts
 same-length e = ap (λ (vs : List Token). length vs) e
 
--- behind a test of so many looks
+-- after a test of so many looks
 pub tested : (k : ℕ) (i : Option ℕ) (d : ℕ) {old mid new : View} → length (left mid) ≡ length (left old) → mid.looks ≤ old.looks + k → Costs i d mid new → Costs (in_turn (Some k) i) (k + d) old new
 tested k i d {old} {mid} {new} same few (inl h) = inl (record { none = h.none ∙ same; looks = both-at-most (Some k) i _ _ _ few h.looks })
 tested k i d {old} {mid} {new} same few (inr h) = inr (record { some = omega (arith, same, h.some); looks = omega (arith, same, few, h.looks) })
@@ -130,7 +130,7 @@ tested-read k i d {old} {mid} {new} same few (inr h) = inr (record { some = omeg
 pub tested-alone : (k : ℕ) (i : Option ℕ) (d : ℕ) {old new : View} → length (left new) ≡ length (left old) → new.looks ≤ old.looks + k → Costs (Some (k + most i)) d old new
 tested-alone k i d same few = inl (record { none = same; looks = omega (arith, few) })
 
--- what is done before and behind takes neither tokens nor looks
+-- what is done before and after takes neither tokens nor looks
 pub within :
     {i : Option ℕ} {d : ℕ} {old first last new : View}
     → length (left first) ≡ length (left old) → first.looks ≡ old.looks → length (left new) ≡ length (left last) → new.looks ≡ last.looks

@@ -12,7 +12,7 @@ use Rattle.parser_events.specs.Forest.{Forest, Message, ◌then◌}
 use Rattle.parser_events.specs.Marked.{Marked, End, ◌beside◌, marked}
 use Rattle.parser_events.specs.View.{View}
 use Rattle.parser_events.proofs.Forests.{marked-then}
-use Rattle.rust_grammar.specs.Meaning.{Reading, ahead, is_end, fresh, leaf, say, skip, split, node, behind}
+use Rattle.rust_grammar.specs.Meaning.{Reading, ahead, is_end, fresh, leaf, say, skip, split, node, after}
 use Rattle.rust_grammar.proofs.Spelled.{then-some}
 use Rattle.grammar_reader.specs.Stands.{left, Holds, HasTrees, Stands}
 use Rattle.grammar_reader.specs.Moves.{Does, Opens, Closes, Leaves}
@@ -34,6 +34,25 @@ stands-still {old} {new} {looks} {given} {s} {below} same h = record {
     trees : (b : Option (List Marked)) → HasTrees b (marked s.given) old → HasTrees b (marked s.given) new
     trees None t = tt
     trees (Some nodes) t = subst (λ (n : Option (List Marked)). Holds n (marked s.given ∷ nodes)) (sym (ap (λ (v : View). v.nodes) same)) t
+
+is-end : (f : Forest) → is_end f ≡ true → f ≡ forest.End
+unfolding is_end
+is-end forest.End e = refl
+is-end (forest.Leaf k n f) e = absurd (true≢false (sym e))
+is-end (forest.Said m f) e = absurd (true≢false (sym e))
+is-end (forest.ErrorLeaf m k f) e = absurd (true≢false (sym e))
+is-end (forest.Node k c f) e = absurd (true≢false (sym e))
+is-end (forest.Float b c f) e = absurd (true≢false (sym e))
+
+-- where the present production gave nothing, it begins anew
+pub nothing-given : {v : View} (s : Reading) {below : Option (List Marked)} → Stands false v s below → s ≡ fresh s
+unfolding fresh
+nothing-given s h = ap (λ (f : Forest). record { given = f; rest = s.rest }) (is-end s.given h.at.gave)
+
+-- and what it gives after that is all that it gives
+pub after-nothing : (s t : Reading) → s ≡ fresh s → after s t ≡ t
+unfolding fresh after
+after-nothing s t e = ap (λ (r : Reading). record { given = r.given then t.given; rest = t.rest }) e
 
 pub gives-more : (f g : Forest) → is_end g ≡ false → is_end (f then g) ≡ false
 gives-more f g e = then-some f g e
@@ -81,8 +100,8 @@ gave-both (forest.ErrorLeaf m k f) g a b e i = given-so a b e
 gave-both (forest.Node k d f) g a b e i = given-so a b e
 gave-both (forest.Float d r f) g a b e i = given-so a b e
 
-pub stands-left-out : {end new : View} {given gave : Bool} {old : View} (s t : Reading) {below : Option (List Marked)} → Leaves end new → Stands given old s below → Stands gave end t (inside below (marked s.given)) → Stands (if given then true else gave) new (behind s t) below
-unfolding behind
+pub stands-left-out : {end new : View} {given gave : Bool} {old : View} (s t : Reading) {below : Option (List Marked)} → Leaves end new → Stands given old s below → Stands gave end t (inside below (marked s.given)) → Stands (if given then true else gave) new (after s t) below
+unfolding after
 stands-left-out {end} {new} {given} {gave} {old} s t {below} q g h = record {
   at = record { rest = q.rest ∙ h.at.rest; gave = gave-both s.given t.given given gave g.at.gave h.at.gave };
   trees = trees below h.trees;

@@ -16,7 +16,7 @@ use Rattle.rust_grammar.specs.Whole.{rule, whole}
 use Rattle.rust_grammar.specs.Laws.{reads}
 use Rattle.rust_grammar.proofs.Plain.{and_l, and_r}
 use Rattle.rust_grammar.proofs.WholeTable.{whole-means}
-use Rattle.grammar_reader.specs.Told.{IsNext, is_plain, denied, both_told, one_told, told, is_in, is_told, is_right_at, are_right, gives_nothing, all_give_nothing, ends_before, all_end_before}
+use Rattle.grammar_reader.specs.Told.{IsNext, is_plain, known_not, known_both, known_either, known_answer, is_in, is_told, is_right_at, are_right, gives_nothing, all_give_nothing, ends_before, all_end_before}
 use Rattle.grammar_reader.proofs.Beginning.{shift-none}
 use Rattle.grammar_reader.proofs.Looking.{next-kind, next-word}
 use Rattle.grammar_reader.proofs.Turning.{no-turn}
@@ -26,13 +26,13 @@ use Rattle.grammar_reader.specs.Prices.{idle, debt}
 abbrev pub Right : Option Bool → Bool → Type 0
 Right o x = IfSome o (λ b. x ≡ b)
 
-right-denied : (o : Option Bool) (x : Bool) → Right o x → Right (denied o) (not x)
-unfolding denied
+right-denied : (o : Option Bool) (x : Bool) → Right o x → Right (known_not o) (not x)
+unfolding known_not
 right-denied None x h = tt
 right-denied (Some b) x h = ap not h
 
-right-both : (o p : Option Bool) (x y : Bool) → Right o x → Right p y → Right (both_told o p) (if x then y else false)
-unfolding both_told
+right-both : (o p : Option Bool) (x y : Bool) → Right o x → Right p y → Right (known_both o p) (if x then y else false)
+unfolding known_both
 right-both (Some false) p x y h i = rw h refl
 right-both (Some true) None x y h i = tt
 right-both (Some true) (Some b) x y h i = rw h i
@@ -44,8 +44,8 @@ right-both None (Some false) x y h i = second x
     second true = i
     second false = refl
 
-right-one : (o p : Option Bool) (x y : Bool) → Right o x → Right p y → Right (one_told o p) (if x then true else y)
-unfolding one_told
+right-one : (o p : Option Bool) (x y : Bool) → Right o x → Right p y → Right (known_either o p) (if x then true else y)
+unfolding known_either
 right-one (Some true) p x y h i = rw h refl
 right-one (Some false) None x y h i = tt
 right-one (Some false) (Some b) x y h i = rw h i
@@ -77,8 +77,8 @@ no-word contextual j e = cases (is_plain j) (contextual == j) refl refl
     cases false true f g = absurd (true≢false (sym e ∙ ap is_plain (eqb-true contextual j g) ∙ f))
 
 module _ (c : Bool) (s : Reading) (k : ℕ) (next : IsNext k s.rest) where
-  pub right : (l : Look) → Right (told k l) (sees c s l)
-  unfolding told sees
+  pub right : (l : Look) → Right (known_answer k l) (sees c s l)
+  unfolding known_answer sees
   right Always = refl
   right Never = refl
   right (Kind zero j) = ap (λ (n : ℕ). n == j) next.kind_is
@@ -89,16 +89,16 @@ module _ (c : Bool) (s : Reading) (k : ℕ) (next : IsNext k s.rest) where
   right Left = some-left k s.rest next.kind_is
   right InCondition = tt
   right Given = tt
-  right (Both a b) = right-both (told k a) (told k b) (sees c s a) (sees c s b) (right a) (right b)
-  right (Either a b) = right-one (told k a) (told k b) (sees c s a) (sees c s b) (right a) (right b)
-  right (Not a) = right-denied (told k a) (sees c s a) (right a)
+  right (Both a b) = right-both (known_answer k a) (known_answer k b) (sees c s a) (sees c s b) (right a) (right b)
+  right (Either a b) = right-one (known_answer k a) (known_answer k b) (sees c s a) (sees c s b) (right a) (right b)
+  right (Not a) = right-denied (known_answer k a) (sees c s a) (right a)
 
 twenty-deep : (c : Bool) (s : Reading) (x : Production) (b : Bool) → sees c s (look_of whole x) ≡ b → sees c s (begins_below whole 20 x) ≡ b
 unfolding look_of whole
 twenty-deep c s x b e = e
 
 -- What is told of a production, of the place itself, is seen there.
-pub first-seen : (c : Bool) (s : Reading) (m ranks k : ℕ) (x : Production) (b : Bool) → m ≡ 0 → ranks ≡ 20 → IsNext k s.rest → told k (look_of whole x) ≡ Some b → b ≡ sees c s (shift m (begins_below whole ranks x))
+pub first-seen : (c : Bool) (s : Reading) (m ranks k : ℕ) (x : Production) (b : Bool) → m ≡ 0 → ranks ≡ 20 → IsNext k s.rest → known_answer k (look_of whole x) ≡ Some b → b ≡ sees c s (shift m (begins_below whole ranks x))
 first-seen c s m ranks k x b e f next h =
     subst (λ (i : ℕ). b ≡ sees c s (shift i (begins_below whole ranks x))) (sym e)
     (subst (λ (n : ℕ). b ≡ sees c s (shift 0 (begins_below whole n x))) (sym f)
@@ -108,7 +108,7 @@ first-seen c s m ranks k x b e f next h =
 -- so it is of an answer that may be missing
 pub told-there :
     (place : Option SyntaxKind) (kind : SyntaxKind) (m ranks : ℕ) (x : Production) (o : Option Bool)
-    → m ≡ 0 → ranks ≡ 20 → place ≡ Some kind → IfSome o (λ b. told (raw_of kind) (look_of whole x) ≡ Some b)
+    → m ≡ 0 → ranks ≡ 20 → place ≡ Some kind → IfSome o (λ b. known_answer (raw_of kind) (look_of whole x) ≡ Some b)
     → IfSome o (λ b. (c : Bool) (s : Reading) → IfSome place (λ k. IsNext (raw_of k) s.rest) → b ≡ sees c s (shift m (begins_below whole ranks x)))
 told-there place kind m ranks x None e f g h = tt
 told-there place kind m ranks x (Some b) e f g h = λ c s next.
@@ -166,13 +166,13 @@ other : (b x y : Bool) → b ≡ false → (if b then x else y) ≡ true → y �
 other true x y e h = absurd (true≢false e)
 other false x y e h = h
 
-pub surely : (sure unsure k : ℕ) (l : Look) → k < 128 → are_right 128 sure unsure l ≡ true → is_in sure k ≡ true → told k l ≡ Some true
+pub surely : (sure unsure k : ℕ) (l : Look) → k < 128 → are_right 128 sure unsure l ≡ true → is_in sure k ≡ true → known_answer k l ≡ Some true
 unfolding is_right_at
-surely sure unsure k l h e i = told-so (told k l) true (chosen (is_in sure k) _ _ i (right-at 128 k sure unsure l h e))
+surely sure unsure k l h e i = told-so (known_answer k l) true (chosen (is_in sure k) _ _ i (right-at 128 k sure unsure l h e))
 
-pub surely-not : (sure unsure k : ℕ) (l : Look) → k < 128 → are_right 128 sure unsure l ≡ true → is_in sure k ≡ false → is_in unsure k ≡ false → told k l ≡ Some false
+pub surely-not : (sure unsure k : ℕ) (l : Look) → k < 128 → are_right 128 sure unsure l ≡ true → is_in sure k ≡ false → is_in unsure k ≡ false → known_answer k l ≡ Some false
 unfolding is_right_at
-surely-not sure unsure k l h e i j = told-so (told k l) false (other (is_in unsure k) _ _ j (other (is_in sure k) _ _ i (right-at 128 k sure unsure l h e)))
+surely-not sure unsure k l h e i j = told-so (known_answer k l) false (other (is_in unsure k) _ _ j (other (is_in sure k) _ _ i (right-at 128 k sure unsure l h e)))
 
 -- A choice that gives nothing before a kind.
 module _ (c : Bool) (s : Reading) (k : ℕ) (next : IsNext k s.rest) where
@@ -180,8 +180,8 @@ module _ (c : Bool) (s : Reading) (k : ℕ) (next : IsNext k s.rest) where
   unfolding read gives_nothing
   none-given Nothing e = refl
   none-given (Or a b) e =
-      let no : sees c s (begins (look_of whole) a) ≡ false = subst (λ (o : Option Bool). Right o (sees c s (begins (look_of whole) a))) (told-so (told k (begins (look_of whole) a)) false (and_l (is_told (told k (begins (look_of whole) a)) false) (gives_nothing k b) e)) (right c s k next (begins (look_of whole) a)) in
-      let more = none-given b (and_r (is_told (told k (begins (look_of whole) a)) false) (gives_nothing k b) e) in
+      let no : sees c s (begins (look_of whole) a) ≡ false = subst (λ (o : Option Bool). Right o (sees c s (begins (look_of whole) a))) (told-so (known_answer k (begins (look_of whole) a)) false (and_l (is_told (known_answer k (begins (look_of whole) a)) false) (gives_nothing k b) e)) (right c s k next (begins (look_of whole) a)) in
+      let more = none-given b (and_r (is_told (known_answer k (begins (look_of whole) a)) false) (gives_nothing k b) e) in
       rw no more
   none-given (One x) e = absurd (true≢false (sym e))
   none-given Any e = absurd (true≢false (sym e))
@@ -227,7 +227,7 @@ module _ (c : Bool) (s : Reading) (k : ℕ) (next : IsNext k s.rest) (a : Rule) 
   pub layer-ended : (b : Rule) → ends_before k (Then a b) ≡ true → reads c b s ≡ s
   unfolding read ends_before
   layer-ended (Star b) e =
-      let no : sees c s (begins (look_of whole) b) ≡ false = subst (λ (o : Option Bool). Right o (sees c s (begins (look_of whole) b))) (told-so (told k (begins (look_of whole) b)) false e) (right c s k next (begins (look_of whole) b)) in
+      let no : sees c s (begins (look_of whole) b) ≡ false = subst (λ (o : Option Bool). Right o (sees c s (begins (look_of whole) b))) (told-so (known_answer k (begins (look_of whole) b)) false e) (right c s k next (begins (look_of whole) b)) in
       no-turn (length s.rest) c b s no
   layer-ended Nothing e = absurd (true≢false (sym e))
   layer-ended (One x) e = absurd (true≢false (sym e))

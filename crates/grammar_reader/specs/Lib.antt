@@ -1,5 +1,6 @@
 pub mod CanRead
 pub mod Data
+pub mod Layers
 pub mod Looks
 pub mod Told
 pub mod Prices

@@ -16,39 +16,39 @@ pub record IsNext (kind : ℕ) (tokens : List Token) : Type 0 where
   pub plain : is_plain (ahead 0 tokens).contextual ≡ true
 
 -- Answers that may be missing.
-unfoldable pub denied : Option Bool → Option Bool
-denied None = None
-denied (Some b) = Some (not b)
+unfoldable pub known_not : Option Bool → Option Bool
+known_not None = None
+known_not (Some b) = Some (not b)
 
-unfoldable pub both_told : Option Bool → Option Bool → Option Bool
-both_told (Some false) b = Some false
-both_told (Some true) b = b
-both_told None (Some false) = Some false
-both_told None (Some true) = None
-both_told None None = None
+unfoldable pub known_both : Option Bool → Option Bool → Option Bool
+known_both (Some false) b = Some false
+known_both (Some true) b = b
+known_both None (Some false) = Some false
+known_both None (Some true) = None
+known_both None None = None
 
-unfoldable pub one_told : Option Bool → Option Bool → Option Bool
-one_told (Some true) b = Some true
-one_told (Some false) b = b
-one_told None (Some true) = Some true
-one_told None (Some false) = None
-one_told None None = None
+unfoldable pub known_either : Option Bool → Option Bool → Option Bool
+known_either (Some true) b = Some true
+known_either (Some false) b = b
+known_either None (Some true) = Some true
+known_either None (Some false) = None
+known_either None None = None
 
 -- what a look answers before a token of this kind that is no contextual keyword, where that alone tells
-unfoldable pub told : ℕ → Look → Option Bool
-told k Always = Some true
-told k Never = Some false
-told k (Kind zero j) = Some (k == j)
-told k (Kind (suc n) j) = None
-told k (Contextual zero j) = if is_plain j then None else Some false
-told k (Contextual (suc n) j) = None
-told k (Joint n) = None
-told k Left = if k == EOF then None else Some true
-told k InCondition = None
-told k Given = None
-told k (Both a b) = both_told (told k a) (told k b)
-told k (Either a b) = one_told (told k a) (told k b)
-told k (Not a) = denied (told k a)
+unfoldable pub known_answer : ℕ → Look → Option Bool
+known_answer k Always = Some true
+known_answer k Never = Some false
+known_answer k (Kind zero j) = Some (k == j)
+known_answer k (Kind (suc n) j) = None
+known_answer k (Contextual zero j) = if is_plain j then None else Some false
+known_answer k (Contextual (suc n) j) = None
+known_answer k (Joint n) = None
+known_answer k Left = if k == EOF then None else Some true
+known_answer k InCondition = None
+known_answer k Given = None
+known_answer k (Both a b) = known_both (known_answer k a) (known_answer k b)
+known_answer k (Either a b) = known_either (known_answer k a) (known_answer k b)
+known_answer k (Not a) = known_not (known_answer k a)
 
 -- whether a kind is in a set, which is a number with a bit for each kind that is in it
 unfoldable pub is_in : (set kind : ℕ) → Bool
@@ -62,8 +62,8 @@ is_told (Some false) b = not b
 -- At a kind of the first set the look is surely there, at one of the second it is open whether it is, at any other it surely is not.
 unfoldable pub is_right_at : (sure unsure kind : ℕ) → Look → Bool
 is_right_at sure unsure kind l =
-    let yes = is_told (told kind l) true in
-    let no = is_told (told kind l) false in
+    let yes = is_told (known_answer kind l) true in
+    let no = is_told (known_answer kind l) false in
     let other = if is_in unsure kind then true else no in
     if is_in sure kind then yes else other
 
@@ -75,7 +75,7 @@ are_right (suc n) sure unsure l = is_right_at sure unsure n l && are_right n sur
 -- whether a choice that may give nothing gives nothing before a token of this kind
 unfoldable pub gives_nothing : ℕ → Rule → Bool
 gives_nothing k Nothing = true
-gives_nothing k (Or a b) = is_told (told k (begins (look_of whole) a)) false && gives_nothing k b
+gives_nothing k (Or a b) = is_told (known_answer k (begins (look_of whole) a)) false && gives_nothing k b
 gives_nothing k r = false
 
 -- so it is at each kind below this one that is not in the set
@@ -83,9 +83,9 @@ unfoldable pub all_give_nothing : ℕ → (others : ℕ) → Rule → Bool
 all_give_nothing zero others r = true
 all_give_nothing (suc n) others r = (is_in others n || gives_nothing n r) && all_give_nothing n others r
 
--- whether a repetition behind an operand has no turn before a token of this kind
+-- whether a repetition after an operand has no turn before a token of this kind
 unfoldable pub ends_before : ℕ → Rule → Bool
-ends_before k (Then a (Star b)) = is_told (told k (begins (look_of whole) b)) false
+ends_before k (Then a (Star b)) = is_told (known_answer k (begins (look_of whole) b)) false
 ends_before k r = false
 
 unfoldable pub all_end_before : ℕ → (others : ℕ) → Rule → Bool

@@ -79,8 +79,8 @@ pub fn begins(
             if !begins(p, place, first, ahead, ranks) {
                 return false;
             }
-            let behind = ahead.saturating_add(usize::from(*width));
-            begins(p, place, second, behind, ranks)
+            let after = ahead.saturating_add(usize::from(*width));
+            begins(p, place, second, after, ranks)
         }
         Rule::Or(first, second) => {
             if begins(p, place, first, ahead, ranks) {

@@ -1,13 +1,14 @@
 //! Where productions begin, as far as the kind of the next token alone tells.
 
-ghost use Rattle.std.specs.Prelude.{◌≡◌, ◌<◌, IfSome, IsTrue, Some, true};
+ghost use Rattle.std.specs.Prelude.{◌≡◌, ◌<◌, ◌≤◌, IfSome, IsTrue, Some, true};
 ghost use Rattle.parser_input.specs.Kind.{raw_of};
 ghost use Rattle.rust_grammar.specs.Meaning.{look_of};
 ghost use Rattle.rust_grammar.specs.Rule as rules;
 ghost use Rattle.rust_grammar.specs.Rule.{Rule};
 ghost use Rattle.rust_grammar.specs.Whole.{rule, whole};
 ghost use Rattle.grammar_reader.specs.Data.{named};
-ghost use Rattle.grammar_reader.specs.Told.{all_end_before, all_give_nothing, ends_before, are_right, gives_nothing, is_in, told};
+ghost use Rattle.grammar_reader.specs.Layers.{layer_at};
+ghost use Rattle.grammar_reader.specs.Told.{all_end_before, all_give_nothing, ends_before, are_right, gives_nothing, is_in, known_answer};
 
 use crate::production::Production;
 use parser_input::syntax_kind::SyntaxKind;
@@ -313,7 +314,7 @@ fn has(set: u128, kind: u16) -> bool
 
 /// Whether a production begins before a token of this kind that is no contextual keyword, if that alone tells.
 pub fn begins_before(production: Production, kind: SyntaxKind) -> Option<bool>
-    ensures { IfSome result (λ answer. told (raw_of kind) (look_of whole (named production)) ≡ Some answer) }
+    ensures { IfSome result (λ answer. known_answer (raw_of kind) (look_of whole (named production)) ≡ Some answer) }
 {
     let kind = kind.to_raw();
     if kind >= 128 {
@@ -350,39 +351,27 @@ pub fn operation_ends_before(kind: SyntaxKind) -> bool
     !has(operation_tail(), kind)
 }
 
-static PIPES: u128 = kinds!(PIPE);
+/// The kinds before which layers of operators may have another turn, by their heights from 1 on.
+const OPERATORS: [u128; 10] = [
+    kinds!(AS_KW),
+    kinds!(STAR SLASH PERCENT),
+    kinds!(PLUS MINUS),
+    kinds!(L_ANGLE R_ANGLE),
+    kinds!(AMP),
+    kinds!(CARET),
+    kinds!(PIPE),
+    kinds!(EQ BANG L_ANGLE R_ANGLE),
+    kinds!(AMP),
+    kinds!(PIPE),
+];
 
-static AMPERSANDS: u128 = kinds!(AMP);
-
-static COMPARISON_OPERATORS: u128 = kinds!(EQ BANG L_ANGLE R_ANGLE);
-
-static BIT_XOR_OPERATORS: u128 = kinds!(CARET);
-
-static BIT_SHIFT_OPERATORS: u128 = kinds!(L_ANGLE R_ANGLE);
-
-static SUM_OPERATORS: u128 = kinds!(PLUS MINUS);
-
-static PRODUCT_OPERATORS: u128 = kinds!(STAR SLASH PERCENT);
-
-static CAST_OPERATORS: u128 = kinds!(AS_KW);
-
-/// The kinds before which a layer of operators may have another turn, if it is one.
-pub fn operators_of(production: Production) -> Option<u128>
-    ensures { IfSome result (λ others. all_end_before 128 others (rule (named production)) ≡ true) }
+/// The kinds before which the layer of operators of this height may have another turn.
+pub(crate) fn operators_at(height: u8) -> u128
+    requires low { 1 ≤ height }
+    requires high { height ≤ 10 }
+    ensures { all_end_before 128 result (rule (layer_at height)) ≡ true }
 {
-    match production {
-        Production::Disjunction => Some(PIPES),
-        Production::Conjunction => Some(AMPERSANDS),
-        Production::Comparison => Some(COMPARISON_OPERATORS),
-        Production::BitOr => Some(PIPES),
-        Production::BitXor => Some(BIT_XOR_OPERATORS),
-        Production::BitAnd => Some(AMPERSANDS),
-        Production::BitShift => Some(BIT_SHIFT_OPERATORS),
-        Production::Sum => Some(SUM_OPERATORS),
-        Production::Product => Some(PRODUCT_OPERATORS),
-        Production::Cast => Some(CAST_OPERATORS),
-        _ => None,
-    }
+    OPERATORS[usize::from(height - 1)]
 }
 
 /// Whether a layer with these operators ends before a token of this kind that is no contextual keyword.

@@ -6,6 +6,7 @@
 
 pub mod begin;
 pub mod first;
+pub mod layer;
 pub mod look;
 mod notation;
 pub mod open;

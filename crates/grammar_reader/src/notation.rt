@@ -98,7 +98,7 @@ macro_rules! either { ($a:expr, $b:expr) => { Look::Either(&$a, &$b) }; }
 
 macro_rules! not { ($a:expr) => { Look::Not(&$a) }; }
 
-/// These spellings stand one behind the other, from so many tokens ahead on.
+/// These spellings stand one after the other, from so many tokens ahead on.
 macro_rules! row {
     ($n:expr;) => { Look::Always };
     ($n:expr; $first:ident $($rest:ident)*) => { both!(there!($n, $first), row!($n + width!($first); $($rest)*)) };
@@ -176,7 +176,7 @@ macro_rules! want_expression { ($name:ident) => { want!(call!($name), Message::E
 
 macro_rules! want_condition { () => { want!(on!(call!(Operation)), Message::ExpectedExpression) }; }
 
-/// The rest of a list behind its opening spelling.
+/// The rest of a list after its opening spelling.
 macro_rules! rest_listed {
     ($list:ident, $element:expr, $close:ident) => {
         then!(

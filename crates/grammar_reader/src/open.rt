@@ -95,7 +95,7 @@ pub fn take_any(p: &mut Parser<'_>, node: Open, total: usize) -> Open
     take(p, node, kind, 1, total)
 }
 
-/// Takes the next token into an error, behind the message, if one is left.
+/// Takes the next token into an error, after the message, if one is left.
 pub fn skip(p: &mut Parser<'_>, node: Open, message: Message, total: usize) -> Open
     requires total { total ≡ length p.old.input }
     requires marker { IsInnermost node.marker p.old.nodes }

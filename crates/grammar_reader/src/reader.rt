@@ -3,26 +3,29 @@
 ghost use Rattle.std.specs.Prelude.{◌≡◌, ◌≤◌, ◌<◌, ◌+◌, ◌*◌, ◌^◌, ℕ, Bool, List, Option, Some, IfSome, IsTrue, true, false, length};
 ghost use Rattle.parser_events.specs.Marked.{Marked};
 ghost use Rattle.parser_events.specs.Stack.{IsInnermost};
+ghost use Rattle.parser_events.specs.View.{View};
 ghost use Rattle.rust_grammar.specs.Rule as rules;
-ghost use Rattle.rust_grammar.specs.Meaning.{Reading, behind, fresh, meaning};
+ghost use Rattle.rust_grammar.specs.Meaning.{Reading, after, fresh, meaning};
 ghost use Rattle.rust_grammar.specs.Whole.{rank, whole};
 ghost use Rattle.rust_grammar.specs.Begun.{IsBegun};
 ghost use Rattle.rust_grammar.specs.Laws.{reads};
 ghost use Rattle.grammar_reader.specs.CanRead.{CanRead, HasRank, IsBelow, is_begun};
 ghost use Rattle.grammar_reader.specs.Data.{named, plain};
+ghost use Rattle.grammar_reader.specs.Layers.{layer_at, CanClimb};
 ghost use Rattle.grammar_reader.specs.Looks.{begin_looks, Costs};
-ghost use Rattle.grammar_reader.specs.Prices.{in_turn, idle, idle_of, debt, debt_of, is_paid};
+ghost use Rattle.grammar_reader.specs.Prices.{idle, idle_of, debt, debt_of, is_paid};
 ghost use Rattle.grammar_reader.specs.Size.{size};
 ghost use Rattle.grammar_reader.specs.Stands.{Stands, left};
 ghost use Rattle.grammar_reader.specs.Told.{all_end_before};
 
 use crate::begin::begins;
-use crate::first::{layer_ends_before, operation_ends_before, operators_of};
+use crate::first::{layer_ends_before, operation_ends_before, operators_at};
+use crate::layer::{height_of, layer_of};
 use crate::look::{Place, next_kind, tokens_left};
 use crate::open::{Open, close, leave_out, skip, split, start, take, take_any, tell, wrap};
 use crate::production::Production;
 use crate::rule::Rule;
-use crate::table::{later_atoms, later_bodies, rule_of};
+use crate::table::{later_atoms, later_bodies, rule_of, turns_in};
 use parser_events::parser::Parser;
 
 /// On whose behalf a rule is read.
@@ -125,6 +128,11 @@ pub fn production(
         → Stands node.given p.old s below → IsBegun (named production) condition s
         → Costs (idle_of (named production)) (debt_of (named production)) p.old p.new }
 {
+    if !node.given
+        && let Some(height) = height_of(production)
+    {
+        return layers(p, node, height, condition, ranks, total);
+    }
     if passes_by(p, production) {
         return node;
     }
@@ -134,11 +142,7 @@ pub fn production(
         ranks,
         total,
     };
-    let row = rule_of(production);
-    let Some(operators) = operators_of(production) else {
-        return read(p, node, row, condition, caller);
-    };
-    layer(p, node, row, operators, condition, caller)
+    read(p, node, rule_of(production), condition, caller)
 }
 
 /// Whether a layer with these operators ends here: nothing more is read of it.
@@ -156,13 +160,54 @@ fn layer_ends(p: &mut Parser<'_>, operators: u128) -> bool
     layer_ends_before(operators, kind)
 }
 
-/// Reads a layer of operators: its turns are not asked for where the next token is none of its operators.
+/// Reads an operand and the operators after it, up to the layer of this height, where the present production gave nothing yet.
 #[cycle(reader)]
-fn layer(
+fn layers(
     p: &mut Parser<'_>,
     node: Open,
-    row: &'static Rule,
-    operators: u128,
+    height: u8,
+    condition: bool,
+    ranks: u8,
+    total: usize,
+) -> Open
+    requires total { total ≡ length p.old.input }
+    requires short { length p.old.input < 2 ^ 64 }
+    requires few { ranks ≤ 20 }
+    requires marker { IsInnermost node.marker p.old.nodes }
+    requires nothing { node.given ≡ false }
+    requires low { 1 ≤ height }
+    requires high { height ≤ 10 }
+    ensures input { p.new.input ≡ p.old.input }
+    ensures marker { IsInnermost result.marker p.new.nodes }
+    ensures innermost { (n : ℕ) → IsInnermost n p.old.nodes → IsInnermost n p.new.nodes }
+    ensures reads { (s : Reading) (below : Option (List Marked)) → rank (layer_at height) ≤ ranks
+        → Stands node.given p.old s below → IsBegun (layer_at height) condition s
+        → Stands result.given p.new (meaning whole (layer_at height) condition s) below }
+    ensures looks { (s : Reading) (below : Option (List Marked)) → rank (layer_at height) ≤ ranks
+        → Stands node.given p.old s below → IsBegun (layer_at height) condition s
+        → Costs (idle_of (layer_at height)) (debt_of (layer_at height)) p.old p.new }
+{
+    if ranks == 0 {
+        return node;
+    }
+    let began = tokens_left(p, total);
+    let caller = Caller {
+        began,
+        ranks,
+        total,
+    };
+    let node = production(p, node, Production::Prefixed, condition, ranks - 1, total);
+    climb(p, node, 0, height, condition, caller)
+}
+
+/// Reads on from a layer that was read, up to another: the turns of each layer between, which are not asked for where the next
+/// token is none of its operators.
+#[cycle(reader)]
+fn climb(
+    p: &mut Parser<'_>,
+    node: Open,
+    height: u8,
+    top: u8,
     condition: bool,
     caller: Caller,
 ) -> Open
@@ -170,30 +215,32 @@ fn layer(
     requires short { length p.old.input < 2 ^ 64 }
     requires few { caller.ranks ≤ 20 }
     requires marker { IsInnermost node.marker p.old.nodes }
-    requires small { size (plain row.now) < 2048 }
-    requires operators { all_end_before 128 operators (plain row.now) ≡ true }
+    requires below { height ≤ top }
+    requires high { top ≤ 10 }
     ensures input { p.new.input ≡ p.old.input }
     ensures marker { IsInnermost result.marker p.new.nodes }
     ensures innermost { (n : ℕ) → IsInnermost n p.old.nodes → IsInnermost n p.new.nodes }
-    ensures reads { (x : rules.Production) (s : Reading) (below : Option (List Marked)) → rank x ≤ caller.ranks
-        → Stands node.given p.old s below → CanRead x caller.began condition (plain row.now) s
-        → Stands result.given p.new (reads condition (plain row.now) s) below }
-    ensures looks { (x : rules.Production) (s : Reading) (below : Option (List Marked)) → rank x ≤ caller.ranks
-        → Stands node.given p.old s below → CanRead x caller.began condition (plain row.now) s
-        → is_paid (plain row.now) ≡ true
-        → Costs (in_turn (Some 1) (idle (plain row.now))) (1 + debt (plain row.now)) p.old p.new }
+    ensures reads { (s : Reading) (below : Option (List Marked)) → CanClimb caller.began caller.ranks top condition s
+        → Stands node.given p.old (meaning whole (layer_at height) condition s) below
+        → Stands result.given p.new (meaning whole (layer_at top) condition s) below }
+    ensures looks { (entry : View) (s : Reading) (below : Option (List Marked))
+        → CanClimb caller.began caller.ranks top condition s
+        → Stands node.given p.old (meaning whole (layer_at height) condition s) below
+        → Costs (idle_of (layer_at height)) (debt_of (layer_at height)) entry p.old
+        → Costs (idle_of (layer_at top)) (debt_of (layer_at top)) entry p.new }
 {
-    let Rule::Then(operand, turns) = row else {
-        return read(p, node, row, condition, caller);
-    };
-    let node = read(p, node, operand, condition, caller);
-    if layer_ends(p, operators) {
+    if height >= top {
         return node;
     }
-    read(p, node, turns, condition, caller)
+    let upper = height + 1;
+    if layer_ends(p, operators_at(upper)) {
+        return climb(p, node, upper, top, condition, caller);
+    }
+    let node = read(p, node, turns_in(layer_of(upper)), condition, caller);
+    climb(p, node, upper, top, condition, caller)
 }
 
-/// Reads a production in a node that is left out in the end.
+/// Reads a production in a node that is left out in the end; in the present one, where that has nothing yet.
 #[cycle(reader)]
 fn call(p: &mut Parser<'_>, node: Open, called: Production, condition: bool, caller: Caller) -> Open
     requires total { caller.total ≡ length p.old.input }
@@ -206,7 +253,7 @@ fn call(p: &mut Parser<'_>, node: Open, called: Production, condition: bool, cal
     ensures reads { (x : rules.Production) (s : Reading) (below : Option (List Marked)) → rank x ≤ caller.ranks
         → Stands node.given p.old s below → IsBelow x caller.began (named called) s
         → IsBegun (named called) condition (fresh s)
-        → Stands result.given p.new (behind s (meaning whole (named called) condition (fresh s))) below }
+        → Stands result.given p.new (after s (meaning whole (named called) condition (fresh s))) below }
     ensures looks { (x : rules.Production) (s : Reading) (below : Option (List Marked)) → rank x ≤ caller.ranks
         → Stands node.given p.old s below → IsBelow x caller.began (named called) s
         → IsBegun (named called) condition (fresh s)
@@ -215,10 +262,20 @@ fn call(p: &mut Parser<'_>, node: Open, called: Production, condition: bool, cal
     let Some(ranks) = ranks_below(p, caller) else {
         return node;
     };
+    let Open { marker, given } = node;
+    if !given {
+        return production(
+            p,
+            Open { marker, given },
+            called,
+            condition,
+            ranks,
+            caller.total,
+        );
+    }
     let inner = start(p);
     let inner = production(p, inner, called, condition, ranks, caller.total);
     let gave = leave_out(p, inner);
-    let Open { marker, given } = node;
     Open {
         marker,
         given: given || gave,

@@ -7,8 +7,9 @@ ghost use Rattle.grammar_reader.specs.Data.{plain, named, is_reference};
 
 use crate::production::Production;
 use crate::rule::Rule;
-pub use expressions::later_atoms;
-pub use items::later_bodies;
+pub(crate) use expressions::later_atoms;
+pub(crate) use items::later_bodies;
+pub(crate) use operators::turns_in;
 
 mod attributes;
 mod control;

@@ -49,7 +49,7 @@ static VISIBILITY: Rule = node!(
     )
 );
 
-pub fn visibility() -> &'static Rule
+pub(crate) fn visibility() -> &'static Rule
     ensures rule { plain result.now ≡ rule rules.visibility }
     ensures row { is_reference result.now ≡ false }
 {
@@ -67,7 +67,7 @@ static ATTRIBUTE: Rule = node!(
     )
 );
 
-pub fn attribute() -> &'static Rule
+pub(crate) fn attribute() -> &'static Rule
     ensures rule { plain result.now ≡ rule rules.attribute }
     ensures row { is_reference result.now ≡ false }
 {
@@ -85,7 +85,7 @@ static META: Rule = node!(
     )
 );
 
-pub fn meta() -> &'static Rule
+pub(crate) fn meta() -> &'static Rule
     ensures rule { plain result.now ≡ rule rules.meta }
     ensures row { is_reference result.now ≡ false }
 {
@@ -107,7 +107,7 @@ static TOKEN_TREE: Rule = or!(
     ),
 );
 
-pub fn token_tree() -> &'static Rule
+pub(crate) fn token_tree() -> &'static Rule
     ensures rule { plain result.now ≡ rule rules.token_tree }
     ensures row { is_reference result.now ≡ false }
 {

@@ -60,7 +60,7 @@ static BLOCK_LIKE: Rule = or!(
     ),
 );
 
-pub fn block_like() -> &'static Rule
+pub(crate) fn block_like() -> &'static Rule
     ensures rule { plain result.now ≡ rule rules.block_like }
     ensures row { is_reference result.now ≡ false }
 {
@@ -80,7 +80,7 @@ static IF_EXPR: Rule = node!(
     )
 );
 
-pub fn if_expr() -> &'static Rule
+pub(crate) fn if_expr() -> &'static Rule
     ensures rule { plain result.now ≡ rule rules.if_expr }
     ensures row { is_reference result.now ≡ false }
 {
@@ -99,7 +99,7 @@ static MATCH_ARMS: Rule = node!(
     )
 );
 
-pub fn match_arms() -> &'static Rule
+pub(crate) fn match_arms() -> &'static Rule
     ensures rule { plain result.now ≡ rule rules.match_arms }
     ensures row { is_reference result.now ≡ false }
 {
@@ -126,7 +126,7 @@ static MATCH_ARM: Rule = node!(
     )
 );
 
-pub fn match_arm() -> &'static Rule
+pub(crate) fn match_arm() -> &'static Rule
     ensures rule { plain result.now ≡ rule rules.match_arm }
     ensures row { is_reference result.now ≡ false }
 {

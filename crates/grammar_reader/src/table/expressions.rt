@@ -34,7 +34,7 @@ static POSTFIX: Rule = or!(
     unless!(next!(DOT2), then!(one!(DOT), more!(AfterDot))),
 );
 
-pub fn postfix() -> &'static Rule
+pub(crate) fn postfix() -> &'static Rule
     ensures rule { plain result.now ≡ rule rules.postfix }
     ensures row { is_reference result.now ≡ false }
 {
@@ -60,7 +60,7 @@ static AFTER_DOT: Rule = or!(
     wrap!(FIELD_EXPR, Rule::Say(Message::ExpectedField)),
 );
 
-pub fn after_dot() -> &'static Rule
+pub(crate) fn after_dot() -> &'static Rule
     ensures rule { plain result.now ≡ rule rules.after_dot }
     ensures row { is_reference result.now ≡ false }
 {
@@ -72,7 +72,7 @@ static ARGUMENTS: Rule = node!(
     listed!(ARG_LIST, L_PAREN, call!(Expression), R_PAREN)
 );
 
-pub fn arguments() -> &'static Rule
+pub(crate) fn arguments() -> &'static Rule
     ensures rule { plain result.now ≡ rule rules.arguments }
     ensures row { is_reference result.now ≡ false }
 {
@@ -164,14 +164,14 @@ static LATER_ATOMS: Rule = or!(
     ),
 );
 
-pub fn atom() -> &'static Rule
+pub(crate) fn atom() -> &'static Rule
     ensures rule { plain result.now ≡ rule rules.atom }
     ensures row { is_reference result.now ≡ false }
 {
     &ATOM
 }
 
-pub fn later_atoms() -> &'static Rule
+pub(crate) fn later_atoms() -> &'static Rule
     ensures rule { plain result.now ≡ later_atoms }
     ensures row { is_reference result.now ≡ false }
 {
@@ -183,7 +183,7 @@ static FIELD_VALUES: Rule = node!(
     listed!(RECORD_EXPR_FIELD_LIST, L_CURLY, call!(FieldValue), R_CURLY)
 );
 
-pub fn field_values() -> &'static Rule
+pub(crate) fn field_values() -> &'static Rule
     ensures rule { plain result.now ≡ rule rules.field_values }
     ensures row { is_reference result.now ≡ false }
 {
@@ -202,7 +202,7 @@ static FIELD_VALUE: Rule = or!(
     then!(one!(DOT2), opt!(call!(Expression))),
 );
 
-pub fn field_value() -> &'static Rule
+pub(crate) fn field_value() -> &'static Rule
     ensures rule { plain result.now ≡ rule rules.field_value }
     ensures row { is_reference result.now ≡ false }
 {

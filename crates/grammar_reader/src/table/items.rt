@@ -182,7 +182,7 @@ static SOURCE_FILE: Rule = node!(
     )
 );
 
-pub fn source_file() -> &'static Rule
+pub(crate) fn source_file() -> &'static Rule
     ensures rule { plain result.now ≡ rule rules.source_file }
     ensures row { is_reference result.now ≡ false }
 {
@@ -191,7 +191,7 @@ pub fn source_file() -> &'static Rule
 
 static MACRO_ITEMS: Rule = node!(MACRO_ITEMS, items_until!(at_end!()));
 
-pub fn macro_items() -> &'static Rule
+pub(crate) fn macro_items() -> &'static Rule
     ensures rule { plain result.now ≡ rule rules.macro_items }
     ensures row { is_reference result.now ≡ false }
 {
@@ -200,7 +200,7 @@ pub fn macro_items() -> &'static Rule
 
 static ITEM: Rule = prefixed!(more!(Body));
 
-pub fn item() -> &'static Rule
+pub(crate) fn item() -> &'static Rule
     ensures rule { plain result.now ≡ rule rules.item }
     ensures row { is_reference result.now ≡ false }
 {
@@ -241,14 +241,14 @@ static LATER_BODIES: Rule = or!(
     Rule::Skip(Message::ExpectedItem),
 );
 
-pub fn body() -> &'static Rule
+pub(crate) fn body() -> &'static Rule
     ensures rule { plain result.now ≡ rule rules.body }
     ensures row { is_reference result.now ≡ false }
 {
     &BODY
 }
 
-pub fn later_bodies() -> &'static Rule
+pub(crate) fn later_bodies() -> &'static Rule
     ensures rule { plain result.now ≡ later_bodies }
     ensures row { is_reference result.now ≡ false }
 {
@@ -257,7 +257,7 @@ pub fn later_bodies() -> &'static Rule
 
 static ASSOC_ITEMS: Rule = node!(ASSOC_ITEM_LIST, items_in_braces!());
 
-pub fn assoc_items() -> &'static Rule
+pub(crate) fn assoc_items() -> &'static Rule
     ensures rule { plain result.now ≡ rule rules.assoc_items }
     ensures row { is_reference result.now ≡ false }
 {

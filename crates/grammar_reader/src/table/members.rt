@@ -33,7 +33,7 @@ static VARIANTS: Rule = node!(
     )
 );
 
-pub fn variants() -> &'static Rule
+pub(crate) fn variants() -> &'static Rule
     ensures rule { plain result.now ≡ rule rules.variants }
     ensures row { is_reference result.now ≡ false }
 {
@@ -53,7 +53,7 @@ static RECORD_FIELDS: Rule = node!(
     )
 );
 
-pub fn record_fields() -> &'static Rule
+pub(crate) fn record_fields() -> &'static Rule
     ensures rule { plain result.now ≡ rule rules.record_fields }
     ensures row { is_reference result.now ≡ false }
 {
@@ -70,7 +70,7 @@ static TUPLE_FIELDS: Rule = node!(
     )
 );
 
-pub fn tuple_fields() -> &'static Rule
+pub(crate) fn tuple_fields() -> &'static Rule
     ensures rule { plain result.now ≡ rule rules.tuple_fields }
     ensures row { is_reference result.now ≡ false }
 {
@@ -82,7 +82,7 @@ static PARAMS: Rule = node!(
     listed!(PARAM_LIST, L_PAREN, call!(Param), R_PAREN)
 );
 
-pub fn params() -> &'static Rule
+pub(crate) fn params() -> &'static Rule
     ensures rule { plain result.now ≡ rule rules.params }
     ensures row { is_reference result.now ≡ false }
 {
@@ -105,7 +105,7 @@ static PARAM: Rule = or!(
     node!(PARAM, then!(call!(Pattern), want_one!(COLON), want_type!())),
 );
 
-pub fn param() -> &'static Rule
+pub(crate) fn param() -> &'static Rule
     ensures rule { plain result.now ≡ rule rules.param }
     ensures row { is_reference result.now ≡ false }
 {

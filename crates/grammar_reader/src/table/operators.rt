@@ -4,7 +4,9 @@ ghost use Rattle.std.specs.Prelude.{◌≡◌, false};
 ghost use Rattle.rust_grammar.specs.Rule as rules;
 ghost use Rattle.rust_grammar.specs.Whole.{rule};
 ghost use Rattle.grammar_reader.specs.Data.{plain, is_reference};
+ghost use Rattle.grammar_reader.specs.Layers.{layer_at, height_in, turns_of};
 
+use crate::layer::Layer;
 use crate::notation::*;
 use crate::production::Production;
 use crate::rule::{Look, Rule, Spelling};
@@ -20,16 +22,41 @@ macro_rules! range_mark {
     () => { or!(op!(DOT2EQ), op!(DOT2)) };
 }
 
-/// Operands of the next layer, with these operators between them, grouped from the left.
-macro_rules! layer {
+/// These operators before operands of the next layer, grouped from the left.
+macro_rules! turns {
     ($operand:ident, $operators:expr) => {
-        then!(call!($operand), star!(wrap!(BIN_EXPR, then!($operators, want_expression!($operand)))))
+        star!(wrap!(BIN_EXPR, then!($operators, want_expression!($operand))))
     };
+}
+
+/// Operands of the next layer, with these operators between them.
+macro_rules! layer {
+    ($operand:ident, $operators:expr) => { then!(call!($operand), turns!($operand, $operators)) };
+}
+
+macro_rules! comparisons {
+    () => { or!(op!(EQ2), op!(NEQ), op!(L_ANGLE), op!(R_ANGLE), op!(LTEQ), op!(GTEQ)) };
+}
+
+macro_rules! shifts {
+    () => { or!(op!(SHL), op!(SHR)) };
+}
+
+macro_rules! signs {
+    () => { or!(op!(PLUS), op!(MINUS)) };
+}
+
+macro_rules! factors {
+    () => { or!(op!(STAR), op!(SLASH), op!(PERCENT)) };
+}
+
+macro_rules! casts {
+    () => { star!(wrap!(CAST_EXPR, then!(one!(AS_KW), want_type!()))) };
 }
 
 static EXPRESSION: Rule = call!(Operation);
 
-pub fn expression() -> &'static Rule
+pub(crate) fn expression() -> &'static Rule
     ensures rule { plain result.now ≡ rule rules.expression }
     ensures row { is_reference result.now ≡ false }
 {
@@ -43,7 +70,7 @@ static OPERATION: Rule = or!(
     then!(call!(Disjunction), more!(OperationTail)),
 );
 
-pub fn operation() -> &'static Rule
+pub(crate) fn operation() -> &'static Rule
     ensures rule { plain result.now ≡ rule rules.operation }
     ensures row { is_reference result.now ≡ false }
 {
@@ -76,7 +103,7 @@ static OPERATION_TAIL: Rule = or!(
     Rule::Nothing,
 );
 
-pub fn operation_tail() -> &'static Rule
+pub(crate) fn operation_tail() -> &'static Rule
     ensures rule { plain result.now ≡ rule rules.operation_tail }
     ensures row { is_reference result.now ≡ false }
 {
@@ -85,7 +112,7 @@ pub fn operation_tail() -> &'static Rule
 
 static DISJUNCTION: Rule = layer!(Conjunction, op!(PIPE2));
 
-pub fn disjunction() -> &'static Rule
+pub(crate) fn disjunction() -> &'static Rule
     ensures rule { plain result.now ≡ rule rules.disjunction }
     ensures row { is_reference result.now ≡ false }
 {
@@ -94,26 +121,16 @@ pub fn disjunction() -> &'static Rule
 
 static CONJUNCTION: Rule = layer!(Comparison, op!(AMP2));
 
-pub fn conjunction() -> &'static Rule
+pub(crate) fn conjunction() -> &'static Rule
     ensures rule { plain result.now ≡ rule rules.conjunction }
     ensures row { is_reference result.now ≡ false }
 {
     &CONJUNCTION
 }
 
-static COMPARISON: Rule = layer!(
-    BitOr,
-    or!(
-        op!(EQ2),
-        op!(NEQ),
-        op!(L_ANGLE),
-        op!(R_ANGLE),
-        op!(LTEQ),
-        op!(GTEQ)
-    )
-);
+static COMPARISON: Rule = layer!(BitOr, comparisons!());
 
-pub fn comparison() -> &'static Rule
+pub(crate) fn comparison() -> &'static Rule
     ensures rule { plain result.now ≡ rule rules.comparison }
     ensures row { is_reference result.now ≡ false }
 {
@@ -122,7 +139,7 @@ pub fn comparison() -> &'static Rule
 
 static BIT_OR: Rule = layer!(BitXor, op!(PIPE));
 
-pub fn bit_or() -> &'static Rule
+pub(crate) fn bit_or() -> &'static Rule
     ensures rule { plain result.now ≡ rule rules.bit_or }
     ensures row { is_reference result.now ≡ false }
 {
@@ -131,7 +148,7 @@ pub fn bit_or() -> &'static Rule
 
 static BIT_XOR: Rule = layer!(BitAnd, op!(CARET));
 
-pub fn bit_xor() -> &'static Rule
+pub(crate) fn bit_xor() -> &'static Rule
     ensures rule { plain result.now ≡ rule rules.bit_xor }
     ensures row { is_reference result.now ≡ false }
 {
@@ -140,46 +157,43 @@ pub fn bit_xor() -> &'static Rule
 
 static BIT_AND: Rule = layer!(BitShift, op!(AMP));
 
-pub fn bit_and() -> &'static Rule
+pub(crate) fn bit_and() -> &'static Rule
     ensures rule { plain result.now ≡ rule rules.bit_and }
     ensures row { is_reference result.now ≡ false }
 {
     &BIT_AND
 }
 
-static BIT_SHIFT: Rule = layer!(Sum, or!(op!(SHL), op!(SHR)));
+static BIT_SHIFT: Rule = layer!(Sum, shifts!());
 
-pub fn bit_shift() -> &'static Rule
+pub(crate) fn bit_shift() -> &'static Rule
     ensures rule { plain result.now ≡ rule rules.bit_shift }
     ensures row { is_reference result.now ≡ false }
 {
     &BIT_SHIFT
 }
 
-static SUM: Rule = layer!(Product, or!(op!(PLUS), op!(MINUS)));
+static SUM: Rule = layer!(Product, signs!());
 
-pub fn sum() -> &'static Rule
+pub(crate) fn sum() -> &'static Rule
     ensures rule { plain result.now ≡ rule rules.sum }
     ensures row { is_reference result.now ≡ false }
 {
     &SUM
 }
 
-static PRODUCT: Rule = layer!(Cast, or!(op!(STAR), op!(SLASH), op!(PERCENT)));
+static PRODUCT: Rule = layer!(Cast, factors!());
 
-pub fn product() -> &'static Rule
+pub(crate) fn product() -> &'static Rule
     ensures rule { plain result.now ≡ rule rules.product }
     ensures row { is_reference result.now ≡ false }
 {
     &PRODUCT
 }
 
-static CAST: Rule = then!(
-    call!(Prefixed),
-    star!(wrap!(CAST_EXPR, then!(one!(AS_KW), want_type!())))
-);
+static CAST: Rule = then!(call!(Prefixed), casts!());
 
-pub fn cast() -> &'static Rule
+pub(crate) fn cast() -> &'static Rule
     ensures rule { plain result.now ≡ rule rules.cast }
     ensures row { is_reference result.now ≡ false }
 {
@@ -201,9 +215,47 @@ static PREFIXED: Rule = or!(
     then!(call!(Atom), star!(more!(Postfix))),
 );
 
-pub fn prefixed() -> &'static Rule
+pub(crate) fn prefixed() -> &'static Rule
     ensures rule { plain result.now ≡ rule rules.prefixed }
     ensures row { is_reference result.now ≡ false }
 {
     &PREFIXED
+}
+
+static CAST_TURNS: Rule = casts!();
+
+static PRODUCT_TURNS: Rule = turns!(Cast, factors!());
+
+static SUM_TURNS: Rule = turns!(Product, signs!());
+
+static BIT_SHIFT_TURNS: Rule = turns!(Sum, shifts!());
+
+static BIT_AND_TURNS: Rule = turns!(BitShift, op!(AMP));
+
+static BIT_XOR_TURNS: Rule = turns!(BitAnd, op!(CARET));
+
+static BIT_OR_TURNS: Rule = turns!(BitXor, op!(PIPE));
+
+static COMPARISON_TURNS: Rule = turns!(BitOr, comparisons!());
+
+static CONJUNCTION_TURNS: Rule = turns!(Comparison, op!(AMP2));
+
+static DISJUNCTION_TURNS: Rule = turns!(Conjunction, op!(PIPE2));
+
+/// What a layer of operators reads after an operand of the one below.
+pub(crate) fn turns_in(layer: Layer) -> &'static Rule
+    ensures { plain result.now ≡ turns_of (rule (layer_at (height_in layer))) }
+{
+    match layer {
+        Layer::Cast => &CAST_TURNS,
+        Layer::Product => &PRODUCT_TURNS,
+        Layer::Sum => &SUM_TURNS,
+        Layer::BitShift => &BIT_SHIFT_TURNS,
+        Layer::BitAnd => &BIT_AND_TURNS,
+        Layer::BitXor => &BIT_XOR_TURNS,
+        Layer::BitOr => &BIT_OR_TURNS,
+        Layer::Comparison => &COMPARISON_TURNS,
+        Layer::Conjunction => &CONJUNCTION_TURNS,
+        Layer::Disjunction => &DISJUNCTION_TURNS,
+    }
 }

@@ -23,7 +23,7 @@ macro_rules! path_with {
 
 static NAME: Rule = node!(NAME, one!(IDENT));
 
-pub fn name() -> &'static Rule
+pub(crate) fn name() -> &'static Rule
     ensures rule { plain result.now ≡ rule rules.name }
     ensures row { is_reference result.now ≡ false }
 {
@@ -32,7 +32,7 @@ pub fn name() -> &'static Rule
 
 static LIFETIME: Rule = node!(LIFETIME, one!(LIFETIME_IDENT));
 
-pub fn lifetime() -> &'static Rule
+pub(crate) fn lifetime() -> &'static Rule
     ensures rule { plain result.now ≡ rule rules.lifetime }
     ensures row { is_reference result.now ≡ false }
 {
@@ -50,7 +50,7 @@ static NAME_REF: Rule = node!(
     )
 );
 
-pub fn name_ref() -> &'static Rule
+pub(crate) fn name_ref() -> &'static Rule
     ensures rule { plain result.now ≡ rule rules.name_ref }
     ensures row { is_reference result.now ≡ false }
 {
@@ -59,7 +59,7 @@ pub fn name_ref() -> &'static Rule
 
 static PATH: Rule = path_with!(Rule::Nothing);
 
-pub fn path() -> &'static Rule
+pub(crate) fn path() -> &'static Rule
     ensures rule { plain result.now ≡ rule rules.path }
     ensures row { is_reference result.now ≡ false }
 {
@@ -71,7 +71,7 @@ static TYPE_PATH: Rule = path_with!(opt!(when!(
     call!(GenericArgs)
 )));
 
-pub fn type_path() -> &'static Rule
+pub(crate) fn type_path() -> &'static Rule
     ensures rule { plain result.now ≡ rule rules.type_path }
     ensures row { is_reference result.now ≡ false }
 {
@@ -80,7 +80,7 @@ pub fn type_path() -> &'static Rule
 
 static EXPR_PATH: Rule = path_with!(opt!(when!(next!(COLON2 L_ANGLE), call!(GenericArgs))));
 
-pub fn expr_path() -> &'static Rule
+pub(crate) fn expr_path() -> &'static Rule
     ensures rule { plain result.now ≡ rule rules.expr_path }
     ensures row { is_reference result.now ≡ false }
 {
@@ -98,7 +98,7 @@ static GENERIC_ARGS: Rule = when!(
     )
 );
 
-pub fn generic_args() -> &'static Rule
+pub(crate) fn generic_args() -> &'static Rule
     ensures rule { plain result.now ≡ rule rules.generic_args }
     ensures row { is_reference result.now ≡ false }
 {
@@ -121,7 +121,7 @@ static GENERIC_ARG: Rule = or!(
     node!(TYPE_ARG, call!(AnyType)),
 );
 
-pub fn generic_arg() -> &'static Rule
+pub(crate) fn generic_arg() -> &'static Rule
     ensures rule { plain result.now ≡ rule rules.generic_arg }
     ensures row { is_reference result.now ≡ false }
 {
@@ -133,7 +133,7 @@ static GENERIC_PARAMS: Rule = node!(
     listed!(GENERIC_PARAM_LIST, L_ANGLE, call!(GenericParam), R_ANGLE)
 );
 
-pub fn generic_params() -> &'static Rule
+pub(crate) fn generic_params() -> &'static Rule
     ensures rule { plain result.now ≡ rule rules.generic_params }
     ensures row { is_reference result.now ≡ false }
 {
@@ -155,7 +155,7 @@ static GENERIC_PARAM: Rule = or!(
     ),
 );
 
-pub fn generic_param() -> &'static Rule
+pub(crate) fn generic_param() -> &'static Rule
     ensures rule { plain result.now ≡ rule rules.generic_param }
     ensures row { is_reference result.now ≡ false }
 {
@@ -167,7 +167,7 @@ static BOUNDS: Rule = node!(
     opt!(then!(call!(Bound), star!(then!(one!(PLUS), opt!(call!(Bound))))))
 );
 
-pub fn bounds() -> &'static Rule
+pub(crate) fn bounds() -> &'static Rule
     ensures rule { plain result.now ≡ rule rules.bounds }
     ensures row { is_reference result.now ≡ false }
 {
@@ -182,7 +182,7 @@ static BOUND: Rule = node!(
     )
 );
 
-pub fn bound() -> &'static Rule
+pub(crate) fn bound() -> &'static Rule
     ensures rule { plain result.now ≡ rule rules.bound }
     ensures row { is_reference result.now ≡ false }
 {
@@ -200,7 +200,7 @@ static WHERE_CLAUSE: Rule = node!(
     )
 );
 
-pub fn where_clause() -> &'static Rule
+pub(crate) fn where_clause() -> &'static Rule
     ensures rule { plain result.now ≡ rule rules.where_clause }
     ensures row { is_reference result.now ≡ false }
 {
@@ -216,7 +216,7 @@ static WHERE_PRED: Rule = node!(
     )
 );
 
-pub fn where_pred() -> &'static Rule
+pub(crate) fn where_pred() -> &'static Rule
     ensures rule { plain result.now ≡ rule rules.where_pred }
     ensures row { is_reference result.now ≡ false }
 {

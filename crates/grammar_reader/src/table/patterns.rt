@@ -28,7 +28,7 @@ static PATTERN: Rule = or!(
     ),
 );
 
-pub fn pattern() -> &'static Rule
+pub(crate) fn pattern() -> &'static Rule
     ensures rule { plain result.now ≡ rule rules.pattern }
     ensures row { is_reference result.now ≡ false }
 {
@@ -105,7 +105,7 @@ static SINGLE_PATTERN: Rule = or!(
     ),
 );
 
-pub fn single_pattern() -> &'static Rule
+pub(crate) fn single_pattern() -> &'static Rule
     ensures rule { plain result.now ≡ rule rules.single_pattern }
     ensures row { is_reference result.now ≡ false }
 {
@@ -117,7 +117,7 @@ static PATTERN_FIELDS: Rule = node!(
     listed!(RECORD_PAT_FIELD_LIST, L_CURLY, call!(PatternField), R_CURLY)
 );
 
-pub fn pattern_fields() -> &'static Rule
+pub(crate) fn pattern_fields() -> &'static Rule
     ensures rule { plain result.now ≡ rule rules.pattern_fields }
     ensures row { is_reference result.now ≡ false }
 {
@@ -143,7 +143,7 @@ static PATTERN_FIELD: Rule = or!(
     ),
 );
 
-pub fn pattern_field() -> &'static Rule
+pub(crate) fn pattern_field() -> &'static Rule
     ensures rule { plain result.now ≡ rule rules.pattern_field }
     ensures row { is_reference result.now ≡ false }
 {
@@ -165,7 +165,7 @@ static LITERAL: Rule = node!(
     )
 );
 
-pub fn literal() -> &'static Rule
+pub(crate) fn literal() -> &'static Rule
     ensures rule { plain result.now ≡ rule rules.literal }
     ensures row { is_reference result.now ≡ false }
 {

@@ -76,7 +76,7 @@ static STATEMENT_LIST: Rule = node!(
     )
 );
 
-pub fn statement_list() -> &'static Rule
+pub(crate) fn statement_list() -> &'static Rule
     ensures rule { plain result.now ≡ rule rules.statement_list }
     ensures row { is_reference result.now ≡ false }
 {
@@ -85,7 +85,7 @@ pub fn statement_list() -> &'static Rule
 
 static BLOCK: Rule = node!(BLOCK_EXPR, call!(StatementList));
 
-pub fn block() -> &'static Rule
+pub(crate) fn block() -> &'static Rule
     ensures rule { plain result.now ≡ rule rules.block }
     ensures row { is_reference result.now ≡ false }
 {
@@ -94,7 +94,7 @@ pub fn block() -> &'static Rule
 
 static STATEMENT: Rule = statement_of!(until!(R_CURLY), StatementEnd);
 
-pub fn statement() -> &'static Rule
+pub(crate) fn statement() -> &'static Rule
     ensures rule { plain result.now ≡ rule rules.statement }
     ensures row { is_reference result.now ≡ false }
 {
@@ -103,7 +103,7 @@ pub fn statement() -> &'static Rule
 
 static STATEMENT_END: Rule = end_of!(until!(R_CURLY));
 
-pub fn statement_end() -> &'static Rule
+pub(crate) fn statement_end() -> &'static Rule
     ensures rule { plain result.now ≡ rule rules.statement_end }
     ensures row { is_reference result.now ≡ false }
 {
@@ -115,7 +115,7 @@ static MACRO_STATEMENTS: Rule = node!(
     star!(unless!(at_end!(), call!(MacroStatement)))
 );
 
-pub fn macro_statements() -> &'static Rule
+pub(crate) fn macro_statements() -> &'static Rule
     ensures rule { plain result.now ≡ rule rules.macro_statements }
     ensures row { is_reference result.now ≡ false }
 {
@@ -124,7 +124,7 @@ pub fn macro_statements() -> &'static Rule
 
 static MACRO_STATEMENT: Rule = statement_of!(at_end!(), MacroStatementEnd);
 
-pub fn macro_statement() -> &'static Rule
+pub(crate) fn macro_statement() -> &'static Rule
     ensures rule { plain result.now ≡ rule rules.macro_statement }
     ensures row { is_reference result.now ≡ false }
 {
@@ -133,7 +133,7 @@ pub fn macro_statement() -> &'static Rule
 
 static MACRO_STATEMENT_END: Rule = end_of!(at_end!());
 
-pub fn macro_statement_end() -> &'static Rule
+pub(crate) fn macro_statement_end() -> &'static Rule
     ensures rule { plain result.now ≡ rule rules.macro_statement_end }
     ensures row { is_reference result.now ≡ false }
 {

@@ -84,7 +84,7 @@ static ANY_TYPE: Rule = or!(
     node!(PATH_TYPE, call!(TypePath)),
 );
 
-pub fn any_type() -> &'static Rule
+pub(crate) fn any_type() -> &'static Rule
     ensures rule { plain result.now ≡ rule rules.any_type }
     ensures row { is_reference result.now ≡ false }
 {
@@ -93,7 +93,7 @@ pub fn any_type() -> &'static Rule
 
 static RET_TYPE: Rule = node!(RET_TYPE, then!(one!(THIN_ARROW), want_type!()));
 
-pub fn ret_type() -> &'static Rule
+pub(crate) fn ret_type() -> &'static Rule
     ensures rule { plain result.now ≡ rule rules.ret_type }
     ensures row { is_reference result.now ≡ false }
 {

@@ -29,7 +29,7 @@ static USE_TREE: Rule = node!(
     )
 );
 
-pub fn use_tree() -> &'static Rule
+pub(crate) fn use_tree() -> &'static Rule
     ensures rule { plain result.now ≡ rule rules.use_tree }
     ensures row { is_reference result.now ≡ false }
 {
@@ -41,7 +41,7 @@ static USE_LIST: Rule = node!(
     listed!(USE_TREE_LIST, L_CURLY, call!(UseTree), R_CURLY)
 );
 
-pub fn use_list() -> &'static Rule
+pub(crate) fn use_list() -> &'static Rule
     ensures rule { plain result.now ≡ rule rules.use_list }
     ensures row { is_reference result.now ≡ false }
 {

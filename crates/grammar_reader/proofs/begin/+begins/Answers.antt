@@ -38,7 +38,7 @@ returns-then-not-begins-clause-sees t c s at = rw c.in-Near.is (no-near c.args.p
 
 pub returns-else-not-begins-clause-sees : goal.returns-else-not-begins-clause-sees
 unfolding begins
-returns-else-not-begins-clause-sees t c s at = rw c.in-Near.is (both-near c.args.place.condition s c.args.ahead c.args.ranks c.in-Near.width (plain c.in-Near.first.now) (plain c.in-Near.second.now) c.saturating_add-behind.result (rest-short at c.requires.short) (c.saturating_add-behind.ensures ∙ ap (λ (i : ℕ). min (c.args.ahead + i) (2 ^ 64 - 1)) c.from.ensures) (c.begins-in-Near.ensures.sees s at) c.if-not-begins.false (c.begins-in-Near-2.ensures.sees s (still-at c.begins-in-Near.ensures.same at)))
+returns-else-not-begins-clause-sees t c s at = rw c.in-Near.is (both-near c.args.place.condition s c.args.ahead c.args.ranks c.in-Near.width (plain c.in-Near.first.now) (plain c.in-Near.second.now) c.saturating_add-after.result (rest-short at c.requires.short) (c.saturating_add-after.ensures ∙ ap (λ (i : ℕ). min (c.args.ahead + i) (2 ^ 64 - 1)) c.from.ensures) (c.begins-in-Near.ensures.sees s at) c.if-not-begins.false (c.begins-in-Near-2.ensures.sees s (still-at c.begins-in-Near.ensures.same at)))
 
 pub returns-then-begins-2-clause-sees : goal.returns-then-begins-2-clause-sees
 unfolding begins

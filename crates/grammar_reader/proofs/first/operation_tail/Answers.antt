@@ -10,9 +10,9 @@ use Rattle.rust_grammar.specs.Rule.{begins, in_mode, anew, is_silent, passes, sh
 use Rattle.rust_grammar.specs.Statements.{statements}
 use Rattle.rust_grammar.specs.Types.{types}
 use Rattle.rust_grammar.specs.Whole.{rule, whole}
-use Rattle.grammar_reader.specs.Told.{is_plain, denied, both_told, one_told, told, is_in, is_told, gives_nothing, all_give_nothing}
+use Rattle.grammar_reader.specs.Told.{is_plain, known_not, known_both, known_either, known_answer, is_in, is_told, gives_nothing, all_give_nothing}
 use Rattle.grammar_reader.proofs.first.operation_tail.Goals as goal
 
 pub returns : goal.returns
-unfolding is_plain denied both_told one_told told is_in is_told gives_nothing all_give_nothing look_of begins_below whole rule items statements expressions patterns types paths there_at shift passes is_silent begins in_mode anew row one_of any_of no_longer longest is_longer
+unfolding is_plain known_not known_both known_either known_answer is_in is_told gives_nothing all_give_nothing look_of begins_below whole rule items statements expressions patterns types paths there_at shift passes is_silent begins in_mode anew row one_of any_of no_longer longest is_longer
 returns c = refl

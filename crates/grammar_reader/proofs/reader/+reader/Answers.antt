@@ -3,24 +3,27 @@ use Rattle.std.proofs.Common.{◌≡◌, Some, ℕ, ◌+◌, ◌*◌, ◌<◌, �
 use Rattle.parser_events.specs.Marked.{marked}
 use Rattle.parser_events.specs.View.{View}
 use Rattle.parser_input.specs.Input.{Token}
-use Rattle.rust_grammar.specs.Rule.{Rule}
-use Rattle.rust_grammar.specs.Meaning.{Reading, read, fresh, behind, leaf, say, skip, split, wrapped, meaning}
-use Rattle.rust_grammar.specs.Whole.{rank, whole}
+use Rattle.rust_grammar.specs.Rule.{Production, Rule, Call}
+use Rattle.rust_grammar.specs.Meaning.{Reading, read, fresh, after, leaf, say, skip, split, wrapped, meaning}
+use Rattle.rust_grammar.specs.Whole.{rank, rule, whole}
+use Rattle.rust_grammar.specs.Begun.{IsBegun}
 use Rattle.rust_grammar.specs.Laws.{reads}
 use Rattle.rust_grammar.proofs.WholeTable.{whole-means}
-use Rattle.grammar_reader.specs.CanRead.{HasRank, is_begun}
+use Rattle.grammar_reader.specs.CanRead.{CanRead, HasRank, is_begun}
+use Rattle.grammar_reader.specs.Layers.{layer_at, turns_of}
 use Rattle.grammar_reader.proofs.Below.{row-can-read}
 use Rattle.grammar_reader.specs.Data.{plain, named}
 use Rattle.grammar_reader.specs.Size.{size}
 use Rattle.grammar_reader.specs.Stands.{Stands, left}
 use Rattle.grammar_reader.specs.declared.rule.Rule as rows
-use Rattle.grammar_reader.proofs.Sizes.{falls-read, falls-turns, falls-call, falls-layer, below-measure}
-use Rattle.grammar_reader.proofs.Standing.{inside, stands-still, stands-opened, stands-closed, stands-left-out, still-innermost, total-still, short-still}
+use Rattle.grammar_reader.proofs.Sizes.{falls-read, falls-turns, falls-call, falls-climb, below-measure}
+use Rattle.grammar_reader.proofs.Standing.{inside, stands-still, stands-opened, stands-closed, stands-left-out, nothing-given, after-nothing, still-innermost, total-still, short-still}
 use Rattle.rust_grammar.proofs.Plain.{and_l, and_r}
-use Rattle.grammar_reader.specs.Looks.{begin_looks}
-use Rattle.grammar_reader.specs.Prices.{in_turn, idle, debt, is_paid, either}
+use Rattle.grammar_reader.specs.Looks.{begin_looks, Costs}
+use Rattle.grammar_reader.specs.Prices.{in_turn, idle, debt, is_paid, either, idle_of, debt_of}
 use Rattle.grammar_reader.specs.Told.{all_end_before}
-use Rattle.grammar_reader.proofs.Spending.{no-token, some-tokens, after-each-other, after-each-other-look, first-of, second-of, same-length, same-left, fewer-left, tested, tested-read, tested-alone, within, as-priced, rule-paid, turn-taken, turn-idle, turn-refused, turns-over, tail-passed-by, turn-is-paid, turns-are-paid, first-paid, second-paid, second-few}
+use Rattle.grammar_reader.proofs.Spending.{no-token, some-tokens, after-each-other, first-of, second-of, same-length, same-left, fewer-left, tested, tested-read, tested-alone, within, as-priced, rule-paid, turn-taken, turn-idle, turn-refused, turns-over, tail-passed-by, turn-is-paid, turns-are-paid, first-paid, second-paid, second-few}
+use Rattle.grammar_reader.proofs.Layering.{rank-at, begun-under, operands, operands-rank, upper-row, upper-few, upper-means, upper-read, upper-costs, turns-paid}
 use Rattle.grammar_reader.proofs.Turning.{no-turn, last-turn, next-turn, zero-turns}
 use Rattle.grammar_reader.proofs.reader.+reader.Goals as goal
 use Rattle.grammar_reader.proofs.reader.+reader.Goals.{call-then-given, call-else-given}
@@ -46,9 +49,25 @@ call-returns-clause-reads t c = λ x s below low h b e.
     let out = stands-left-out s _ c.leave_out-gave.ensures.leaves h inner in
     let both : Bool → Bool = λ g. if g then true else c.production-inner.result.given in
     elim c.if-given.branch [
-      | call-then-given w ↦ subst (λ (g : Bool). Stands g c.leave_out-gave.new.p (behind s (meaning whole (named c.args.called) c.args.condition (fresh s))) below) (ap both w.if-given.true ∙ sym w.if-given.true ∙ sym w.result-is) out
-      | call-else-given w ↦ subst (λ (g : Bool). Stands g c.leave_out-gave.new.p (behind s (meaning whole (named c.args.called) c.args.condition (fresh s))) below) (ap both w.if-given.false ∙ sym c.leave_out-gave.ensures.given ∙ sym w.result-is) out
+      | call-then-given w ↦ subst (λ (g : Bool). Stands g c.leave_out-gave.new.p (after s (meaning whole (named c.args.called) c.args.condition (fresh s))) below) (ap both w.if-given.true ∙ sym w.if-given.true ∙ sym w.result-is) out
+      | call-else-given w ↦ subst (λ (g : Bool). Stands g c.leave_out-gave.new.p (after s (meaning whole (named c.args.called) c.args.condition (fresh s))) below) (ap both w.if-given.false ∙ sym c.leave_out-gave.ensures.given ∙ sym w.result-is) out
     ]
+
+pub call-returns-then-not-given-clause-reads : goal.call-returns-then-not-given-clause-reads
+call-returns-then-not-given-clause-reads t c = λ x s below low h b e.
+    let y = named c.args.called in
+    let ok : rank y ≤ c.in-Some.ranks = subst (λ (o : Option ℕ). HasRank (rank y) o) c.in-Some.is (c.ranks_below.ensures.some x y s h.at.rest low b) in
+    let anew = nothing-given s (subst (λ (g : Bool). Stands g c.args.p.now s below) c.if-not-given.true h) in
+    let begun = subst (λ (r : Reading). IsBegun y c.args.condition r) (sym anew) e in
+    subst (λ (r : Reading). Stands c.production.result.given c.production.new.p r below)
+    (ap (λ (r : Reading). meaning whole y c.args.condition r) anew ∙ sym (after-nothing s _ anew)) (c.production.ensures.reads s below ok h begun)
+
+pub call-returns-then-not-given-clause-looks : goal.call-returns-then-not-given-clause-looks
+call-returns-then-not-given-clause-looks t c = λ x s below low h b e.
+    let y = named c.args.called in
+    let ok : rank y ≤ c.in-Some.ranks = subst (λ (o : Option ℕ). HasRank (rank y) o) c.in-Some.is (c.ranks_below.ensures.some x y s h.at.rest low b) in
+    let anew = nothing-given s (subst (λ (g : Bool). Stands g c.args.p.now s below) c.if-not-given.true h) in
+    c.production.ensures.looks s below ok h (subst (λ (r : Reading). IsBegun y c.args.condition r) (sym anew) e)
 
 pub production-returns-then-passes_by-clause-reads : goal.production-returns-then-passes_by-clause-reads
 production-returns-then-passes_by-clause-reads t c = λ s below low h b.
@@ -58,68 +77,120 @@ pub production-returns-then-passes_by-clause-looks : goal.production-returns-the
 production-returns-then-passes_by-clause-looks t c = λ s below low h b.
     tail-passed-by (named c.args.production) (c.passes_by.ensures.tail c.if-passes_by.true) (same-length (ap left c.passes_by.ensures.same)) c.passes_by.ensures.looks
 
-pub production-returns-clause-reads : goal.production-returns-clause-reads
-production-returns-clause-reads t c = λ s below low h b.
+pub production-returns-2-clause-reads : goal.production-returns-2-clause-reads
+production-returns-2-clause-reads t c = λ s below low h b.
     let x = named c.args.production in
     let still = stands-still c.passes_by.ensures.same h in
-    let can = row-can-read x c.args.condition s (c.tokens_left-began.ensures ∙ same-length still.at.rest) c.rule_of-row.ensures.rule b in
-    subst (λ (u : Reading). Stands c.layer.result.given c.layer.new.p u below)
-    (ap (λ (r : Rule). reads c.args.condition r s) c.rule_of-row.ensures.rule ∙ sym (whole-means x c.args.condition s))
-    (c.layer.ensures.reads x s below low still can)
-
-pub production-returns-in_default-clause-reads : goal.production-returns-in_default-clause-reads
-production-returns-in_default-clause-reads t c = λ s below low h b.
-    let x = named c.args.production in
-    let still = stands-still c.passes_by.ensures.same h in
-    let can = row-can-read x c.args.condition s (c.tokens_left-began.ensures ∙ same-length still.at.rest) c.rule_of-row.ensures.rule b in
+    let can = row-can-read x c.args.condition s (c.tokens_left-began.ensures ∙ same-length still.at.rest) c.rule_of.ensures.rule b in
     subst (λ (u : Reading). Stands c.read.result.given c.read.new.p u below)
-    (ap (λ (r : Rule). reads c.args.condition r s) c.rule_of-row.ensures.rule ∙ sym (whole-means x c.args.condition s))
+    (ap (λ (r : Rule). reads c.args.condition r s) c.rule_of.ensures.rule ∙ sym (whole-means x c.args.condition s))
     (c.read.ensures.reads x s below low still can)
 
-pub layer-read-node-requires : goal.layer-read-node-requires
-unfolding size
-layer-read-node-requires t c =
-    (below-measure c.decreases (falls-layer c.in-Then.operand.now (32 * c.args.caller.began + c.args.caller.ranks) (omega (arith, ap (λ (d : rows.Rule). size (plain d)) c.in-Then.is, c.requires.small))), (c.requires.total, (c.requires.short, (c.requires.few, c.requires.marker))))
+pub production-returns-clause-reads : goal.production-returns-clause-reads
+production-returns-clause-reads t c = λ s below low h b.
+    let e = c.in-Some.ensures.layer in
+    subst (λ (x : Production). Stands c.layers.result.given c.layers.new.p (meaning whole x c.args.condition s) below) (sym e)
+    (c.layers.ensures.reads s below (subst (λ (x : Production). rank x ≤ c.args.ranks) e low) h (subst (λ (x : Production). IsBegun x c.args.condition s) e b))
 
-pub layer-read-requires-2 : goal.layer-read-requires-2
-unfolding size
-layer-read-requires-2 t c =
-    let input = ap (λ (v : View). v.input) c.layer_ends.ensures.same ∙ c.read-node.ensures.input in
-    (below-measure c.decreases (falls-layer c.in-Then.turns.now (32 * c.args.caller.began + c.args.caller.ranks) (omega (arith, ap (λ (d : rows.Rule). size (plain d)) c.in-Then.is, c.requires.small))), (total-still _ _ _ input c.requires.total, (short-still _ _ input c.requires.short, (c.requires.few, still-innermost _ c.read-node.new.p c.layer_ends.new.p c.layer_ends.ensures.same c.read-node.ensures.marker))))
+pub production-returns-clause-looks : goal.production-returns-clause-looks
+production-returns-clause-looks t c = λ s below low h b.
+    let e = c.in-Some.ensures.layer in
+    subst (λ (x : Production). Costs (idle_of x) (debt_of x) c.args.p.now c.layers.new.p) (sym e)
+    (c.layers.ensures.looks s below (subst (λ (x : Production). rank x ≤ c.args.ranks) e low) h (subst (λ (x : Production). IsBegun x c.args.condition s) e b))
 
-pub layer-returns-in_default-clause-looks : goal.layer-returns-in_default-clause-looks
-layer-returns-in_default-clause-looks t c = λ x s below low h can paid. tested 1 (idle _) (debt _) refl (omega arith) (c.read.ensures.looks x s below low h can paid)
+pub climb-read-node-requires : goal.climb-read-node-requires
+climb-read-node-requires t c =
+    let low : c.args.height < 10 = omega (arith, c.if-height-top.false, c.requires.high) in
+    let turned = c.turns_in.ensures ∙ ap (λ (n : ℕ). turns_of (rule (layer_at n))) c.layer_of.ensures in
+    let few = subst (λ (r : Rule). size r < 2048) (sym turned) (upper-few c.args.height (c.args.height + 1) refl low) in
+    let input = ap (λ (v : View). v.input) c.layer_ends.ensures.same in
+    (below-measure c.decreases (falls-climb c.turns_in.result.now (32 * c.args.caller.began + c.args.caller.ranks) c.args.height few (omega (arith, low))), (total-still _ _ _ input c.requires.total, (short-still _ _ input c.requires.short, (c.requires.few, still-innermost _ c.args.p.now c.layer_ends.new.p c.layer_ends.ensures.same c.requires.marker))))
 
-pub layer-returns-then-layer_ends-clause-reads : goal.layer-returns-then-layer_ends-clause-reads
-unfolding read
-layer-returns-then-layer_ends-clause-reads t c = rw c.in-Then.is (λ x s below low h can.
-    let first = c.read-node.ensures.reads x s below low h can.0 in
-    let all = subst (λ (d : rows.Rule). all_end_before 128 c.args.operators (plain d) ≡ true) c.in-Then.is c.requires.operators in
-    subst (λ (u : Reading). Stands c.read-node.result.given c.layer_ends.new.p u below)
-    (sym (c.layer_ends.ensures.ends c.if-layer_ends.true c.args.condition _ (plain c.in-Then.operand.now) (plain c.in-Then.turns.now) first.at.rest all)) (stands-still c.layer_ends.ensures.same first))
+pub layers-returns-then-ranks-eq0-clause-reads : goal.layers-returns-then-ranks-eq0-clause-reads
+layers-returns-then-ranks-eq0-clause-reads t c = λ s below low h b. absurd (omega (arith, low, rank-at c.args.height c.requires.high, c.if-ranks-eq0.true))
 
-pub layer-returns-clause-reads : goal.layer-returns-clause-reads
-unfolding read
-layer-returns-clause-reads t c = rw c.in-Then.is (λ x s below low h can.
-    c.read-2.ensures.reads x _ below low (stands-still c.layer_ends.ensures.same (c.read-node.ensures.reads x s below low h can.0)) can.1)
+pub layers-returns-then-ranks-eq0-clause-looks : goal.layers-returns-then-ranks-eq0-clause-looks
+layers-returns-then-ranks-eq0-clause-looks t c = λ s below low h b. absurd (omega (arith, low, rank-at c.args.height c.requires.high, c.if-ranks-eq0.true))
 
-pub layer-returns-then-layer_ends-clause-looks : goal.layer-returns-then-layer_ends-clause-looks
-unfolding read idle debt is_paid
-layer-returns-then-layer_ends-clause-looks t c = rw c.in-Then.is (λ x s below low h can paid.
-    let a = plain c.in-Then.operand.now in
-    let b = plain c.in-Then.turns.now in
-    let all = subst (λ (d : rows.Rule). all_end_before 128 c.args.operators (plain d) ≡ true) c.in-Then.is c.requires.operators in
-    after-each-other-look (idle a) (idle b) (debt a) (debt b) (second-few a b paid) (c.read-node.ensures.looks x s below low h can.0 (first-paid a b paid))
-    (same-length (ap left c.layer_ends.ensures.same)) c.layer_ends.ensures.looks (c.layer_ends.ensures.idle c.if-layer_ends.true a b all))
+pub layers-returns-clause-reads : goal.layers-returns-clause-reads
+layers-returns-clause-reads t c = λ s below low h b.
+    let anew = nothing-given s (subst (λ (g : Bool). Stands g c.args.p.now s below) c.requires.nothing h) in
+    let begun = subst (λ (x : Production). IsBegun x c.args.condition s) operands (begun-under 0 c.args.height (omega arith) c.requires.high c.args.condition s anew b) in
+    let operand = c.production-node.ensures.reads s below (omega (arith, operands-rank, rank-at c.args.height c.requires.high, low, c.requires.low)) h begun in
+    c.climb.ensures.reads s below (record { few = low; here = c.tokens_left-began.ensures ∙ same-length h.at.rest; anew = anew; begun = b })
+    (subst (λ (x : Production). Stands c.production-node.result.given c.production-node.new.p (meaning whole x c.args.condition s) below) (sym operands) operand)
 
-pub layer-returns-clause-looks : goal.layer-returns-clause-looks
-unfolding read idle debt is_paid
-layer-returns-clause-looks t c = rw c.in-Then.is (λ x s below low h can paid.
-    let a = plain c.in-Then.operand.now in
-    let b = plain c.in-Then.turns.now in
-    let first = c.read-node.ensures.reads x s below low h can.0 in
-    after-each-other-look (idle a) (idle b) (debt a) (debt b) (second-few a b paid) (c.read-node.ensures.looks x s below low h can.0 (first-paid a b paid))
-    (same-length (ap left c.layer_ends.ensures.same)) c.layer_ends.ensures.looks (c.read-2.ensures.looks x _ below low (stands-still c.layer_ends.ensures.same first) can.1 (second-paid a b paid)))
+pub layers-returns-clause-looks : goal.layers-returns-clause-looks
+layers-returns-clause-looks t c = λ s below low h b.
+    let anew = nothing-given s (subst (λ (g : Bool). Stands g c.args.p.now s below) c.requires.nothing h) in
+    let begun = subst (λ (x : Production). IsBegun x c.args.condition s) operands (begun-under 0 c.args.height (omega arith) c.requires.high c.args.condition s anew b) in
+    let operand = c.production-node.ensures.reads s below (omega (arith, operands-rank, rank-at c.args.height c.requires.high, low, c.requires.low)) h begun in
+    let spent = c.production-node.ensures.looks s below (omega (arith, operands-rank, rank-at c.args.height c.requires.high, low, c.requires.low)) h begun in
+    c.climb.ensures.looks c.args.p.now s below (record { few = low; here = c.tokens_left-began.ensures ∙ same-length h.at.rest; anew = anew; begun = b })
+    (subst (λ (x : Production). Stands c.production-node.result.given c.production-node.new.p (meaning whole x c.args.condition s) below) (sym operands) operand)
+    (subst (λ (x : Production). Costs (idle_of x) (debt_of x) c.args.p.now c.production-node.new.p) (sym operands) spent)
+
+pub climb-returns-then-height-top-clause-reads : goal.climb-returns-then-height-top-clause-reads
+climb-returns-then-height-top-clause-reads t c = λ s below can h.
+    subst (λ (n : ℕ). Stands c.args.node.given c.args.p.now (meaning whole (layer_at n) c.args.condition s) below) (omega (arith, c.if-height-top.true, c.requires.below)) h
+
+pub climb-returns-then-height-top-clause-looks : goal.climb-returns-then-height-top-clause-looks
+climb-returns-then-height-top-clause-looks t c = λ entry s below can h spent.
+    subst (λ (n : ℕ). Costs (idle_of (layer_at n)) (debt_of (layer_at n)) entry c.args.p.now) (omega (arith, c.if-height-top.true, c.requires.below)) spent
+
+pub climb-returns-then-layer_ends-clause-reads : goal.climb-returns-then-layer_ends-clause-reads
+climb-returns-then-layer_ends-clause-reads t c = λ s below can h.
+    let h0 = c.args.height in
+    let u = c.args.height + 1 in
+    let low : h0 < 10 = omega (arith, c.if-height-top.false, c.requires.high) in
+    let all = subst (λ (r : Rule). all_end_before 128 c.operators_at.result r ≡ true) (upper-row h0 u refl low) c.operators_at.ensures in
+    let ends = c.layer_ends.ensures.ends c.if-layer_ends.true c.args.condition (meaning whole (layer_at h0) c.args.condition s) (Call (layer_at h0)) (turns_of (rule (layer_at u))) h.at.rest all in
+    c.climb.ensures.reads s below can
+    (subst (λ (r : Reading). Stands c.args.node.given c.layer_ends.new.p r below) (sym (upper-means h0 u refl low c.args.condition s can.anew ∙ ends)) (stands-still c.layer_ends.ensures.same h))
+
+pub climb-returns-then-layer_ends-clause-looks : goal.climb-returns-then-layer_ends-clause-looks
+climb-returns-then-layer_ends-clause-looks t c = λ entry s below can h spent.
+    let h0 = c.args.height in
+    let u = c.args.height + 1 in
+    let low : h0 < 10 = omega (arith, c.if-height-top.false, c.requires.high) in
+    let all = subst (λ (r : Rule). all_end_before 128 c.operators_at.result r ≡ true) (upper-row h0 u refl low) c.operators_at.ensures in
+    let ends = c.layer_ends.ensures.ends c.if-layer_ends.true c.args.condition (meaning whole (layer_at h0) c.args.condition s) (Call (layer_at h0)) (turns_of (rule (layer_at u))) h.at.rest all in
+    c.climb.ensures.looks entry s below can
+    (subst (λ (r : Reading). Stands c.args.node.given c.layer_ends.new.p r below) (sym (upper-means h0 u refl low c.args.condition s can.anew ∙ ends)) (stands-still c.layer_ends.ensures.same h))
+    (upper-costs h0 u refl low spent (same-length (ap left c.layer_ends.ensures.same)) c.layer_ends.ensures.looks (c.layer_ends.ensures.idle c.if-layer_ends.true (Call (layer_at h0)) (turns_of (rule (layer_at u))) all))
+
+pub climb-returns-clause-reads : goal.climb-returns-clause-reads
+climb-returns-clause-reads t c = λ s below can h.
+    let h0 = c.args.height in
+    let u = c.args.height + 1 in
+    let low : h0 < 10 = omega (arith, c.if-height-top.false, c.requires.high) in
+    let begun = begun-under u c.args.top (omega (arith, c.if-height-top.false)) c.requires.high c.args.condition s can.anew can.begun in
+    let readable = subst (λ (n : ℕ). CanRead (layer_at u) n c.args.condition (turns_of (rule (layer_at u))) (meaning whole (layer_at h0) c.args.condition s)) (sym can.here) (upper-read h0 u refl low c.args.condition s can.anew begun) in
+    let few : rank (layer_at u) ≤ c.args.caller.ranks = omega (arith, can.few, rank-at c.args.top c.requires.high, rank-at u (omega (arith, low)), c.if-height-top.false) in
+    let turned = c.read-node.ensures.reads (layer_at u) (meaning whole (layer_at h0) c.args.condition s) below few (stands-still c.layer_ends.ensures.same h)
+    (subst (λ (r : Rule). CanRead (layer_at u) c.args.caller.began c.args.condition r (meaning whole (layer_at h0) c.args.condition s)) (sym (c.turns_in.ensures ∙ ap (λ (n : ℕ). turns_of (rule (layer_at n))) c.layer_of.ensures)) readable) in
+    c.climb-2.ensures.reads s below can
+    (subst (λ (r : Reading). Stands c.read-node.result.given c.read-node.new.p r below)
+    (ap (λ (r : Rule). reads c.args.condition r (meaning whole (layer_at h0) c.args.condition s)) (c.turns_in.ensures ∙ ap (λ (n : ℕ). turns_of (rule (layer_at n))) c.layer_of.ensures) ∙ sym (upper-means h0 u refl low c.args.condition s can.anew)) turned)
+
+pub climb-returns-clause-looks : goal.climb-returns-clause-looks
+climb-returns-clause-looks t c = λ entry s below can h spent.
+    let h0 = c.args.height in
+    let u = c.args.height + 1 in
+    let low : h0 < 10 = omega (arith, c.if-height-top.false, c.requires.high) in
+    let begun = begun-under u c.args.top (omega (arith, c.if-height-top.false)) c.requires.high c.args.condition s can.anew can.begun in
+    let readable = subst (λ (n : ℕ). CanRead (layer_at u) n c.args.condition (turns_of (rule (layer_at u))) (meaning whole (layer_at h0) c.args.condition s)) (sym can.here) (upper-read h0 u refl low c.args.condition s can.anew begun) in
+    let few : rank (layer_at u) ≤ c.args.caller.ranks = omega (arith, can.few, rank-at c.args.top c.requires.high, rank-at u (omega (arith, low)), c.if-height-top.false) in
+    let stood = stands-still c.layer_ends.ensures.same h in
+    let can_turn = subst (λ (r : Rule). CanRead (layer_at u) c.args.caller.began c.args.condition r (meaning whole (layer_at h0) c.args.condition s)) (sym (c.turns_in.ensures ∙ ap (λ (n : ℕ). turns_of (rule (layer_at n))) c.layer_of.ensures)) readable in
+    let turned = c.read-node.ensures.reads (layer_at u) (meaning whole (layer_at h0) c.args.condition s) below few stood can_turn in
+    let paid = ap is_paid (c.turns_in.ensures ∙ ap (λ (n : ℕ). turns_of (rule (layer_at n))) c.layer_of.ensures) ∙ turns-paid h0 u refl low in
+    let looked = c.read-node.ensures.looks (layer_at u) (meaning whole (layer_at h0) c.args.condition s) below few stood can_turn paid in
+    c.climb-2.ensures.looks entry s below can
+    (subst (λ (r : Reading). Stands c.read-node.result.given c.read-node.new.p r below)
+    (ap (λ (r : Rule). reads c.args.condition r (meaning whole (layer_at h0) c.args.condition s)) (c.turns_in.ensures ∙ ap (λ (n : ℕ). turns_of (rule (layer_at n))) c.layer_of.ensures) ∙ sym (upper-means h0 u refl low c.args.condition s can.anew)) turned)
+    (upper-costs h0 u refl low spent (same-length (ap left c.layer_ends.ensures.same)) c.layer_ends.ensures.looks
+    (subst (λ (r : Rule). Costs (idle r) (debt r) c.layer_ends.new.p c.read-node.new.p) (c.turns_in.ensures ∙ ap (λ (n : ℕ). turns_of (rule (layer_at n))) c.layer_of.ensures) looked))
 
 pub read-read-node-requires : goal.read-read-node-requires
 unfolding size
@@ -392,22 +463,14 @@ call-returns-clause-looks t c = λ x s below low h b e.
     let inner = c.production-inner.ensures.looks (fresh s) (inside below (marked s.given)) ok (stands-opened c.start-inner.ensures.opens c.start-inner.ensures.given h) e in
     within (same-length c.start-inner.ensures.opens.rest) c.start-inner.ensures.looks (same-length c.leave_out-gave.ensures.leaves.rest) c.leave_out-gave.ensures.looks inner
 
-pub production-returns-clause-looks : goal.production-returns-clause-looks
-production-returns-clause-looks t c = λ s below low h b.
+pub production-returns-2-clause-looks : goal.production-returns-2-clause-looks
+production-returns-2-clause-looks t c = λ s below low h b.
     let x = named c.args.production in
     let still = stands-still c.passes_by.ensures.same h in
-    let can = row-can-read x c.args.condition s (c.tokens_left-began.ensures ∙ same-length still.at.rest) c.rule_of-row.ensures.rule b in
-    as-priced x _ c.rule_of-row.ensures.rule
-    (tested 1 (in_turn (Some 1) (idle _)) (1 + debt _) (same-length (ap left c.passes_by.ensures.same)) c.passes_by.ensures.looks (c.layer.ensures.looks x s below low still can (rule-paid x _ c.rule_of-row.ensures.rule)))
-
-pub production-returns-in_default-clause-looks : goal.production-returns-in_default-clause-looks
-production-returns-in_default-clause-looks t c = λ s below low h b.
-    let x = named c.args.production in
-    let still = stands-still c.passes_by.ensures.same h in
-    let can = row-can-read x c.args.condition s (c.tokens_left-began.ensures ∙ same-length still.at.rest) c.rule_of-row.ensures.rule b in
-    as-priced x _ c.rule_of-row.ensures.rule
+    let can = row-can-read x c.args.condition s (c.tokens_left-began.ensures ∙ same-length still.at.rest) c.rule_of.ensures.rule b in
+    as-priced x _ c.rule_of.ensures.rule
     (tested 1 (in_turn (Some 1) (idle _)) (1 + debt _) (same-length (ap left c.passes_by.ensures.same)) c.passes_by.ensures.looks
-    (tested 1 (idle _) (debt _) {old = c.passes_by.new.p} {mid = c.passes_by.new.p} refl (omega arith) (c.read.ensures.looks x s below low still can (rule-paid x _ c.rule_of-row.ensures.rule))))
+    (tested 1 (idle _) (debt _) {old = c.passes_by.new.p} {mid = c.passes_by.new.p} refl (omega arith) (c.read.ensures.looks x s below low still can (rule-paid x _ c.rule_of.ensures.rule))))
 
 pub read-returns-in-Nothing-clause-looks : goal.read-returns-in-Nothing-clause-looks
 unfolding idle debt

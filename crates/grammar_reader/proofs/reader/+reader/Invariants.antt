@@ -1,5 +1,5 @@
 -- What is left shrinks from call to call: tokens, then ranks, then forms.
-use Rattle.std.specs.Prelude.{◌≡◌, ℕ, ◌+◌, ◌*◌, length}
+use Rattle.std.specs.Prelude.{◌≡◌, ℕ, ◌+◌, ◌-◌, ◌*◌, length}
 use Rattle.parser_events.specs.Stack.{IsInnermost}
 use Rattle.grammar_reader.specs.Data.{plain}
 use Rattle.grammar_reader.proofs.Spending.{Spending}
@@ -11,8 +11,11 @@ use Rattle.grammar_reader.proofs.reader.+reader.Given as goal
 abbrev pub decreases-production : goal.decreases-production
 decreases-production l = 16384 * (32 * length (left l.p.now) + l.ranks) + 16383
 
-abbrev pub decreases-layer : goal.decreases-layer
-decreases-layer l = 16384 * (32 * l.caller.began + l.caller.ranks) + 16382
+abbrev pub decreases-layers : goal.decreases-layers
+decreases-layers l = 16384 * (32 * length (left l.p.now) + l.ranks) + 16382
+
+abbrev pub decreases-climb : goal.decreases-climb
+decreases-climb l = 16384 * (32 * l.caller.began + l.caller.ranks) + (16381 - l.height)
 
 abbrev pub decreases-call : goal.decreases-call
 decreases-call l = 16384 * (32 * l.caller.began + l.caller.ranks) + 1
