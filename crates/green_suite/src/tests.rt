@@ -131,6 +131,36 @@ fn children_come_from_both_ends(rt: HostRuntime) -> Result<(), Fail> {
     Ok(())
 }
 
+/// A node of tokens of these texts.
+fn row_of(alloc: Global, texts: &[&str]) -> Result<GreenNode, GreenError> {
+    let mut children = Vec::new(alloc);
+    for text in texts {
+        children.push(token(alloc, 2, text)?)?;
+    }
+    GreenNode::new(alloc, SyntaxKind(1), children.into_iter())
+}
+
+fn place_at(node: &GreenNode, offset: u32) -> Option<(usize, u32)> {
+    let child = node.child_at_offset(TextSize(offset))?;
+    Some((child.index, child.start.0))
+}
+
+#[test]
+fn children_at_offsets(rt: HostRuntime) -> Result<(), Fail> {
+    let node = row_of(rt.alloc(), &["ab", "", "c"])?;
+    assert!(rt; place_at(&node, 0) == Some((0, 0)));
+    assert!(rt; place_at(&node, 1) == Some((0, 0)));
+    assert!(rt; place_at(&node, 2) == Some((2, 2)));
+    assert!(rt; place_at(&node, 3).is_none());
+    assert!(rt; place_at(&row_of(rt.alloc(), &[])?, 0).is_none());
+    let letters = ["a"; 1000];
+    let many = row_of(rt.alloc(), &letters)?;
+    assert!(rt; place_at(&many, 999) == Some((999, 999)));
+    let last = many.child_at_offset(TextSize(999)).ok_or("no child")?;
+    assert!(rt; last.looks <= 22);
+    Ok(())
+}
+
 /// One edit of a node of two children, by its number.
 fn edited(alloc: Global, node: &GreenNode, edit: u8) -> Result<GreenNode, GreenError> {
     if node.children().len() != 2 {
@@ -152,6 +182,39 @@ fn edits(rt: HostRuntime) -> Result<(), Fail> {
     for (edit, want) in [(0, "cb"), (1, "abc"), (2, "b"), (3, "acc")] {
         let edited = edited(alloc, &node, edit)?;
         assert!(rt; format!(in alloc; "{edited}")?.as_str() == want);
+    }
+    Ok(())
+}
+
+/// A node of a thousand tokens `a`, with one edit, by its number, of the children from 499 on.
+fn edited_row(alloc: Global, row: &GreenNode, edit: u8) -> Result<GreenNode, GreenError> {
+    if row.children().len() != 1000 {
+        return Err(GreenError::Unbalanced);
+    }
+    let b = token(alloc, 3, "bc")?;
+    match edit {
+        0 => row.replace_child(alloc, 499, b),
+        1 => row.insert_child(alloc, 499, b),
+        2 => row.remove_child(alloc, 499),
+        _ => row.splice_children(alloc, 499..999, vec![in alloc; b.clone()?, b]?.into_iter()),
+    }
+}
+
+#[test]
+fn edits_of_many_children(rt: HostRuntime) -> Result<(), Fail> {
+    let alloc = rt.alloc();
+    let row = row_of(alloc, &["a"; 1000])?;
+    for (edit, count, len, index, start) in [
+        (0, 1000, 1001, 499, 499),
+        (1, 1001, 1002, 499, 499),
+        (2, 999, 999, 500, 500),
+        (3, 502, 504, 499, 499),
+    ] {
+        let edited = edited_row(alloc, &row, edit)?;
+        assert!(rt; edited.children().len() == count);
+        assert!(rt; edited.text_len() == TextSize(len));
+        assert!(rt; place_at(&edited, 500) == Some((index, start)));
+        assert!(rt; format!(in alloc; "{edited}")?.len() == len as usize);
     }
     Ok(())
 }
@@ -314,7 +377,7 @@ fn wrap_last(builder: &mut GreenNodeBuilder<'_>) -> Result<(), GreenError> {
 }
 
 /// With `rt try --test --fail-alloc N` one growth is refused; a call that had left something
-/// behind would show in the tree.
+/// after would show in the tree.
 #[test]
 fn a_refused_growth_changes_nothing(rt: HostRuntime) -> Result<(), Fail> {
     let alloc = rt.alloc();

@@ -58,3 +58,7 @@ pub texts_all : (t : Tree) (es : List Term) (i : ℕ) → es ≡ children_of t �
 texts_all t es i e h = ap texts_of (take_all i es h ∙ e) ∙ ap forest_text (forest_of-terms t.forest)
 
 pub ruleset lengths = (length-texts_of, prefix_fits)
+
+-- the text of a node is that of its children
+pub children_texts : (t : Tree) → length (texts_of (children_of t)) ≡ length (tree_text t)
+children_texts t = ap (λ f. length (forest_text f)) (forest_of-terms t.forest)

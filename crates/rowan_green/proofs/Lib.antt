@@ -3,3 +3,5 @@ pub mod Counts
 pub mod Refusals
 pub mod OpenNodeLemmas
 pub mod Found
+pub mod Summing
+pub mod Joining

@@ -7,3 +7,6 @@ pub mod Refusal
 pub mod Word
 pub mod Building
 pub mod OpenNodes
+pub mod ChildAt
+pub mod Balanced
+pub mod Falls

@@ -21,8 +21,9 @@ impl fmt::Display for GreenNode {
     ghost output = { λ t. Some (tree_text t) };
 
     fn fmt<W: fmt::Write>(&self, f: &mut fmt::Formatter<W>) -> fmt::Result {
-        for child in self.elements() {
-            match child {
+        let children = self.elements();
+        for index in 0..children.len() {
+            match children.at(index) {
                 NodeOrToken::Node(node) => node.fmt(f)?,
                 NodeOrToken::Token(token) => token.fmt(f)?,
             }

@@ -12,6 +12,7 @@ use crate::utility_types::NodeOrToken;
 pub type GreenElement = NodeOrToken<GreenNode, GreenToken>;
 
 impl NodeOrToken<GreenNode, GreenToken> {
+    /// Its kind.
     pub fn kind(&self) -> SyntaxKind
         ensures { result.0 ≡ kind_of self.now }
     {
@@ -21,6 +22,7 @@ impl NodeOrToken<GreenNode, GreenToken> {
         }
     }
 
+    /// The length of its text, in bytes.
     pub fn text_len(&self) -> TextSize
         ensures { result.0 ≡ term_len self.now }
     {

@@ -4,19 +4,26 @@
 //! A contract sees a green value as a term: a token as a leaf (a kind and a text), a node as a kind
 //! and a list of terms. Who shares which value, and which cache made it, is never seen.
 //!
-//! A node keeps its length, so `clone`, `kind`, `text_len`, `children` and `child` take constant
-//! time; an edit takes the time of one list of children, and a build that of its calls. Equality
-//! reads both values through. Dropping, printing and comparing go one call deeper for each level.
+//! A node keeps its length, and its children as a balanced list, so `clone`, `kind`, `text_len` and
+//! `children` take constant time, and `child`, `child_at_offset` and each step through the children
+//! that of the list's height, which is 0 for up to 16 children. An edit takes the time of the new
+//! children and of a few ways through the list, whose other parts it shares; a build that of its
+//! calls. Equality reads both values through. Dropping, printing and comparing go one call deeper
+//! for each level.
 #![tactic(auto)]
 
 pub mod builder;
+pub mod child_at;
 mod display;
 pub mod element;
+mod element_list;
+mod element_list_join;
 pub mod error;
 mod fingerprint;
 pub mod node;
 pub mod node_cache;
 pub mod node_children;
+mod node_edits;
 pub mod syntax_kind;
 pub mod text_range;
 pub mod text_size;
@@ -24,6 +31,7 @@ pub mod token;
 pub mod utility_types;
 
 pub use builder::{Checkpoint, GreenNodeBuilder, Unfinished};
+pub use child_at::ChildAt;
 pub use element::GreenElement;
 pub use error::GreenError;
 pub use node::GreenNode;

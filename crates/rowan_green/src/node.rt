@@ -1,12 +1,15 @@
 //! Nodes: a kind and children, shared by all that hold the node.
-ghost use Rattle.std.specs.Prelude.{◌≡◌, ◌+◌, ◌<◌, ◌≤◌, ◌^◌, length, IfOk, IfErr, OnOk, IsOkUnless, List, [], ◌∷◌, ◌++◌, slice_get};
+ghost use Rattle.std.specs.Prelude.{ℕ, ◌≡◌, ◌*◌, ◌↔◌, ◌+◌, ◌<◌, ◌≤◌, ◌^◌, length, IsSome, IfSome, IfOk, IfErr, OnOk, List, slice_get};
 ghost use Rattle.std.specs.Option.{SomeIff, option_copied};
 ghost use Rattle.std.specs.Iterator.{IsFinite, Drains};
 ghost use Rattle.rowan_green.specs.Forest.{same_forest, same_tree, tree_text};
-ghost use Rattle.rowan_green.specs.Term.{Term, texts_of, tree_of, children_of, forest_of, same_term, spliced, FitsNode};
+ghost use Rattle.rowan_green.specs.Term.{Term, texts_of, tree_of, children_of, forest_of, same_term, FitsNode};
+ghost use Rattle.rowan_green.specs.ChildAt.{IsChildAt};
 ghost use Rattle.rowan_green.specs.Refusal.{RefusesUnless};
 
+use crate::child_at::ChildAt;
 use crate::element::GreenElement;
+use crate::element_list::{ElementList, MOST};
 use crate::error::GreenError;
 use crate::fingerprint;
 use crate::node_children::Children;
@@ -16,7 +19,6 @@ use crate::utility_types::NodeOrToken;
 use std::alloc::{AllocError, Global};
 use std::hash::{Hash, Hasher};
 use std::marker::Model;
-use std::ops::Range;
 use std::rc::Rc;
 
 #[cycle(green)]
@@ -24,9 +26,8 @@ use std::rc::Rc;
 struct NodeData {
     kind: u16,
     small_size: Option<u8>,
-    text_len: u32,
     fingerprint: u64,
-    children: Vec<GreenElement>,
+    children: ElementList,
 }
 
 /// A node of a green tree. A clone shares the kind and the children, and takes no memory.
@@ -37,24 +38,24 @@ pub struct GreenNode {
 }
 
 impl Model for GreenNode {
-    ghost use Rattle.std.specs.Prelude.{◌≡◌, length};
+    ghost use Rattle.std.specs.Prelude.{◌≡◌, ◌*◌};
     ghost use Rattle.rowan_green.specs.Forest.{Tree, tree_code, tree_count};
 
     ghost Value = { Tree };
 
     ghost coded = { tree_code };
 
-    ghost use Rattle.rowan_green.specs.Term.{tree_of, texts_of, FitsNode, weight_falls};
+    ghost use Rattle.rowan_green.specs.Term.{tree_of, FitsNode};
 
-    ghost view = { λ a. tree_of a.shared.value.kind a.shared.value.children.items };
+    ghost view = { λ a. tree_of a.shared.value.kind a.shared.value.children.0 };
 
-    ghost invariant = { λ a. (a.shared.value.text_len ≡ length (texts_of a.shared.value.children.items)) × FitsNode a.shared.value.children.items };
+    ghost invariant = { λ a. FitsNode a.shared.value.children.0 };
 
-    ghost size = { tree_count };
+    ghost size = { λ t. 2 * tree_count t };
 
     ghost use Rattle.std.proofs.Common.{arith};
 
-    ghost size_decreases = { λ a h. weight_falls _ (λ t. Prim.omega arith) (λ l. Prim.omega arith) _ };
+    ghost size_decreases = { λ a h. Prim.omega arith };
 }
 
 /// A refusal to make a node, with the children that it would have had.
@@ -94,30 +95,86 @@ impl GreenNode {
         ensures ok { IfOk result (λ n. n ≡ tree_of kind.0 children.items) }
         ensures fits { OnOk result (FitsNode children.items) }
         ensures refused { IfErr result (λ r. RefusesUnless (FitsNode children.items) r.error) }
-        ensures returned { IfErr result (λ r. r.children ≡ children) }
+        ensures returned { IfErr result (λ r. r.children.items ≡ children.items) }
     {
-        let Some(text_len) = fitting_len(&children) else {
+        if fitting_len(&children).is_none() {
             return Err(RefusedChildren {
                 error: GreenError::TooLong,
                 children,
             });
-        };
+        }
+        if children.len() <= MOST {
+            return GreenNode::of_few(alloc, kind, children);
+        }
+        match GreenNode::of_many(alloc, kind, &children) {
+            Ok(node) => Ok(node),
+            Err(_) => Err(RefusedChildren {
+                error: GreenError::NoMemory,
+                children,
+            }),
+        }
+    }
+
+    /// The node of at most 16 children.
+    fn of_few(
+        alloc: Global,
+        kind: SyntaxKind,
+        children: Vec<GreenElement>,
+    ) -> Result<GreenNode, RefusedChildren>
+        requires few { length children.items ≤ 16 }
+        requires fits { FitsNode children.items }
+        ensures ok { IfOk result (λ n. n ≡ tree_of kind.0 children.items) }
+        ensures refused { IfErr result (λ r. r.error ≡ GreenError.NoMemory) }
+        ensures returned { IfErr result (λ r. r.children.items ≡ children.items) }
+    {
         let data = NodeData {
             kind: kind.0,
             small_size: fingerprint::small_size(&children),
-            text_len,
             fingerprint: fingerprint::of_node(kind.0, &children),
-            children,
+            children: ElementList::block(children),
         };
         match Rc::new(alloc, data) {
             Ok(shared) => Ok(GreenNode { shared }),
             Err(refused) => Err(RefusedChildren {
                 error: GreenError::NoMemory,
-                children: refused.value.children,
+                children: refused.value.children.into_block(),
             }),
         }
     }
 
+    /// The node of many children.
+    pub(crate) fn of_list(
+        alloc: Global,
+        kind: SyntaxKind,
+        children: ElementList,
+    ) -> Result<GreenNode, AllocError>
+        requires { FitsNode children.0 }
+        ensures { IfOk result (λ n. n ≡ tree_of kind.0 children.0) }
+    {
+        let data = NodeData {
+            kind: kind.0,
+            small_size: None,
+            fingerprint: 0,
+            children,
+        };
+        let shared = Rc::new(alloc, data)?;
+        Ok(GreenNode { shared })
+    }
+
+    /// The node of clones of many children.
+    fn of_many(
+        alloc: Global,
+        kind: SyntaxKind,
+        children: &[GreenElement],
+    ) -> Result<GreenNode, AllocError>
+        requires many { 8 ≤ length children.now }
+        requires fits { FitsNode children.now }
+        ensures { IfOk result (λ n. n ≡ tree_of kind.0 children.now) }
+    {
+        GreenNode::of_list(alloc, kind, ElementList::of_many(alloc, children)?)
+    }
+
+    /// Its kind.
     pub fn kind(&self) -> SyntaxKind
         ensures { result.0 ≡ self.now.kind }
     {
@@ -128,7 +185,7 @@ impl GreenNode {
     pub fn text_len(&self) -> TextSize
         ensures { result.0 ≡ length (tree_text self.now) }
     {
-        TextSize(self.shared.text_len)
+        TextSize(self.shared.children.text_len())
     }
 
     /// How many elements lie below the node, where that is small.
@@ -142,12 +199,19 @@ impl GreenNode {
 }
 
 impl GreenNode {
-    pub(crate) fn elements(&self) -> &[GreenElement]
-        ensures children { result.now ≡ children_of self.now }
-        ensures count { length result.now < 2 ^ 32 }
+    pub(crate) fn elements(&self) -> &ElementList
+        ensures children { result.now.0 ≡ children_of self.now }
         ensures fits { FitsNode (children_of self.now) }
     {
-        self.shared.children.as_slice()
+        &self.shared.children
+    }
+
+    /// The children, where they are few.
+    pub(crate) fn few_elements(&self) -> Option<&[GreenElement]>
+        ensures children { IfSome result (λ s. s.now ≡ children_of self.now) }
+        ensures fits { FitsNode (children_of self.now) }
+    {
+        self.elements().as_block()
     }
 
     /// The children in order, nodes and tokens.
@@ -165,106 +229,30 @@ impl GreenNode {
         self.elements().get(index)
     }
 
-    /// This node with one child replaced.
-    pub fn replace_child(
-        &self,
-        alloc: Global,
-        index: usize,
-        new_child: GreenElement,
-    ) -> Result<GreenNode, GreenError>
-        requires { index < length (children_of self.now) }
-        ensures ok { IfOk result (λ n. n ≡ tree_of self.now.kind
-            (spliced (children_of self.now) index (index + 1) (new_child ∷ []))) }
-        ensures fits { OnOk result (FitsNode (spliced (children_of self.now) index (index + 1) (new_child ∷ []))) }
-        ensures refused { IfErr result (RefusesUnless
-            (FitsNode (spliced (children_of self.now) index (index + 1) (new_child ∷ [])))) }
+    /// The child whose text has the byte at this offset; none from the length of the text on. It
+    /// takes no memory, and looks at no more than twice as many lengths as the count of children
+    /// has binary digits, and two.
+    pub fn child_at_offset(&self, offset: TextSize) -> Option<ChildAt>
+        ensures found { IsSome result ↔ (offset.0 < length (tree_text self.now)) }
+        ensures child { IfSome result (λ c. IsChildAt (children_of self.now) offset.0 c.index c.start.0) }
+        ensures looks { (digits : ℕ) → length (children_of self.now) < 2 ^ digits →
+            IfSome result (λ c. c.looks ≤ 2 * digits + 2) }
     {
-        prove!(index < self.elements().len());
-        let new_children = vec![in alloc; new_child]?;
-        self.splice(alloc, index, index + 1, new_children)
-    }
-
-    /// This node with one more child, which gets the number `index`.
-    pub fn insert_child(
-        &self,
-        alloc: Global,
-        index: usize,
-        new_child: GreenElement,
-    ) -> Result<GreenNode, GreenError>
-        requires { index ≤ length (children_of self.now) }
-        ensures ok { IfOk result (λ n. n ≡ tree_of self.now.kind
-            (spliced (children_of self.now) index index (new_child ∷ []))) }
-        ensures fits { OnOk result (FitsNode (spliced (children_of self.now) index index (new_child ∷ []))) }
-        ensures refused { IfErr result
-            (RefusesUnless (FitsNode (spliced (children_of self.now) index index (new_child ∷ [])))) }
-    {
-        let new_children = vec![in alloc; new_child]?;
-        self.splice(alloc, index, index, new_children)
-    }
-
-    /// This node without one of its children.
-    pub fn remove_child(&self, alloc: Global, index: usize) -> Result<GreenNode, GreenError>
-        requires { index < length (children_of self.now) }
-        ensures ok { IfOk result
-            (λ n. n ≡ tree_of self.now.kind (spliced (children_of self.now) index (index + 1) [])) }
-        ensures refused { IsOkUnless result GreenError.NoMemory }
-    {
-        prove!(index < self.elements().len());
-        self.splice(alloc, index, index + 1, Vec::new(alloc))
-    }
-
-    /// This node with the children of a range replaced by those that an iterator gives.
-    pub fn splice_children<I: Iterator<Item = GreenElement> + Drop>(
-        &self,
-        alloc: Global,
-        range: Range<usize>,
-        new_children: I,
-    ) -> Result<GreenNode, GreenError>
-        requires ordered { range.start ≤ range.end }
-        requires in_bounds { range.end ≤ length (children_of self.now) }
-        requires can { I.can_next new_children }
-        requires ends { IsFinite (I.remaining new_children) }
-        ensures ok { let old = children_of self.now in IfOk result (λ n. (es : List Term)
-            × Drains I.next_gives new_children es × FitsNode (spliced old range.start range.end es)
-            × (n ≡ tree_of self.now.kind (spliced old range.start range.end es))) }
-        ensures refused { let old = children_of self.now in IfErr result (RefusesUnless
-            ((es : List Term) → Drains I.next_gives new_children es → FitsNode
-            (spliced old range.start range.end es))) }
-    {
-        let new_children = collected(alloc, new_children)?;
-        self.splice(alloc, range.start, range.end, new_children)
-    }
-
-    fn splice(
-        &self,
-        alloc: Global,
-        start: usize,
-        end: usize,
-        mut new_children: Vec<GreenElement>,
-    ) -> Result<GreenNode, GreenError>
-        requires ordered { start ≤ end }
-        requires in_bounds { end ≤ length (children_of self.now) }
-        ensures ok { IfOk result (λ n. n ≡ tree_of self.now.kind
-            (spliced (children_of self.now) start end new_children.items)) }
-        ensures fits { OnOk result (FitsNode (spliced (children_of self.now) start end new_children.items)) }
-        ensures refused { IfErr result
-            (RefusesUnless (FitsNode (spliced (children_of self.now) start end new_children.items))) }
-    {
-        let old = self.elements();
-        let count = (old.len() - (end - start)).saturating_add(new_children.len());
-        let mut children = Vec::with_capacity(alloc, count)?;
-        push_clones(&mut children, &old[..start])?;
-        children.append(&mut new_children)?;
-        push_clones(&mut children, &old[end..])?;
-        match GreenNode::from_vec(alloc, self.kind(), children) {
-            Ok(node) => Ok(node),
-            Err(refused) => Err(refused.error),
+        let children = self.elements();
+        if offset.0 >= children.text_len() {
+            return None;
         }
+        let place = children.find(offset.0);
+        Some(ChildAt {
+            index: place.index,
+            start: TextSize(place.start),
+            looks: place.looks + 1,
+        })
     }
 }
 
 /// All elements that an iterator gives, with no room to spare.
-fn collected<I: Iterator<Item = GreenElement> + Drop>(
+pub(crate) fn collected<I: Iterator<Item = GreenElement> + Drop>(
     alloc: Global,
     elements: I,
 ) -> Result<Vec<GreenElement>, AllocError>
@@ -282,7 +270,7 @@ fn collected<I: Iterator<Item = GreenElement> + Drop>(
 
 /// How long the children's text is, if a node can have these children.
 #[tactic(auto, using(crate::proofs::Lengths::lengths))]
-fn fitting_len(children: &[GreenElement]) -> Option<u32>
+pub(crate) fn fitting_len(children: &[GreenElement]) -> Option<u32>
     ensures { SomeIff result (FitsNode children.now) (length (texts_of children.now)) }
 {
     if children.len() > u32::MAX as usize {
@@ -295,24 +283,28 @@ fn fitting_len(children: &[GreenElement]) -> Option<u32>
     Some(text_len)
 }
 
-/// Adds clones of these elements.
-fn push_clones(to: &mut Vec<GreenElement>, from: &[GreenElement]) -> Result<(), AllocError>
-    ensures { OnOk result (to.new.items ≡ to.old.items ++ from.now) }
-{
-    for element in from {
-        to.push(element.clone()?)?;
-    }
-    Ok(())
-}
-
 #[cycle(same)]
 fn same_node(a: &GreenNode, b: &GreenNode) -> bool
     ensures { result ≡ same_tree a.now b.now }
 {
-    a.shared.kind == b.shared.kind && same_elements(&a.shared.children, &b.shared.children)
+    a.shared.kind == b.shared.kind && same_lists(&a.shared.children, &b.shared.children)
 }
 
 #[cycle(same)]
+fn same_lists(a: &ElementList, b: &ElementList) -> bool
+    ensures { result ≡ same_forest (forest_of a.now.0) (forest_of b.now.0) }
+{
+    if a.len() != b.len() {
+        return false;
+    }
+    for i in 0..a.len() {
+        if !same_element(a.at(i), b.at(i)) {
+            return false;
+        }
+    }
+    true
+}
+
 pub(crate) fn same_elements(a: &[GreenElement], b: &[GreenElement]) -> bool
     ensures { result ≡ same_forest (forest_of a.now) (forest_of b.now) }
 {
@@ -382,6 +374,6 @@ impl Hash for GreenNode {
 
     fn hash<H: Hasher>(&self, state: &mut H) {
         self.shared.kind.hash(state);
-        self.shared.text_len.hash(state);
+        self.text_len().0.hash(state);
     }
 }

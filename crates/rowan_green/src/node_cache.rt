@@ -155,7 +155,8 @@ fn found_node(
     ensures fits { OnSome result (FitsNode children.now) }
 {
     let found = found?;
-    if found.kind().0 != kind.0 || !same_elements(found.elements(), children) {
+    let elements = found.few_elements()?;
+    if found.kind().0 != kind.0 || !same_elements(elements, children) {
         return None;
     }
     found.clone().ok()

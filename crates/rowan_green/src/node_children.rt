@@ -4,17 +4,20 @@ ghost use Rattle.std.specs.Iterator.{UpTo, at_most};
 ghost use Rattle.std.specs.Iterator.SizeHint.{IsWithinCount};
 
 use crate::element::GreenElement;
+use crate::element_list::ElementList;
 use std::iter::{DoubleEndedIterator, ExactSizeIterator, FusedIterator};
 use std::marker::Model;
 
 /// The children of a node, in order, from both ends. A contract sees the list of those that are left.
 #[derive(Drop)]
 pub struct Children<'a> {
-    rest: &'a [GreenElement],
+    all: &'a ElementList,
+    start: usize,
+    end: usize,
 }
 
 impl<'a> Model for Children<'a> {
-    ghost use Rattle.std.specs.Prelude.{List};
+    ghost use Rattle.std.specs.Prelude.{List, ◌≤◌, length, take, drop};
     ghost use Rattle.std.specs.Coded.{codes};
     ghost use Rattle.rowan_green.specs.Forest.{tree_code};
     ghost use Rattle.rowan_green.specs.Term.{Term};
@@ -23,14 +26,20 @@ impl<'a> Model for Children<'a> {
 
     ghost coded = { Prim.hlevel (codes, tree_code) };
 
-    ghost view = { λ c. c.rest.now };
+    ghost view = { λ c. drop c.start (take c.end c.all.now.0) };
+
+    ghost invariant = { λ c. (c.start ≤ c.end) × (c.end ≤ length c.all.now.0) };
 }
 
 impl<'a> Children<'a> {
-    pub(crate) fn of(children: &'a [GreenElement]) -> Children<'a>
-        ensures { result ≡ children.entry.now }
+    pub(crate) fn of(children: &'a ElementList) -> Children<'a>
+        ensures { result ≡ children.entry.now.0 }
     {
-        Children { rest: children }
+        Children {
+            all: children,
+            start: 0,
+            end: children.len(),
+        }
     }
 }
 
@@ -44,8 +53,11 @@ impl<'a> Iterator for Children<'a> {
     ghost remaining = { item_count (λ s. s) };
 
     fn next(&mut self) -> Option<&'a GreenElement> {
-        let (first, others) = self.rest.split_first()?;
-        self.rest = others;
+        if self.start >= self.end {
+            return None;
+        }
+        let first = self.all.at(self.start);
+        self.start += 1;
         Some(first)
     }
 
@@ -65,15 +77,17 @@ impl<'a> DoubleEndedIterator for Children<'a> {
     ghost next_back_gives = { YieldsLastRef (λ s. s) };
 
     fn next_back(&mut self) -> Option<&'a GreenElement> {
-        let (last, others) = self.rest.split_last()?;
-        self.rest = others;
-        Some(last)
+        if self.start >= self.end {
+            return None;
+        }
+        self.end -= 1;
+        Some(self.all.at(self.end))
     }
 }
 
 impl<'a> ExactSizeIterator for Children<'a> {
     fn len(&self) -> usize {
-        self.rest.len()
+        self.end - self.start
     }
 }
 

@@ -12,6 +12,7 @@ pub struct TextRange {
 }
 
 impl TextRange {
+    /// The bytes from a start to an end, which is not before it.
     pub fn new(start: TextSize, end: TextSize) -> TextRange
         requires { start.0 ≤ end.0 }
         ensures start { result.start ≡ start }
@@ -43,6 +44,7 @@ impl TextRange {
         }
     }
 
+    /// The byte that it begins at.
     pub fn start(self) -> TextSize
         ensures { result ≡ self.start }
     {
@@ -50,6 +52,7 @@ impl TextRange {
         start
     }
 
+    /// The byte that it ends before.
     pub fn end(self) -> TextSize
         ensures { result ≡ self.end }
     {
@@ -57,12 +60,14 @@ impl TextRange {
         end
     }
 
+    /// How many bytes it has.
     pub fn len(self) -> TextSize
         ensures { self.start.0 + result.0 ≡ self.end.0 }
     {
         TextSize(self.end.0 - self.start.0)
     }
 
+    /// Whether it has no bytes.
     pub fn is_empty(self) -> bool
         ensures { IsTrue result ↔ (self.start.0 ≡ self.end.0) }
     {

@@ -37,6 +37,7 @@ impl Model for GreenToken {
 }
 
 impl GreenToken {
+    /// A token of a kind and a text. Refuses a text of 2^32 bytes or more as `TooLong`.
     pub fn new(alloc: Global, kind: SyntaxKind, text: &str) -> Result<GreenToken, GreenError>
         ensures ok { IfOk result (λ t. t ≡ record { kind = kind.0; text = text.now }) }
         ensures fits { OnOk result (FitsToken text.now) }
@@ -54,18 +55,21 @@ impl GreenToken {
         Ok(GreenToken { shared })
     }
 
+    /// Its kind.
     pub fn kind(&self) -> SyntaxKind
         ensures { result.0 ≡ self.now.kind }
     {
         SyntaxKind(self.shared.kind)
     }
 
+    /// Its text.
     pub fn text(&self) -> &str
         ensures { result.now ≡ self.now.text }
     {
         self.shared.text.as_str()
     }
 
+    /// The length of its text, in bytes.
     pub fn text_len(&self) -> TextSize
         ensures { result.0 ≡ length self.now.text }
     {

@@ -3,6 +3,7 @@ ghost use Rattle.std.specs.Prelude.{◌≡◌};
 ghost use Rattle.std.specs.Option.{option_copied};
 ghost use Rattle.rowan_green.specs.Either.{node_part, token_part};
 
+/// A node or a token.
 #[derive(Clone, Copy, PartialEq, Eq, Hash, Debug, Drop)]
 pub enum NodeOrToken<N, T> {
     Node(N),

@@ -6,11 +6,11 @@ use Rattle.rowan_green.proofs.node.+same.Given as goal
 abbrev pub decreases-same_node : goal.decreases-same_node
 decreases-same_node l = 3 * tree_count l.a.now
 
-abbrev pub decreases-same_elements : goal.decreases-same_elements
-decreases-same_elements l = 3 * forest_count (forest_of l.a.now) + 2
+abbrev pub decreases-same_lists : goal.decreases-same_lists
+decreases-same_lists l = 3 * forest_count (forest_of l.a.now.0) + 2
 
 abbrev pub decreases-same_element : goal.decreases-same_element
 decreases-same_element l = 3 * term_count l.a.now + 1
 
-abbrev pub invariant-same_elements-loop-i : goal.invariant-same_elements-loop-i
-invariant-same_elements-loop-i l = same_forest (forest_of l.a) (forest_of l.b) ≡ same_forest (forest_of (drop l.i l.a)) (forest_of (drop l.i l.b))
+abbrev pub invariant-same_lists-loop-i : goal.invariant-same_lists-loop-i
+invariant-same_lists-loop-i l = same_forest (forest_of l.a.0) (forest_of l.b.0) ≡ same_forest (forest_of (drop l.i l.a.0)) (forest_of (drop l.i l.b.0))

@@ -1,4 +1,4 @@
-use Rattle.std.proofs.Common.{arith, rules, ap, sym}
+use Rattle.std.proofs.Common.{◌<◌, ◌≤◌, length, arith, rules, ap, sym}
 use Rattle.std.proofs.Output.{has_written_append, has_written_of_eq}
 use Rattle.rowan_green.specs.Term.{text_of}
 use Rattle.rowan_green.proofs.Counts.{child_falls}
@@ -8,19 +8,22 @@ use Rattle.rowan_green.proofs.display.GreenNodeDisplay.+fmt.Goals.{in-Node+in_ok
 
 pub fmt-requires : goal.fmt-requires
 fmt-requires g t c =
-    let h = child_falls c.args.self.now c.in-Node.node c.elements-child-items.result.now c.loop-child.child-index c.child-item.result c.elements-child-items.ensures.children c.loop-child-test.true c.child-item.is c.in-Node.is in
+    let i : c.loop-index.index < length c.elements-children.result.now.0 = omega (arith, c.loop-index-test.true, c.len-index-end.ensures.count) in
+    let h = child_falls c.args.self.now c.in-Node.node c.elements-children.result.now.0 c.loop-index.index c.at.result.now c.elements-children.ensures.children i c.at.ensures c.in-Node.is in
     λ _ outlives. (omega (arith, h), outlives)
 
-pub loop-child-preserved : goal.loop-child-preserved
-loop-child-preserved g t c p =
-    let e = texts_more c.elements-child-items.result.now c.loop-child.child-index c.child-item.result c.loop-child-test.true c.child-item.is in
+pub loop-index-preserved : goal.loop-index-preserved
+loop-index-preserved g t c p =
+    let i : c.loop-index.index < length c.elements-children.result.now.0 = omega (arith, c.loop-index-test.true, c.len-index-end.ensures.count) in
+    let e = texts_more c.elements-children.result.now.0 c.loop-index.index c.at.result.now i c.at.ensures in
     has_written_of_eq _ _ _ _ _ (sym e)
-    (has_written_append _ _ _ _ _ _ (c.loop-child.invariant p) (elim c.match-child.branch [
+    (has_written_append _ _ _ _ _ _ (c.loop-index.invariant p) (elim c.match-at.branch [
       | in-Node+in_ok-fmt-in-Node w ↦ has_written_of_eq _ _ _ _ _ (ap text_of (sym w.in-Node.is)) (search rules)
       | in-Token+in_ok-fmt-in-Token w ↦ has_written_of_eq _ _ _ _ _ (ap text_of (sym w.in-Token.is)) (search rules)
     ]))
 
 pub returns-clause-writes : goal.returns-clause-writes
 returns-clause-writes g t c p q =
-    let e = texts_all c.args.self.now c.elements-child-items.result.now c.loop-child.child-index c.elements-child-items.ensures.children c.loop-child-test.false in
-    has_written_of_eq _ _ _ _ _ e (c.loop-child.invariant p)
+    let i : length c.elements-children.result.now.0 ≤ c.loop-index.index = omega (arith, c.loop-index-test.false, c.len-index-end.ensures.count) in
+    let e = texts_all c.args.self.now c.elements-children.result.now.0 c.loop-index.index c.elements-children.ensures.children i in
+    has_written_of_eq _ _ _ _ _ e (c.loop-index.invariant p)

@@ -7,6 +7,6 @@ use Rattle.rowan_green.proofs.display.GreenNodeDisplay.+fmt.Given as goal
 abbrev pub decreases-fmt : goal.decreases-fmt
 decreases-fmt g l = tree_count l.self.now
 
-abbrev pub invariant-loop-child : goal.invariant-loop-child
-invariant-loop-child g l =
-    IsPlainFormatter l.initial.f → HasWritten g.W.Write.write_str_gives l.initial.f (texts_of (take l.child-index l.child-items)) l.f
+abbrev pub invariant-loop-index : goal.invariant-loop-index
+invariant-loop-index g l =
+    IsPlainFormatter l.initial.f → HasWritten g.W.Write.write_str_gives l.initial.f (texts_of (take l.index l.children.0)) l.f

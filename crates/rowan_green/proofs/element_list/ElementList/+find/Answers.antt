@@ -1,0 +1,37 @@
+use Rattle.std.proofs.Common.{◌≡◌, length, arith}
+use Rattle.rowan_green.proofs.Summing.{at_fork, at_block, child_right}
+use Rattle.rowan_green.proofs.element_list.ElementList.+find.Goals as goal
+
+pub find_in_block-requires-clause-fits : goal.find_in_block-requires-clause-fits
+find_in_block-requires-clause-fits t c =
+    let b = at_block c.self.view_is c.self.invariant c.in-Block.is in
+    rw c.deref.ensures.value b.fits.text
+
+pub find-requires : goal.find-requires
+find-requires t c =
+    let f = at_fork c.self.view_is c.self.invariant c.in-Fork.is in
+    rw c.deref-then-offset-self.ensures (omega (arith, f.height, f.above), omega (arith, f.before, c.if-offset-self.true))
+
+pub behind-requires-clause-looks : goal.behind-requires-clause-looks
+behind-requires-clause-looks t c =
+    let f = at_fork c.self.view_is c.self.invariant c.in-Fork.is in
+    let k = rw c.deref-then-offset-self.ensures at c.find.ensures.looks in
+    omega (arith, f.low, f.above, k)
+
+pub find-requires-else-offset-self : goal.find-requires-else-offset-self
+find-requires-else-offset-self t c =
+    let f = at_fork c.self.view_is c.self.invariant c.in-Fork.is in
+    rw c.deref-else-offset-self.ensures (omega (arith, f.height, f.above), omega (arith, f.before, f.texts, c.if-offset-self.false, c.requires))
+
+pub behind-requires-else-offset-self-clause-looks : goal.behind-requires-else-offset-self-clause-looks
+behind-requires-else-offset-self-clause-looks t c =
+    let f = at_fork c.self.view_is c.self.invariant c.in-Fork.is in
+    let k = rw c.deref-else-offset-self.ensures at c.find-else-offset-self.ensures.looks in
+    omega (arith, f.low, f.above, k)
+
+pub returns-else-offset-self-clause-place : goal.returns-else-offset-self-clause-place
+returns-else-offset-self-clause-place t c =
+    let f = at_fork c.self.view_is c.self.invariant c.in-Fork.is in
+    let p = rw c.deref-else-offset-self.ensures at c.find-else-offset-self.ensures.place in
+    let n : c.len.result ≡ length c.in-Fork.left.value.0 = rw c.deref-else-offset-self-2.ensures at c.len.ensures.count in
+    rw (c.behind-else-offset-self.ensures, f.terms, n) (child_right _ _ _ _ _ _ f.before c.if-offset-self.false p)

@@ -1,0 +1,391 @@
+//! The children of a node: a balanced tree over blocks of them, whose parts lists share.
+ghost use Rattle.std.specs.Prelude.{◌≡◌, ◌+◌, ◌*◌, ◌<◌, ◌≤◌, ◌^◌, ◌++◌, max, length, slice_get, slice_index_or, take, ◌/◌, IfOk, IfSome, OnOk, MatchOption, drop};
+ghost use Rattle.std.specs.Option.{option_copied};
+ghost use Rattle.rowan_green.specs.Term.{texts_of, FitsNode};
+ghost use Rattle.rowan_green.specs.ChildAt.{IsChildAt};
+ghost use Rattle.rowan_green.specs.Balanced.{fewest, IsJoined};
+
+use crate::element::GreenElement;
+use std::alloc::{AllocError, Global};
+use std::marker::Model;
+use std::rc::Rc;
+
+/// The most elements of a block.
+pub(crate) const MOST: usize = 16;
+
+/// The fewest elements of a block below a fork.
+pub(crate) const FEWEST: usize = 8;
+
+/// A list of elements. A search looks at the length of the text before the middle, which is kept.
+#[cycle(green)]
+#[derive(Drop)]
+pub(crate) struct ElementList {
+    text_len: u32,
+    half: u32,
+    link: Link,
+}
+
+/// A block, or two lists with the count of their elements and their height.
+#[cycle(green)]
+#[derive(Drop)]
+enum Link {
+    Block(Vec<GreenElement>),
+    Fork(Rc<ElementList>, Rc<ElementList>, u32, u8),
+}
+
+impl Model for ElementList {
+    ghost use Rattle.std.specs.Prelude.{ℕ, List, ◌*◌, ◌+◌};
+    ghost use Rattle.std.specs.Coded.{codes};
+    ghost use Rattle.rowan_green.specs.Forest.{tree_code, forest_count};
+    ghost use Rattle.rowan_green.specs.Term.{Term, forest_of};
+
+    ghost Value = { List Term × ℕ };
+
+    ghost coded = { Prim.hlevel (codes, tree_code) };
+
+    ghost use Rattle.rowan_green.specs.Balanced.{terms_in, height_of, IsSummed};
+
+    ghost view = { λ a. (terms_in a.link, height_of a.link) };
+
+    ghost invariant = { λ a. IsSummed a.link a.text_len a.half };
+
+    ghost size = { λ d. 2 * forest_count (forest_of d.0) + 1 };
+
+    ghost use Rattle.rowan_green.specs.Falls.{falls};
+
+    ghost size_decreases = { λ a h. falls a.link h.balanced };
+}
+
+/// The element at an offset: its number, where it starts, and how many lengths were looked at.
+#[derive(Clone, Copy)]
+pub(crate) struct Place {
+    pub(crate) index: usize,
+    pub(crate) start: u32,
+    pub(crate) looks: u32,
+}
+
+impl ElementList {
+    pub(crate) fn len(&self) -> usize
+        ensures count { result ≡ length self.now.0 }
+        ensures fits { FitsNode self.now.0 }
+        ensures bound { result < 2 ^ 32 }
+    {
+        match &self.link {
+            Link::Block(elements) => elements.len(),
+            Link::Fork(_, _, count, _) => *count as usize,
+        }
+    }
+
+    pub(crate) fn text_len(&self) -> u32
+        ensures { result ≡ length (texts_of self.now.0) }
+    {
+        self.text_len
+    }
+
+    pub(crate) fn height(&self) -> u8
+        ensures height { result ≡ self.now.1 }
+        ensures many { 8 ≤ length self.now.0 → fewest result ≤ length self.now.0 }
+        ensures few { length self.now.0 < 16 → result ≡ 0 }
+        ensures block { result ≡ 0 → length self.now.0 ≤ 16 }
+        ensures low { result ≤ 56 }
+    {
+        match &self.link {
+            Link::Block(_) => 0,
+            Link::Fork(_, _, _, height) => *height,
+        }
+    }
+
+    /// The two sides of a list that is no block.
+    pub(crate) fn sides(&self) -> Option<(&Rc<ElementList>, &Rc<ElementList>)>
+        ensures { MatchOption result ((self.now.1 ≡ 0) × (length self.now.0 ≤ 16))
+            (λ s. IsJoined self.now s.0.now.value s.1.now.value) }
+    {
+        match &self.link {
+            Link::Block(_) => None,
+            Link::Fork(left, right, _, _) => Some((left, right)),
+        }
+    }
+
+    /// The elements, where they are few.
+    pub(crate) fn as_block(&self) -> Option<&[GreenElement]>
+        ensures { IfSome result (λ s. s.now ≡ self.now.0) }
+    {
+        match &self.link {
+            Link::Block(elements) => Some(elements),
+            Link::Fork(_, _, _, _) => None,
+        }
+    }
+
+    /// The element of this number.
+    pub(crate) fn at(&self, index: usize) -> &GreenElement
+        requires { index < length self.now.0 }
+        ensures { result.now ≡ slice_index_or self.now.0 index result.now }
+    {
+        match &self.link {
+            Link::Block(elements) => &elements[index],
+            Link::Fork(left, right, _, _) => {
+                let before = left.len();
+                if index < before {
+                    left.at(index)
+                } else {
+                    right.at(index - before)
+                }
+            }
+        }
+    }
+
+    pub(crate) fn get(&self, index: usize) -> Option<&GreenElement>
+        ensures { option_copied result ≡ slice_get self.now.0 index }
+    {
+        if index < self.len() {
+            Some(self.at(index))
+        } else {
+            None
+        }
+    }
+
+    /// The element whose text has the byte at this offset.
+    pub(crate) fn find(&self, offset: u32) -> Place
+        requires { offset < length (texts_of self.now.0) }
+        ensures place { IsChildAt self.now.0 offset result.index result.start }
+        ensures few { length self.now.0 < 8 → result.looks ≤ length self.now.0 }
+        ensures looks { result.looks ≤ self.now.1 + 9 }
+        ensures many { 8 ≤ length self.now.0 → fewest self.now.1 ≤ length self.now.0 }
+    {
+        match &self.link {
+            Link::Block(elements) => find_in_block(elements, self.half, offset),
+            Link::Fork(left, right, _, _) => {
+                if offset < self.half {
+                    left.find(offset).behind(0, 0)
+                } else {
+                    right.find(offset - self.half).behind(left.len(), self.half)
+                }
+            }
+        }
+    }
+}
+
+impl ElementList {
+    /// The list of a few elements.
+    pub(crate) fn block(elements: Vec<GreenElement>) -> ElementList
+        requires few { length elements.items ≤ 16 }
+        requires fits { length (texts_of elements.items) < 2 ^ 32 }
+        ensures { result ≡ (elements.items, 0) }
+    {
+        let (front, back) = elements.split_at(elements.len() / 2);
+        let half = text_sum(front);
+        ElementList {
+            text_len: half + text_sum(back),
+            half,
+            link: Link::Block(elements),
+        }
+    }
+
+    /// The elements of a list that has only a few.
+    pub(crate) fn into_block(self) -> Vec<GreenElement>
+        requires { self.1 ≡ 0 }
+        ensures { result.items ≡ self.0 }
+    {
+        match self.link {
+            Link::Block(elements) => elements,
+            Link::Fork(_, _, _, _) => unreachable!(),
+        }
+    }
+
+    /// The elements of two lists that are about as high.
+    pub(crate) fn fork(left: Rc<ElementList>, right: Rc<ElementList>) -> ElementList
+        requires left { 8 ≤ length left.value.0 }
+        requires right { 8 ≤ length right.value.0 }
+        requires left_low { left.value.1 ≤ right.value.1 + 1 }
+        requires right_low { right.value.1 ≤ left.value.1 + 1 }
+        requires fits { FitsNode (left.value.0 ++ right.value.0) }
+        ensures { result ≡ (left.value.0 ++ right.value.0, max left.value.1 right.value.1 + 1) }
+    {
+        let half = left.text_len();
+        let count = left.len() + right.len();
+        let height = left.height().max(right.height()) + 1;
+        ElementList {
+            text_len: half + right.text_len(),
+            half,
+            link: Link::Fork(left, right, count as u32, height),
+        }
+    }
+
+    /// The list of clones of these elements, with so many levels of forks.
+    fn built(
+        alloc: Global,
+        elements: &[GreenElement],
+        height: u8,
+    ) -> Result<ElementList, AllocError>
+        requires many { 8 * 2 ^ height ≤ length elements.now }
+        requires few { length elements.now ≤ 16 * 2 ^ height }
+        requires fits { FitsNode elements.now }
+        ensures { IfOk result (λ l. l ≡ (elements.now, height)) }
+    {
+        if height == 0 {
+            return Ok(ElementList::block(clones(alloc, elements)?));
+        }
+        let (front, back) = elements.split_at(elements.len() / 2);
+        let left = Rc::new(alloc, ElementList::built(alloc, front, height - 1)?)?;
+        let right = Rc::new(alloc, ElementList::built(alloc, back, height - 1)?)?;
+        Ok(ElementList::fork(left, right))
+    }
+
+    /// A list of the same elements, which shares the sides of this one.
+    pub(crate) fn copy(&self, alloc: Global) -> Result<ElementList, AllocError>
+        ensures { IfOk result (λ l. l ≡ self.now) }
+    {
+        match self.sides() {
+            Some((left, right)) => Ok(ElementList::fork(left.clone()?, right.clone()?)),
+            None => {
+                let mut elements = Vec::with_capacity(alloc, self.len())?;
+                push_clones(&mut elements, self, 0, self.len())?;
+                Ok(ElementList::block(elements))
+            }
+        }
+    }
+
+    /// The list of clones of these elements.
+    pub(crate) fn of(alloc: Global, elements: &[GreenElement]) -> Result<ElementList, AllocError>
+        requires { FitsNode elements.now }
+        ensures { IfOk result (λ l. l.0 ≡ elements.now) }
+    {
+        if elements.len() <= MOST {
+            Ok(ElementList::block(clones(alloc, elements)?))
+        } else {
+            ElementList::of_many(alloc, elements)
+        }
+    }
+
+    /// The list of clones of many elements.
+    pub(crate) fn of_many(
+        alloc: Global,
+        elements: &[GreenElement],
+    ) -> Result<ElementList, AllocError>
+        requires many { 8 ≤ length elements.now }
+        requires fits { FitsNode elements.now }
+        ensures { IfOk result (λ l. l.0 ≡ elements.now) }
+    {
+        ElementList::built(alloc, elements, height_for(elements.len()))
+    }
+}
+
+/// How many levels of forks lie above blocks of so many elements.
+fn height_for(count: usize) -> u8
+    requires many { 8 ≤ count }
+    requires fits { count < 2 ^ 32 }
+    ensures many { 8 * 2 ^ result ≤ count }
+    ensures few { count ≤ 16 * 2 ^ result }
+{
+    let mut height = 0;
+    let mut room = MOST;
+    while room < count {
+        room *= 2;
+        height += 1;
+    }
+    height
+}
+
+/// The length of the text of these elements.
+#[tactic(auto, using(crate::proofs::Lengths::lengths))]
+fn text_sum(elements: &[GreenElement]) -> u32
+    requires { length (texts_of elements.now) < 2 ^ 32 }
+    ensures { result ≡ length (texts_of elements.now) }
+{
+    let mut sum = 0;
+    for element in elements {
+        sum += element.text_len().0;
+    }
+    sum
+}
+
+/// Clones of these elements.
+fn clones(alloc: Global, elements: &[GreenElement]) -> Result<Vec<GreenElement>, AllocError>
+    ensures { IfOk result (λ v. v.items ≡ elements.now) }
+{
+    let mut all = Vec::with_capacity(alloc, elements.len())?;
+    for element in elements {
+        all.push(element.clone()?)?;
+    }
+    Ok(all)
+}
+
+impl Place {
+    /// The same place, where so many elements and bytes lie before, and one more look was needed.
+    fn behind(self, count: usize, bytes: u32) -> Place
+        requires index { count + self.index < 2 ^ 64 }
+        requires start { bytes + self.start < 2 ^ 32 }
+        requires looks { self.looks + 1 < 2 ^ 32 }
+        ensures { result ≡ record { index = count + self.index; start = bytes + self.start; looks = self.looks + 1 } }
+    {
+        Place {
+            index: count + self.index,
+            start: bytes + self.start,
+            looks: self.looks + 1,
+        }
+    }
+}
+
+/// The element of a block at this offset, where `half` is the length of the text of its first half.
+fn find_in_block(elements: &[GreenElement], half: u32, offset: u32) -> Place
+    requires few { length elements.now ≤ 16 }
+    requires fits { length (texts_of elements.now) < 2 ^ 32 }
+    requires half { half ≡ length (texts_of (take (length elements.now / 2) elements.now)) }
+    requires inside { offset < length (texts_of elements.now) }
+    ensures place { IsChildAt elements.now offset result.index result.start }
+    ensures few { length elements.now < 8 → result.looks ≤ length elements.now }
+    ensures looks { result.looks ≤ 9 }
+{
+    if elements.len() < FEWEST {
+        return find_by_scan(elements, offset);
+    }
+    let (front, back) = elements.split_at(elements.len() / 2);
+    if offset < half {
+        find_by_scan(front, offset).behind(0, 0)
+    } else {
+        find_by_scan(back, offset - half).behind(front.len(), half)
+    }
+}
+
+/// The element at this offset, by the lengths of all that lie before.
+#[tactic(auto, using(crate::proofs::Lengths::lengths))]
+fn find_by_scan(elements: &[GreenElement], offset: u32) -> Place
+    requires few { length elements.now ≤ 8 }
+    requires fits { length (texts_of elements.now) < 2 ^ 32 }
+    requires inside { offset < length (texts_of elements.now) }
+    ensures place { IsChildAt elements.now offset result.index result.start }
+    ensures looks { result.looks ≤ length elements.now }
+{
+    let mut start = 0;
+    let mut looks = 0;
+    for (index, element) in elements.iter().enumerate() {
+        let end = start + element.text_len().0;
+        looks += 1;
+        if offset < end {
+            return Place {
+                index,
+                start,
+                looks,
+            };
+        }
+        start = end;
+    }
+    unreachable!()
+}
+
+/// Adds clones of the elements from `start` to before `end`.
+pub(crate) fn push_clones(
+    to: &mut Vec<GreenElement>,
+    from: &ElementList,
+    start: usize,
+    end: usize,
+) -> Result<(), AllocError>
+    requires ordered { start ≤ end }
+    requires in_bounds { end ≤ length from.now.0 }
+    ensures { OnOk result (to.new.items ≡ to.old.items ++ drop start (take end from.now.0)) }
+{
+    for index in start..end {
+        to.push(from.at(index).clone()?)?;
+    }
+    Ok(())
+}
