@@ -1,6 +1,7 @@
 //! What no contract says: that calls succeed where memory is ample. A row edits a tree that is built by hand, and says what must come of it.
 mod copy;
 mod doing;
+mod handles;
 mod levels;
 mod merge;
 mod spaced;
@@ -15,7 +16,7 @@ use crate::tests::merge::{merged, unmerged};
 use crate::tests::spaced::spaced;
 use crate::tests::told::told;
 use crate::tests::tree::Tree;
-use crate::tests::typed::{casts, typed_copy};
+use crate::tests::typed::{casts, stripped, typed_copy};
 use parser_input::SyntaxKind;
 use std::alloc::Global;
 use std::test::Fail;
@@ -435,6 +436,15 @@ fn typed_nodes_are_edited_as_copies(rt: HostRuntime) -> Result<(), Fail> {
     let is_copy = copy.as_str() == "2 {\n\n        a\n   } true";
     drop(copy);
     assert!(rt; is_copy);
+    Ok(())
+}
+
+#[test]
+fn attributes_and_documentation_go(rt: HostRuntime) -> Result<(), Fail> {
+    let text = stripped(rt.alloc())?;
+    let is_stripped = text.as_str() == "struct ;";
+    drop(text);
+    assert!(rt; is_stripped);
     Ok(())
 }
 

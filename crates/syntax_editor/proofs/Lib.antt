@@ -1,3 +1,4 @@
+pub mod NotedLemmas
 pub mod Singles
 pub mod Sound
 pub mod TokensBefore
@@ -6,3 +7,4 @@ pub mod Roots
 pub mod Spaces
 pub mod FoundAgain
 pub mod GroupLemmas
+pub mod Deletions

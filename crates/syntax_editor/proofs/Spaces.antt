@@ -8,7 +8,7 @@ use Rattle.syntax_editor.specs.Between.{kind_of, between}
 use Rattle.syntax_editor.specs.Spaced.{begins_line, child, inner_line, space_behind, space_before}
 use Rattle.syntax_editor.specs.declared.whitespace.Space.TheVariants.{Nothing}
 
--- behind the child before the gap
+-- after the child before the gap
 pub space_before-behind : (p : Element) (i : ℕ) (e : SyntaxElement) → i ≢ 0 → space_before p i e ≡ option_map_or (λ previous. space_behind p previous e) (child p (i - 1)) Nothing
 space_before-behind p zero e h = absurd (h refl)
 space_before-behind p (suc i) e h =

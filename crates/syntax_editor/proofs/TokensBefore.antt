@@ -10,7 +10,7 @@ use Rattle.rowan.proofs.Leaves.{count_in, child_falls, back_all}
 use Rattle.rowan.proofs.Walks.{place_of_child}
 use Rattle.syntax_editor.specs.Indent.{own_level, first_level, level_at}
 
--- each of these stands before just those behind it
+-- each of these stands before just those after it
 abbrev pub Backwards : List Place → Type 0
 Backwards [] = Unit {0}
 Backwards (p ∷ ps) = (tokens_before p ≡ ps) × Backwards ps

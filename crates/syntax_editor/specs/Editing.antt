@@ -42,7 +42,7 @@ abbrev pub next_number : Way → ℕ → ℕ
 next_number [] n = n
 next_number (i ∷ w) n = n + 1
 
--- all that one has, and behind it all that the other has
+-- all that one has, and after it all that the other has
 abbrev pub merged : Editing → Editing → Editing
 merged e f = record {
   top = e.top;

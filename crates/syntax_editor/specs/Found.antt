@@ -1,5 +1,5 @@
 -- Nodes that are found again in a new tree.
-use Rattle.std.specs.Prelude.{ℕ, ◌==◌, Bool, true, false, ◌&&◌, List, Option, find}
+use Rattle.std.specs.Prelude.{ℕ, ◌==◌, Bool, false, ◌&&◌, List, Option, find}
 use Rattle.rowan.specs.Place.{kind_at, start_of}
 use Rattle.syntax_tree.specs.Element.{Element}
 use Rattle.syntax_tree.specs.Search.{elements}

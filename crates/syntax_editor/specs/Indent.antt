@@ -19,7 +19,7 @@ spaces n = replicate (n * 4) space
 abbrev pub line_feed : ℕ
 line_feed = 10
 
--- how many characters stand behind the last line feed, if there is one
+-- how many characters stand after the last line feed, if there is one
 abbrev pub behind_line_feed : List ℕ → Option ℕ
 behind_line_feed [] = None
 behind_line_feed (c ∷ cs) = option_or (behind_line_feed cs) (if c == line_feed then Some (length cs) else None)
@@ -28,7 +28,7 @@ behind_line_feed (c ∷ cs) = option_or (behind_line_feed cs) (if c == line_feed
 abbrev pub steps_of : ℕ → ℕ
 steps_of n = min (n / 4) 255
 
--- white space with a line feed has the level of the characters behind the last
+-- white space with a line feed has the level of the characters after the last
 abbrev pub own_level : Place → Option ℕ
 own_level p = if kind_at p == WHITESPACE then option_map steps_of (behind_line_feed (chars (text_at p))) else None
 

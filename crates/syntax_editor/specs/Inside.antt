@@ -1,15 +1,14 @@
 -- Recorded changes, as the code has them.
-use Rattle.std.specs.Prelude.{◌≡◌, ℕ, suc, List, [], ◌∷◌, map, Option, option_map, true, if◌then◌else◌}
-use Rattle.syntax_tree.specs.Element.{Way, Element, term_of}
+use Rattle.std.specs.Prelude.{◌≡◌, List, [], map, Option, option_map, true}
+use Rattle.syntax_tree.specs.Element.{Element, term_of}
 use Rattle.syntax_tree.specs.Mapping.{Mapping}
 use Rattle.syntax_tree.specs.Handle.{element_of}
 use Rattle.syntax_tree.specs.declared.element.SyntaxElement.{SyntaxElement}
-use Rattle.tree_rewrite.specs.Change.{Change}
 use Rattle.tree_rewrite.specs.Recorded.{recorded, IsOrdered, KeepsOneRoot}
 use Rattle.tree_rewrite.specs.declared.change.Change as declared
 use Rattle.tree_rewrite.specs.declared.change.Change.TheVariants.{Insert, Replace}
 use Rattle.syntax_editor.specs.Editing.{Editing, Annotated}
-use Rattle.syntax_editor.specs.Recording.{is_single_at, are_in_order, Recording, and_then, row_becomes, ranging}
+use Rattle.syntax_editor.specs.Recording.{are_in_order, Recording, and_then, row_becomes, ranging}
 use Rattle.syntax_editor.specs.declared.annotation.SyntaxAnnotation.{SyntaxAnnotation}
 
 -- the element is one of the tree of this root
@@ -26,11 +25,6 @@ pub record IsSound (top : Element) (c : declared.Change) : Type 0 where
   pub own : IsOwn top c
   pub ordered : IsOrdered c
   pub keeps : KeepsOneRoot c
-
--- the number of the first change of the element there that was named alone; how many changes there are, where there is none
-abbrev pub single_number : Way → List Change → ℕ
-single_number w [] = 0
-single_number w (c ∷ cs) = if is_single_at w c then 0 else suc (single_number w cs)
 
 abbrev pub annotated : SyntaxElement × SyntaxAnnotation → Annotated
 annotated a = record { annotation = a.1.number; element = element_of a.0 }

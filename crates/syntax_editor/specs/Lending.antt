@@ -5,6 +5,6 @@ use Rattle.syntax_tree.specs.contracts.mapping.SyntaxMapping.{the_row as mapping
 use Rattle.syntax_editor.specs.Editing.{Editing}
 use Rattle.syntax_editor.specs.contracts.editor.SyntaxEditor.{the_row}
 
--- the editor ends with the mapping that was left behind the reference
+-- the editor ends with the mapping that was left after the reference
 abbrev pub LendsMapping : MutBor Editing → MutBor Mapping → Fml
 LendsMapping s r = Lends the_row mapping_row s r (λ w. record { top = s.now.top; changes = s.now.changes; mapping = w; annotations = s.now.annotations })

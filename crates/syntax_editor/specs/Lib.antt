@@ -3,6 +3,7 @@ pub mod Recording
 pub mod Rewriting
 pub mod Refusal
 pub mod Inside
+pub mod Noted
 pub mod Lending
 pub mod Making
 pub mod Indent
@@ -13,3 +14,4 @@ pub mod Again
 pub mod Edit
 pub mod Groups
 pub mod Finished
+pub mod Attrs

@@ -14,7 +14,7 @@ use Rattle.syntax_editor.specs.Editing.{Editing}
 abbrev pub is_target : Element → Element → Bool
 is_target top x = nat_eq x.number top.number && same_kind (term_by top.place.root x.place.up) (term_of x)
 
--- the element that a gap of this number stands behind; the node itself where that is the first gap
+-- the element that a gap of this number stands after; the node itself where that is the first gap
 abbrev pub anchor : Element → ℕ → Element
 anchor p i = if nat_eq i 0 then p else element_at p.number p.place.root ((i - 1) ∷ p.place.up)
 
@@ -57,7 +57,7 @@ is_deletion_at w c = is_single_at w c && is_empty (payload_of c)
 abbrev pub over : Change → Change → Change
 over old new = if is_empty (payload_of old) then old else new
 
--- the changes with one more, of an element named alone: in the place of the first that is one of that element, else behind all
+-- the changes with one more, of an element named alone: in the place of the first that is one of that element, else last of all
 abbrev pub with_single : List Change → Way → List Element → List Change
 with_single [] w new = replace w 0 new true ∷ []
 with_single (c ∷ cs) w new = if is_single_at w c then over c (replace w 0 new true) ∷ cs else c ∷ with_single cs w new
@@ -74,7 +74,7 @@ pub data Recording : Type 0 where
   -- these are the changes afterwards
   Recorded : List Change → Recording
 
--- all changes, and behind them one more
+-- all changes, and after them one more
 abbrev pub and_then : Editing → Change → Recording
 and_then e c = Recorded (e.changes ++ c ∷ [])
 

@@ -18,7 +18,7 @@ use Rattle.syntax_editor.specs.declared.error.RewriteError.TheVariants as rewrit
 use Rattle.syntax_editor.specs.declared.error.FinishError.{FinishError}
 use Rattle.syntax_editor.specs.declared.error.FinishError.TheVariants as finishes
 
--- A refusal tells which case fits; want of memory comes at any point.
+-- A refusal tells which case fits; out of memory comes at any point.
 abbrev pub RefusesRecord : Recording → RecordError → Type 0
 RefusesRecord r records.Foreign = r ≡ Foreign
 RefusesRecord r records.BadRange = r ≡ BadRange
@@ -31,7 +31,7 @@ record_message records.BadRange = codes "no children of one parent, in order"
 record_message records.BadTarget = codes "the root only becomes one other node"
 record_message records.NoMemory = codes "out of memory"
 
--- only an editor of this tree, by number and by what stands there, is merged; out of memory only behind that
+-- only an editor of this tree, by number and by what stands there, is merged; out of memory only after that
 abbrev pub RefusesMerge : Element → Element → MergeError → Type 0
 RefusesMerge top other merges.Foreign = IsOf top other → ⊥
 RefusesMerge top other merges.NoMemory = IsOf top other

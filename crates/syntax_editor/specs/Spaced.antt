@@ -43,7 +43,7 @@ child p i = slice_get (map (with_cursor p.number) (children p.place)) i
 abbrev pub inner_line : Element → Space
 inner_line p = Line (min (level_of (Node p) + 1) 255)
 
--- what comes between a child and an element that is put behind it
+-- what comes between a child and an element that is put after it
 abbrev pub space_behind : Element → SyntaxElement → SyntaxElement → Space
 space_behind p previous e =
     if begins_line (kind_at p.place) (kind_of previous) (kind_of e) then inner_line p else between previous e
@@ -53,11 +53,11 @@ abbrev pub space_before : Element → ℕ → SyntaxElement → Space
 space_before p zero e = Nothing
 space_before p (suc i) e = option_map_or (λ previous. space_behind p previous e) (child p i) Nothing
 
--- what comes behind it: nothing behind all children
+-- what comes after it: nothing after all children
 abbrev pub space_after : Element → ℕ → SyntaxElement → Space
 space_after p i e = option_map_or (between e) (child p i) Nothing
 
--- what comes before the first of some elements, and behind the last; nothing around none
+-- what comes before the first of some elements, and after the last; nothing around none
 abbrev pub space_before_all : Element → ℕ → List SyntaxElement → Space
 space_before_all p i es = option_map_or (space_before p i) (slice_get es 0) Nothing
 
@@ -111,7 +111,7 @@ number_after e p i n es = n + spaced_count (own e.top p) i es
 -- ---- when it is refused
 
 -- as foreign only where the gap is none of this tree; for want of numbers only where it is one, and the number that is to be next lies
--- past the last; for want of memory at any point
+-- past the last; out of memory at any point
 abbrev pub RefusesSpaced : Bool → ℕ → WhitespaceError → Type 0
 RefusesSpaced has_gap next Foreign = has_gap ≡ false
 RefusesSpaced has_gap next NoTreeNumber = (has_gap ≡ true) × (2 ^ 32 < next)

@@ -171,6 +171,7 @@ impl SyntaxEditor {
             changes,
             mapping,
             annotations,
+            ..
         } = self;
         let Rewritten {
             green,

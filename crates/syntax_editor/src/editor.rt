@@ -1,25 +1,29 @@
 //! Editors: what is recorded on a tree.
 ghost use Rattle.std.specs.Prelude.{◌≡◌, ◌≤◌, ◌<◌, ◌+◌, length, get_or, set, ◌++◌, ◌∷◌, [], map, IfOk, IfErr, OnOk, OnErr};
 ghost use Rattle.std.specs.Borrow.{sem};
-ghost use Rattle.syntax_tree.specs.Element.{Element};
+ghost use Rattle.syntax_tree.specs.Element.{Way, Element};
 ghost use Rattle.syntax_tree.specs.Handle.{element_of};
 ghost use Rattle.syntax_tree.specs.Refusal.{RefusesTree};
 ghost use Rattle.tree_rewrite.specs.Change.{IsOneNode};
 ghost use Rattle.tree_rewrite.specs.Recorded.{recorded};
 ghost use Rattle.syntax_editor.specs.Editing.{with_annotation, untouched, with_changes, IsEdited, next_number};
-ghost use Rattle.syntax_editor.specs.Recording.{over, with_single, is_deleted};
+ghost use Rattle.syntax_editor.specs.Recording.{is_single_at, over, with_single, is_deleted};
 ghost use Rattle.syntax_editor.specs.Inside.{IsOf, IsSound, annotated};
 ghost use Rattle.syntax_editor.specs.Lending.{LendsMapping};
+ghost use Rattle.syntax_editor.specs.Noted.{first_single};
 
 use crate::annotation::{SyntaxAnnotation, marked};
 use crate::factory::{FACTORY, SyntaxFactory};
-use crate::recorded::{has_deletion_at, puts_nothing, single_number};
+use crate::noted::{is_deleted, note_all};
+use crate::recorded::puts_nothing;
 use crate::target::target;
 use std::alloc::{AllocError, Global};
+use std::collections::HashMap;
 use std::marker::Model;
 use std::mem;
 use syntax_tree::{SyntaxElement, SyntaxMapping, SyntaxNode, TreeError, TreeIds};
 use tree_rewrite::change::Change;
+use tree_rewrite::way_map::{WayMap, number_at};
 
 /// What is recorded on a tree. A contract sees the root of the tree; and the changes, the mapped nodes and the annotated elements in
 /// the order in which they were recorded.
@@ -29,6 +33,9 @@ pub struct SyntaxEditor {
     pub(crate) changes: Vec<Change>,
     pub(crate) mapping: SyntaxMapping,
     pub(crate) annotations: Vec<(SyntaxElement, SyntaxAnnotation)>,
+    /// The numbers of the first changes of elements that were named alone, by the ways of these: of the first `noted` changes.
+    pub(crate) singles: WayMap,
+    pub(crate) noted: usize,
 }
 
 impl Model for SyntaxEditor {
@@ -40,6 +47,7 @@ impl Model for SyntaxEditor {
     ghost use Rattle.tree_rewrite.specs.Recorded.{recorded};
     ghost use Rattle.syntax_editor.specs.Editing.{Editing};
     ghost use Rattle.syntax_editor.specs.Inside.{IsSound, annotated};
+    ghost use Rattle.syntax_editor.specs.Noted.{AreNoted};
 
     ghost Value = { Editing };
 
@@ -53,7 +61,8 @@ impl Model for SyntaxEditor {
           annotations = map annotated e.annotations.items;
         } };
 
-    ghost invariant = { λ e. (e.root.place.up ≡ []) × All (IsSound e.root) e.changes.items };
+    ghost invariant = { λ e. (e.root.place.up ≡ []) × All (IsSound e.root) e.changes.items
+        × AreNoted e.singles e.noted (map recorded e.changes.items) };
 }
 
 impl SyntaxEditor {
@@ -67,6 +76,8 @@ impl SyntaxEditor {
             changes: Vec::new(alloc),
             mapping: SyntaxMapping::new(alloc),
             annotations: Vec::new(alloc),
+            singles: HashMap::new(alloc),
+            noted: 0,
         }
     }
 
@@ -155,10 +166,10 @@ impl SyntaxEditor {
             return Ok(false);
         }
         let way = element.way(alloc)?;
-        has_deletion_at(alloc, &way, &self.changes)
+        is_deleted(alloc, &way, &self.changes, self.noted, &self.singles)
     }
 
-    /// Adds a change behind all.
+    /// Adds a change last of all.
     pub(crate) fn push(&mut self, change: Change) -> Result<(), AllocError>
         requires { IsSound self.old.top change }
         ensures ok { OnOk result (self.new ≡ with_changes self.old (self.old.changes ++ recorded change ∷ [])) }
@@ -166,6 +177,15 @@ impl SyntaxEditor {
     {
         self.changes.push(change)?;
         Ok(())
+    }
+
+    /// The number of the first change of the element at a way, named alone, if there is one.
+    fn first_single(&mut self, alloc: Global, way: &[usize]) -> Result<Option<usize>, AllocError>
+        ensures number { IfOk result (λ n. n ≡ first_single way.now self.old.changes) }
+        ensures same { self.new ≡ self.old }
+    {
+        note_all(alloc, &self.changes, &mut self.noted, &mut self.singles)?;
+        Ok(number_at(&self.singles, way))
     }
 
     /// An element of the tree, named alone, becomes these: in the place of what was recorded for it alone, unless that is a deletion.
@@ -182,7 +202,6 @@ impl SyntaxEditor {
         ensures err { OnErr result (self.new ≡ self.old) }
     {
         let way = old.way(alloc)?;
-        let number = single_number(alloc, &way, &self.changes)?;
         let last = old.clone()?;
         let change = Change::Replace {
             first: old,
@@ -190,17 +209,21 @@ impl SyntaxEditor {
             new,
             single: true,
         };
-        if number == self.changes.len() {
-            return self.push(change);
+        match self.first_single(alloc, &way)? {
+            None => self.push(change),
+            Some(number) => {
+                self.put_over(number, change);
+                Ok(())
+            }
         }
-        self.put_over(number, change);
-        Ok(())
     }
 
     /// Puts a change in the place of the one of a number, unless that deletes.
     fn put_over(&mut self, number: usize, change: Change)
         requires within { number < length self.old.changes }
         requires sound { IsSound self.old.top change }
+        requires single { (w : Way) →
+            is_single_at w (recorded change) ≡ is_single_at w (get_or self.old.changes number (recorded change)) }
         ensures { self.new ≡ with_changes self.old
             (set self.old.changes number (over (get_or self.old.changes number (recorded change)) (recorded change))) }
     {

@@ -23,7 +23,7 @@ pub(crate) fn group_of(groups: &Groups, number: u32) -> &[SyntaxElement]
     }
 }
 
-/// Adds an element behind those of the annotation of a number.
+/// Adds an element after those of the annotation of a number.
 fn push_to(
     alloc: Global,
     number: u32,

@@ -21,6 +21,7 @@ impl IndentLevel {
         IndentLevel(0)
     }
 
+    /// Whether it is no step at all.
     pub fn is_zero(&self) -> bool
         ensures { result ≡ (self.now.0 == 0) }
     {
@@ -28,7 +29,7 @@ impl IndentLevel {
     }
 
     /// How far the line is set in on which a token stands: the first white space with a line feed, from the token itself backwards through
-    /// the tree, has a step for every four characters behind its last line feed. Without such white space no step.
+    /// the tree, has a step for every four characters after its last line feed. Without such white space no step.
     pub fn from_token(alloc: Global, token: &SyntaxToken) -> Result<IndentLevel, AllocError>
         ensures { IfOk result (λ level. level.0 ≡ level_at token.now.place) }
     {
@@ -56,7 +57,7 @@ impl IndentLevel {
     }
 }
 
-/// How many characters stand behind the last line feed of a text, if it has one.
+/// How many characters stand after the last line feed of a text, if it has one.
 fn behind_line_feed(text: &str) -> Option<usize>
     ensures { result ≡ behind_line_feed (chars text.now) }
 {

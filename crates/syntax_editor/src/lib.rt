@@ -5,6 +5,7 @@
 
 pub mod again;
 pub mod annotation;
+pub mod attrs;
 pub mod edit;
 pub mod editor;
 pub mod error;
@@ -15,6 +16,7 @@ pub mod indent_level;
 pub mod make_error;
 pub mod merging;
 pub mod nodes;
+mod noted;
 pub mod recorded;
 pub mod recording;
 pub mod rewriting;
@@ -24,6 +26,7 @@ pub mod typed;
 pub mod whitespace;
 
 pub use annotation::{Annotations, SyntaxAnnotation};
+pub use attrs::AttrsOwnerEdit;
 pub use edit::SyntaxEdit;
 pub use editor::SyntaxEditor;
 pub use error::{FinishError, MergeError, RecordError, RewriteError, WhitespaceError};

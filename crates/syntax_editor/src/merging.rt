@@ -37,10 +37,12 @@ impl SyntaxEditor {
         // (there is room for both)
         self.changes.append(&mut other.changes)?;
         self.annotations.append(&mut other.annotations)?;
+        other.singles.clear();
+        other.noted = 0;
         Ok(())
     }
 
-    /// Takes over what another editor of the same tree has recorded, behind all that this one has. Refuses one of another tree, by its
+    /// Takes over what another editor of the same tree has recorded, after all that this one has. Refuses one of another tree, by its
     /// number or by what stands in it, as `Foreign`. A refusal changes nothing, and hands the other editor back.
     pub fn merge(&mut self, other: SyntaxEditor) -> Result<(), Unmerged>
         ensures ok { OnOk result (self.new ≡ merged self.old other) }

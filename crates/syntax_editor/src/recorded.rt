@@ -1,11 +1,12 @@
 //! Changes that were recorded before.
-ghost use Rattle.std.specs.Prelude.{◌≡◌, ◌≤◌, map, length, IfOk};
+ghost use Rattle.std.specs.Prelude.{◌≡◌, map, IfOk};
 ghost use Rattle.std.specs.List.{All, list_any};
+ghost use Rattle.syntax_tree.specs.Element.{Element};
 ghost use Rattle.syntax_tree.specs.Handle.{element_of};
 ghost use Rattle.tree_rewrite.specs.Recorded.{recorded, IsOrdered};
 ghost use Rattle.tree_rewrite.specs.Rewrite.{payload_of};
 ghost use Rattle.syntax_editor.specs.Recording.{is_single_at, is_deletion_at, is_empty};
-ghost use Rattle.syntax_editor.specs.Inside.{single_number};
+ghost use Rattle.syntax_editor.specs.Inside.{IsOwn};
 
 use std::alloc::{AllocError, Global};
 use syntax_tree::{Position, SyntaxElement};
@@ -35,25 +36,6 @@ pub(crate) fn is_single_at(
             Ok(*single && first.way(alloc)?.as_slice() == way)
         }
     }
-}
-
-/// The number of the first such change; how many changes there are, where there is none.
-pub(crate) fn single_number(
-    alloc: Global,
-    way: &[usize],
-    changes: &[Change],
-) -> Result<usize, AllocError>
-    ensures number { IfOk result (λ n. n ≡ single_number way.now (map recorded changes.now)) }
-    ensures within { IfOk result (λ n. n ≤ length changes.now) }
-{
-    let mut number = 0;
-    for change in changes {
-        if is_single_at(alloc, way, change)? {
-            return Ok(number);
-        }
-        number += 1;
-    }
-    Ok(number)
 }
 
 /// Whether a deletion of the element at a way, named alone, is among the changes.
@@ -87,9 +69,10 @@ pub(crate) fn copies(
 }
 
 /// The same change again.
-fn copy(alloc: Global, change: &Change) -> Result<Change, AllocError>
+pub(crate) fn copy(alloc: Global, change: &Change) -> Result<Change, AllocError>
     ensures same { IfOk result (λ c. recorded c ≡ recorded change.now) }
     ensures ordered { IfOk result (λ c. IsOrdered change.now → IsOrdered c) }
+    ensures own { (top : Element) → IfOk result (λ c. IsOwn top change.now → IsOwn top c) }
 {
     match change {
         Change::Insert { place, new } => {

@@ -34,7 +34,7 @@ fn is_statement(kind: u16) -> bool
         || is(kind, SyntaxKind::USE)
 }
 
-/// Whether an element of a raw kind begins a line behind another in a list, by their raw kinds.
+/// Whether an element of a raw kind begins a line after another in a list, by their raw kinds.
 fn begins_line(list: u16, previous: u16, kind: u16) -> bool
     ensures { result ≡ begins_line list previous kind }
 {
@@ -85,7 +85,7 @@ fn space_before(
     Space::between(alloc, &previous, element)
 }
 
-/// What comes behind an element that is put into the gap of this number.
+/// What comes after an element that is put into the gap of this number.
 fn space_after(
     alloc: Global,
     parent: &SyntaxNode,
@@ -115,7 +115,7 @@ fn space_before_all(
     }
 }
 
-/// What comes behind the last of these.
+/// What comes after the last of these.
 fn space_after_all(
     alloc: Global,
     parent: &SyntaxNode,
@@ -200,7 +200,7 @@ impl SyntaxEditor {
     }
 
     /// Records that elements come into a gap, in this order, with the white space that belongs between them and their neighbours there: a
-    /// token before the first of them and one behind the last, where any belongs there, in trees of their own under the next numbers
+    /// token before the first of them and one after the last, where any belongs there, in trees of their own under the next numbers
     /// of `ids`. Refuses a position that is none of the edited tree as `Foreign`, then for want of a tree number. A refusal records nothing,
     /// but may have taken a number.
     pub fn insert_all_with_whitespace(

@@ -74,7 +74,7 @@ pub(crate) fn are_in_order(first: &[usize], last: &[usize]) -> bool
     }
 }
 
-/// The element that a position stands behind, the parent where it stands before all children; none where the parent has no such child.
+/// The element that a position stands after, the parent where it stands before all children; none where the parent has no such child.
 fn anchor(alloc: Global, position: &Position) -> Result<Option<SyntaxElement>, AllocError>
     ensures { IfOk result (λ r. option_map element_of r ≡ standing (anchor position.now.parent position.now.index)) }
 {

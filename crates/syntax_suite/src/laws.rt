@@ -6,11 +6,11 @@ ghost use Rattle.syntax_suite.specs.Cases.{cases};
 ghost use Rattle.syntax_suite.specs.Rows.{Rows};
 
 /// Rewrites worked by hand.
-pub fn rows()
+pub(crate) fn rows()
     ensures holds { Rows }
 {}
 
 /// Rewrites that an independent reader of the rules worked, with all orders of their changes.
-pub fn cases_agree()
+pub(crate) fn cases_agree()
     ensures { list_all agrees cases ≡ true }
 {}

@@ -10,9 +10,7 @@ use std::alloc::Global;
 use std::io;
 
 mod case;
-pub mod laws;
-#[cfg(test)]
-mod tests;
+mod laws;
 
 fn main(rt: HostRuntime) -> anyhow::Result<()> {
     let alloc: Global = rt.alloc();

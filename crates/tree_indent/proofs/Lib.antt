@@ -1,2 +1,3 @@
 pub mod Shifting
 pub mod SetOut
+pub mod ChildPairs

@@ -23,7 +23,7 @@ front_is n cs = starts_is Decides-eqb cs (spaces n) (starts_with eqb cs (spaces 
 ten : (c : ℕ) → eqb c 10 ≡ true → c ≡ 10
 ten c h = (Decides-eqb c 10).0 h
 
--- where no line feed has the spaces behind it, the character stays
+-- where no line feed has the spaces after it, the character stays
 abbrev is_margin : ℕ → ℕ → List ℕ → Bool
 is_margin n c cs = eqb c 10 && starts_with eqb cs (spaces n)
 
@@ -66,7 +66,7 @@ set_out-some n (suc a) (c ∷ cs) rest lacks at =
     stays n c cs (lacks 0 (omega arith))
     ∙ ap (λ l. c ∷ l) (set_out-some n a cs rest (λ i h. lacks (suc i) (omega (arith, h))) at)
 
--- all matches, one behind the other
+-- all matches, one after the other
 pub set_out-replaced :
     {P : Type 0} (text : P → List ℕ) (n m : ℕ) (p : P) (s out : List ℕ) → text p ≡ 10 ∷ spaces n
     → ReplacesMatches (λ x t r. FindsText (text x) t r) (λ x y. text y ≡ text x) (10 ∷ []) m p s out → out ≡ set_out n s

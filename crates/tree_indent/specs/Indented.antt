@@ -24,7 +24,7 @@ abbrev pub FitsShifted : Shift → Option Term → Type 0
 FitsShifted s (Some (Node t)) = FitsTree (shifted_tree s t)
 FitsShifted s _ = ⊥
 
--- too long only where that may not stand; for want of a number only where none is left; for want of memory at any point
+-- too long only where that may not stand; for want of a number only where none is left; out of memory at any point
 abbrev pub RefusesShifted : Shift → Element → ℕ → MakeError → Type 0
 RefusesShifted s e number NoMemory = Unit {0}
 RefusesShifted s e number NoTreeNumber = number ≡ 2 ^ 32

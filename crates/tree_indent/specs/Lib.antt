@@ -1,2 +1,3 @@
 pub mod Shifted
 pub mod Indented
+pub mod Mapped

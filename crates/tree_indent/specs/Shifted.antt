@@ -11,11 +11,11 @@ use Rattle.tree_indent.specs.declared.shift.Shift.TheVariants.{In, Out}
 
 -- ---- texts
 
--- so many steps more: their spaces come behind a text that has a line feed
+-- so many steps more: their spaces come after a text that has a line feed
 abbrev pub set_in : ℕ → List ℕ → List ℕ
 set_in n text = if list_any (λ c. c == line_feed) text then text ++ spaces n else text
 
--- so many steps less: behind each line feed that has their spaces behind it, these are dropped
+-- so many steps less: after each line feed that has their spaces after it, these are dropped
 abbrev pub set_out : ℕ → List ℕ → List ℕ
 set_out n [] = []
 set_out n (c ∷ cs) = c ∷ (if c == line_feed && starts_with nat_eq cs (spaces n) then drop (n * 4) (set_out n cs) else set_out n cs)

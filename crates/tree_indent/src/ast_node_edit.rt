@@ -1,12 +1,14 @@
 //! Typed nodes by more steps, or by fewer.
-ghost use Rattle.std.specs.Prelude.{◌≡◌, ◌+◌, IfOk, IfErr, OnOk};
+ghost use Rattle.std.specs.Prelude.{◌≡◌, ◌+◌, ◌++◌, IfOk, IfErr, OnOk};
 ghost use Rattle.tree_indent.specs.Indented.{IsShifted, RefusesShifted, own_level};
+ghost use Rattle.tree_indent.specs.Mapped.{pairs_below, IsAfter, RefusesMapped};
 ghost use Rattle.tree_indent.specs.declared.shift.Shift.TheVariants.{In, Out};
 
-use crate::edit;
+use crate::error::IndentError;
+use crate::{edit, mapped};
 use std::alloc::{AllocError, Global};
 use syntax_editor::{IndentLevel, MakeError};
-use syntax_tree::{AstNode, TreeIds};
+use syntax_tree::{AstNode, SyntaxMapping, TreeIds};
 
 /// Typed nodes are set in and out as their nodes are. Each call gives the root of a tree of its own, of the same type.
 pub trait AstNodeEdit: AstNode {
@@ -30,6 +32,26 @@ pub trait AstNodeEdit: AstNode {
         ensures kept { IfErr result (λ _. ids.new ≡ ids.old) }
     {
         let root = edit::indent(alloc, self.syntax(), level, ids)?;
+        Ok(Self::cast(root).unwrap())
+    }
+
+    /// By the steps of a level more, as `indent`; the old child nodes are mapped to the new ones.
+    fn indent_with_mapping(
+        &self,
+        alloc: Global,
+        level: IndentLevel,
+        mapping: &mut SyntaxMapping,
+        ids: &mut TreeIds,
+    ) -> Result<Self, IndentError>
+        ensures ok { IfOk result (λ x. IsShifted (In level) (Self.stands self.now) ids.old (Self.stands x)) }
+        ensures mapped { IfOk result (λ x. mapping.new ≡ mapping.old ++ pairs_below (Self.stands self.now) (Self.stands x)) }
+        ensures after { OnOk result (IsAfter ids.old (Self.stands self.now)) }
+        ensures number { OnOk result (ids.new ≡ ids.old + 1) }
+        ensures refused { IfErr result (RefusesMapped (In level) (Self.stands self.now) ids.old) }
+        ensures kept { IfErr result (λ _. ids.new ≡ ids.old) }
+        ensures unmapped { IfErr result (λ _. mapping.new ≡ mapping.old) }
+    {
+        let root = mapped::indent_with_mapping(alloc, self.syntax(), level, mapping, ids)?;
         Ok(Self::cast(root).unwrap())
     }
 

@@ -3,11 +3,15 @@
 
 pub mod ast_node_edit;
 pub mod edit;
+pub mod error;
+pub mod mapped;
 pub mod shift;
 pub mod trees;
 
 pub use ast_node_edit::AstNodeEdit;
 pub use edit::{dedent, indent, reset_indent};
+pub use error::IndentError;
+pub use mapped::indent_with_mapping;
 
 #[cfg(test)]
 mod tests;

@@ -29,7 +29,7 @@ fn has_line_feed(text: &str) -> bool
     false
 }
 
-/// A text with the spaces of a level behind it, if it has a line feed.
+/// A text with the spaces of a level after it, if it has a line feed.
 fn set_in(alloc: Global, text: &str, level: IndentLevel) -> Result<String, AllocError>
     ensures { IfOk result (λ t. string_bytes t ≡ set_in level.0 text.now) }
 {
@@ -39,7 +39,7 @@ fn set_in(alloc: Global, text: &str, level: IndentLevel) -> Result<String, Alloc
     String::from_str(alloc, text)
 }
 
-/// A text without the spaces of a level behind its line feeds.
+/// A text without the spaces of a level after its line feeds.
 fn set_out(alloc: Global, text: &str, level: IndentLevel) -> Result<String, AllocError>
     ensures { IfOk result (λ t. string_bytes t ≡ set_out level.0 text.now) }
 {

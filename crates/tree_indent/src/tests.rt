@@ -1,11 +1,11 @@
 //! That calls succeed while memory holds, on trees that are built by hand.
-use crate::{AstNodeEdit, dedent, indent, reset_indent};
+use crate::{AstNodeEdit, dedent, indent, indent_with_mapping, reset_indent};
 use parser_input::SyntaxKind;
 use rowan_green::{GreenNode, GreenNodeBuilder};
 use std::alloc::Global;
 use std::test::Fail;
 use syntax_editor::{IndentLevel, StmtList};
-use syntax_tree::{AstNode, SyntaxElement, SyntaxNode, TreeIds};
+use syntax_tree::{AstNode, SyntaxElement, SyntaxMapping, SyntaxNode, TreeIds};
 
 /// A leaf: its kind and its text.
 type Leaf = (SyntaxKind, &'static str);
@@ -48,7 +48,7 @@ fn list(alloc: Global, leaves: &[Leaf]) -> Result<GreenNode, Fail> {
     Ok(builder.finish()?)
 }
 
-/// A file with a line feed and four spaces, and behind them a list of statements with these leaves.
+/// A file with a line feed and four spaces, and after them a list of statements with these leaves.
 fn file(alloc: Global, leaves: &[Leaf]) -> Result<GreenNode, Fail> {
     let mut builder = GreenNodeBuilder::new(alloc);
     builder.start_node(raw(SyntaxKind::SOURCE_FILE))?;
@@ -97,6 +97,24 @@ fn typed(alloc: Global) -> Result<String, Fail> {
     let level = list.indent_level(alloc)?;
     let set_in = list.indent(alloc, level, &mut ids)?;
     text_of(alloc, set_in.dedent(alloc, level, &mut ids)?.syntax())
+}
+
+/// A file set in by one step; its list is mapped.
+fn mapped(alloc: Global) -> Result<String, Fail> {
+    let mut ids = TreeIds::new();
+    let root = SyntaxNode::new_root(alloc, file(alloc, BLOCK)?, &mut ids)?;
+    let mut mapping = SyntaxMapping::new(alloc);
+    let new = indent_with_mapping(alloc, &root, IndentLevel(1), &mut mapping, &mut ids)?;
+    if mapping.len() != 1 {
+        return Err(Fail::new("not mapped"));
+    }
+    text_of(alloc, &new)
+}
+
+#[test]
+fn child_nodes_are_mapped(rt: HostRuntime) -> Result<(), Fail> {
+    assert!(rt; mapped(rt.alloc())?.as_str() == "\n        {\n            a\n        }");
+    Ok(())
 }
 
 #[test]

@@ -25,7 +25,7 @@ pub some_same : {A : Type 0} (a b : A) → Some a ≡ Some b → a ≡ b
 some_same a b e = ap (some_or a) e
 
 -- two that cover one way meet
-covers_meet : (f g w : Way) (n m : ℕ) (es ds : List Element) (s t : Bool) → covers f n w ≡ true → covers g m w ≡ true → meets (replace f n es s) (replace g m ds t) ≡ true
+pub covers_meet : (f g w : Way) (n m : ℕ) (es ds : List Element) (s t : Bool) → covers f n w ≡ true → covers g m w ≡ true → meets (replace f n es s) (replace g m ds t) ≡ true
 covers_meet [] g [] n m es ds s t x y = y
 covers_meet [] g (i ∷ w) n m es ds s t x y = absurd (false≢true x)
 covers_meet (a ∷ p) g [] n m es ds s t x y = absurd (false≢true x)
@@ -58,7 +58,7 @@ carried_is u w v p e =
     let n : length p - length u ≡ length v = omega (arith, ap length e, length-append v u) in
     ap (λ k. take k p ++ w) n ∙ ap (λ x. take (length v) x ++ w) (sym e) ∙ ap (λ x. x ++ w) (take_at v u (length v) refl)
 
-carried_same : (u w p q : Way) → (v : Way) × (v ++ u ≡ p) → (x : Way) × (x ++ u ≡ q) → carried u w p ≡ carried u w q → p ≡ q
+pub carried_same : (u w p q : Way) → (v : Way) × (v ++ u ≡ p) → (x : Way) × (x ++ u ≡ q) → carried u w p ≡ carried u w q → p ≡ q
 carried_same u w p q a b e =
     let f : a.0 ++ w ≡ b.0 ++ w = sym (carried_is u w a.0 p a.1) ∙ e ∙ carried_is u w b.0 q b.1 in
     let g : a.0 ≡ b.0 = append_cancel_right a.0 b.0 w f in
@@ -134,7 +134,7 @@ job_parts (Some d) n own j e =
     (ap (λ v. Some v.change) f, ap (λ v. v.sheet) f, ap (λ v. v.own) f)
 
 -- two jobs that set one slot of one sheet come of changes that meet
-jobs_meet : (top : Element) (cs : List Change) (ms : Mapping) (c1 c2 : Change) (j1 j2 : Job) (n : Option Way) (w : Way)
+pub jobs_meet : (top : Element) (cs : List Change) (ms : Mapping) (c1 c2 : Change) (j1 j2 : Job) (n : Option Way) (w : Way)
     → job_of top cs ms c1 ≡ Some j1 → job_of top cs ms c2 ≡ Some j2 → sets_on n (slot w) j1 ≡ true → sets_on n (slot w) j2 ≡ true → meets c1 c2 ≡ true
 jobs_meet top cs ms c1 c2 j1 j2 n w e1 e2 h1 h2 =
     let x = job_parts (change_at top cs ms (owner_of cs c1) c1) _ _ j1 e1 in

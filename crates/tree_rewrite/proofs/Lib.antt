@@ -3,6 +3,7 @@ pub mod Plans
 pub mod PutLemmas
 pub mod OrderLemmas
 pub mod JobLemmas
+pub mod SwapLemmas
 pub mod MarkedLemmas
 pub mod NestingLemmas
 pub mod ClimbLemmas
@@ -20,3 +21,5 @@ pub mod CameLemmas
 pub mod ChangedLemmas
 pub mod PutMarkLemmas
 pub mod RangeLemmas
+pub mod WayMapLemmas
+pub mod HeldLemmas

@@ -52,7 +52,7 @@ same_sheet-sound None (Some w) h = absurd (false≢true h)
 same_sheet-sound (Some v) None h = absurd (false≢true h)
 same_sheet-sound (Some v) (Some w) h = ap Some (same_way-sound v w h)
 
-one_gap_from : (c d : Change) (w : Way) (k : ℕ) → sets c (gap w k) ≡ true → sets d (gap w k) ≡ true → same_gap_at c d ≡ true
+pub one_gap_from : (c d : Change) (w : Way) (k : ℕ) → sets c (gap w k) ≡ true → sets d (gap w k) ≡ true → same_gap_at c d ≡ true
 one_gap_from (insert p a new) (insert q b others) w k h g =
     let x = and_parts (same_way p w) (eqb a k) h in
     let y = and_parts (same_way q w) (eqb b k) g in

@@ -170,7 +170,7 @@ marks-outside p q s a same told around old = by_around s.around old.marks old.to
 pub marked : (p : Puts) (ps : List Piece) (m : Marked) → Say ps m → MarksPuts p (after ps start) → p.marks.items ≡ put_marks m
 marked p ps m h old = (subst (λ s. MarksPuts p s) (h.says start) old).marks
 
--- what was added behind is what a piece brought
+-- what was added after is what a piece brought
 pub brought-behind : {A B : Type 0} (f : A → B) (old all : List A) (by : List B) (n : ℕ) → n ≡ length old → map f all ≡ map f old ++ by → map f (take (length all - n) (drop n all)) ≡ by
 brought-behind f old all by n len is =
     let rest = drop n all in

@@ -1,20 +1,32 @@
 -- Laws of rewrites.
-use Rattle.std.specs.Prelude.{◌≡◌, ℕ, List, map, true}
+use Rattle.std.specs.Prelude.{◌≡◌, ℕ, List, ◌∷◌, ◌++◌, map, true, false}
 use Rattle.std.specs.List.{All}
 use Rattle.rowan_green.specs.Forest.{Tree}
 use Rattle.syntax_tree.specs.Element.{Element, is_node, term_of}
-use Rattle.tree_rewrite.specs.Change.{Change, KeepsRoot}
+use Rattle.tree_rewrite.specs.Change.{Change, KeepsRoot, has_collision}
 use Rattle.syntax_tree.specs.Mapping.{Mapping}
 use Rattle.tree_rewrite.specs.Rewrite.{jobs, or_no_jobs, is_placeable, rewrite}
 use Rattle.tree_rewrite.specs.Marked.{Marked, changed}
 use Rattle.tree_rewrite.specs.Changed.{changed_at, bounds_in}
 use Rattle.tree_rewrite.specs.Fits.{IsNode}
-use Rattle.tree_rewrite.specs.Orders.{is_order, put_in_order}
+use Rattle.tree_rewrite.specs.Orders.{is_order, put_in_order, same_gap_at}
 
 -- changes that are made one by one, in any order of their jobs, end in the tree with all made at once
 abbrev pub OrdersAgree : Type 0
 OrdersAgree = (top : Element) (cs : List Change) (ms : Mapping) (os : List ℕ) → is_placeable top cs ms ≡ true → is_order (or_no_jobs (jobs top cs ms)) os ≡ true
     → put_in_order top (or_no_jobs (jobs top cs ms)) os ≡ rewrite top cs ms
+
+-- two recordings on one tree end alike: in both two changes replace one element, or in none; in both each change has a place, or in none; and
+-- the tree with all changes made is the same
+pub record AreAlike (top : Element) (cs ds : List Change) (ms : Mapping) : Type 0 where
+  pub colliding : has_collision cs ≡ has_collision ds
+  pub placeable : is_placeable top cs ms ≡ is_placeable top ds ms
+  pub same : is_placeable top cs ms ≡ true → rewrite top cs ms ≡ rewrite top ds ms
+
+-- two neighbouring changes may be recorded in either order, unless both put into one gap
+abbrev pub SwapsAgree : Type 0
+SwapsAgree = (top : Element) (before after : List Change) (c d : Change) (ms : Mapping) → same_gap_at c d ≡ false
+    → AreAlike top (before ++ c ∷ (d ∷ after)) (before ++ d ∷ (c ∷ after)) ms
 
 -- where changes put one node alone in the root's place, if they replace it, the tree with all made at once is one node
 abbrev pub RootStays : Type 0

@@ -17,3 +17,5 @@ pub mod Changed
 pub mod Tracking
 pub mod Puts
 pub mod Growing
+pub mod WayMap
+pub mod Held

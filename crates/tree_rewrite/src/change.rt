@@ -1,5 +1,6 @@
 //! Changes as an editor records them.
 ghost use Rattle.std.specs.Prelude.{◌≡◌, ◌≤◌, IfOk};
+ghost use Rattle.tree_rewrite.specs.Held.{FitsRow};
 ghost use Rattle.tree_rewrite.specs.Recorded.{recorded, IsOrdered};
 
 use crate::tree_change::{Target, TreeChange};
@@ -28,7 +29,8 @@ impl Change {
     /// The same by the ways of what it changes. The ends of what is replaced are in order.
     pub fn into_tree_change(self, alloc: Global) -> Result<TreeChange, AllocError>
         requires { IsOrdered self }
-        ensures { IfOk result (λ c. c ≡ recorded self) }
+        ensures same { IfOk result (λ c. c ≡ recorded self) }
+        ensures fits { IfOk result FitsRow }
     {
         match self {
             Change::Insert { place, new } => {

@@ -2,30 +2,32 @@
 ghost use Rattle.std.specs.Prelude.{◌≡◌, [], false, map, option_map, IfOk};
 ghost use Rattle.std.specs.Option.{option_copied};
 ghost use Rattle.syntax_tree.specs.Handle.{element_of};
-ghost use Rattle.tree_rewrite.specs.Change.{is_dropped, is_node_by_node};
+ghost use Rattle.tree_rewrite.specs.Change.{is_dropped, is_node_by_node, has_collision};
+ghost use Rattle.tree_rewrite.specs.Held.{Holds};
 ghost use Rattle.tree_rewrite.specs.Rewrite.{payload_at, own_of, job_of, jobs};
 ghost use Rattle.tree_rewrite.specs.Recorded.{way_of};
 
 use crate::job::Job;
 use crate::moved::change_in;
-use crate::nesting::{is_dropped, is_node_by_node, owner_of};
+use crate::nesting::{change_at, is_dropped, is_node_by_node, owner_of};
 use crate::tree_change::{Target, TreeChange};
+use crate::way_map::WayMap;
 use rowan_green::GreenNode;
 use std::alloc::{AllocError, Global};
 use syntax_tree::{SyntaxElement, SyntaxMapping, SyntaxNode};
 
 /// The payload of what replaces the element at a way.
-fn payload_at<'a>(changes: &'a [TreeChange], way: &[usize]) -> Option<&'a SyntaxElement>
+fn payload_at<'a>(
+    changes: &'a [TreeChange],
+    held: &WayMap,
+    way: &[usize],
+) -> Option<&'a SyntaxElement>
+    requires apart { has_collision changes.now ≡ false }
+    requires holds { Holds held.now changes.now }
     ensures { option_map element_of (option_copied result) ≡ payload_at changes.now way.now }
 {
-    for change in changes {
-        if let Some(payload) = change.payload().first()
-            && change.replaces(way)
-        {
-            return Some(payload);
-        }
-    }
-    None
+    let change = change_at(changes, held, way)?;
+    change.payload().first()
 }
 
 /// The way of the node whose payload by a change may be changed itself.
@@ -49,18 +51,21 @@ fn job_of(
     alloc: Global,
     root: &SyntaxNode,
     changes: &[TreeChange],
+    held: &WayMap,
     mapping: &SyntaxMapping,
     change: &TreeChange,
 ) -> Result<Option<Job>, AllocError>
     requires top { root.now.place.up ≡ [] }
+    requires apart { has_collision changes.now ≡ false }
+    requires holds { Holds held.now changes.now }
     requires kept { is_dropped root.now.place.root changes.now change.now ≡ false }
     ensures { IfOk result (λ r. r ≡ job_of root.now changes.now mapping.now change.now) }
 {
     let own = own_of(alloc, root.cursor().green(), change)?;
-    let Some(holder) = owner_of(changes, change) else {
+    let Some(holder) = owner_of(changes, held, change) else {
         return Ok(Some(Job::new(None, change.copied(alloc)?, own)));
     };
-    let payload = match payload_at(changes, holder) {
+    let payload = match payload_at(changes, held, holder) {
         Some(SyntaxElement::Node(payload)) => payload,
         Some(SyntaxElement::Token(token)) => {
             let _leaf = token.cursor().green();
@@ -77,20 +82,25 @@ fn job_of(
     }
 }
 
-/// The jobs of the changes that are not dropped, in recorded order; none where one of them has no place.
+/// The jobs of the changes that are not dropped, in recorded order; none where one of them has no place. No two of the changes
+/// replace one element.
 pub fn jobs_of(
     alloc: Global,
     root: &SyntaxNode,
     changes: &[TreeChange],
+    held: &WayMap,
     mapping: &SyntaxMapping,
 ) -> Result<Option<Vec<Job>>, AllocError>
-    requires { root.now.place.up ≡ [] }
+    requires top { root.now.place.up ≡ [] }
+    requires apart { has_collision changes.now ≡ false }
+    requires holds { Holds held.now changes.now }
     ensures { IfOk result (λ r. option_map (λ v. v.items) r ≡ jobs root.now changes.now mapping.now) }
 {
     let mut jobs = Vec::new(alloc);
     for change in changes {
-        if !is_dropped(root.cursor().green(), changes, change) {
-            let Some(job) = job_of(alloc, root, changes, mapping, change)? else {
+        let dropped = is_dropped(alloc, root.cursor().green(), changes, held, change)?;
+        if !dropped {
+            let Some(job) = job_of(alloc, root, changes, held, mapping, change)? else {
                 return Ok(None);
             };
             jobs.push(job)?;

@@ -1,31 +1,17 @@
-//! Which recorded changes are nested in which, which are dropped, and which collide.
-ghost use Rattle.std.specs.Prelude.{◌≡◌, ◌+◌, ◌&&◌, not, nat_le, option_map};
+//! Which recorded changes lie in what others replace, and which are dropped with that.
+ghost use Rattle.std.specs.Prelude.{◌≡◌, ◌&&◌, false, not, option_map, IfOk};
 ghost use Rattle.std.specs.List.{list_any};
 ghost use Rattle.std.specs.Option.{option_copied};
 ghost use Rattle.syntax_tree.specs.Lent.{lent};
 ghost use Rattle.rowan.specs.Place.{term_by};
-ghost use Rattle.tree_rewrite.specs.Change.{
-  replaces,
-  is_nested,
-  is_node_by_node,
-  is_dropped,
-  holder_of,
-  owner_of,
-  rows_meet,
-  meets,
-  has_collision,
-};
+ghost use Rattle.tree_rewrite.specs.Change.{replaces, is_node_by_node, is_dropped, holder_of, owner_of, has_collision};
+ghost use Rattle.tree_rewrite.specs.Held.{Holds, replacing, leads_through, splits};
 
 use crate::tree_change::{Target, TreeChange};
-use crate::ways::{covers, is_between, is_within};
+use crate::way_map::{WayMap, number_at};
+use crate::ways::{covers, is_between};
 use rowan_green::{GreenNode, GreenToken, NodeOrToken};
-
-/// Whether a number lies at most so far after another.
-fn is_in_reach(number: usize, start: usize, more: usize) -> bool
-    ensures { result ≡ nat_le number (start + more) }
-{
-    number <= start || number - start <= more
-}
+use std::alloc::{AllocError, Global};
 
 impl TreeChange {
     /// Whether it replaces the element at a way.
@@ -38,100 +24,38 @@ impl TreeChange {
         }
     }
 
-    /// Whether it lies in what another change replaces.
-    pub fn is_nested_in(&self, other: &TreeChange) -> bool
-        ensures { result ≡ is_nested self.now other.now }
+    /// Whether a gap of the node at a way lies between two elements that it replaces.
+    pub fn splits(&self, parent: &[usize], index: usize) -> bool
+        ensures { result ≡ splits parent.now index self.now }
     {
-        let Target::Slots { first, more, .. } = other.target() else {
-            return false;
-        };
         match self.target() {
-            Target::Gap { parent, index } => {
-                is_within(first, *more, parent) || is_between(first, *more, parent, *index)
-            }
-            Target::Slots { first: own, .. } => match own.split_first() {
-                Some((_, parent)) => is_within(first, *more, parent),
-                None => false,
-            },
-        }
-    }
-
-    /// Whether both replace one element.
-    pub fn meets(&self, other: &TreeChange) -> bool
-        ensures { result ≡ meets self.now other.now }
-    {
-        match (self.target(), other.target()) {
-            (
-                Target::Slots { first, more, .. },
-                Target::Slots {
-                    first: second,
-                    more: others,
-                    ..
-                },
-            ) => rows_meet(first, *more, second, *others),
-            _ => false,
+            Target::Gap { .. } => false,
+            Target::Slots { first, more, .. } => is_between(first, *more, parent, index),
         }
     }
 }
 
-/// Whether two rows of siblings have an element in common.
-fn rows_meet(first: &[usize], more: usize, second: &[usize], others: usize) -> bool
-    ensures { result ≡ rows_meet first.now more second.now others }
+/// The change that replaces the element at a way, if one does.
+pub(crate) fn change_at<'a>(
+    changes: &'a [TreeChange],
+    held: &WayMap,
+    way: &[usize],
+) -> Option<&'a TreeChange>
+    requires { Holds held.now changes.now }
+    ensures { option_copied result ≡ replacing way.now changes.now }
 {
-    let Some((start, above)) = first.split_first() else {
-        return covers(second, others, first);
-    };
-    let Some((index, up)) = second.split_first() else {
-        return false;
-    };
-    above == up && is_in_reach(*start, *index, others) && is_in_reach(*index, *start, more)
-}
-
-/// Whether a change and one of some others replace one element.
-fn meets_any(change: &TreeChange, others: &[TreeChange]) -> bool
-    ensures { result ≡ list_any (meets change.now) others.now }
-{
-    for other in others {
-        if change.meets(other) {
-            return true;
-        }
-    }
-    false
-}
-
-/// Whether two of these replace one element, be they dropped or not.
-pub fn has_collision(changes: &[TreeChange]) -> bool
-    ensures { result ≡ has_collision changes.now }
-{
-    let mut rest = changes;
-    while let Some((change, others)) = rest.split_first() {
-        if meets_any(change, others) {
-            return true;
-        }
-        rest = others;
-    }
-    false
-}
-
-/// Whether one of these replaces the element at a way.
-fn is_replaced(changes: &[TreeChange], way: &[usize]) -> bool
-    ensures { result ≡ list_any (λ r. replaces r way.now) changes.now }
-{
-    for change in changes {
-        if change.replaces(way) {
-            return true;
-        }
-    }
-    false
+    let number = number_at(held, way)?;
+    changes.get(number)
 }
 
 /// The way of the innermost replaced element among those at and above a way.
-pub fn holder_of<'a>(changes: &[TreeChange], way: &'a [usize]) -> Option<&'a [usize]>
+pub fn holder_of<'a>(changes: &[TreeChange], held: &WayMap, way: &'a [usize]) -> Option<&'a [usize]>
+    requires { Holds held.now changes.now }
     ensures { option_copied result ≡ holder_of changes.now way.now }
 {
     let mut rest = way;
     loop {
-        if is_replaced(changes, rest) {
+        if change_at(changes, held, rest).is_some() {
             return Some(rest);
         }
         let (_, up) = rest.split_first()?;
@@ -140,14 +64,19 @@ pub fn holder_of<'a>(changes: &[TreeChange], way: &'a [usize]) -> Option<&'a [us
 }
 
 /// The way of the replaced element in whose payload a change is made that is not dropped.
-pub fn owner_of<'a>(changes: &[TreeChange], change: &'a TreeChange) -> Option<&'a [usize]>
+pub fn owner_of<'a>(
+    changes: &[TreeChange],
+    held: &WayMap,
+    change: &'a TreeChange,
+) -> Option<&'a [usize]>
+    requires { Holds held.now changes.now }
     ensures { option_copied result ≡ owner_of changes.now change.now }
 {
     match change.target() {
-        Target::Gap { parent, .. } => holder_of(changes, parent),
+        Target::Gap { parent, .. } => holder_of(changes, held, parent),
         Target::Slots { first, .. } => {
             let (_, above) = first.split_first()?;
-            holder_of(changes, above)
+            holder_of(changes, held, above)
         }
     }
 }
@@ -184,14 +113,93 @@ pub fn is_node_by_node(root: &GreenNode, change: &TreeChange) -> bool
     *single && new.is_node() && matches!(element_by(root, first), Some(NodeOrToken::Node(_)))
 }
 
-/// Whether a change is dropped with what it lies in.
-pub fn is_dropped(root: &GreenNode, changes: &[TreeChange], change: &TreeChange) -> bool
-    ensures { result ≡ is_dropped root.now changes.now change.now }
+/// Whether the element at a way is replaced, and not as a node by a node.
+fn is_gone(root: &GreenNode, changes: &[TreeChange], held: &WayMap, way: &[usize]) -> bool
+    requires apart { has_collision changes.now ≡ false }
+    requires holds { Holds held.now changes.now }
+    ensures { result ≡ list_any (λ r. replaces r way.now && not (is_node_by_node root.now r)) changes.now }
 {
-    for other in changes {
-        if change.is_nested_in(other) && !is_node_by_node(root, other) {
+    match change_at(changes, held, way) {
+        Some(change) => !is_node_by_node(root, change),
+        None => false,
+    }
+}
+
+/// Whether an element at or above a way is.
+fn is_lost(root: &GreenNode, changes: &[TreeChange], held: &WayMap, way: &[usize]) -> bool
+    requires apart { has_collision changes.now ≡ false }
+    requires holds { Holds held.now changes.now }
+    ensures { result ≡ list_any (λ r. leads_through way.now r && not (is_node_by_node root.now r)) changes.now }
+{
+    let mut rest = way;
+    loop {
+        if is_gone(root, changes, held, rest) {
             return true;
         }
+        let Some((_, up)) = rest.split_first() else {
+            return false;
+        };
+        rest = up;
     }
-    false
+}
+
+/// Whether a change, not of a node by a node, replaces what stands on both sides of a gap.
+fn closes(root: &GreenNode, change: &TreeChange, parent: &[usize], index: usize) -> bool
+    ensures { result ≡ (splits parent.now index change.now && not (is_node_by_node root.now change.now)) }
+{
+    change.splits(parent, index) && !is_node_by_node(root, change)
+}
+
+/// Whether a gap of the node at a way lies between two elements that are replaced as one, and not as a node by a node.
+fn is_closed(
+    alloc: Global,
+    root: &GreenNode,
+    changes: &[TreeChange],
+    held: &WayMap,
+    parent: &[usize],
+    index: usize,
+) -> Result<bool, AllocError>
+    requires apart { has_collision changes.now ≡ false }
+    requires holds { Holds held.now changes.now }
+    ensures { IfOk result (λ b. b ≡
+        list_any (λ r. splits parent.now index r && not (is_node_by_node root.now r)) changes.now) }
+{
+    if index == 0 {
+        return Ok(false);
+    }
+    let mut before = vec![in alloc; index - 1]?;
+    before.extend_from_slice(parent)?;
+    match change_at(changes, held, &before) {
+        Some(change) => Ok(closes(root, change, parent, index)),
+        None => Ok(false),
+    }
+}
+
+/// Whether a change is dropped with what it lies in.
+pub fn is_dropped(
+    alloc: Global,
+    root: &GreenNode,
+    changes: &[TreeChange],
+    held: &WayMap,
+    change: &TreeChange,
+) -> Result<bool, AllocError>
+    requires apart { has_collision changes.now ≡ false }
+    requires holds { Holds held.now changes.now }
+    ensures { IfOk result (λ b. b ≡ is_dropped root.now changes.now change.now) }
+{
+    match change.target() {
+        Target::Gap { parent, index } => {
+            if is_lost(root, changes, held, parent) {
+                return Ok(true);
+            }
+            is_closed(alloc, root, changes, held, parent, *index)
+        }
+        Target::Slots { first, .. } => {
+            let Some((_, above)) = first.split_first() else {
+                return Ok(false);
+            };
+            let lost = is_lost(root, changes, held, above);
+            Ok(lost)
+        }
+    }
 }

@@ -4,6 +4,7 @@ ghost use Rattle.std.specs.List.{All};
 ghost use Rattle.rowan_green.specs.Forest.{Tree};
 ghost use Rattle.syntax_tree.specs.Handle.{element_of};
 ghost use Rattle.tree_rewrite.specs.Change.{has_collision};
+ghost use Rattle.tree_rewrite.specs.Held.{FitsRow};
 ghost use Rattle.tree_rewrite.specs.Marked.{origins, put_marks};
 ghost use Rattle.tree_rewrite.specs.Rewrite.{jobs, rewritten};
 ghost use Rattle.tree_rewrite.specs.Orders.{is_order};
@@ -20,10 +21,10 @@ use crate::error::{ExecuteError, PlanError};
 use crate::execute::make_all;
 use crate::fill::push_standing;
 use crate::green::{green_of, one_node};
+use crate::held_ways::held_ways;
 use crate::job::{Job, is_order};
 use crate::kept::jobs_of;
 use crate::lists::on_sheet;
-use crate::nesting::has_collision;
 use crate::origins::{Origins, origins_of};
 use crate::piece::Piece;
 use crate::tree_change::TreeChange;
@@ -85,11 +86,11 @@ impl Plan {
         ensures refused { IfErr result (RefusesPlan root.now (map recorded changes.items) mapping.now) }
     {
         let changes = tree_changes(alloc, changes)?;
-        if has_collision(&changes) {
+        let Some(held) = held_ways(alloc, &changes)? else {
             return Err(PlanError::Intersecting);
-        }
+        };
         let top = root.clone()?;
-        match jobs_of(alloc, root, &changes, mapping)? {
+        match jobs_of(alloc, root, &changes, &held, mapping)? {
             Some(jobs) => Ok(Plan { top, jobs }),
             None => Err(PlanError::MissingMapping),
         }
@@ -173,7 +174,8 @@ impl Plan {
 /// The changes by the ways of what they change.
 fn tree_changes(alloc: Global, changes: Vec<Change>) -> Result<Vec<TreeChange>, AllocError>
     requires { All IsOrdered changes.items }
-    ensures { IfOk result (λ v. v.items ≡ map recorded changes.items) }
+    ensures changes { IfOk result (λ v. v.items ≡ map recorded changes.items) }
+    ensures fits { IfOk result (λ v. All FitsRow v.items) }
 {
     let mut made = Vec::new(alloc);
     for change in changes {

@@ -14,7 +14,7 @@ fn element(alloc: Global, root: &SyntaxNode, way: &[usize]) -> Result<SyntaxElem
 }
 
 /// Whether the element at a way has a level.
-pub fn has_level(alloc: Global, tree: Tree, way: &[usize], level: u8) -> Result<bool, Fail> {
+pub(crate) fn has_level(alloc: Global, tree: Tree, way: &[usize], level: u8) -> Result<bool, Fail> {
     let mut ids = TreeIds::new();
     let root = root(alloc, tree, &mut ids)?;
     let element = element(alloc, &root, way)?;
@@ -22,7 +22,7 @@ pub fn has_level(alloc: Global, tree: Tree, way: &[usize], level: u8) -> Result<
 }
 
 /// What comes between the children of two numbers of a root.
-pub fn between(alloc: Global, tree: Tree, left: usize, right: usize) -> Result<Space, Fail> {
+pub(crate) fn between(alloc: Global, tree: Tree, left: usize, right: usize) -> Result<Space, Fail> {
     let mut ids = TreeIds::new();
     let root = root(alloc, tree, &mut ids)?;
     let first = element(alloc, &root, &[left])?;

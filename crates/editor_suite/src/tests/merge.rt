@@ -91,7 +91,7 @@ fn show_both(
     Ok(out)
 }
 
-/// What a finished editor gives, behind what is written already.
+/// What a finished editor gives, after what is written already.
 fn show_finished(
     alloc: Global,
     out: &mut String,

@@ -7,6 +7,7 @@ use std::alloc::Global;
 use std::test::Fail;
 use syntax_tree::{SyntaxElement, SyntaxNode, SyntaxToken, TreeIds};
 
+/// The trees that these tests record on.
 #[derive(Clone, Copy)]
 pub enum Tree {
     /// `(1, 2)`: an argument list, whose elements 1 and 4 are literals.
@@ -17,7 +18,7 @@ pub enum Tree {
     Wrapped,
     /// `3`: a literal.
     Literal,
-    /// `a` in braces, on lines of its own: one step before `{`, two behind an empty line before `a`, three spaces before `}`.
+    /// `a` in braces, on lines of its own: one step before `{`, two after an empty line before `a`, three spaces before `}`.
     Lines,
     /// `let;`: a statement.
     Let,
@@ -29,6 +30,8 @@ pub enum Tree {
     Empty,
     /// Uses and attributes on lines of one step, two and none: elements 1 and 4 are uses, 3, 5 and 7 attributes.
     Items,
+    /// A struct after a comment and an attribute, with white space after each.
+    Documented,
 }
 
 #[derive(Clone, Copy)]
@@ -113,6 +116,19 @@ fn steps(tree: Tree) -> &'static [Step] {
             Step::Close,
         ],
         Tree::Empty => &[Step::Open(SyntaxKind::SOURCE_FILE), Step::Close],
+        Tree::Documented => &[
+            Step::Open(SyntaxKind::STRUCT),
+            Step::Leaf(SyntaxKind::COMMENT, "// a"),
+            Step::Leaf(SyntaxKind::WHITESPACE, "\n"),
+            Step::Open(SyntaxKind::ATTR),
+            Step::Leaf(SyntaxKind::POUND, "#"),
+            Step::Close,
+            Step::Leaf(SyntaxKind::WHITESPACE, " "),
+            Step::Leaf(SyntaxKind::STRUCT_KW, "struct"),
+            Step::Leaf(SyntaxKind::WHITESPACE, " "),
+            Step::Leaf(SyntaxKind::SEMICOLON, ";"),
+            Step::Close,
+        ],
         Tree::Items => &[
             Step::Open(SyntaxKind::SOURCE_FILE),
             Step::Leaf(SyntaxKind::WHITESPACE, "\n    "),

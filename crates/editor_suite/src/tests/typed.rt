@@ -3,7 +3,9 @@ use crate::tests::tree::{Tree, root};
 use parser_input::SyntaxKind;
 use std::alloc::Global;
 use std::test::Fail;
-use syntax_editor::{Fn, ItemList, SourceFile, StmtList, Struct, SyntaxEditor, Use};
+use syntax_editor::{
+    AttrsOwnerEdit, Fn, ItemList, SourceFile, StmtList, Struct, SyntaxEditor, Use,
+};
 use syntax_tree::{AstNode, SyntaxElement, TreeIds};
 
 /// Which of the types a kind can be cast to: a file, a struct, a function, a use, items, statements.
@@ -38,4 +40,17 @@ pub(crate) fn typed_copy(alloc: Global) -> Result<String, Fail> {
     let is_root = *editor.root() == *root.syntax();
     let text = editor.root().cursor().text()?;
     Ok(format!(in alloc; "{} {text} {is_root}", editor.root().tree())?)
+}
+
+/// The text of a struct without its attributes and its documentation.
+pub(crate) fn stripped(alloc: Global) -> Result<String, Fail> {
+    let mut ids = TreeIds::new();
+    let node = root(alloc, Tree::Documented, &mut ids)?;
+    let mut editor = SyntaxEditor::of_root(alloc, node.clone()?);
+    let Some(documented) = Struct::cast(node) else {
+        return Err(Fail::new("of another type"));
+    };
+    documented.remove_attrs_and_docs(alloc, &mut editor)?;
+    let edit = editor.finish(alloc, &mut ids)?;
+    Ok(format!(in alloc; "{}", edit.new_root().cursor().text()?)?)
 }

@@ -1,34 +1,55 @@
--- Behind all where none is there, else over the first.
-use Rattle.std.proofs.Common.{◌≡◌, ◌<◌, List, length, map, ap, subst, ◌∙◌, rules, arith}
-use Rattle.std.proofs.lemmas.List.{length-map}
-use Rattle.std.specs.Prelude.{OnOk}
+-- Last of all where none is there, else over the first.
+use Rattle.std.proofs.Common.{◌≡◌, ◌++◌, [], ◌∷◌, length, map, Some, None, ap, sym, ◌∙◌, get_or, set, rules, arith}
+use Rattle.std.proofs.lemmas.Result.{on_ok_weaker}
 use Rattle.syntax_tree.specs.Handle.{element_of}
-use Rattle.tree_rewrite.specs.Recorded.{recorded}
-use Rattle.tree_rewrite.specs.declared.change.Change.{Change}
-use Rattle.syntax_editor.specs.Editing.{Editing}
-use Rattle.syntax_editor.specs.Inside.{single_number}
-use Rattle.syntax_editor.proofs.Singles.{put_behind, put_before}
+use Rattle.tree_rewrite.specs.Change.{insert}
+use Rattle.syntax_editor.specs.Editing.{Editing, with_changes}
+use Rattle.syntax_editor.specs.Noted.{first_single}
+use Rattle.syntax_editor.specs.Recording.{is_single_at, over}
+use Rattle.syntax_editor.proofs.NotedLemmas.{first-there}
+use Rattle.syntax_editor.proofs.Singles.{alone, put_behind, put_before, put-single}
 use Rattle.syntax_editor.proofs.editor.SyntaxEditor.put_alone.Goals as goal
 
-pub returns-then-number-len-clause-ok : goal.returns-then-number-len-clause-ok
-returns-then-number-len-clause-ok c =
+pub returns-in-None-clause-ok : goal.returns-in-None-clause-ok
+returns-in-None-clause-ok c =
     let e = c.args.self.now in
-    let n = c.in_ok-number.number in
-    let w = c.in_ok-way.way.items in
+    let w = c.deref.result.now in
+    let new = map element_of c.args.new.items in
+    let change = alone c.args.old c.in_ok-last.last new in
     let same : c.in_ok-last.last ≡ c.args.old = search rules in
-    let number : n ≡ single_number w e.changes = search rules in
-    let count = length-map c.self.inside.changes.items recorded in
-    let all : n ≡ length e.changes = omega (arith, c.if-number-len.true, c.len.ensures, count, ap (λ (v : Editing). length v.changes) c.self.view_is) in
-    subst (λ v. OnOk c.push.result (c.push.new.self ≡ v)) (put_behind e c.args.old c.in_ok-last.last (map element_of c.args.new.items) w n same c.in_ok-way.ensures number all) c.push.ensures.ok
+    let way = c.deref.ensures.value ∙ c.in_ok-way.ensures in
+    let none : first_single w e.changes ≡ None = sym c.in_ok-first_single.ensures.number ∙ c.in-None.is in
+    on_ok_weaker c.push.result (λ h. h
+    ∙ ap (λ (d : Editing). with_changes d (d.changes ++ change ∷ [])) c.in_ok-first_single.ensures.same
+    ∙ put_behind e c.args.old c.in_ok-last.last new w same way none) c.push.ensures.ok
+
+pub put_over-requires-clause-within : goal.put_over-requires-clause-within
+put_over-requires-clause-within c =
+    let e = c.args.self.now in
+    let some : first_single c.deref.result.now e.changes ≡ Some c.in-Some.number = sym c.in_ok-first_single.ensures.number ∙ c.in-Some.is in
+    let there = first-there c.deref.result.now e.changes c.in-Some.number (insert [] 0 []) some in
+    omega (arith, there.0, ap (λ (d : Editing). length d.changes) c.in_ok-first_single.ensures.same)
+
+pub put_over-requires-clause-single : goal.put_over-requires-clause-single
+put_over-requires-clause-single c = λ w.
+    let e = c.args.self.now in
+    let n = c.in-Some.number in
+    let new = map element_of c.args.new.items in
+    let change = alone c.args.old c.in_ok-last.last new in
+    let way = c.deref.ensures.value ∙ c.in_ok-way.ensures in
+    let some : first_single c.deref.result.now e.changes ≡ Some n = sym c.in_ok-first_single.ensures.number ∙ c.in-Some.is in
+    put-single e.changes c.args.old c.in_ok-last.last new c.deref.result.now n way some w
+    ∙ ap (λ (d : Editing). is_single_at w (get_or d.changes n change)) (sym c.in_ok-first_single.ensures.same)
 
 pub returns-clause-ok : goal.returns-clause-ok
 returns-clause-ok c =
     let e = c.args.self.now in
-    let n = c.in_ok-number.number in
-    let w = c.in_ok-way.way.items in
+    let n = c.in-Some.number in
+    let new = map element_of c.args.new.items in
+    let change = alone c.args.old c.in_ok-last.last new in
     let same : c.in_ok-last.last ≡ c.args.old = search rules in
-    let number : n ≡ single_number w e.changes = search rules in
-    let count = length-map c.self.inside.changes.items recorded in
-    let few : n < length e.changes =
-    omega (arith, c.if-number-len.false, c.in_ok-number.ensures.within, c.len.ensures, count, ap (λ (l : List Change). length l) c.deref-2.ensures.value, ap (λ (v : Editing). length v.changes) c.self.view_is) in
-    c.put_over.ensures ∙ put_before e c.args.old c.in_ok-last.last (map element_of c.args.new.items) w n _ same c.in_ok-way.ensures number few
+    let way = c.deref.ensures.value ∙ c.in_ok-way.ensures in
+    let some : first_single c.deref.result.now e.changes ≡ Some n = sym c.in_ok-first_single.ensures.number ∙ c.in-Some.is in
+    c.put_over.ensures
+    ∙ ap (λ (d : Editing). with_changes d (set d.changes n (over (get_or d.changes n change) change))) c.in_ok-first_single.ensures.same
+    ∙ put_before e c.args.old c.in_ok-last.last new c.deref.result.now n change same way some

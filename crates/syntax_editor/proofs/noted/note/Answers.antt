@@ -1,0 +1,35 @@
+use Rattle.std.proofs.Common.{◌≡◌, ◌&&◌, true, false, is_some, ap, sym, ◌∙◌, cond, Some}
+use Rattle.std.proofs.lemmas.Result.{on_ok_weaker}
+use Rattle.syntax_tree.specs.Element.{same_way}
+use Rattle.syntax_tree.specs.Handle.{element_of}
+use Rattle.tree_rewrite.specs.WayMap.{number_at}
+use Rattle.tree_rewrite.specs.Recorded.{recorded}
+use Rattle.syntax_editor.specs.Recording.{is_single_at}
+use Rattle.syntax_editor.proofs.NotedLemmas.{single-own, note-other, note-later, note-first}
+use Rattle.syntax_editor.proofs.noted.note.Goals as goal
+
+pub returns-in_default-clause-ok : goal.returns-in_default-clause-ok
+returns-in_default-clause-ok c = λ cs n has. note-other _ cs (recorded c.args.change.now) (λ w. ap (λ d. is_single_at w (recorded d)) c.in_default.is) has
+
+pub returns-then-not-single-clause-ok : goal.returns-then-not-single-clause-ok
+returns-then-not-single-clause-ok c = λ cs n has.
+    note-other _ cs (recorded c.args.change.now) (λ w. ap (λ d. is_single_at w (recorded d)) c.in-Replace.is ∙ ap (λ b. b && same_way (element_of c.in-Replace.first).place.up w) c.if-not-single.true) has
+
+pub returns-then-is_some-clause-ok : goal.returns-then-is_some-clause-ok
+returns-then-is_some-clause-ok c = λ cs n has.
+    let v = c.in_ok-way.way.items in
+    let own : is_single_at v (recorded c.args.change.now) ≡ true =
+    ap (λ d. is_single_at v (recorded d)) c.in-Replace.is ∙ single-own c.in-Replace.single (element_of c.in-Replace.first).place.up v c.if-not-single.false c.in_ok-way.ensures in
+    let some : is_some (number_at c.args.singles.now v) ≡ true =
+    ap (λ l. is_some (number_at c.args.singles.now l)) (sym c.deref.ensures.value) ∙ ap is_some (sym c.number_at.ensures) ∙ sym c.is_some.ensures ∙ c.if-is_some.true in
+    note-later c.args.singles.now cs (recorded c.args.change.now) v own some has
+
+pub returns-clause-ok : goal.returns-clause-ok
+returns-clause-ok c = on_ok_weaker c.put.result (λ put cs n has.
+    let v = c.in_ok-way.way.items in
+    let own : is_single_at v (recorded c.args.change.now) ≡ true =
+    ap (λ d. is_single_at v (recorded d)) c.in-Replace.is ∙ single-own c.in-Replace.single (element_of c.in-Replace.first).place.up v c.if-not-single.false c.in_ok-way.ensures in
+    let none : is_some (number_at c.args.singles.now v) ≡ false =
+    ap (λ l. is_some (number_at c.args.singles.now l)) (sym c.deref.ensures.value) ∙ ap is_some (sym c.number_at.ensures) ∙ sym c.is_some.ensures ∙ c.if-is_some.false in
+    note-first c.args.singles.now c.put.new.map cs (recorded c.args.change.now) v own none
+    (λ w. put w ∙ ap (λ k. cond (same_way v w) (Some k) (number_at c.args.singles.now w)) (sym n)) has) c.put.ensures.ok

@@ -1,0 +1,27 @@
+//! Numbers by ways.
+ghost use Rattle.std.specs.Prelude.{◌≡◌, Some, if◌then◌else◌, OnOk, OnErr};
+ghost use Rattle.syntax_tree.specs.Element.{Way, same_way};
+ghost use Rattle.tree_rewrite.specs.WayMap.{number_at};
+
+use std::alloc::AllocError;
+use std::collections::HashMap;
+
+/// A number for each of some ways.
+pub type WayMap = HashMap<Vec<usize>, usize>;
+
+/// The number of a way, if it has one.
+pub fn number_at(map: &WayMap, way: &[usize]) -> Option<usize>
+    ensures { result ≡ number_at map.now way.now }
+{
+    map.get(way).copied()
+}
+
+/// Gives a way a number, in the place of the one that it has. A refusal leaves all as it was.
+pub fn put(map: &mut WayMap, way: Vec<usize>, number: usize) -> Result<(), AllocError>
+    ensures ok { OnOk result ((w : Way) →
+        number_at map.new w ≡ (if same_way way.items w then Some number else number_at map.old w)) }
+    ensures err { OnErr result ((w : Way) → number_at map.new w ≡ number_at map.old w) }
+{
+    map.insert(way, number)?;
+    Ok(())
+}
