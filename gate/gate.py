@@ -1,7 +1,7 @@
 """The gate: every proof from nothing, the must-fail edits, the tests, and each program on its stored input.
 
     ./test               leaves out the edits that must-fail.ledger has as refused before over the very same sources,
-                         but for a sample of one crate, which the commit picks; tries all others, but for those past 300, as
+                         but for a sample of one crate, which the commit picks; tries all others, but for those past 100, as
                          after a change of the kit: then the commit picks crates, and the run says how many it left for time
     ./test --whole       tries every edit and does not read the ledger
     ./test --record      as ./test, with no sample; writes to the ledger the edits that were refused, whatever else failed
@@ -29,7 +29,7 @@ TOP = os.path.dirname(os.path.dirname(os.path.realpath(__file__)))
 # Edits in a sample, all of one crate: the first of a crate costs a proof of the crate, each further one some seconds.
 SAMPLE = 8
 # Edits that a run tries at most, unless it is asked for all or to record them: it has to end in time.
-MOST = 300
+MOST = 100
 # A check takes one to four gigabytes. Where there are fewer bytes a core than this, 'rt ci' by its own estimate leaves cores idle.
 BYTES_A_CORE = 5_000_000_000
 REFUSED = re.compile(r"rt: must-fail ([^/\s]+)/(\S+): refused, as it must be")

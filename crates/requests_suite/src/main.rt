@@ -1,7 +1,8 @@
 //! Replays cases of requests: each line of the input is a JSON object with a request, what must be written for it, and the exit
 //! status. Prints the cases that are answered otherwise, and how many there are of both.
 //!
-//! The cases that lie beside it were computed by a slow, plain reader of the rules that shares no code with these crates.
+//! Of the cases that lie beside it, those with a name were worked by hand; the others were computed by a slow, plain reader of the rules
+//! that shares no code with these crates.
 #![tactic(auto)]
 
 use document_requests::Watched;

@@ -1,11 +1,8 @@
-//! What no contract says: that runs succeed where memory is ample, and the worked cases.
+//! What no contract says: that runs succeed where memory is ample, and the cases that no line of the stored run can hold.
 mod broken;
-mod commands;
-mod commits;
 mod devices;
 mod limits;
 mod lists;
-mod replies;
 
 use document_requests::run::run;
 use document_requests::{Fault, Watched};

@@ -6,8 +6,8 @@ use std::test::Fail;
 
 const TOO_LONG: &str = "{\"err\":\"TooLong\"}\n";
 
-/// A text behind so many spaces.
-fn behind_spaces(alloc: Global, count: usize, text: &str) -> Result<String, AllocError> {
+/// A text after so many spaces.
+fn after_spaces(alloc: Global, count: usize, text: &str) -> Result<String, AllocError> {
     let mut whole = String::with_capacity(alloc, count)?;
     for _ in 0..count {
         whole.push(' ')?;
@@ -29,7 +29,7 @@ fn is_too_long(alloc: Global, text: &str) -> Result<bool, Fail> {
 #[test]
 fn a_text_past_the_limit(rt: HostRuntime) -> Result<(), Fail> {
     let alloc = rt.alloc();
-    let text = behind_spaces(alloc, MAX_TEXT - 8, "struct S;")?;
+    let text = after_spaces(alloc, MAX_TEXT - 8, "struct S;")?;
     assert!(rt; is_too_long(alloc, &text)?);
     Ok(())
 }
@@ -38,8 +38,8 @@ fn a_text_past_the_limit(rt: HostRuntime) -> Result<(), Fail> {
 #[test]
 fn commands_at_the_limit(rt: HostRuntime) -> Result<(), Fail> {
     let alloc = rt.alloc();
-    let text = behind_spaces(alloc, MAX_TEXT - 9, "struct S;")?;
-    let rest = behind_spaces(alloc, MAX_TEXT - 10, "struct S;")?;
+    let text = after_spaces(alloc, MAX_TEXT - 9, "struct S;")?;
+    let rest = after_spaces(alloc, MAX_TEXT - 10, "struct S;")?;
     let at = format!(in alloc; "[\"IDENT\",{},{}]", MAX_TEXT - 2, MAX_TEXT - 1)?;
     let commands = format!(in alloc;
         r#"{{"do":"edit","start":0,"end":0,"text":"x"}},{{"do":"commit","changes":[{{"op":"replace","at":{at},"with":["token","Tee"]}}]}},{{"do":"edit","start":0,"end":1,"text":";"}}"#
