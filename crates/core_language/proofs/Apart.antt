@@ -1,4 +1,4 @@
--- Derivations of which no token touches the next, with given bits for their floats; and the bits that are left for what stands behind.
+-- Derivations of which no token touches the next, with given bits for their floats; and the bits that are left for what stands after.
 use Rattle.std.proofs.Common.{Bool, false, List}
 use Rattle.core_language.specs.Types.{Mutability, Immutable, Mutable, Path, Name, Below, CoreType, PathType, ReferenceType, SliceType}
 use Rattle.core_language.specs.Operators.{LiteralForm, FloatNumber}
@@ -7,7 +7,7 @@ use Rattle.core_language.specs.Statements.{Pattern, NamePattern, Annotation, NoA
 use Rattle.core_language.specs.Items.{Visibility, Private, Public, Listed, NoElement, LastElement, ElementComma, Field, NamedField, Parameter, TypedPattern, ReturnType, NoReturnType, Returns, Item, UnitStruct, RecordStruct, OuterModule, InnerModule, Function, Items, NoItem, ItemThen}
 use Rattle.core_language.specs.Spaced.{first_float, other_floats}
 
--- the floats that are left behind a literal
+-- the floats that are left after a literal
 abbrev pub after_literal : LiteralForm → List Bool → List Bool
 after_literal FloatNumber floats = other_floats floats
 after_literal l floats = floats
@@ -30,23 +30,23 @@ abbrev mutual
   after_arguments (LastArgument e) floats = after e floats
   after_arguments (ArgumentComma e j es) floats = after_arguments es (after e floats)
 
--- behind an initializer
+-- after an initializer
 abbrev pub after_initializer : Initializer → List Bool → List Bool
 after_initializer NoInitializer floats = floats
 after_initializer (InitializedBy j e) floats = after e floats
 
--- behind a statement
+-- after a statement
 abbrev pub after_statement : Statement → List Bool → List Bool
 after_statement (Let j p a v k) floats = after_initializer v floats
 after_statement (Run e k) floats = after e floats
 
--- behind statements
+-- after statements
 abbrev pub after_statements : Statements → List Bool → List Bool
 after_statements NoStatement floats = floats
 after_statements (LastExpression e) floats = after e floats
 after_statements (StatementThen s ss) floats = after_statements ss (after_statement s floats)
 
--- behind a block
+-- after a block
 abbrev pub after_block : Block → List Bool → List Bool
 after_block (Braces j ss k) floats = after_statements ss floats
 

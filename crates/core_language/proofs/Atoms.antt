@@ -45,15 +45,15 @@ literal-atom CText j more = whole-means atom false _ ∙ rw (literal-reads CText
 literal-atom TrueWord j more = whole-means atom false _ ∙ rw (literal-reads TrueWord j more) refl
 literal-atom FalseWord j more = whole-means atom false _ ∙ rw (literal-reads FalseWord j more) refl
 
--- what stands behind a path
-abbrev behind_path : Rule
-behind_path =
+-- what stands after a path
+abbrev after_path : Rule
+after_path =
     Or (Unless (next '!=') (Then (Wrap MACRO_CALL (Then (One '!') (Want (Call token_tree) (Expected TOKEN_TREE)))) (Wrap MACRO_EXPR Nothing)))
     (Or (Unless InCondition (Wrap RECORD_EXPR (Call field_values))) (Wrap PATH_EXPR Nothing))
 
-behind-reads : (g : Forest) (more : List Token) → Calm more → reads behind_path (at g more) ≡ at (Node PATH_EXPR g End) more
+after-reads : (g : Forest) (more : List Token) → Calm more → reads after_path (at g more) ≡ at (Node PATH_EXPR g End) more
 unfolding table
-behind-reads g more c = rw (c.bang g) (rw (c.curly) refl)
+after-reads g more c = rw (c.bang g) (rw (c.curly) refl)
 
 block-colon : (i c j : Bool) (more : List Token) (g : Forest)
     → begins_at (Call block_like) (at g (name_token i ∷ of_kind COLON true ∷ of_kind COLON c ∷ name_token j ∷ more)) ≡ false
@@ -67,7 +67,7 @@ block-path (Name j) more h g = h j g
 block-path (Below p c j) more h g = block-path p (of_kind COLON true ∷ of_kind COLON c ∷ name_token j ∷ more) (λ i k. block-colon i c j more k) g
 
 path-picks : (j : Bool) (ts : List Token) → begins_at (Call block_like) (at End (name_token j ∷ ts)) ≡ false →
-    reads (rule atom) (at End (name_token j ∷ ts)) ≡ reads (Then (Call expr_path) behind_path) (at End (name_token j ∷ ts))
+    reads (rule atom) (at End (name_token j ∷ ts)) ≡ reads (Then (Call expr_path) after_path) (at End (name_token j ∷ ts))
 unfolding table
 path-picks j ts h = rw h refl
 
@@ -75,8 +75,8 @@ pub path-atom : (p : Path) (more : List Token) → Calm more → gives atom (at 
 path-atom p more c =
     let b = path-begins p more in
     let h : begins_at (Call block_like) (at End (name_token b.j ∷ b.rest)) ≡ false = rw b.are at (block-path p more c.block End) in
-    let pick : reads (rule atom) (at End (path_tokens p more)) ≡ reads (Then (Call expr_path) behind_path) (at End (path_tokens p more)) = rw b.are (path-picks b.j b.rest h) in
-    whole-means atom false _ ∙ pick ∙ then-reads (Call expr_path) behind_path _ (call-reads expr_path _ _ more (expression_path-reads p more c.colon)) (behind-reads _ more c)
+    let pick : reads (rule atom) (at End (path_tokens p more)) ≡ reads (Then (Call expr_path) after_path) (at End (path_tokens p more)) = rw b.are (path-picks b.j b.rest h) in
+    whole-means atom false _ ∙ pick ∙ then-reads (Call expr_path) after_path _ (call-reads expr_path _ _ more (expression_path-reads p more c.colon)) (after-reads _ more c)
 
 -- what an opening bracket begins
 abbrev in_brackets : Rule

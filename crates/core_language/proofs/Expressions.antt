@@ -1,4 +1,4 @@
--- A core expression is read, whatever stands behind it that does not go on with it.
+-- A core expression is read, whatever stands after it that does not go on with it.
 use Rattle.std.proofs.Common.{◌≡◌, ℕ, suc, ◌+◌, ◌<◌, ◌≤◌, refl, subst, arith, inl, inr}
 use native.Mathlib.Nat.{eq-or-lt_of_le}
 use Rattle.core_language.specs.Expressions.{AreWellFormed, ArgumentComma, Arguments, Assignment, Binary, Borrow, Expression, FieldAccess, FunctionCall, IsWellFormed, LastArgument, Literal, MethodCall, Named, NoArgument, Parenthesized, Prefixed, level}

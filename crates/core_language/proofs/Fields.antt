@@ -14,7 +14,7 @@ use Rattle.core_language.specs.Statements.{NamePattern, Pattern, name_tree, patt
 use Rattle.core_language.specs.Tokens.{name_token, of_kind}
 use Rattle.core_language.specs.Types.{Immutable, Mutable, type_tokens}
 use Rattle.core_language.proofs.Lists.{Element, Plain, item_of, list-reads, listed-then, parens-read}
-use Rattle.core_language.proofs.Patterns.{BeforeEnd, BeforeType, BeforeValue, Behind, name-reads, of_type, of_type-reads, pattern-reads, typed}
+use Rattle.core_language.proofs.Patterns.{BeforeEnd, BeforeType, BeforeValue, After, name-reads, of_type, of_type-reads, pattern-reads, typed}
 use Rattle.core_language.proofs.Places.{IsNotNext}
 use Rattle.core_language.proofs.Rules.{at, begins_at, forms, gives, reads, star-reads, table, then-reads}
 use Rattle.core_language.proofs.Statements.{braces-read, pattern-longer}
@@ -116,7 +116,7 @@ fields-read j k l more =
     ∙ ap (λ (f : Forest). at (Node RECORD_FIELD_LIST (Leaf L_CURLY 1 f) End) more) (listed-then field_tree field-joins l (Leaf R_CURLY 1 End))
 
 -- A parameter of a function.
-parameter-picks : (p : Pattern) {more : List Token} → Behind more
+parameter-picks : (p : Pattern) {more : List Token} → After more
     → reads (rule param) (at End (pattern_tokens p more))
     ≡ reads (rules.Node PARAM (Then (Call pattern) of_type)) (at End (pattern_tokens p more))
 unfolding table
@@ -127,22 +127,22 @@ parameter-picks (NamePattern (Mutable i) n) (BeforeType c t ts h) = refl
 parameter-picks (NamePattern (Mutable i) n) (BeforeValue j ts) = refl
 parameter-picks (NamePattern (Mutable i) n) (BeforeEnd k ts) = refl
 
-pub call-behind : (x : Production) (g : Forest) (ts : List Token) (f : Forest) (more : List Token) → gives x (at End ts) ≡ at f more
+pub call-after : (x : Production) (g : Forest) (ts : List Token) (f : Forest) (more : List Token) → gives x (at End ts) ≡ at f more
     → reads (Call x) (at g ts) ≡ at (g then f) more
 unfolding forms
-call-behind x g ts f more e = rw e refl
+call-after x g ts f more e = rw e refl
 
 parameter-reads : (x : Parameter) (g : Forest) (c : Bool) (k : ℕ) (more : List Token) → (k == COLON) ≡ false → (k == L_ANGLE) ≡ false
     → reads (Call param) (at g (parameter_tokens x (of_kind k c ∷ more))) ≡ at (g then parameter_tree x End) (of_kind k c ∷ more)
 unfolding ahead
 parameter-reads (TypedPattern (NamePattern m n) d t) g c k more p q =
-    call-behind param g _ _ _
+    call-after param g _ _ _
     (whole-means param false _
     ∙ parameter-picks (NamePattern m n) (typed d t _)
     ∙ node-reads PARAM (Then (Call pattern) of_type) End _ _ _
-    (then-reads (Call pattern) of_type _ (call-behind pattern End _ _ _ (pattern-reads (NamePattern m n) (typed d t _))) (of_type-reads (pattern_tree (NamePattern m n) End) d t (of_kind k c ∷ more) p q)))
+    (then-reads (Call pattern) of_type _ (call-after pattern End _ _ _ (pattern-reads (NamePattern m n) (typed d t _))) (of_type-reads (pattern_tree (NamePattern m n) End) d t (of_kind k c ∷ more) p q)))
 
-parameter-begins : (p : Pattern) {more : List Token} → Behind more → (g : Forest)
+parameter-begins : (p : Pattern) {more : List Token} → After more → (g : Forest)
     → begins_at (Call param) (at g (pattern_tokens p more)) ≡ true
 unfolding table
 parameter-begins (NamePattern Immutable n) (BeforeType true t ts h) g = rw h refl

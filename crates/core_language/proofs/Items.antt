@@ -294,7 +294,7 @@ item-turns i l more g e =
     let b = item-begins i more in
     rw b.are (item-turn b.keyword l b.visibility b.j b.rest g (item_tree i End) more (rw b.are at e))
 
--- the next turn of a list of items, and the turns behind it
+-- the next turn of a list of items, and the turns after it
 add-item : (i : Item) (is : Items) (l : Look) (end more : List Token) (g : Forest)
     → gives item (at End (item_tokens i (items_tokens is end))) ≡ at (item_tree i End) (items_tokens is end) →
     begins_at (one_item l) (at g (item_tokens i (items_tokens is end))) ≡ true →

@@ -9,7 +9,7 @@ use Rattle.core_language.specs.Tokens.{name_token, of_kind}
 use Rattle.core_language.specs.Types.{Below, CoreType, Immutable, Mutable, Name, Path, PathType, ReferenceType, SliceType, inside_path, inside_type, path_tokens, type_kind, type_tokens}
 use Rattle.core_language.proofs.Told.{assigner-one, assigner-same, head-one, literal-same, not-assigner, operator-one, operator-same, prefix-same}
 
--- a token and those behind it
+-- a token and those after it
 pub name-one : (j k : Bool) (more other : List Token) → name_token j ∷ more ≡ name_token k ∷ other → (j ≡ k) × (more ≡ other)
 name-one j k more other e = let t : name_token j ≡ name_token k = cc in (ap (λ (x : Token). x.joint) t, cc)
 

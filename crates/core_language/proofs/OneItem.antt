@@ -104,7 +104,7 @@ fields = record { one = field-one; node = field-node }
 parameters : Element parameter_tree parameter_tokens
 parameters = record { one = parameter-one; node = parameter-node }
 
--- what an item's node holds behind its visibility
+-- what an item's node holds after its visibility
 abbrev item_inside : Item → Forest
 item_inside (UnitStruct v j n k) = Leaf STRUCT_KW 1 (name_tree (Leaf SEMICOLON 1 End))
 item_inside (RecordStruct v j n l fs k) =
@@ -130,13 +130,13 @@ word_of (OuterModule v j n k) = of_kind MOD_KW j
 word_of (InnerModule v j n l is k) = of_kind MOD_KW j
 word_of (Function v j n l ps k r b) = of_kind FN_KW j
 
--- the tokens behind that
-abbrev behind_word : Item → List Token → List Token
-behind_word (UnitStruct v j n k) more = name_token n ∷ of_kind SEMICOLON k ∷ more
-behind_word (RecordStruct v j n l fs k) more = name_token n ∷ of_kind L_CURLY l ∷ listed_tokens field_tokens fs (of_kind R_CURLY k ∷ more)
-behind_word (OuterModule v j n k) more = name_token n ∷ of_kind SEMICOLON k ∷ more
-behind_word (InnerModule v j n l is k) more = name_token n ∷ of_kind L_CURLY l ∷ items_tokens is (of_kind R_CURLY k ∷ more)
-behind_word (Function v j n l ps k r b) more =
+-- the tokens after that
+abbrev after_word : Item → List Token → List Token
+after_word (UnitStruct v j n k) more = name_token n ∷ of_kind SEMICOLON k ∷ more
+after_word (RecordStruct v j n l fs k) more = name_token n ∷ of_kind L_CURLY l ∷ listed_tokens field_tokens fs (of_kind R_CURLY k ∷ more)
+after_word (OuterModule v j n k) more = name_token n ∷ of_kind SEMICOLON k ∷ more
+after_word (InnerModule v j n l is k) more = name_token n ∷ of_kind L_CURLY l ∷ items_tokens is (of_kind R_CURLY k ∷ more)
+after_word (Function v j n l ps k r b) more =
     name_token n ∷ of_kind L_PAREN l ∷ listed_tokens parameter_tokens ps (of_kind R_PAREN k ∷ return_type_tokens r (block_tokens b more))
 
 no-pub : (i : Item) → ((word_of i).kind == PUB_KW) ≡ false
@@ -153,17 +153,17 @@ item-tree-of (OuterModule v j n k) f = (MODULE, refl)
 item-tree-of (InnerModule v j n l is k) f = (MODULE, refl)
 item-tree-of (Function v j n l ps k r b) f = (FN, refl)
 
-item-tokens-of : (i : Item) (more : List Token) → item_tokens i more ≡ visibility_tokens (visibility_of i) (word_of i ∷ behind_word i more)
+item-tokens-of : (i : Item) (more : List Token) → item_tokens i more ≡ visibility_tokens (visibility_of i) (word_of i ∷ after_word i more)
 item-tokens-of (UnitStruct v j n k) more = refl
 item-tokens-of (RecordStruct v j n l fs k) more = refl
 item-tokens-of (OuterModule v j n k) more = refl
 item-tokens-of (InnerModule v j n l is k) more = refl
 item-tokens-of (Function v j n l ps k r b) more = refl
 
--- what is first the same of two items: the visibility and what stands behind it
+-- what is first the same of two items: the visibility and what stands after it
 item-head-one : (i j : Item) (f g : Forest) (more other : List Token) → item_tree i f ≡ item_tree j g
     → item_tokens i more ≡ item_tokens j other
-    → Same (visibility_of i) (visibility_of j) (item_inside i) (item_inside j) (word_of i ∷ behind_word i more) (word_of j ∷ behind_word j other) × (f ≡ g)
+    → Same (visibility_of i) (visibility_of j) (item_inside i) (item_inside j) (word_of i ∷ after_word i more) (word_of j ∷ after_word j other) × (f ≡ g)
 item-head-one i j f g more other e h =
     let x = item-tree-of i f in
     let y = item-tree-of j g in

@@ -52,7 +52,7 @@ next-reads l p c j more none = rw (name_ref-reads j more) (rw (none _) refl)
 three-fewer : (a b c : Token) (more : List Token) → length more < length (a ∷ b ∷ c ∷ more)
 three-fewer a b c more = omega arith
 
--- where the arguments are not looked for before a `::` with a name behind it
+-- where the arguments are not looked for before a `::` with a name after it
 abbrev pub Apart : Look → Type 0
 Apart l = (c j : Bool) (more : List Token) → NoArgs l (of_kind COLON true ∷ of_kind COLON c ∷ name_token j ∷ more)
 

@@ -1,4 +1,4 @@
--- Names, patterns, and what is read with a type behind a colon.
+-- Names, patterns, and what is read with a type after a colon.
 use Rattle.std.proofs.Common.{◌≡◌, Bool, true, false, List, ◌∷◌, refl, ◌∙◌, ◌==◌, if◌then◌else◌}
 use Rattle.parser_input.specs.Input.{Token}
 use Rattle.parser_input.specs.Kinds.{COLON, EQ, SEMICOLON}
@@ -17,13 +17,13 @@ pub name-reads : (n : Bool) (more : List Token) → gives name (at End (name_tok
 unfolding table
 name-reads n more = whole-means name false _ ∙ refl
 
--- what may stand behind a pattern: a colon that is not one of two, `=`, `;`
-pub data Behind : List Token → Type 0 where
-  BeforeType : (c : Bool) (t : Token) (ts : List Token) → (t.kind == COLON) ≡ false → Behind (of_kind COLON c ∷ t ∷ ts)
-  BeforeValue : (j : Bool) (ts : List Token) → Behind (of_kind EQ j ∷ ts)
-  BeforeEnd : (k : Bool) (ts : List Token) → Behind (of_kind SEMICOLON k ∷ ts)
+-- what may stand after a pattern: a colon that is not one of two, `=`, `;`
+pub data After : List Token → Type 0 where
+  BeforeType : (c : Bool) (t : Token) (ts : List Token) → (t.kind == COLON) ≡ false → After (of_kind COLON c ∷ t ∷ ts)
+  BeforeValue : (j : Bool) (ts : List Token) → After (of_kind EQ j ∷ ts)
+  BeforeEnd : (k : Bool) (ts : List Token) → After (of_kind SEMICOLON k ∷ ts)
 
-single-reads : (p : Pattern) {more : List Token} → Behind more
+single-reads : (p : Pattern) {more : List Token} → After more
     → gives single_pattern (at End (pattern_tokens p more)) ≡ at (pattern_tree p End) more
 unfolding table
 single-reads (NamePattern Immutable n) (BeforeType true t ts h) =
@@ -36,7 +36,7 @@ single-reads (NamePattern (Mutable i) n) (BeforeType c t ts h) = whole-means sin
 single-reads (NamePattern (Mutable i) n) (BeforeValue j ts) = whole-means single_pattern false _ ∙ rw (name-reads n (of_kind EQ j ∷ ts)) refl
 single-reads (NamePattern (Mutable i) n) (BeforeEnd k ts) = whole-means single_pattern false _ ∙ rw (name-reads n (of_kind SEMICOLON k ∷ ts)) refl
 
-pattern-picks : (p : Pattern) {more : List Token} → Behind more
+pattern-picks : (p : Pattern) {more : List Token} → After more
     → gives single_pattern (at End (pattern_tokens p more)) ≡ at (pattern_tree p End) more
     → gives pattern (at End (pattern_tokens p more)) ≡ at (pattern_tree p End) more
 unfolding table
@@ -48,11 +48,11 @@ pattern-picks (NamePattern (Mutable i) n) (BeforeType c t ts h) e = whole-means 
 pattern-picks (NamePattern (Mutable i) n) (BeforeValue j ts) e = whole-means pattern false _ ∙ rw e refl
 pattern-picks (NamePattern (Mutable i) n) (BeforeEnd k ts) e = whole-means pattern false _ ∙ rw e refl
 
-pub pattern-reads : (p : Pattern) {more : List Token} → Behind more
+pub pattern-reads : (p : Pattern) {more : List Token} → After more
     → gives pattern (at End (pattern_tokens p more)) ≡ at (pattern_tree p End) more
 pattern-reads p b = pattern-picks p b (single-reads p b)
 
-pub pattern-is-there : (p : Pattern) {more : List Token} → Behind more → (g : Forest)
+pub pattern-is-there : (p : Pattern) {more : List Token} → After more → (g : Forest)
     → begins_at (Call pattern) (at g (pattern_tokens p more)) ≡ true
 unfolding table
 pattern-is-there (NamePattern Immutable n) (BeforeType true t ts h) g = rw h refl
@@ -64,12 +64,12 @@ pattern-is-there (NamePattern (Mutable i) n) (BeforeValue j ts) g = refl
 pattern-is-there (NamePattern (Mutable i) n) (BeforeEnd k ts) g = refl
 
 -- a type begins with no colon
-pub typed : (c : Bool) (t : CoreType) (more : List Token) → Behind (of_kind COLON c ∷ type_tokens t more)
+pub typed : (c : Bool) (t : CoreType) (more : List Token) → After (of_kind COLON c ∷ type_tokens t more)
 typed c (PathType p) more = let b = path-begins p more in rw b.are (BeforeType c (name_token b.j) b.rest refl)
 typed c (ReferenceType j m t) more = BeforeType c _ _ refl
 typed c (SliceType j t k) more = BeforeType c _ _ refl
 
--- a type behind a colon
+-- a type after a colon
 abbrev pub of_type : Rule
 of_type = Then (Want (One ':') (Expected COLON)) (Want (Call any_type) ExpectedType)
 

@@ -1,4 +1,4 @@
--- What stands behind an expression, and how the layers of operators are numbered: 0 for casts, then from products up to `||`.
+-- What stands after an expression, and how the layers of operators are numbered: 0 for casts, then from products up to `||`.
 use Rattle.std.proofs.Common.{◌≡◌, ℕ, zero, suc, ◌+◌, Bool, true, false, not, ◌&&◌, List, ◌∷◌, refl, ◌==◌}
 use Rattle.parser_input.specs.Input.{Token}
 use Rattle.parser_input.specs.Kinds.{AS_KW, DOT, QUESTION, COLON, BANG, L_CURLY, L_PAREN, L_BRACK, BIN_EXPR}

@@ -1,4 +1,4 @@
--- Arguments, and what stands behind an atom or before one.
+-- Arguments, and what stands after an atom or before one.
 use Rattle.std.proofs.Common.{◌≡◌, ℕ, suc, ◌≤◌, Bool, true, false, ◌&&◌, List, ◌∷◌, length, nat_lt, refl, ap, ◌∙◌, subst, arith, if◌then◌else◌}
 use Rattle.std.proofs.lemmas.Bool.{lt-ltb}
 use Rattle.parser_input.specs.Input.{Token}
@@ -87,12 +87,12 @@ pub closed-comma : (k : Bool) (more : List Token) → Closed (of_kind COMMA k �
 unfolding table
 closed-comma k more = closed-of _ (λ i g. refl) (λ g. refl) (λ g. refl)
 
--- Arguments are read up to the bracket behind them.
+-- Arguments are read up to the bracket after them.
 abbrev pub ArgumentsRead : Arguments → Type 0
 ArgumentsRead es =
     (g : Forest) (k : Bool) (more : List Token) → StarReads element (at g (arguments_tokens es (of_kind R_PAREN k ∷ more))) (at (g then arguments_tree es End) (of_kind R_PAREN k ∷ more))
 
--- An expression is read where nothing behind it goes on with it.
+-- An expression is read where nothing after it goes on with it.
 abbrev pub ReadsExpression : Expression → Type 0
 ReadsExpression e = (more : List Token) → Closed more → gives expression (at End (expression_tokens e more)) ≡ at (tree e) more
 
@@ -133,11 +133,11 @@ arguments-read j k es more r =
     ∙ list-reads j k (arguments_tokens es (of_kind R_PAREN k ∷ more)) (arguments_tree es End) more (star-reads element (r (Leaf L_PAREN 1 End) k more))
     ∙ ap (λ (f : Forest). at (Node ARG_LIST (Leaf L_PAREN 1 f) End) more) (arguments-then es (Leaf R_PAREN 1 End))
 
--- An atom and what stands behind it, as far as this goes.
+-- An atom and what stands after it, as far as this goes.
 abbrev pub high : Rule
 high = Then (Call atom) (Star (Continue postfix))
 
--- Where the turns behind an atom end, its reading ends; a field access has no bracket behind it.
+-- Where the turns after an atom end, its reading ends; a field access has no bracket after it.
 abbrev pub ReadsHigh : Expression → Type 0
 ReadsHigh e =
     (more : List Token) (t : Reading) → Calm more → (is_field_access e && is_paren more) ≡ false → StarReads (Continue postfix) (at (tree e) more) t → reads high (at End (expression_tokens e more)) ≡ t

@@ -4,7 +4,7 @@ use Rattle.std.proofs.lemmas.Bool.{lt-ltb}
 use Rattle.parser_input.specs.Input.{Token}
 use Rattle.parser_events.specs.Forest.{Message, Forest, End}
 use Rattle.rust_grammar.specs.Rule.{Production, Rule, Then, Or, Opt, Star, Want, Call, begins, passes, is_silent, shift, in_mode, anew, there_at}
-use Rattle.rust_grammar.specs.Meaning.{Reading, turns, read, leaf, node, wrapped, behind, fresh, sees, ahead, is_end, look_of, begins_below, meaning}
+use Rattle.rust_grammar.specs.Meaning.{Reading, turns, read, leaf, node, wrapped, after, fresh, sees, ahead, is_end, look_of, begins_below, meaning}
 use Rattle.rust_grammar.specs.Notation.{row, one_of, any_of, is_longer, no_longer, longest}
 use Rattle.rust_grammar.specs.Paths.{paths}
 use Rattle.rust_grammar.specs.Types.{types}
@@ -85,17 +85,17 @@ there-called x ts e = sym (anew-seen false (at End ts) (look_of whole x)) ∙ e
 
 pub call-reads : (x : Production) (ts : List Token) (g : Forest) (more : List Token) → gives x (at End ts) ≡ at g more
     → reads (Call x) (at End ts) ≡ at g more
-unfolding read behind fresh
+unfolding read after fresh
 call-reads x ts g more e = rw e refl
 
 -- everything that a rule, a look or the table is computed with
 unfoldable pub table : Unit {0}
-unfolding read leaf node wrapped behind fresh sees ahead is_end begins passes is_silent shift in_mode anew there_at look_of begins_below rule rank whole paths types patterns expressions statements items row one_of any_of is_longer no_longer longest
+unfolding read leaf node wrapped after fresh sees ahead is_end begins passes is_silent shift in_mode anew there_at look_of begins_below rule rank whole paths types patterns expressions statements items row one_of any_of is_longer no_longer longest
 table = tt
 
 -- the same without the table: what a production begins with stays as it stands
 unfoldable pub forms : Unit {0}
-unfolding read leaf node wrapped behind fresh sees ahead is_end begins passes is_silent shift in_mode anew there_at row one_of any_of is_longer no_longer longest
+unfolding read leaf node wrapped after fresh sees ahead is_end begins passes is_silent shift in_mode anew there_at row one_of any_of is_longer no_longer longest
 forms = tt
 
 -- the rows of the table alone

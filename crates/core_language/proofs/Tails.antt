@@ -25,7 +25,7 @@ assignment =
 abbrev pub setting : Rule
 setting = Wrap BIN_EXPR (Then assignment (Want (Call operation) ExpectedExpression))
 
--- An assigner behind its left operand, where the right one begins with the token t.
+-- An assigner after its left operand, where the right one begins with the token t.
 pub record Set (o : Assigner) (j : Bool) (t : Token) (ts : List Token) : Type 0 where
   pub there : (g : Forest) → begins_at setting (at g (assigner_tokens o j (t ∷ ts))) ≡ true
   pub taken : (g : Forest) → reads assignment (at g (assigner_tokens o j (t ∷ ts))) ≡ at (g then assigner_tree o End) (t ∷ ts)
@@ -104,7 +104,7 @@ setting-reads : (k : ℕ) (i : Forest) (kind count : ℕ) (before after : List T
 unfolding forms
 setting-reads k i kind count before after l r more taken there e = rw (taken (Node k i End)) (rw (there (Node k i (Leaf kind count End))) (rw e refl))
 
--- An expression is read as a whole where nothing behind it goes on with it.
+-- An expression is read as a whole where nothing after it goes on with it.
 abbrev pub ReadsWhole : Expression → Type 0
 ReadsWhole e = (more : List Token) → Closed more → gives operation (at End (expression_tokens e more)) ≡ at (tree e) more
 

@@ -119,7 +119,7 @@ prefix-back Dereference = refl
 pub prefix-same : (o p : PrefixOperator) → prefix_kind o ≡ prefix_kind p → o ≡ p
 prefix-same o p e = sym (prefix-back o) ∙ ap prefix_of e ∙ prefix-back p
 
--- a token and those behind it
+-- a token and those after it
 pub head-one : (t u : Token) (more other : List Token) → t ∷ more ≡ u ∷ other → (t.joint ≡ u.joint) × (more ≡ other)
 head-one t u more other e = let x : t ≡ u = cc in (ap (λ (y : Token). y.joint) x, cc)
 

@@ -83,7 +83,7 @@ slice-type j k (TypeWithName i) ts f more e = whole-means any_type false _ ∙ r
 slice-type j k (TypeWithAmpersand i) ts f more e = whole-means any_type false _ ∙ rw e refl
 slice-type j k (TypeWithBracket i) ts f more e = whole-means any_type false _ ∙ rw e refl
 
--- A core type is read, whatever stands behind it but `::` and `<`.
+-- A core type is read, whatever stands after it but `::` and `<`.
 pub type-reads : (t : CoreType) (more : List Token) → NoColon more → NoAngle more
     → gives any_type (at End (type_tokens t more)) ≡ at (type_tree t End) more
 unfolding ahead

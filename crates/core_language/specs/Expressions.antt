@@ -7,7 +7,7 @@ use Rattle.core_language.specs.Tokens.{of_kind, name_token}
 use Rattle.core_language.specs.Types.{Mutability, mut_tokens, mut_tree, Path, path_tokens, path_tree, name_ref_tree}
 use Rattle.core_language.specs.Operators.{LiteralForm, literal_kind, PrefixOperator, prefix_kind, Operator, BitAnd, power, operator_tokens, operator_tree, Assigner, assigner_tokens, assigner_tree}
 
--- Expressions, and the arguments of a call: a comma parts two of them, and one may stand behind the last.
+-- Expressions, and the arguments of a call: a comma parts two of them, and one may stand after the last.
 mutual
   pub data Expression : Type 0 where
     Literal : LiteralForm → (literal : Bool) → Expression
@@ -121,7 +121,7 @@ is_bit_and BitAnd = true
 is_bit_and o = false
 
 -- The conditions on an expression: operands hold together as tightly as the place asks, the callee is no field access, and the
--- operator `&` does not touch an `&` behind it.
+-- operator `&` does not touch an `&` after it.
 abbrev mutual
   pub IsWellFormed : Expression → Type 0
   IsWellFormed (Literal l literal) = Unit {0}

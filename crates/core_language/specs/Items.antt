@@ -22,7 +22,7 @@ abbrev pub visibility_tree : Visibility → Forest → Forest
 visibility_tree Private f = f
 visibility_tree (Public pub_word) f = Node VISIBILITY (Leaf PUB_KW 1 End) f
 
--- Elements in brackets: a comma parts two of them, and one may stand behind the last.
+-- Elements in brackets: a comma parts two of them, and one may stand after the last.
 pub data Listed (A : Type 0) : Type 0 where
   NoElement : Listed A
   LastElement : A → Listed A

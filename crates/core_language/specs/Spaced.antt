@@ -56,20 +56,20 @@ abbrev pub first_float : List Bool → Bool
 first_float [] = false
 first_float (float ∷ floats) = float
 
--- those behind the first
+-- those after the first
 abbrev pub other_floats : List Bool → List Bool
 other_floats [] = []
 other_floats (float ∷ floats) = floats
 
--- The tokens of one leaf, and those behind it, which are given the floats that are left.
+-- The tokens of one leaf, and those after it, which are given the floats that are left.
 abbrev pub leaf_before : ℕ → List Bool → (List Bool → List Token) → List Token
 leaf_before kind floats more =
     let float = of_kind FLOAT_NUMBER (first_float floats) ∷ more (other_floats floats) in
     let other = leaf_tokens kind (more floats) in
     if kind == FLOAT_NUMBER then float else other
 
--- The tokens of the leaves of trees, and those behind; `floats` tells of each float in its turn whether its text does not end in
--- a dot. The mark of a float behind a dot tells it of itself.
+-- The tokens of the leaves of trees, and those after; `floats` tells of each float in its turn whether its text does not end in
+-- a dot. The mark of a float after a dot tells it of itself.
 unfoldable pub spaced_before : Forest → List Bool → (List Bool → List Token) → List Token
 spaced_before End floats more = more floats
 spaced_before (Leaf kind count f) floats more = leaf_before kind floats (λ left. spaced_before f left more)

@@ -70,7 +70,7 @@ statement_tree (Let let_word p a i semicolon) f =
     Node LET_STMT (Leaf LET_KW 1 (pattern_tree p (annotation_tree a (initializer_tree i (Leaf SEMICOLON 1 End))))) f
 statement_tree (Run e semicolon) f = Node EXPR_STMT (expression_tree e (Leaf SEMICOLON 1 End)) f
 
--- Statements, and behind them an expression or nothing.
+-- Statements, and after them an expression or nothing.
 pub data Statements : Type 0 where
   NoStatement : Statements
   LastExpression : Expression → Statements

@@ -12,7 +12,7 @@ of_kind kind joint = record { kind = kind; contextual = EOF; joint = joint }
 abbrev pub name_token : Bool → Token
 name_token joint = record { kind = IDENT; contextual = IDENT; joint = joint }
 
--- Punctuation of these characters, and the tokens behind it: one token a character, of which each but the last touches the next.
+-- Punctuation of these characters, and the tokens after it: one token a character, of which each but the last touches the next.
 abbrev pub joint_tokens : List ℕ → Bool → List Token → List Token
 joint_tokens [] joint more = more
 joint_tokens (kind ∷ []) joint more = of_kind kind joint ∷ more

@@ -1,5 +1,5 @@
 -- Paths and types of the core language: derivations, each with its tokens and its tree. Functions into tokens take the tokens
--- that stand behind, functions into trees the trees that stand behind.
+-- that stand after, functions into trees the trees that stand after.
 use Rattle.std.specs.Prelude.{ℕ, Bool, List, [], ◌∷◌}
 use Rattle.parser_input.specs.Kinds.{AMP, COLON, COLON2, IDENT, L_BRACK, MUT_KW, NAME_REF, PATH, PATH_SEGMENT, PATH_TYPE, REF_TYPE, R_BRACK, SLICE_TYPE}
 use Rattle.parser_input.specs.Input.{Token}

@@ -4,7 +4,8 @@ use Rattle.std.specs.Prelude.{find}
 use Rattle.std.proofs.lemmas.Slice.Eq.{bytes_eq-Decides}
 use Rattle.parser_input.specs.Kind.{name_of}
 use Rattle.parser_input.specs.declared.syntax_kind.SyntaxKind.{SyntaxKind}
-use Rattle.parser_input.proofs.KindTable.{all_kinds, find-kinds}
+use Rattle.parser_input.proofs.KindTable.{find-kinds}
+use Rattle.parser_input.specs.KindTable.{all_kinds}
 use Rattle.document_requests.specs.Words.{kind_named}
 
 first_passes : (p : SyntaxKind → Bool) (other kind : SyntaxKind) (rest : Option SyntaxKind) (b : Bool) → p other ≡ b → cond b (Some other) rest ≡ Some kind → (rest ≡ Some kind → p kind ≡ true) → p kind ≡ true

@@ -5,7 +5,8 @@ use Rattle.std.proofs.lemmas.Option.{slice_get_past}
 use Rattle.rustc_lexer.proofs.Agree.{lt_or_ge}
 use Rattle.parser_input.specs.Kind.{raw_of, name_of, kind_count}
 use Rattle.parser_input.specs.declared.syntax_kind.SyntaxKind.{SyntaxKind}
-use Rattle.parser_input.proofs.KindTable.{all_kinds, slice_get-kinds}
+use Rattle.parser_input.proofs.KindTable.{slice_get-kinds}
+use Rattle.parser_input.specs.KindTable.{all_kinds}
 use Rattle.parser_events.specs.declared.message.Message.TheVariants as messages
 use Rattle.rust_document.specs.Seen.{fault_of, words_of}
 use Rattle.rust_document.specs.declared.syntax_error.SyntaxMessage.{SyntaxMessage}

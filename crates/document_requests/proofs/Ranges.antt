@@ -3,7 +3,7 @@ use Rattle.std.proofs.Common.{◌≡◌, ℕ, zero, suc, ◌<◌, Bool, true, fa
 use Rattle.std.proofs.lemmas.Bool.{lt-leb}
 use Rattle.rust_document.specs.Edit.{is_boundary, can_edit}
 
--- behind its end
+-- after its end
 outside : (stop : ℕ) (text : List ℕ) → length text < stop → is_boundary stop text ≡ false
 unfolding is_boundary
 outside zero text past = absurd (omega arith)

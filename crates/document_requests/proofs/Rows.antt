@@ -37,7 +37,7 @@ node-lines margin inner start e t is further =
     (ap (λ ls. line_of margin t.kind start (start + length (forest_text t.forest)) ∷ ls)
     (ap (lines_from (margin ++ codes "  ") start) (forest_of-terms t.forest) ∙ sym (append-nil (lines_from (margin ++ codes "  ") start t.forest))))
 
--- a line more, and lines behind it
+-- a line more, and lines after it
 pub after-line :
     (old new : List (String Global)) (l : String Global) (line : List ℕ) (rest all : List (List ℕ))
     → new ≡ old ++ l ∷ [] → string_bytes l ≡ line → line ∷ rest ≡ all

@@ -16,7 +16,7 @@ next_item (x ∷ vs) (suc i) v within is =
     let same : suc (i + 1) ≡ suc i + 1 = omega arith in
     next_item vs i v (omega arith) is ∙ ap (λ n. item (view v) (items_view (drop n (x ∷ vs)))) same
 
--- behind the last there is none
+-- after the last there is none
 pub no_item_left : (vs : List Value) → items_view (drop (length vs) vs) ≡ no_items
 no_item_left [] = refl
 no_item_left (x ∷ vs) = no_item_left vs
@@ -68,7 +68,7 @@ module _ {X C : Type 0} (of : Data → Option X) (seen : C → X) where
       let none_left : items_view (drop i vs) ≡ no_items = rw past (no_item_left vs) in
       ap Some (sym (append-nil done)) ∙ (rw none_left at before)
 
--- whether there is a float is told by this item and those behind it
+-- whether there is a float is told by this item and those after it
 pub float_next :
     (vs : List Value) (i : ℕ) (v : Value) → i < length vs → v ≡ get_or vs i v
     → items_have_float (items_view (drop i vs)) ≡ (has_float (view v) || items_have_float (items_view (drop (i + 1) vs)))

@@ -30,12 +30,12 @@ abbrev pub IsUnprepared : Prepared → ℕ → Stop → Type 0
 IsUnprepared p next (Refused refusal) = p ≡ Stopped refusal next
 IsUnprepared p next NoMemory = Unit {0}
 
--- The answer is this refusal, and this is what it leaves. Want of memory is no answer.
+-- The answer is this refusal, and this is what it leaves. Being out of memory is no answer.
 abbrev pub IsStopped : Answer → Session → Stop → Type 0
 IsStopped a after (Refused refusal) = a ≡ record { reply = answered.Refused refusal; after = after }
 IsStopped a after NoMemory = Unit {0}
 
--- The commands were run: their replies stand behind the earlier ones.
+-- The commands were run: their replies stand after the earlier ones.
 abbrev pub Runs : List Command → Session → List answered.Reply → List answered.Reply → Session → Type 0
 Runs commands s earlier replies after = let r = run commands s in (replies ≡ earlier ++ r.replies) × (after ≡ r.after)
 

@@ -34,7 +34,7 @@ MeetsNoEnd old new = end_of old ≡ None → end_of new ≡ None
 abbrev pub ReadsNoFurther : {D : Type 0} → Watched D → Watched D → Type 0
 ReadsNoFurther old new = MeetsNoEnd old new ⊎ EndsReading old new
 
--- Reading stops where a read failed, or where all reads were made and there may be more. Want of memory comes at any point.
+-- Reading stops where a read failed, or where all reads were made and there may be more. Out of memory comes at any point.
 abbrev pub StopsReading : {D : Type 0} → Watched D → Watched D → Fault → Type 0
 StopsReading old new Reading = OneFailed old new ⊎ (NoneFailed old new × (calls_of new ≡ counted (calls_of old + max_reads)))
 StopsReading old new Writing = ⊥
@@ -44,7 +44,7 @@ StopsReading old new Memory = NoneFailed old new
 abbrev pub AppendsFront : Option (List ℕ) → Option (List ℕ) → List ℕ → Type 0
 AppendsFront old new bytes = (front rest : List ℕ) × (bytes ≡ front ++ rest) × Appends old new front
 
--- Writing stops where a write failed. Want of memory comes at any point.
+-- Writing stops where a write failed. Out of memory comes at any point.
 abbrev pub StopsWriting : {D : Type 0} → Watched D → Watched D → Fault → Type 0
 StopsWriting old new Reading = ⊥
 StopsWriting old new Writing = OneFailed old new

@@ -3,7 +3,7 @@ use Rattle.std.specs.Prelude.{ℕ, ◌+◌, List, [], ◌∷◌, ◌++◌, lengt
 use Rattle.std.specs.Fmt.{decimal}
 use Rattle.parser_input.specs.Kind.{name_of}
 use Rattle.parser_input.specs.declared.syntax_kind.SyntaxKind.{SyntaxKind}
-use Rattle.parser_input.proofs.KindTable.{all_kinds}
+use Rattle.parser_input.specs.KindTable.{all_kinds}
 use Rattle.rowan_green.specs.Forest.{Forest, empty, node, leaf, Tree, forest_text}
 
 -- what is no kind is named as an error
@@ -15,7 +15,7 @@ name_if_any (Some kind) = name_of kind
 unfoldable pub kind_name : ℕ → List ℕ
 kind_name raw = name_if_any (slice_get all_kinds raw)
 
--- an element behind a margin: its kind, where it starts, and the byte behind it
+-- an element after a margin: its kind, where it starts, and the byte after it
 abbrev pub line_of : List ℕ → ℕ → ℕ → ℕ → List ℕ
 line_of margin kind start end = margin ++ (kind_name kind ++ (codes "@" ++ (decimal start ++ (codes ".." ++ decimal end))))
 

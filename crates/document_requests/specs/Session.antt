@@ -66,13 +66,13 @@ accepted s e =
     else record { reply = Changed (changed e); after = numbered (record { document = record { edition = s.document.edition; text = tree_text (rewritten e); number = s.next }; next = s.next }) }
 
 -- An editor of the present tree is never foreign.
-abbrev pub judged : Verdict → Session → Editing → Answer
-judged step.Foreign s e = refused refusals.NoTarget s
-judged step.Intersecting s e = refused refusals.Intersecting s
-judged step.MissingMapping s e = refused refusals.MissingMapping s
-judged step.TooLong s e = refused refusals.TooLong s
-judged step.Unfaithful s e = refused refusals.Unfaithful s
-judged step.Accepted s e = accepted s e
+abbrev pub answer_to : Verdict → Session → Editing → Answer
+answer_to step.Foreign s e = refused refusals.NoTarget s
+answer_to step.Intersecting s e = refused refusals.Intersecting s
+answer_to step.MissingMapping s e = refused refusals.MissingMapping s
+answer_to step.TooLong s e = refused refusals.TooLong s
+answer_to step.Unfaithful s e = refused refusals.Unfaithful s
+answer_to step.Accepted s e = accepted s e
 
 -- ---- what is put
 
@@ -174,7 +174,7 @@ prepared [] d e next = Ready e next
 prepared (c ∷ cs) d e next = and_then (prepared cs d) (prepared_by c d e next)
 
 abbrev pub settled : State → Prepared → Answer
-settled d (Ready e next) = judged (verdict d e) (record { document = d; next = next }) e
+settled d (Ready e next) = answer_to (verdict d e) (record { document = d; next = next }) e
 settled d (Stopped refusal next) = refused refusal (record { document = d; next = next })
 
 -- all changes of a commit are made at once

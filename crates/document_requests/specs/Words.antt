@@ -5,7 +5,7 @@ use Rattle.parser_input.specs.Kind.{name_of}
 use Rattle.parser_input.specs.declared.edition.Edition.{Edition}
 use Rattle.parser_input.specs.declared.edition.Edition.TheVariants.{Edition2015, Edition2018, Edition2021, Edition2024}
 use Rattle.parser_input.specs.declared.syntax_kind.SyntaxKind.{SyntaxKind}
-use Rattle.parser_input.proofs.KindTable.{all_kinds}
+use Rattle.parser_input.specs.KindTable.{all_kinds}
 use Rattle.document_requests.specs.declared.request.Op.{Op}
 use Rattle.document_requests.specs.declared.request.Op.TheVariants.{Replace, Before, After}
 use Rattle.document_requests.specs.declared.request.Entry.{Entry}

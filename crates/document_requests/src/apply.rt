@@ -18,7 +18,7 @@ use std::alloc::{AllocError, Global};
 use syntax_tree::{Position, SyntaxElement, SyntaxNode, TreeIds};
 
 /// The element of the present tree that a target names. None where the target's start is not before its end, or its end lies
-/// behind the text.
+/// after the text.
 fn find(
     alloc: Global,
     document: &Document,

@@ -1,7 +1,7 @@
 //! Replies as lines of JSON.
 ghost use Rattle.std.specs.Prelude.{◌≡◌, ◌++◌, map, string_bytes, IfOk};
 ghost use Rattle.serde_json.specs.View.{view, items_view};
-ghost use Rattle.rust_document.specs.Seen.{told};
+ghost use Rattle.rust_document.specs.Seen.{message_of_error};
 ghost use Rattle.document_requests.specs.Messages.{worded};
 ghost use Rattle.document_requests.specs.Answered.{ends_of, reply as answered};
 ghost use Rattle.document_requests.specs.Reply.{Changed, Tree, Errors, Refused, range_data, ranges_data, lines_data, message_data, messages_data, reply_data, line, lines};
@@ -41,7 +41,7 @@ fn line_values(alloc: Global, lines: &[String]) -> Result<Vec<Value>, AllocError
 }
 
 fn message_value(alloc: Global, error: SyntaxError) -> Result<Value, AllocError>
-    ensures { IfOk result (λ value. view value ≡ message_data (worded (told error))) }
+    ensures { IfOk result (λ value. view value ≡ message_data (worded (message_of_error error))) }
 {
     let offset = Value::from(error.offset);
     let words = Value::String(format!(in alloc; "{error}")?);
@@ -50,7 +50,7 @@ fn message_value(alloc: Global, error: SyntaxError) -> Result<Value, AllocError>
 
 fn message_values(alloc: Global, errors: &[SyntaxError]) -> Result<Vec<Value>, AllocError>
     ensures { IfOk result (λ values. items_view values.items
-        ≡ messages_data (map worded (map told errors.now))) }
+        ≡ messages_data (map worded (map message_of_error errors.now))) }
 {
     let mut values = Vec::with_capacity(alloc, errors.len())?;
     for error in errors {
@@ -74,7 +74,7 @@ fn tree_value(alloc: Global, lines: &[String]) -> Result<Value, AllocError>
 }
 
 fn errors_value(alloc: Global, errors: &[SyntaxError]) -> Result<Value, AllocError>
-    ensures { IfOk result (λ value. view value ≡ reply_data (Errors (map worded (map told errors.now)))) }
+    ensures { IfOk result (λ value. view value ≡ reply_data (Errors (map worded (map message_of_error errors.now)))) }
 {
     let messages = Value::Array(message_values(alloc, errors)?);
     json!(in alloc; {"errors": messages, "ok": "errors"})

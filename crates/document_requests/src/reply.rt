@@ -24,7 +24,7 @@ pub enum Refusal {
     Request,
     /// It holds a number with a point or an exponent.
     Float,
-    /// An edit begins behind its end, ends behind the text, or has an end inside of a character.
+    /// An edit begins after its end, ends after the text, or has an end inside of a character.
     Range,
     /// A text would have more than 16,777,216 bytes.
     TooLong,

@@ -52,7 +52,7 @@ pub enum Op {
     Replace,
     /// In front of it.
     Before,
-    /// Behind it.
+    /// After it.
     After,
 }
 

@@ -222,7 +222,7 @@ fn is_put(alloc: Global, text: &str, steps: &[Step], wanted: &[Mark]) -> Result<
 }
 
 #[test]
-fn floats_behind_a_dot(rt: HostRuntime) -> Result<(), AllocError> {
+fn floats_after_a_dot(rt: HostRuntime) -> Result<(), AllocError> {
     let with_fraction = is_put(
         rt.alloc(),
         "0.1",

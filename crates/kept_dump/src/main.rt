@@ -1,5 +1,5 @@
 //! Edits texts: each line of the input is a JSON object with a text, an edit as the start and the end of a range of bytes and the text
-//! that is put in its place, and how many tokens are kept in front, lexed, and kept behind. Prints for each what the edit answers, and
+//! that is put in its place, and how many tokens are kept in front, lexed, and kept after. Prints for each what the edit answers, and
 //! whether that agrees.
 //!
 //! The cases that lie beside it were computed by a slow, plain reader of the rules that shares no code with these crates. They are

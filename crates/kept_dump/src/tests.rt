@@ -6,7 +6,7 @@ use std::alloc::{AllocError, Global};
 use std::ops::Range;
 use std::process::Abort;
 
-/// An edit's counts: the tokens kept in front, those lexed, and those kept behind.
+/// An edit's counts: the tokens kept in front, those lexed, and those kept after.
 type Counts = (usize, usize, usize);
 
 /// Edits a text, and looks at the counts.

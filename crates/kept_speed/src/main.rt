@@ -18,10 +18,10 @@ struct Sum {
     /// The edits.
     edits: usize,
 
-    /// Bytes of text that an edit put elsewhere: those behind it, where it changes the text's length.
+    /// Bytes of text that an edit put elsewhere: those after it, where it changes the text's length.
     bytes_moved: usize,
 
-    /// Tokens that an edit put elsewhere: those kept behind it, where it changes their number.
+    /// Tokens that an edit put elsewhere: those kept after it, where it changes their number.
     tokens_moved: usize,
 
     /// Tokens that were lexed.

@@ -1,4 +1,4 @@
--- An edit in code: where the front ends, and what the tokens are behind it.
+-- An edit in code: where the front ends, and what the tokens are after it.
 use Rattle.std.proofs.Common.{◌≡◌, ℕ, ◌+◌, ◌-◌, ◌≤◌, inl, inr, List, ◌++◌, length, take, drop, map, refl, sym, ◌∙◌, ap, subst, arith, length-append}
 use Rattle.std.proofs.lemmas.List.{append_assoc, length-take-le, take-map, drop-map, map-append}
 use Rattle.std.proofs.lemmas.Str.{IsUtf8-drop, IsUtf8-append, IsCharBoundary-at_seam}
@@ -16,10 +16,10 @@ use Rattle.lexed_text.specs.Kept.{end_of, IsFront, IsShared, IsKept}
 use Rattle.lexed_text.specs.Inside.{taken, left, FrontFound, Meets, Renewed}
 use Rattle.lexed_text.proofs.Ends.{taken-size, list-length, taken-left}
 use Rattle.lexed_text.proofs.Fronts.{front-found, front-none, front-tokens}
-use Rattle.lexed_text.proofs.Backs.{kept-found, kept-list, list-behind}
-use Rattle.lexed_text.proofs.Texts.{place, old-chars, new-chars, put-back, size-behind}
+use Rattle.lexed_text.proofs.Backs.{kept-found, kept-list, list-after}
+use Rattle.lexed_text.proofs.Texts.{place, old-chars, new-chars, put-back, size-after}
 
--- the first k tokens are the front, and end behind so many bytes
+-- the first k tokens are the front, and end after so many bytes
 pub record FrontAt (text : List ℕ) (start end : ℕ) (put : List ℕ) (k bytes : ℕ) : Type 0 where
   pub front : IsFront (edit_of text start end put) k
   pub is_taken : bytes ≡ taken k (token_list (chars text))
@@ -74,11 +74,11 @@ counts_kept e front lexed back kept is k =
     let H : ℕ → Kept = λ n. record { front = n; lexed = kept.lexed; back = kept.back } in
     subst (λ n. IsKept e (H n)) (sym is) k
 
--- the tokens of what stands behind the front in the new text
+-- the tokens of what stands after the front in the new text
 rest_list : (e : Edit) (new rest : List ℕ) (k : ℕ) → new_text e ≡ chars new → chars rest ≡ drop (end_of k (chars new)) (chars new) → token_list (chars rest) ≡ token_list (drop (end_of k (new_text e)) (new_text e))
 rest_list e new rest k news is = ap token_list is ∙ ap (λ z. token_list (drop (end_of k z) z)) (sym news)
 
-pub renewed-kept : (e : Edit) (text new rest : List ℕ) (k most : ℕ) (list : List Token) (kept : Kept) → old_text e ≡ chars text → new_text e ≡ chars new → IsFront e k → most ≡ size e.behind → chars rest ≡ drop (end_of k (chars new)) (chars new) → Renewed (token_list (chars text)) (token_list (chars rest)) k most list kept → IsKept e kept
+pub renewed-kept : (e : Edit) (text new rest : List ℕ) (k most : ℕ) (list : List Token) (kept : Kept) → old_text e ≡ chars text → new_text e ≡ chars new → IsFront e k → most ≡ size e.after → chars rest ≡ drop (end_of k (chars new)) (chars new) → Renewed (token_list (chars text)) (token_list (chars rest)) k most list kept → IsKept e kept
 renewed-kept e text new rest k most list kept olds news f is left_is r =
     let to = rest_list e new rest k news left_is in
     let from : token_list (chars text) ≡ token_list (old_text e) = ap token_list (sym olds) in
@@ -100,7 +100,7 @@ three_parts olds news k l n =
     ∙ ap (λ z. take k (map token olds) ++ (take l (drop k (map token news)) ++ z)) (sym (drop-map token n olds))
 
 -- and the tokens are those of the new text
-pub renewed-list : (e : Edit) (text new rest : List ℕ) (k most : ℕ) (list : List Token) (kept : Kept) → old_text e ≡ chars text → new_text e ≡ chars new → IsFront e k → most ≡ size e.behind → chars rest ≡ drop (end_of k (chars new)) (chars new) → Renewed (token_list (chars text)) (token_list (chars rest)) k most list kept → list ≡ token_list (chars new)
+pub renewed-list : (e : Edit) (text new rest : List ℕ) (k most : ℕ) (list : List Token) (kept : Kept) → old_text e ≡ chars text → new_text e ≡ chars new → IsFront e k → most ≡ size e.after → chars rest ≡ drop (end_of k (chars new)) (chars new) → Renewed (token_list (chars text)) (token_list (chars rest)) k most list kept → list ≡ token_list (chars new)
 unfolding token_list
 renewed-list e text new rest k most list kept olds news f is left_is r =
     let whole = renewed-kept e text new rest k most list kept olds news f is left_is r in
@@ -111,7 +111,7 @@ renewed-list e text new rest k most list kept olds news f is left_is r =
     let len = list-length (chars text) in
     let same = ap (λ z. length (tokens z)) olds in
     let at : r.stop ≡ stop = omega arith in
-    let to = rest_list e new rest k news left_is ∙ list-behind k (new_text e) in
+    let to = rest_list e new rest k news left_is ∙ list-after k (new_text e) in
     let fresh = take kept.lexed (drop kept.front (tokens (new_text e))) in
     let all = kept-list e kept stop fresh whole.front s refl in
     r.tokens
@@ -155,11 +155,11 @@ renewed-all text start end put new rest k bytes most old list kept u v can f is 
     let seam = front-seam text start end put k bytes u v can f new is w in
     let olds = old-chars text start end (length put) put u can in
     let news : new_text e ≡ chars new = new-chars text start end (length put) put u v can ∙ ap chars (sym is) in
-    let behind = size-behind text start end (length put) put u can in
+    let after = size-after text start end (length put) put u can in
     let rests = ap chars left_is ∙ seam.left in
     let whole = subst (λ (z : List Token). Renewed z (token_list (chars rest)) k most list kept) old_is r in (
-      renewed-kept e text new rest k most list kept olds news f.front (most_is ∙ sym behind) rests whole,
-      renewed-list e text new rest k most list kept olds news f.front (most_is ∙ sym behind) rests whole,
+      renewed-kept e text new rest k most list kept olds news f.front (most_is ∙ sym after) rests whole,
+      renewed-list e text new rest k most list kept olds news f.front (most_is ∙ sym after) rests whole,
     )
 
 -- a call that had room succeeded

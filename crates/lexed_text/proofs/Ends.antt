@@ -35,7 +35,7 @@ end-within k text =
     let whole = ap length (parts-joined k text) in
     omega (arith, length-append (joined (take k (tokens text))) (joined (drop k (tokens text))), whole)
 
--- behind all tokens the text ends
+-- after all tokens the text ends
 pub end-full : (k : ℕ) (text : List ℕ) → length (tokens text) ≤ k → end_of k text ≡ length text
 end-full k text h = ap (λ z. length (joined z)) (take_all k (tokens text) h) ∙ ap length (tokens-joined text)
 

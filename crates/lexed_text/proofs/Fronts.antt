@@ -12,14 +12,14 @@ use Rattle.lexed_text.proofs.Ends.{end-mono, end-within, size-less, size-mono, t
 
 -- the first characters of the old text, before the edit
 first-same : (p : ℕ) (e : Edit) → p ≤ length e.before → take p e.before ≡ take p (old_text e)
-first-same p e h = sym (take-append-le p e.before (e.removed ++ e.behind) h)
+first-same p e h = sym (take-append-le p e.before (e.removed ++ e.after) h)
 
 -- the tokens that end within the bytes of all but two characters before the edit are the front
 pub front-found : (e : Edit) (limit k end : ℕ) → 2 ≤ length e.before → limit ≡ size (take (length e.before - 2) e.before) → EndsWithin (token_list (old_text e)) limit k end → IsFront e k
 front-found e limit k end two is ends =
     let old = old_text e in
     let b = length e.before in
-    let all : b ≤ length old = omega (arith, length-append e.before (e.removed ++ e.behind)) in
+    let all : b ≤ length old = omega (arith, length-append e.before (e.removed ++ e.after)) in
     let lim : limit ≡ size (take (b - 2) old) = is ∙ ap size (first-same (b - 2) e (omega arith)) in
     let n = list-length old in
     let low : end ≤ limit = ends.low in
@@ -46,7 +46,7 @@ front-found e limit k end two is ends =
       );
     }
 
--- an edit behind fewer than two characters has no front
+-- an edit after fewer than two characters has no front
 pub front-none : (e : Edit) → length e.before < 2 → IsFront e 0
 front-none e few = record {
   within = omega arith;
@@ -55,7 +55,7 @@ front-none e few = record {
 
 -- texts agree up to the edit
 agree : (e : Edit) → take (length e.before) (old_text e) ≡ take (length e.before) (new_text e)
-agree e = take_at e.before (e.removed ++ e.behind) (length e.before) refl ∙ sym (take_at e.before (e.put ++ e.behind) (length e.before) refl)
+agree e = take_at e.before (e.removed ++ e.after) (length e.before) refl ∙ sym (take_at e.before (e.put ++ e.after) (length e.before) refl)
 
 -- the front tokens are those of the new text
 pub front-tokens : (e : Edit) (k : ℕ) → IsFront e k → take k (tokens (new_text e)) ≡ take k (tokens (old_text e))

@@ -71,14 +71,14 @@ runs-before old fresh new f l j p runs c r within low =
     let t = ap (λ z. sum_by (λ (x : Run). x.tokens) z) all in
     runs-front f (take p runs) old new (runs-take 0 0 p runs old r) (omega arith) (omega arith) (changed_front old fresh new f l j c)
 
--- the runs behind the last one that changes
+-- the runs after the last one that changes
 pub record Later (runs : List Run) (new : List Token) (f q to : ℕ) : Type 0 where
   pub onward : f ≤ to
   pub ends : to ≤ length new
   pub back : RunsFrom to (taken to new) (drop q runs) new
 
-pub runs-behind : (old fresh new : List Token) (f l j q count to : ℕ) (runs : List Run) → Changed old fresh new f l j → RunsFrom 0 0 runs old → q ≤ length runs → count ≡ run_tokens q runs → (q < length runs → j ≤ count) → ((q < length runs) × (to ≡ f + l + (count - j))) ⊎ ((length runs ≤ q) × (to ≡ length new)) → Later runs new f q to
-runs-behind old fresh new f l j q count to runs c r within is past where_to =
+pub runs-after : (old fresh new : List Token) (f l j q count to : ℕ) (runs : List Run) → Changed old fresh new f l j → RunsFrom 0 0 runs old → q ≤ length runs → count ≡ run_tokens q runs → (q < length runs → j ≤ count) → ((q < length runs) × (to ≡ f + l + (count - j))) ⊎ ((length runs ≤ q) × (to ≡ length new)) → Later runs new f q to
+runs-after old fresh new f l j q count to runs c r within is past where_to =
     let n = changed-length old fresh new f l j c in
     let at = r q within in
     let low : 0 + run_tokens q runs ≤ length old = at.0 in

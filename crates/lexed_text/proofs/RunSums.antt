@@ -1,4 +1,4 @@
--- Runs of tokens: a run more, parts of them, and other tokens behind or before them.
+-- Runs of tokens: a run more, parts of them, and other tokens after or before them.
 use Rattle.std.proofs.Common.{◌≡◌, ℕ, zero, suc, ◌+◌, ◌-◌, ◌^◌, ◌<◌, ◌≤◌, inl, inr, List, [], ◌∷◌, ◌++◌, length, take, drop, refl, sym, ◌∙◌, ap, subst, arith, length-append, length-drop}
 use Rattle.std.proofs.lemmas.List.{take_all, take-take, take-append-le, length-take, drop_at}
 use Rattle.std.proofs.lemmas.List.Sums.{sum_by-append, sum_by-cons, sum_by_push}
@@ -25,7 +25,7 @@ runs-none k start runs tokens none within is = λ i w.
     let at2 = ap (λ n. taken n tokens) same in
     (omega arith, omega arith)
 
--- runs behind runs
+-- runs after runs
 pub runs-append : (k start : ℕ) (xs ys : List Run) (tokens : List Token) → RunsFrom k start xs tokens → RunsFrom (k + run_tokens (length xs) xs) (start + run_bytes (length xs) xs) ys tokens → RunsFrom k start (xs ++ ys) tokens
 runs-append k start xs ys tokens f g = λ i w.
     elim (lt_or_ge (length xs) i) [
@@ -90,7 +90,7 @@ runs-front f runs old new r low within same = λ i w.
     let h1 : 0 + run_bytes i runs ≡ taken (0 + run_tokens i runs) old = (r i w).1 in
     (omega arith, h1 ∙ t)
 
--- runs behind a place, from which another list goes on alike
+-- runs after a place, from which another list goes on alike
 pub runs-back : (k n start : ℕ) (runs : List Run) (old new : List Token) → RunsFrom k start runs old → k ≤ length old → n ≤ length new → drop k old ≡ drop n new → RunsFrom n (taken n new) runs new
 runs-back k n start runs old new r wk wn same = λ i w.
     let x = run_tokens i runs in

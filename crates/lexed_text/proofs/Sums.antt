@@ -1,4 +1,4 @@
--- The bytes before and behind a boundary, a token more.
+-- The bytes before and after a boundary, a token more.
 use Rattle.std.proofs.Common.{◌≡◌, ℕ, zero, suc, ◌+◌, ◌-◌, ◌<◌, ◌≤◌, List, [], ◌∷◌, ◌++◌, length, take, drop, get_or, sym, ◌∙◌, ap, arith, length-append}
 use Rattle.std.proofs.lemmas.List.{append_assoc, drop_more, drop_all, take_at}
 use Rattle.std.proofs.lemmas.List.Sums.{fold_more, sum_by-cons, sum_by-take-drop}
@@ -32,7 +32,7 @@ left-mono tokens i j h =
     let m = taken-mono tokens i j h in
     omega (arith, sum_by-take-drop (λ (x : Token). x.len) tokens i, sum_by-take-drop (λ (x : Token). x.len) tokens j)
 
--- where the next token ends behind the limit, so do the later ones
+-- where the next token ends after the limit, so do the later ones
 pub ends-here : (tokens : List Token) (limit k end : ℕ) (d : Token) → k < length tokens → end ≡ taken k tokens → end ≤ limit → limit < end + (get_or tokens k d).len → EndsWithin tokens limit k end
 ends-here tokens limit k end d inside is low next = record {
   within = omega arith;

@@ -37,22 +37,22 @@ chars-parts bs i u at = ap chars (sym (take-append-drop i bs)) ∙ chars-append 
 pub old-chars : (bs : List ℕ) (start end len : ℕ) (put : List ℕ) → IsUtf8 bs → CanEdit bs start end len → old_text (edit_of bs start end put) ≡ chars bs
 old-chars bs start end len put u can =
     let order : start ≤ end = can.in_order in
-    let behind = drop start bs in
-    let behind_u = IsUtf8-drop bs start u can.cuts_start in
+    let after = drop start bs in
+    let after_u = IsUtf8-drop bs start u can.cuts_start in
     let middle = IsUtf8-between bs start end u order can.cuts_start can.cuts_end in
     let at : start + (end - start) ≡ end = omega arith in
-    let rest : drop (end - start) behind ≡ drop end bs = drop-drop (end - start) start bs ∙ ap (λ n. drop n bs) at in
-    let two : chars behind ≡ chars (take (end - start) behind) ++ chars (drop end bs) =
-    ap chars (sym (take-append-drop (end - start) behind)) ∙ chars-append (take (end - start) behind) (drop (end - start) behind) middle ∙ ap (λ z. chars (take (end - start) behind) ++ chars z) rest in
+    let rest : drop (end - start) after ≡ drop end bs = drop-drop (end - start) start bs ∙ ap (λ n. drop n bs) at in
+    let two : chars after ≡ chars (take (end - start) after) ++ chars (drop end bs) =
+    ap chars (sym (take-append-drop (end - start) after)) ∙ chars-append (take (end - start) after) (drop (end - start) after) middle ∙ ap (λ z. chars (take (end - start) after) ++ chars z) rest in
     sym (chars-parts bs start u can.cuts_start ∙ ap (λ z. chars (take start bs) ++ z) two)
 
 pub new-chars : (bs : List ℕ) (start end len : ℕ) (put : List ℕ) → IsUtf8 bs → IsUtf8 put → CanEdit bs start end len → new_text (edit_of bs start end put) ≡ chars (edited bs start end put)
 new-chars bs start end len put u v can =
     sym (chars-append (take start bs) (put ++ drop end bs) (IsUtf8-take bs start u can.cuts_start) ∙ ap (λ z. chars (take start bs) ++ z) (chars-append put (drop end bs) v))
 
--- the bytes behind an edit
-pub size-behind : (bs : List ℕ) (start end len : ℕ) (put : List ℕ) → IsUtf8 bs → CanEdit bs start end len → size (edit_of bs start end put).behind ≡ length bs - end
-size-behind bs start end len put u can = sym (size-chars (drop end bs) (IsUtf8-drop bs end u can.cuts_end)) ∙ length-drop end bs
+-- the bytes after an edit
+pub size-after : (bs : List ℕ) (start end len : ℕ) (put : List ℕ) → IsUtf8 bs → CanEdit bs start end len → size (edit_of bs start end put).after ≡ length bs - end
+size-after bs start end len put u can = sym (size-chars (drop end bs) (IsUtf8-drop bs end u can.cuts_end)) ∙ length-drop end bs
 
 -- putting back what was removed gives the old text
 pub put-back : (bs put removed : List ℕ) (start end : ℕ) → start ≤ end → end ≤ length bs → removed ≡ take (end - start) (drop start bs) → (take start (edited bs start end put) ++ removed) ++ drop (start + length put) (edited bs start end put) ≡ bs

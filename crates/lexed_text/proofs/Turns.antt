@@ -1,4 +1,4 @@
--- The loop that lexes behind the front, a turn of it.
+-- The loop that lexes after the front, a turn of it.
 use Rattle.std.proofs.Common.{◌≡◌, ◌≢◌, ℕ, ◌+◌, ◌<◌, ◌≤◌, inl, inr, List, [], ◌∷◌, ◌++◌, length, drop, sym, ◌∙◌, ap, subst, arith, length-append}
 use Rattle.std.proofs.lemmas.List.{append_assoc, drop_at}
 use Rattle.std.proofs.lemmas.List.Elements.{All-head}
@@ -13,13 +13,13 @@ use Rattle.lexed_text.specs.Inside.{left, Meets, Passes}
 use Rattle.lexed_text.proofs.Sums.{left-mono}
 
 -- `done` were taken, k of them, and `rest` is left of the text; no boundary was shared up to here, and the old ones before the
--- j-th have more bytes behind them than any that comes
-pub record Turn (old : List Token) (text : List ℕ) (front most : ℕ) (rest : List ℕ) (done : List Token) (k j behind : ℕ) : Type 0 where
+-- j-th have more bytes after them than any that comes
+pub record Turn (old : List Token) (text : List ℕ) (front most : ℕ) (rest : List ℕ) (done : List Token) (k j beyond : ℕ) : Type 0 where
   pub parts : done ++ token_list rest ≡ token_list text
   pub count : k ≡ length done
   pub onward : front ≤ j
   pub within : j ≤ length old
-  pub is_left : behind ≡ left j old
+  pub is_left : beyond ≡ left j old
   pub passed : (i : ℕ) → front ≤ i → i < j → size rest < left i old
   pub first : (i n : ℕ) → i < k → front ≤ n → n ≤ length old → left i (token_list text) ≤ most → left i (token_list text) ≡ left n old → ⊥
 
@@ -29,8 +29,8 @@ left_here text rest done k parts count =
     ap (λ z. left k z) (sym parts) ∙ ap (λ z. left 0 z) (drop_at done (token_list rest) k (sym count)) ∙ lengths-sum rest
 
 -- nothing was taken
-pub turn-none : (old : List Token) (text : List ℕ) (front most : ℕ) (rest : List ℕ) (done : List Token) (behind : ℕ) → rest ≡ text → done ≡ [] → front ≤ length old → behind ≡ left front old → Turn old text front most rest done 0 front behind
-turn-none old text front most rest done behind whole none within is = record {
+pub turn-none : (old : List Token) (text : List ℕ) (front most : ℕ) (rest : List ℕ) (done : List Token) (beyond : ℕ) → rest ≡ text → done ≡ [] → front ≤ length old → beyond ≡ left front old → Turn old text front most rest done 0 front beyond
+turn-none old text front most rest done beyond whole none within is = record {
   parts = ap (λ z. z ++ token_list rest) none ∙ ap token_list whole;
   count = sym (ap length none);
   onward = omega arith;
@@ -41,8 +41,8 @@ turn-none old text front most rest done behind whole none within is = record {
 }
 
 -- a boundary that is shared
-pub turn-meets : (old : List Token) (text : List ℕ) (front most : ℕ) (rest : List ℕ) (done : List Token) (k j behind n m here : ℕ) → Turn old text front most rest done k j behind → here ≡ size rest → here ≤ most → Passes old j here n m → m ≡ here → Meets old (token_list text) front most k n
-turn-meets old text front most rest done k j behind n m here t at low p same =
+pub turn-meets : (old : List Token) (text : List ℕ) (front most : ℕ) (rest : List ℕ) (done : List Token) (k j beyond n m here : ℕ) → Turn old text front most rest done k j beyond → here ≡ size rest → here ≤ most → Passes old j here n m → m ≡ here → Meets old (token_list text) front most k n
+turn-meets old text front most rest done k j beyond n m here t at low p same =
     let l = left_here text rest done k t.parts t.count in
     let sum = ap length t.parts in
     let c : k ≡ length done = t.count in
@@ -58,8 +58,8 @@ turn-meets old text front most rest done k j behind n m here t at low p same =
       first = t.first;
     }
 
-pub turn-taken : (old : List Token) (text : List ℕ) (front most : ℕ) (rest : List ℕ) (done : List Token) (k j behind n m here : ℕ) → Turn old text front most rest done k j behind → here ≡ size rest → Passes old j here n m → m ≢ here → Turn old text front most rest done k n m
-turn-taken old text front most rest done k j behind n m here t at p other = record {
+pub turn-taken : (old : List Token) (text : List ℕ) (front most : ℕ) (rest : List ℕ) (done : List Token) (k j beyond n m here : ℕ) → Turn old text front most rest done k j beyond → here ≡ size rest → Passes old j here n m → m ≢ here → Turn old text front most rest done k n m
+turn-taken old text front most rest done k j beyond n m here t at p other = record {
   parts = t.parts;
   count = t.count;
   onward = let o : front ≤ j = t.onward in let q : j ≤ n = p.onward in omega arith;
@@ -72,9 +72,9 @@ turn-taken old text front most rest done k j behind n m here t at p other = reco
   first = t.first;
 }
 
--- where the old boundary has fewer bytes behind it, none is shared here
-pub apart : (old : List Token) (text : List ℕ) (front most : ℕ) (rest : List ℕ) (done : List Token) (k j behind n m here : ℕ) → Turn old text front most rest done k j behind → here ≡ size rest → Passes old j here n m → m ≢ here → (i : ℕ) → front ≤ i → i ≤ length old → size rest ≡ left i old → ⊥
-apart old text front most rest done k j behind n m here t at p other i from upto same =
+-- where the old boundary has fewer bytes after it, none is shared here
+pub apart : (old : List Token) (text : List ℕ) (front most : ℕ) (rest : List ℕ) (done : List Token) (k j beyond n m here : ℕ) → Turn old text front most rest done k j beyond → here ≡ size rest → Passes old j here n m → m ≢ here → (i : ℕ) → front ≤ i → i ≤ length old → size rest ≡ left i old → ⊥
+apart old text front most rest done k j beyond n m here t at p other i from upto same =
     elim (lt_or_ge i j) [
       | inl less ↦ let h : size rest < left i old = t.passed i from less in omega arith
       | inr more ↦ elim (lt_or_ge i n) [
@@ -97,17 +97,17 @@ pub shorter : (rest after : List ℕ) → 0 < size rest → after ≡ drop (leng
 shorter rest after some is =
     let cons = list-cons rest (some_left rest some) in
     let each = subst (λ z. All (λ (t : Token). 1 ≤ t.len) z) cons (each-length rest) in
-    let behind = drop (length (next_lexeme rest).text) rest in
-    let one : 1 ≤ (token (next_lexeme rest)).len = All-head (λ (t : Token). 1 ≤ t.len) (token (next_lexeme rest)) (token_list behind) each in
-    let sum = ap (λ z. sum_by (λ (t : Token). t.len) z) cons ∙ sum_by-cons (λ (t : Token). t.len) (token (next_lexeme rest)) (token_list behind) in
+    let beyond = drop (length (next_lexeme rest).text) rest in
+    let one : 1 ≤ (token (next_lexeme rest)).len = All-head (λ (t : Token). 1 ≤ t.len) (token (next_lexeme rest)) (token_list beyond) each in
+    let sum = ap (λ z. sum_by (λ (t : Token). t.len) z) cons ∙ sum_by-cons (λ (t : Token). t.len) (token (next_lexeme rest)) (token_list beyond) in
     let a = lengths-sum rest in
-    let b = lengths-sum behind in
+    let b = lengths-sum beyond in
     let c = ap size is in
     omega arith
 
 -- one token more
-pub turn-next : (old : List Token) (text : List ℕ) (front most : ℕ) (rest : List ℕ) (done : List Token) (k j behind : ℕ) → Turn old text front most rest done k j behind → 0 < size rest → ((i : ℕ) → front ≤ i → i ≤ length old → size rest ≤ most → size rest ≡ left i old → ⊥) → (t : Token) (after : List ℕ) (more : List Token) → t ≡ token (next_lexeme rest) → after ≡ drop (length (next_lexeme rest).text) rest → more ≡ done ++ t ∷ [] → Turn old text front most after more (k + 1) j behind
-turn-next old text front most rest done k j behind t some none next after more is left_is more_is =
+pub turn-next : (old : List Token) (text : List ℕ) (front most : ℕ) (rest : List ℕ) (done : List Token) (k j beyond : ℕ) → Turn old text front most rest done k j beyond → 0 < size rest → ((i : ℕ) → front ≤ i → i ≤ length old → size rest ≤ most → size rest ≡ left i old → ⊥) → (t : Token) (after : List ℕ) (more : List Token) → t ≡ token (next_lexeme rest) → after ≡ drop (length (next_lexeme rest).text) rest → more ≡ done ++ t ∷ [] → Turn old text front most after more (k + 1) j beyond
+turn-next old text front most rest done k j beyond t some none next after more is left_is more_is =
     let cons = list-cons rest (some_left rest some) in
     let tail : next ∷ token_list after ≡ token_list rest = ap (λ z. z ∷ token_list after) is ∙ ap (λ z. token (next_lexeme rest) ∷ token_list z) left_is ∙ sym cons in
     let c : k ≡ length done = t.count in
@@ -130,25 +130,25 @@ turn-next old text front most rest done k j behind t some none next after more i
     }
 
 -- text is left, and no boundary is shared here
-pub record Turned (old : List Token) (text : List ℕ) (front most : ℕ) (rest : List ℕ) (done : List Token) (k j behind : ℕ) : Type 0 where
-  pub turn : Turn old text front most rest done k j behind
+pub record Turned (old : List Token) (text : List ℕ) (front most : ℕ) (rest : List ℕ) (done : List Token) (k j beyond : ℕ) : Type 0 where
+  pub turn : Turn old text front most rest done k j beyond
   pub some : 0 < size rest
   pub none : (i : ℕ) → front ≤ i → i ≤ length old → size rest ≤ most → size rest ≡ left i old → ⊥
 
-pub turned-passed : (old : List Token) (text : List ℕ) (front most : ℕ) (rest : List ℕ) (done : List Token) (k j behind n m here p q : ℕ) → Turn old text front most rest done k j behind → here ≡ size rest → Passes old j here n m → m ≢ here → p ≡ n → q ≡ m → Turned old text front most rest done k p q
-turned-passed old text front most rest done k j behind n m here p q t at pass other pn qm =
+pub turned-passed : (old : List Token) (text : List ℕ) (front most : ℕ) (rest : List ℕ) (done : List Token) (k j beyond n m here p q : ℕ) → Turn old text front most rest done k j beyond → here ≡ size rest → Passes old j here n m → m ≢ here → p ≡ n → q ≡ m → Turned old text front most rest done k p q
+turned-passed old text front most rest done k j beyond n m here p q t at pass other pn qm =
     let low : m ≤ here = pass.low in
     let some : 0 < size rest = elim (lt_or_ge 0 (size rest)) [ inl more ↦ more | inr none_left ↦ absurd (other (omega arith)) ] in
     let whole : Turned old text front most rest done k n m = record {
-      turn = turn-taken old text front most rest done k j behind n m here t at pass other;
+      turn = turn-taken old text front most rest done k j beyond n m here t at pass other;
       some = some;
-      none = λ i from upto low same. apart old text front most rest done k j behind n m here t at pass other i from upto same;
+      none = λ i from upto low same. apart old text front most rest done k j beyond n m here t at pass other i from upto same;
     } in
     rw (pn, qm) whole
 
-pub turned-kept : (old : List Token) (text : List ℕ) (front most : ℕ) (rest : List ℕ) (done : List Token) (k j behind here p q : ℕ) → Turn old text front most rest done k j behind → here ≡ size rest → most < here → p ≡ j → q ≡ behind → Turned old text front most rest done k p q
-turned-kept old text front most rest done k j behind here p q t at far pj qb =
-    let whole : Turned old text front most rest done k j behind = record {
+pub turned-kept : (old : List Token) (text : List ℕ) (front most : ℕ) (rest : List ℕ) (done : List Token) (k j beyond here p q : ℕ) → Turn old text front most rest done k j beyond → here ≡ size rest → most < here → p ≡ j → q ≡ beyond → Turned old text front most rest done k p q
+turned-kept old text front most rest done k j beyond here p q t at far pj qb =
+    let whole : Turned old text front most rest done k j beyond = record {
       turn = t;
       some = omega arith;
       none = λ i from upto low same. absurd (omega arith);

@@ -13,18 +13,18 @@ pub record CanEdit (text : List ℕ) (start end put_len : ℕ) : Type 0 where
   pub cuts_end : IsCharBoundary text end
   pub fits : length text - (end - start) + put_len < 2 ^ 64
 
--- an edit in characters: those before the range, in it, put in its place, and behind it
+-- an edit in characters: those before the range, in it, put in its place, and after it
 pub record Edit : Type 0 where
   pub before : List ℕ
   pub removed : List ℕ
   pub put : List ℕ
-  pub behind : List ℕ
+  pub after : List ℕ
 
 abbrev pub old_text : Edit → List ℕ
-old_text e = e.before ++ (e.removed ++ e.behind)
+old_text e = e.before ++ (e.removed ++ e.after)
 
 abbrev pub new_text : Edit → List ℕ
-new_text e = e.before ++ (e.put ++ e.behind)
+new_text e = e.before ++ (e.put ++ e.after)
 
 -- the edit of a text in bytes
 abbrev pub edit_of : List ℕ → ℕ → ℕ → List ℕ → Edit
@@ -32,5 +32,5 @@ edit_of text start end put = record {
   before = chars (take start text);
   removed = chars (take (end - start) (drop start text));
   put = chars put;
-  behind = chars (drop end text);
+  after = chars (drop end text);
 }

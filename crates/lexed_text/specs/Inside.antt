@@ -1,4 +1,4 @@
--- How code finds the boundaries of a list of tokens: by the bytes that stand before and behind them.
+-- How code finds the boundaries of a list of tokens: by the bytes that stand before and after them.
 use Rattle.std.specs.Prelude.{◌≡◌, ◌⊎◌, ℕ, ◌+◌, ◌-◌, ◌<◌, ◌≤◌, List, [], ◌∷◌, ◌++◌, take, drop, length}
 use Rattle.std.specs.List.{sum_by}
 use Rattle.std.specs.Str.{chars, IsUtf8}
@@ -10,26 +10,26 @@ use Rattle.lexed_text.specs.declared.kept.Kept.{Kept}
 abbrev pub taken : ℕ → List Token → ℕ
 taken k tokens = sum_by (λ t. t.len) (take k tokens)
 
--- the bytes of the tokens behind the first k
+-- the bytes of the tokens after the first k
 abbrev pub left : ℕ → List Token → ℕ
 left k tokens = sum_by (λ t. t.len) (drop k tokens)
 
--- the first k tokens are those that end within `limit` bytes, and end behind `end` bytes
+-- the first k tokens are those that end within `limit` bytes, and end after `end` bytes
 pub record EndsWithin (tokens : List Token) (limit k end : ℕ) : Type 0 where
   pub within : k ≤ length tokens
   pub is_end : end ≡ taken k tokens
   pub low : end ≤ limit
   pub high : (i : ℕ) → k < i → i ≤ length tokens → limit < taken i tokens
 
--- the first boundary from the k-th on that has no more than `most` bytes behind it is the j-th, and has `behind`
-pub record Passes (tokens : List Token) (k most j behind : ℕ) : Type 0 where
+-- the first boundary from the k-th on that has no more than `most` bytes after it is the j-th, and has `after`
+pub record Passes (tokens : List Token) (k most j after : ℕ) : Type 0 where
   pub onward : k ≤ j
   pub within : j ≤ length tokens
-  pub is_left : behind ≡ left j tokens
-  pub low : behind ≤ most
+  pub is_left : after ≡ left j tokens
+  pub low : after ≤ most
   pub high : (i : ℕ) → k ≤ i → i < j → most < left i tokens
 
--- Of the tokens of the new text from a place on, the first k end at the first boundary with no more than `most` bytes behind it
+-- Of the tokens of the new text from a place on, the first k end at the first boundary with no more than `most` bytes after it
 -- that has as many as one of the old tokens, from the front's end on: that of the first j.
 pub record Meets (old new : List Token) (front most k j : ℕ) : Type 0 where
   pub within_new : k ≤ length new
@@ -50,14 +50,14 @@ pub record LacksTwo (text : List ℕ) (bytes : ℕ) : Type 0 where
   pub two : 2 ≤ length (chars text)
   pub is_size : bytes ≡ size (take (length (chars text) - 2) (chars text))
 
--- The first k tokens, which end behind `end` bytes, are the front of an edit behind these characters: those that end within all
+-- The first k tokens, which end after `end` bytes, are the front of an edit after these characters: those that end within all
 -- but two of them.
 abbrev pub FrontFound : List Token → List ℕ → ℕ → ℕ → Type 0
 FrontFound tokens before k end =
     ((length before < 2) × (k ≡ 0) × (end ≡ 0))
     ⊎ ((2 ≤ length before) × EndsWithin tokens (size (take (length before - 2) before)) k end)
 
--- the front of the old tokens, those of the new text behind it, `fresh`, up to where they meet, and the old ones from there on
+-- the front of the old tokens, those of the new text after it, `fresh`, up to where they meet, and the old ones from there on
 pub record Renewed (old fresh : List Token) (front most : ℕ) (new : List Token) (kept : Kept) : Type 0 where
   pub front_is : kept.front ≡ front
   pub stop : ℕ

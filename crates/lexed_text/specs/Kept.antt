@@ -21,7 +21,7 @@ pub record IsShared (e : Edit) (k j : ℕ) : Type 0 where
   pub past : length e.before + length e.put ≤ end_of k (new_text e)
   pub shifted : end_of k (new_text e) + length e.removed ≡ end_of j (old_text e) + length e.put
 
--- Lexing begins behind the front and stops at the first shared boundary; the old tokens from there on are the back.
+-- Lexing begins after the front and stops at the first shared boundary; the old tokens from there on are the back.
 pub record IsKept (e : Edit) (kept : Kept) : Type 0 where
   pub front : IsFront e kept.front
   pub stop : (j : ℕ) × (j + kept.back ≡ length (tokens (old_text e))) × IsShared e (kept.front + kept.lexed) j

@@ -12,7 +12,7 @@ run_tokens i runs = sum_by (λ r. r.tokens) (take i runs)
 abbrev pub run_bytes : ℕ → List Run → ℕ
 run_bytes i runs = sum_by (λ r. r.bytes) (take i runs)
 
--- from the k-th token on, before which stand `start` bytes, these are runs of tokens, one behind the other
+-- from the k-th token on, before which stand `start` bytes, these are runs of tokens, one after the other
 abbrev pub RunsFrom : ℕ → ℕ → List Run → List Token → Type 0
 RunsFrom k start runs tokens =
     (i : ℕ) → i ≤ length runs →

@@ -42,7 +42,7 @@ fn lexed(alloc: Global, text: &str) -> Result<Vec<Token>, AllocError>
 }
 
 impl LexedText {
-    /// Copies a text, and lexes it. Fails for want of memory alone.
+    /// Copies a text, and lexes it. Fails only when out of memory.
     pub fn new(alloc: Global, text: &str) -> Result<LexedText, AllocError>
         ensures { IfOk result (λ lexed. lexed ≡ text.now) }
     {
@@ -88,7 +88,7 @@ impl LexedText {
     }
 
     /// Puts a text in the place of a range of bytes, and lexes what has to be lexed again; how many tokens were kept and lexed.
-    /// Fails for want of memory alone, and then changes nothing.
+    /// Fails only when out of memory, and then changes nothing.
     pub fn edit(&mut self, range: Range<usize>, replacement: &str) -> Result<Kept, AllocError>
         requires { CanEdit self.old range.start range.end (length replacement.now) }
         ensures text { OnOk result (self.new ≡ edited self.old range.start range.end replacement.now) }
@@ -101,7 +101,7 @@ impl LexedText {
         let removed = String::from_str(self.alloc, &old[start..end])?;
         let front = find_front(self.runs.as_slice(), self.tokens.as_slice(), &old[..start]);
         let most = old.len() - end;
-        let behind_front = Place {
+        let after_front = Place {
             count: front.count,
             bytes: old.len() - front.bytes,
         };
@@ -113,7 +113,7 @@ impl LexedText {
             self.alloc,
             &mut self.tokens,
             &mut self.runs,
-            behind_front,
+            after_front,
             rest,
             most,
         ) {
@@ -127,7 +127,7 @@ impl LexedText {
         }
     }
 
-    /// Equal to this one. Fails for want of memory alone.
+    /// Equal to this one. Fails only when out of memory.
     pub fn try_clone(&self, alloc: Global) -> Result<LexedText, AllocError>
         ensures { IfOk result (λ copy. copy ≡ self.now) }
     {

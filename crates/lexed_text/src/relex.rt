@@ -16,7 +16,7 @@ pub(crate) struct Place {
     /// The tokens before it.
     pub(crate) count: usize,
 
-    /// Bytes: those before it, or those behind it.
+    /// Bytes: those before it, or those after it.
     pub(crate) bytes: usize,
 }
 
@@ -68,7 +68,7 @@ fn ends_within(runs: &[Run], tokens: &[Token], limit: usize) -> Place
     end
 }
 
-/// The front of an edit behind these characters, and the bytes before its end.
+/// The front of an edit after these characters, and the bytes before its end.
 pub(crate) fn find_front(runs: &[Run], tokens: &[Token], before: &str) -> Place
     requires { RunsFrom 0 0 runs.now tokens.now }
     ensures { FrontFound tokens.now (chars before.now) result.count result.bytes }
@@ -79,7 +79,7 @@ pub(crate) fn find_front(runs: &[Run], tokens: &[Token], before: &str) -> Place
     }
 }
 
-/// The first boundary from `from` on that has no more than `most` bytes behind it; a place counts the bytes behind it.
+/// The first boundary from `from` on that has no more than `most` bytes after it; a place counts the bytes after it.
 fn pass(tokens: &[Token], from: Place, most: usize) -> Place
     requires within { from.count ≤ length tokens.now }
     requires is_left { from.bytes ≡ left from.count tokens.now }
@@ -105,7 +105,7 @@ struct Lexing {
     stop: usize,
 }
 
-/// Lexes a text up to the first boundary with no more than `most` bytes behind it that has as many as one of the old tokens, from
+/// Lexes a text up to the first boundary with no more than `most` bytes after it that has as many as one of the old tokens, from
 /// the front's end on.
 fn lex(
     alloc: Global,
@@ -124,10 +124,10 @@ fn lex(
     let mut lexed = 0;
     let mut at = front;
     'lexing: loop {
-        let behind = cursor.remaining();
-        if behind <= most {
-            at = pass(old, at, behind);
-            if at.bytes == behind {
+        let after = cursor.remaining();
+        if after <= most {
+            at = pass(old, at, after);
+            if at.bytes == after {
                 break;
             }
         }
@@ -142,7 +142,7 @@ fn lex(
 }
 
 /// Lexes a new text from the front's end on, and puts its tokens into the place of those that it has no more. The front's end and
-/// the edit's count the bytes behind them. A refusal leaves tokens and runs as they are.
+/// the edit's count the bytes after them. A refusal leaves tokens and runs as they are.
 pub(crate) fn renew(
     alloc: Global,
     tokens: &mut Vec<Token>,

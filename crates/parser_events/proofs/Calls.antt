@@ -1,12 +1,12 @@
 -- What a call makes of the record, and of the open nodes that are read from it.
 use Rattle.std.proofs.Common.{◌≡◌, ℕ, suc, ◌-◌, Bool, List, [], ◌∷◌, Option, Some, None, IfSome, length, reverse, refl, ap, sym, subst, ◌∙◌, arith, ◌↔◌, true}
-use Rattle.parser_events.specs.Marked.{Marked, End, Node, Split, ◌beside◌, size, front, behind, walk}
+use Rattle.parser_events.specs.Marked.{Marked, End, Node, Split, ◌beside◌, size, front, after, walk}
 use Rattle.parser_events.specs.Nodes.{Entry, Kept, entries, all_entries, starts, record_of, read_from, read_back, nodes_of, IsRecord, with_entry, opened_at, opened_here, innermost, left_out, closed_as, split_as}
 use Rattle.parser_events.specs.Stack as stack
 use Rattle.parser_events.specs.Stack.{level, total_size, Becomes, with_tree, with_node, closed, split, wrapped, place_of, Place, IsAmong, IsInnermost, IsClosed, IsChild, AreStepsOf}
 use Rattle.parser_events.specs.Steps.{Step}
 use Rattle.parser_events.proofs.Trees.{total-length, starts-length, last-of, records-tree, records-start, records-close, records-leave, records-split, records-wrap}
-use Rattle.parser_events.proofs.Stacks.{reads, front-beside, behind-beside}
+use Rattle.parser_events.proofs.Stacks.{reads, front-beside, after-beside}
 
 -- There are always the trees outside of all nodes.
 pub record Some-trees (trees : List Marked) : Type 0 where
@@ -92,8 +92,8 @@ wrap before earlier tree below at =
       first = tree;
       below = earlier ∷ below;
       are =
-          ap (λ (m : ℕ). behind m (earlier beside tree) ∷ front m (earlier beside tree) ∷ below) n
-          ∙ ap (λ (f : Marked). f ∷ front (size earlier) (earlier beside tree) ∷ below) (behind-beside earlier tree)
+          ap (λ (m : ℕ). after m (earlier beside tree) ∷ front m (earlier beside tree) ∷ below) n
+          ∙ ap (λ (f : Marked). f ∷ front (size earlier) (earlier beside tree) ∷ below) (after-beside earlier tree)
           ∙ ap (λ (f : Marked). tree ∷ f ∷ below) (front-beside earlier tree);
       same = records-wrap before earlier tree below (at ∙ sym (total-length (earlier ∷ below)));
     }
@@ -203,7 +203,7 @@ becomes-then f g (Some o) None (Some n) p q = absurd q
 becomes-then f g (Some o) (Some m) None p q = tt
 becomes-then f g (Some o) (Some m) (Some n) p q = q ∙ ap g p
 
--- the same node is the innermost one behind a change that leaves as many open
+-- the same node is the innermost one after a change that leaves as many open
 pub stays-innermost : (around : ℕ) (to : List Marked → List Marked) (old new : Option (List Marked)) → ((trees : List Marked) → level (to trees) ≡ level trees) → Becomes to old new → IsInnermost around old → IsInnermost around new
 stays-innermost around to None None same h inner = tt
 stays-innermost around to None (Some n) same h inner = absurd h

@@ -1,7 +1,7 @@
 -- The last tree of the innermost node, by the last entry, and which trees are nodes that were closed.
 use Rattle.std.proofs.Common.{◌≡◌, ℕ, zero, suc, ◌+◌, ◌-◌, ◌<◌, ◌≤◌, ◌⊎◌, ◌↔◌, Bool, true, false, List, [], ◌∷◌, ◌++◌, length, map, get_or, refl, ap, sym, subst, ◌∙◌, append_assoc, length-append, inl, inr, arith}
 use Rattle.std.proofs.lemmas.List.{get_or_at, get_or-map, length-map}
-use Rattle.parser_events.specs.Marked.{Marked, End, Leaf, Said, Node, Split, ◌beside◌, size, front, behind}
+use Rattle.parser_events.specs.Marked.{Marked, End, Leaf, Said, Node, Split, ◌beside◌, size, front, after}
 use Rattle.parser_events.specs.Nodes as nodes
 use Rattle.parser_events.specs.Nodes.{Entry, entries, all_entries, begins, IsClosing}
 use Rattle.parser_events.specs.Seen.{event_of}
@@ -10,7 +10,7 @@ use Rattle.parser_events.specs.declared.event.Event.{Event}
 use Rattle.parser_events.proofs.Forests.{beside-end, beside_assoc}
 use Rattle.parser_events.proofs.Unwound.{entries-length}
 use Rattle.parser_events.proofs.Trees.{all-beside, total-length}
-use Rattle.parser_events.proofs.Stacks.{size-beside, front-beside, behind-beside}
+use Rattle.parser_events.proofs.Stacks.{size-beside, front-beside, after-beside}
 
 -- one tree
 pub Alone : Marked → Type 0
@@ -195,12 +195,12 @@ next f below first end x w some is =
     }
 
 pub walked-more : (f : Marked) (below : List Marked) (first end start : ℕ) (x : Entry) → Next f below end x → start ≡ begins x (end - 1) → first < start → Walked f below first start
-walked-more f below first end start x n s behind_first = record {
+walked-more f below first end start x n s after_first = record {
   rest = n.earlier;
   later = n.tree beside n.later;
   are = n.are;
   at = s ∙ n.start;
-  before = λ inside a. behind_first;
+  before = λ inside a. after_first;
 }
 
 -- a node that begins there is the tree
@@ -270,8 +270,8 @@ tells-no f below first inside end x n low high a =
     same-by (size n.earlier) (size a.earlier) (omega (arith, low, n.start, a.before, under-size))
     (λ lo. let e = whole lo (omega (arith, high, n.at, a.before, under-size)) in omega (arith, e, high, n.at, a.before, under-size)) in
     let tree : n.tree beside n.later ≡ Node a.kind a.children a.later =
-    sym (behind-beside n.earlier (n.tree beside n.later)) ∙ ap (behind (size n.earlier)) (sym both)
-    ∙ ap (λ (m : ℕ). behind m (a.earlier beside Node a.kind a.children a.later)) (sym sizes) ∙ behind-beside a.earlier (Node a.kind a.children a.later) in
+    sym (after-beside n.earlier (n.tree beside n.later)) ∙ ap (after (size n.earlier)) (sym both)
+    ∙ ap (λ (m : ℕ). after m (a.earlier beside Node a.kind a.children a.later)) (sym sizes) ∙ after-beside a.earlier (Node a.kind a.children a.later) in
     let node = as-node n.tree n.later a.kind a.children a.later n.alone tree in
     let place : size n.earlier + total_size below ≡ first = omega (arith, sizes, a.before, under-size) in
     record {

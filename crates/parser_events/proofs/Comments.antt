@@ -96,7 +96,7 @@ fourth a b c d (x ∷ y ∷ z ∷ w ∷ ws) some h =
     let r = both (c == z) true q.1 in
     rw (p.0, q.0, r.0) (and-true (d == w) ∙ eqb-same d w)
 
--- three characters, and not this one behind them
+-- three characters, and not this one after them
 pub only-three : (a b c d : ℕ) (t : List ℕ) → 0 < d →
     (begins_with (a ∷ b ∷ c ∷ []) t && not (begins_with (a ∷ b ∷ c ∷ d ∷ []) t)) ≡ (begins_with (a ∷ b ∷ c ∷ []) t && not (get_or t 3 0 == d))
 only-three a b c d t some =

@@ -10,7 +10,7 @@ use Rattle.parser_events.specs.Dress.{reach, is_empty, from_dot, next_text}
 use Rattle.parser_events.specs.Fits.{covers, fits, has_one_root, from_token, is_unbroken, is_split_at, is_none_left, IsRooted}
 use Rattle.parser_events.specs.Forest as forest
 use Rattle.parser_events.specs.Forest.{Forest}
-use Rattle.parser_events.specs.Laying.{Place, behind_step, put_around}
+use Rattle.parser_events.specs.Laying.{Place, after_step, put_around}
 use Rattle.parser_events.specs.Steps as walk
 use Rattle.parser_events.specs.Steps.{Step, steps}
 use Rattle.parser_events.specs.TextSteps.{text_steps}
@@ -73,7 +73,7 @@ attached-most k ls = whichever (list_any (λ n. n == k) trivia.taking) refl
     whichever true e = rw e (omega (arith, walk-most 0 0 (reverse ls) (omega arith), length-reverse ls))
     whichever false e = rw e (omega arith)
 
-enter-left : (k : ℕ) (s : Place) → (behind_step (walk.Enter k) s).left ≡ from_token s.left
+enter-left : (k : ℕ) (s : Place) → (after_step (walk.Enter k) s).left ≡ from_token s.left
 enter-left k s =
     let count = length (pending s.left) in
     let inside = attached k (pending s.left) in
@@ -102,15 +102,15 @@ pub covers-told : (ss : List Step) (s : Place) → covers ss s.left ≡ true →
 covers-told [] s h = tt
 covers-told (walk.Token k n ∷ ss) s h =
     let parts = both (is_unbroken n (from_token s.left)) (covers ss (drop n (from_token s.left))) h in
-    covers-told ss (behind_step (walk.Token k n) s) (ap (λ (m : ℕ). covers ss (drop m (from_token s.left))) (reach-unbroken n (from_token s.left) parts.0) ∙ parts.1)
+    covers-told ss (after_step (walk.Token k n) s) (ap (λ (m : ℕ). covers ss (drop m (from_token s.left))) (reach-unbroken n (from_token s.left) parts.0) ∙ parts.1)
 covers-told (walk.FloatSplit true ∷ ss) s h =
     let parts = both (is_split_at true (from_token s.left)) (covers ss (drop 1 (from_token s.left))) h in
-    (split-dot (from_token s.left) parts.0, covers-told ss (behind_step (walk.FloatSplit true) s) parts.1)
+    (split-dot (from_token s.left) parts.0, covers-told ss (after_step (walk.FloatSplit true) s) parts.1)
 covers-told (walk.FloatSplit false ∷ ss) s h =
     let parts = both (is_split_at false (from_token s.left)) (covers ss (drop 1 (from_token s.left))) h in
-    covers-told ss (behind_step (walk.FloatSplit false) s) parts.1
+    covers-told ss (after_step (walk.FloatSplit false) s) parts.1
 covers-told (walk.Enter k ∷ ss) s h =
-    covers-told ss (behind_step (walk.Enter k) s) (ap (covers ss) (enter-left k s) ∙ covers-settled ss s.left ∙ h)
+    covers-told ss (after_step (walk.Enter k) s) (ap (covers ss) (enter-left k s) ∙ covers-settled ss s.left ∙ h)
 covers-told (walk.Exit ∷ ss) s h = covers-told ss s h
 covers-told (walk.Error m ∷ ss) s h = covers-told ss s h
 

@@ -27,8 +27,8 @@ undotted-at c cs e = rw e refl
 abbrev HasNone : List ℕ → Type 0
 HasNone bs = (i : ℕ) → i < length bs → get_or bs i 0 ≢ 46
 
-none-behind : (c : ℕ) (cs : List ℕ) → HasNone (encodes (c ∷ cs)) → HasNone (encodes cs)
-none-behind c cs h i within e =
+none-after : (c : ℕ) (cs : List ℕ) → HasNone (encodes (c ∷ cs)) → HasNone (encodes cs)
+none-after c cs h i within e =
     h (length (encode c) + i) (omega (arith, within, length-append (encode c) (encodes cs))) (get_or-append-add (encode c) (encodes cs) i 0 ∙ e)
 
 none-first : (c : ℕ) (cs : List ℕ) → HasNone (encodes (c ∷ cs)) → (c == 46) ≡ false
@@ -43,12 +43,12 @@ none-first c cs h = whichever (c == 46) refl
 
 undotted-all : (cs : List ℕ) → HasNone (encodes cs) → undotted cs ≡ length cs
 undotted-all [] h = refl
-undotted-all (c ∷ cs) h = undotted-past c cs (none-first c cs h) ∙ ap suc (undotted-all cs (none-behind c cs h))
+undotted-all (c ∷ cs) h = undotted-past c cs (none-first c cs h) ∙ ap suc (undotted-all cs (none-after c cs h))
 
 undotted-parts : (cs ds : List ℕ) → HasNone (encodes cs) → undotted (cs ++ (46 ∷ ds)) ≡ length cs
 undotted-parts [] ds h = undotted-at 46 ds ((Decides-eqb 46 46).1 refl)
 undotted-parts (c ∷ cs) ds h =
-    undotted-past c (cs ++ (46 ∷ ds)) (none-first c cs h) ∙ ap suc (undotted-parts cs ds (none-behind c cs h))
+    undotted-past c (cs ++ (46 ∷ ds)) (none-first c cs h) ∙ ap suc (undotted-parts cs ds (none-after c cs h))
 
 pub whole-undotted : (bs : List ℕ) → IsUtf8 bs → HasNone bs → chars bs ≡ before_dot (chars bs)
 unfolding before_dot
@@ -64,9 +64,9 @@ rest-undotted bs u h =
 
 -- the text's characters, where its first dot is the byte of this number
 record Cut (bs : List ℕ) (k : ℕ) : Type 0 where
-  behind : List ℕ
+  after : List ℕ
   front_is : undotted (chars bs) ≡ length (chars (take k bs))
-  rest_is : chars (drop k bs) ≡ 46 ∷ behind
+  rest_is : chars (drop k bs) ≡ 46 ∷ after
   whole_is : chars bs ≡ chars (take k bs) ++ chars (drop k bs)
 
 cut : (bs : List ℕ) (k : ℕ) → IsUtf8 bs → k < length bs → get_or bs k 0 ≡ 46 → ((i : ℕ) → i < k → get_or bs i 0 ≢ 46) → Cut bs k
@@ -81,7 +81,7 @@ cut bs k u within at before =
     let none : HasNone (encodes (chars (take k bs))) =
     subst HasNone (sym (encodes-chars (take k bs) front)) (λ i h e. before i (omega (arith, h, length-take k bs)) (sym (get_or-take k bs i 0 (omega (arith, h, length-take k bs))) ∙ e)) in
     record {
-      behind = one.0;
+      after = one.0;
       front_is = ap undotted (whole ∙ ap (λ (r : List ℕ). chars (take k bs) ++ r) one.1) ∙ undotted-parts (chars (take k bs)) one.0 none;
       rest_is = one.1;
       whole_is = whole;

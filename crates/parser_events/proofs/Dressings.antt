@@ -10,7 +10,7 @@ use Rattle.parser_events.specs.Forest as forest
 use Rattle.parser_events.specs.Forest.{Forest}
 use Rattle.parser_events.specs.Dressed.{Dressed, End, Leaf, Said, Node, ◌followed_by◌}
 use Rattle.parser_events.specs.Dress.{Dressing, dress, dress_root, root, access, access_dot, number, is_empty, put, put_each, put_leaf, reach, put_pending, open_node, close_node, say, joined, as_dressed, next_text, before_dot, from_dot}
-use Rattle.parser_events.specs.Laying.{Place, behind, behind_pending, behind_step, put_by, put_inside, put_around, split_steps}
+use Rattle.parser_events.specs.Laying.{Place, after, after_pending, after_step, put_by, put_inside, put_around, split_steps}
 use Rattle.parser_events.specs.Steps as walk
 use Rattle.parser_events.specs.Steps.{Step, steps}
 use Rattle.parser_events.specs.TextSteps.{TextStep, Token, Enter, Exit, Error, leaf_steps, text_steps}
@@ -20,7 +20,7 @@ use Rattle.parser_events.specs.Trivia.{pending, attached}
 abbrev pub reached : Dressing → Place
 reached d = record { bytes = d.place; left = d.left }
 
--- what was put, and what the steps put behind it
+-- what was put, and what the steps put after it
 abbrev pub through : Dressing → List Step → List TextStep
 through d ss = text_steps d.given ++ put_inside ss (reached d)
 
@@ -42,19 +42,19 @@ unfolding put_each put
 each-steps n d = steps-then d.given (as_dressed (take n d.left)) ∙ ap (λ (l : List TextStep). text_steps d.given ++ l) (steps-leaves (take n d.left))
 
 pub step-through : (step : Step) (xs : List Step) (r : Step) (rs : List Step) (s : Place) →
-    put_inside (step ∷ (xs ++ r ∷ rs)) s ≡ put_by step s ++ put_inside (xs ++ r ∷ rs) (behind_step step s)
+    put_inside (step ∷ (xs ++ r ∷ rs)) s ≡ put_by step s ++ put_inside (xs ++ r ∷ rs) (after_step step s)
 step-through step [] r rs s = refl
 step-through step (x ∷ xs) r rs s = refl
 
--- one step, where it puts what stands behind the present elements
+-- one step, where it puts what stands after the present elements
 one-step : (step : Step) (d e : Dressing) (xs : List Step) (r : Step) (rs : List Step) →
-    text_steps e.given ≡ text_steps d.given ++ put_by step (reached d) → reached e ≡ behind_step step (reached d) →
+    text_steps e.given ≡ text_steps d.given ++ put_by step (reached d) → reached e ≡ after_step step (reached d) →
     through d (step ∷ (xs ++ r ∷ rs)) ≡ through e (xs ++ r ∷ rs)
 one-step step d e xs r rs puts at =
     let more = xs ++ r ∷ rs in
     ap (λ (l : List TextStep). text_steps d.given ++ l) (step-through step xs r rs (reached d))
-    ∙ sym (append_assoc (text_steps d.given) (put_by step (reached d)) (put_inside more (behind_step step (reached d))))
-    ∙ ap (λ (l : List TextStep). l ++ put_inside more (behind_step step (reached d))) (sym puts)
+    ∙ sym (append_assoc (text_steps d.given) (put_by step (reached d)) (put_inside more (after_step step (reached d))))
+    ∙ ap (λ (l : List TextStep). l ++ put_inside more (after_step step (reached d))) (sym puts)
     ∙ ap (λ (p : Place). text_steps e.given ++ put_inside more p) (sym at)
 
 take-taken : (n : ℕ) (ls : List leaves.Leaf) → take (length (take n ls)) ls ≡ take n ls
@@ -70,7 +70,7 @@ pending-steps : (d : Dressing) → text_steps (put_pending d).given ≡ text_ste
 unfolding put_pending
 pending-steps d = each-steps (length (pending d.left)) d ∙ ap (λ (l : List leaves.Leaf). text_steps d.given ++ leaf_steps l) (take-own d.left)
 
-pending-reached : (d : Dressing) → reached (put_pending d) ≡ behind_pending (reached d)
+pending-reached : (d : Dressing) → reached (put_pending d) ≡ after_pending (reached d)
 unfolding put_pending put_each put
 pending-reached d = refl
 
@@ -85,7 +85,7 @@ leaf-steps k n d =
     ∙ append_assoc (text_steps d.given) (leaf_steps (pending d.left)) (Token k text ∷ [])
     ∙ ap (λ (q : Place). text_steps d.given ++ (leaf_steps (pending d.left) ++ Token k (joined (take (reach n q.left) q.left)) ∷ [])) (pending-reached d)
 
-leaf-reached : (k n : ℕ) (d : Dressing) → reached (put_leaf k n (put_pending d)) ≡ behind_step (walk.Token k n) (reached d)
+leaf-reached : (k n : ℕ) (d : Dressing) → reached (put_leaf k n (put_pending d)) ≡ after_step (walk.Token k n) (reached d)
 unfolding put_leaf put put_pending put_each
 leaf-reached k n d = refl
 
@@ -98,17 +98,17 @@ say-reached : (m : forest.Message) (d : Dressing) → reached (say m d) ≡ reac
 unfolding say
 say-reached m d = refl
 
-each-reached : (count inside : ℕ) (d : Dressing) → behind inside (behind count (reached d)) ≡ reached (put_each inside (open_node (put_each count d)))
+each-reached : (count inside : ℕ) (d : Dressing) → after inside (after count (reached d)) ≡ reached (put_each inside (open_node (put_each count d)))
 unfolding put_each put open_node
 each-reached count inside d = refl
 
 each-left : (count inside k : ℕ) (d : Dressing) →
-    leaf_steps (take count d.left) ++ Enter k ∷ leaf_steps (take inside (behind count (reached d)).left)
+    leaf_steps (take count d.left) ++ Enter k ∷ leaf_steps (take inside (after count (reached d)).left)
     ≡ leaf_steps (take count d.left) ++ Enter k ∷ leaf_steps (take inside (put_each count d).left)
 unfolding put_each put
 each-left count inside k d = refl
 
--- A node is entered: what was put before it, and what stands behind its opening.
+-- A node is entered: what was put before it, and what stands after its opening.
 enter-node : (k : ℕ) (d : Dressing) (xs : List Step) (r : Step) (rs : List Step) →
     through d (walk.Enter k ∷ (xs ++ r ∷ rs))
     ≡ (text_steps (put_each (length (pending d.left) - attached k (pending d.left)) d).given ++ Enter k ∷ [])
@@ -122,7 +122,7 @@ enter-node k d xs r rs =
     let more = xs ++ r ∷ rs in
     let out = leaf_steps (take count d.left) in
     let in_leaves = leaf_steps (take inside before.left) in
-    let at : behind_step (walk.Enter k) (reached d) ≡ reached inner = each-reached count inside d in
+    let at : after_step (walk.Enter k) (reached d) ≡ reached inner = each-reached count inside d in
     let rest = put_inside more (reached inner) in
     let left_is : put_by (walk.Enter k) (reached d) ≡ out ++ Enter k ∷ in_leaves = each-left count inside k d in
     ap (λ (l : List TextStep). text_steps d.given ++ l)
@@ -169,10 +169,10 @@ exit-node k before d xs r rs =
 abbrev pub Told : List Step → Place → Type 0
 Told [] s = Unit {0}
 Told (walk.FloatSplit true ∷ ss) s =
-    (is_empty (from_dot (next_text (behind_pending s).left)) ≡ false) × Told ss (behind_step (walk.FloatSplit true) s)
-Told (walk.FloatSplit false ∷ ss) s = Told ss (behind_step (walk.FloatSplit false) s)
-Told (walk.Token k n ∷ ss) s = Told ss (behind_step (walk.Token k n) s)
-Told (walk.Enter k ∷ ss) s = Told ss (behind_step (walk.Enter k) s)
+    (is_empty (from_dot (next_text (after_pending s).left)) ≡ false) × Told ss (after_step (walk.FloatSplit true) s)
+Told (walk.FloatSplit false ∷ ss) s = Told ss (after_step (walk.FloatSplit false) s)
+Told (walk.Token k n ∷ ss) s = Told ss (after_step (walk.Token k n) s)
+Told (walk.Enter k ∷ ss) s = Told ss (after_step (walk.Enter k) s)
 Told (walk.Exit ∷ ss) s = Told ss s
 Told (walk.Error m ∷ ss) s = Told ss s
 
@@ -191,10 +191,10 @@ split-left : (e : Bool) (d : Dressing) →
 unfolding put_pending put_each put
 split-left e d = refl
 
--- what a split puts behind the receiver of an access, and where it leads
+-- what a split puts after the receiver of an access, and where it leads
 split-node : (e : Bool) (before d outer : Dressing) (xs : List Step) (r : Step) (rs : List Step) →
     text_steps outer.given ≡ text_steps before.given ++ Enter FIELD_EXPR ∷ (text_steps (put_pending d).given ++ split_steps e (put_pending d).place (next_text (put_pending d).left)) →
-    reached outer ≡ behind 1 (reached (put_pending d)) →
+    reached outer ≡ after 1 (reached (put_pending d)) →
     (text_steps before.given ++ Enter FIELD_EXPR ∷ []) ++ through d (walk.FloatSplit e ∷ (xs ++ r ∷ rs)) ≡ through outer (xs ++ r ∷ rs)
 split-node e before d outer xs r rs puts at =
     let p = put_pending d in
@@ -204,7 +204,7 @@ split-node e before d outer xs r rs puts at =
     let rest = put_inside more (reached outer) in
     ap (λ (l : List TextStep). (text_steps before.given ++ Enter FIELD_EXPR ∷ []) ++ (text_steps d.given ++ l))
     (step-through (walk.FloatSplit e) xs r rs (reached d)
-    ∙ ap (λ (q : Place). put_by (walk.FloatSplit e) (reached d) ++ put_inside more (behind 1 q)) (sym (pending-reached d))
+    ∙ ap (λ (q : Place). put_by (walk.FloatSplit e) (reached d) ++ put_inside more (after 1 q)) (sym (pending-reached d))
     ∙ ap (λ (q : Place). put_by (walk.FloatSplit e) (reached d) ++ put_inside more q) (sym at)
     ∙ ap (λ (l : List TextStep). l ++ rest) (split-left e d))
     ∙ append_assoc (text_steps before.given) (Enter FIELD_EXPR ∷ []) (text_steps d.given ++ ((own ++ split) ++ rest))
@@ -216,7 +216,7 @@ split-node e before d outer xs r rs puts at =
     ∙ sym (append_assoc (text_steps before.given) (Enter FIELD_EXPR ∷ (text_steps p.given ++ split)) rest)
     ∙ ap (λ (l : List TextStep). l ++ rest) (sym puts)
 
--- an access with more behind it
+-- an access with more after it
 access-steps : (before given tail : Dressed) →
     text_steps ((before followed_by Node FIELD_EXPR given End) followed_by tail) ≡ text_steps before ++ Enter FIELD_EXPR ∷ (text_steps given ++ Exit ∷ text_steps tail)
 access-steps before given tail =
@@ -225,7 +225,7 @@ access-steps before given tail =
     ∙ append_assoc (text_steps before) (Enter FIELD_EXPR ∷ (text_steps given ++ Exit ∷ [])) (text_steps tail)
     ∙ ap (λ (l : List TextStep). text_steps before ++ Enter FIELD_EXPR ∷ l) (append_assoc (text_steps given) (Exit ∷ []) (text_steps tail))
 
--- the number before the dot, in an access with more behind it
+-- the number before the dot, in an access with more after it
 numbers : (before given : Dressed) (text : List ℕ) (tail : Dressed) →
     text_steps ((before followed_by Node FIELD_EXPR (given followed_by number text) End) followed_by tail)
     ≡ text_steps before ++ Enter FIELD_EXPR ∷ (text_steps given ++ Enter NAME_REF ∷ Token INT_NUMBER text ∷ Exit ∷ Exit ∷ text_steps tail)
@@ -236,24 +236,24 @@ numbers before given text tail =
     ∙ ap (λ (l : List TextStep). text_steps before ++ Enter FIELD_EXPR ∷ l)
     (append_assoc (text_steps given) (Enter NAME_REF ∷ Token INT_NUMBER text ∷ Exit ∷ []) (Exit ∷ text_steps tail))
 
--- a place that nothing more is put behind
+-- a place that nothing more is put after
 place-same : (place : ℕ) (ls : List leaves.Leaf) → (let p : Place = record { bytes = place + 0; left = ls } in p) ≡ record { bytes = place; left = ls }
 place-same place ls = ap (λ (n : ℕ). let p : Place = record { bytes = n; left = ls } in p) (add-zero place)
 
-abbrev behind_text : List ℕ → Dressing → Place
-behind_text t p = record { bytes = p.place + length (encode_utf8_all t); left = drop 1 p.left }
+abbrev after_text : List ℕ → Dressing → Place
+after_text t p = record { bytes = p.place + length (encode_utf8_all t); left = drop 1 p.left }
 
-dot-reached : (before p : Dressing) → reached (access_dot before p) ≡ behind 1 (reached p)
+dot-reached : (before p : Dressing) → reached (access_dot before p) ≡ after 1 (reached p)
 unfolding access_dot put close_node
-dot-reached before p = place-same _ _ ∙ ap (λ (t : List ℕ). behind_text t p) (sym (next-one p.left))
+dot-reached before p = place-same _ _ ∙ ap (λ (t : List ℕ). after_text t p) (sym (next-one p.left))
 
-access-reached : (outer p : Dressing) → reached (access outer p) ≡ behind 1 (reached p)
+access-reached : (outer p : Dressing) → reached (access outer p) ≡ after 1 (reached p)
 unfolding access put close_node say
 access-reached outer p = whichever (is_empty (from_dot (next_text p.left))) refl
   where
-    whichever : (b : Bool) → is_empty (from_dot (next_text p.left)) ≡ b → reached (access outer p) ≡ behind 1 (reached p)
-    whichever true e = rw e (ap (λ (t : List ℕ). behind_text t p) (sym (next-one p.left)))
-    whichever false e = rw e (place-same _ _ ∙ ap (λ (t : List ℕ). behind_text t p) (sym (next-one p.left)))
+    whichever : (b : Bool) → is_empty (from_dot (next_text p.left)) ≡ b → reached (access outer p) ≡ after 1 (reached p)
+    whichever true e = rw e (ap (λ (t : List ℕ). after_text t p) (sym (next-one p.left)))
+    whichever false e = rw e (place-same _ _ ∙ ap (λ (t : List ℕ). after_text t p) (sym (next-one p.left)))
 
 dot-puts : (before p : Dressing) → is_empty (from_dot (next_text p.left)) ≡ false →
     text_steps (access_dot before p).given ≡ text_steps before.given ++ Enter FIELD_EXPR ∷ (text_steps p.given ++ split_steps true p.place (next_text p.left))
@@ -323,18 +323,18 @@ put-none d none = rw none (
     ∙ ap (λ (g : Dressed). let e : Dressing = record { given = g; place = d.place; left = d.left } in e) (followed-end d.given)
     )
 
-plain-reached : (k : ℕ) (d : Dressing) → attached k (pending d.left) ≡ 0 → behind_step (walk.Enter k) (reached d) ≡ reached (put_pending d)
+plain-reached : (k : ℕ) (d : Dressing) → attached k (pending d.left) ≡ 0 → after_step (walk.Enter k) (reached d) ≡ reached (put_pending d)
 unfolding put_pending put_each put joined
 plain-reached k d none =
     let count = length (pending d.left) in
-    let shape : ℕ → Place = λ n. behind n (behind (count - n) (reached d)) in
-    ap shape none ∙ ap (λ (n : ℕ). behind 0 (behind n (reached d))) (sub-zero count) ∙ place-same _ _
+    let shape : ℕ → Place = λ n. after n (after (count - n) (reached d)) in
+    ap shape none ∙ ap (λ (n : ℕ). after 0 (after n (reached d))) (sub-zero count) ∙ place-same _ _
 
 opened-said : (m : forest.Message) (d : Dressing) → pending (say m (open_node (put_pending d))).left ≡ []
 unfolding say open_node put_pending put_each put
 opened-said m d = settled d.left
 
-some-told : (d : Dressing) → is_empty (from_dot (next_text (behind_pending (reached d)).left)) ≡ false → is_empty (from_dot (next_text (put_pending d).left)) ≡ false
+some-told : (d : Dressing) → is_empty (from_dot (next_text (after_pending (reached d)).left)) ≡ false → is_empty (from_dot (next_text (put_pending d).left)) ≡ false
 unfolding put_pending put_each put
 some-told d h = h
 
@@ -370,9 +370,9 @@ dressed-steps (forest.ErrorLeaf m k f) d r rs h =
     let none : put_pending inner ≡ inner = put-none inner (opened-said m d) in
     let last-puts : text_steps last.given ≡ text_steps inner.given ++ put_by (walk.Token k 1) (reached inner) =
     ap (λ (p : Dressing). text_steps (put_leaf k 1 p).given) (sym none) ∙ leaf-steps k 1 inner in
-    let last-at : reached last ≡ behind_step (walk.Token k 1) (reached inner) = ap (λ (p : Dressing). reached (put_leaf k 1 p)) (sym none) ∙ leaf-reached k 1 inner in
-    let at : behind_step (walk.Token k 1) (behind_step (walk.Enter ERROR) (reached d)) ≡ reached last =
-    ap (λ (p : Place). behind_step (walk.Token k 1) p) (plain-reached ERROR d (error-plain (pending d.left)) ∙ sym (say-reached m (open_node before))) ∙ sym last-at in
+    let last-at : reached last ≡ after_step (walk.Token k 1) (reached inner) = ap (λ (p : Dressing). reached (put_leaf k 1 p)) (sym none) ∙ leaf-reached k 1 inner in
+    let at : after_step (walk.Token k 1) (after_step (walk.Enter ERROR) (reached d)) ≡ reached last =
+    ap (λ (p : Place). after_step (walk.Token k 1) p) (plain-reached ERROR d (error-plain (pending d.left)) ∙ sym (say-reached m (open_node before))) ∙ sym last-at in
     let rest = dressed-steps f (close_node ERROR before last) r rs (told-at more _ _ at h) in
     let front = text_steps before.given ++ Enter ERROR ∷ [] in (
       enter-plain ERROR d (walk.Error m ∷ walk.Token k 1 ∷ walk.Exit ∷ steps f) r rs (error-plain (pending d.left))
@@ -391,7 +391,7 @@ dressed-steps (forest.Node k c f) d r rs h =
     let more = steps f ++ r ∷ rs in
     let a = append_assoc (steps c) (walk.Exit ∷ steps f) (r ∷ rs) in
     let told : Told (steps c ++ walk.Exit ∷ more) (reached inner) =
-    told-at (steps c ++ walk.Exit ∷ more) _ _ (each-reached count inside d) (subst (λ (ss : List Step). Told ss (behind_step (walk.Enter k) (reached d))) a h) in
+    told-at (steps c ++ walk.Exit ∷ more) _ _ (each-reached count inside d) (subst (λ (ss : List Step). Told ss (after_step (walk.Enter k) (reached d))) a h) in
     let own = dressed-steps c inner walk.Exit more told in
     let rest = dressed-steps f (close_node k before (dress c inner)) r rs own.1 in (
       ap (λ (ss : List Step). through d (walk.Enter k ∷ ss)) a
@@ -407,12 +407,12 @@ dressed-steps (forest.Float true c f) d r rs h =
     let a = append_assoc (steps c) (walk.FloatSplit true ∷ steps f) (r ∷ rs) in
     let told : Told (steps c ++ walk.FloatSplit true ∷ more) (reached (open_node before)) =
     told-at (steps c ++ walk.FloatSplit true ∷ more) _ _ (plain-reached FIELD_EXPR d (access-plain (pending d.left)))
-    (subst (λ (ss : List Step). Told ss (behind_step (walk.Enter FIELD_EXPR) (reached d))) a h) in
+    (subst (λ (ss : List Step). Told ss (after_step (walk.Enter FIELD_EXPR) (reached d))) a h) in
     let own = dressed-steps c (open_node before) (walk.FloatSplit true) more told in
     let receiver = dress c (open_node before) in
     let some : is_empty (from_dot (next_text (put_pending receiver).left)) ≡ false = some-told receiver own.1.0 in
     let e = access_dot before (put_pending receiver) in
-    let rest = dressed-steps f e r rs (told-at more _ _ (ap (behind 1) (sym (pending-reached receiver)) ∙ sym (dot-reached before (put_pending receiver))) own.1.1) in
+    let rest = dressed-steps f e r rs (told-at more _ _ (ap (after 1) (sym (pending-reached receiver)) ∙ sym (dot-reached before (put_pending receiver))) own.1.1) in
     let found : through d (steps (forest.Float true c f) ++ r ∷ rs) ≡ through (dress f e) (r ∷ rs) =
     ap (λ (ss : List Step). through d (walk.Enter FIELD_EXPR ∷ ss)) a
     ∙ enter-plain FIELD_EXPR d (steps c) (walk.FloatSplit true) more (access-plain (pending d.left))
@@ -427,8 +427,8 @@ dressed-steps (forest.Float false c f) d r rs h =
     let a = append_assoc (steps c) (walk.FloatSplit false ∷ walk.Exit ∷ steps f) (r ∷ rs) in
     let tail = walk.FloatSplit false ∷ walk.Exit ∷ more in
     let none : put_pending outer ≡ outer = put-none outer (opened d) in
-    let at : behind_step (walk.Enter FIELD_EXPR) (behind_step (walk.Enter FIELD_EXPR) (reached d)) ≡ reached outer =
-    ap (behind_step (walk.Enter FIELD_EXPR)) (plain-reached FIELD_EXPR d (access-plain (pending d.left)))
+    let at : after_step (walk.Enter FIELD_EXPR) (after_step (walk.Enter FIELD_EXPR) (reached d)) ≡ reached outer =
+    ap (after_step (walk.Enter FIELD_EXPR)) (plain-reached FIELD_EXPR d (access-plain (pending d.left)))
     ∙ plain-reached FIELD_EXPR outer (access-plain (pending outer.left))
     ∙ ap reached none in
     let told : Told (steps c ++ tail) (reached outer) =
@@ -436,7 +436,7 @@ dressed-steps (forest.Float false c f) d r rs h =
     let own = dressed-steps c outer (walk.FloatSplit false) (walk.Exit ∷ more) told in
     let receiver = dress c outer in
     let inner = access outer (put_pending receiver) in
-    let rest = dressed-steps f (close_node FIELD_EXPR before inner) r rs (told-at more _ _ (ap (behind 1) (sym (pending-reached receiver)) ∙ sym (access-reached outer (put_pending receiver))) own.1) in (
+    let rest = dressed-steps f (close_node FIELD_EXPR before inner) r rs (told-at more _ _ (ap (after 1) (sym (pending-reached receiver)) ∙ sym (access-reached outer (put_pending receiver))) own.1) in (
       ap (λ (ss : List Step). through d (walk.Enter FIELD_EXPR ∷ walk.Enter FIELD_EXPR ∷ ss)) a
           ∙ enter-plain FIELD_EXPR d (walk.Enter FIELD_EXPR ∷ steps c) (walk.FloatSplit false) (walk.Exit ∷ more) (access-plain (pending d.left))
           ∙ ap (λ (l : List TextStep). (text_steps before.given ++ Enter FIELD_EXPR ∷ []) ++ l)

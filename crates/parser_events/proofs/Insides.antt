@@ -4,13 +4,13 @@ use Rattle.std.proofs.lemmas.List.{take_all, take_more, reverse-append}
 use Rattle.parser_input.specs.Leaf.{Leaf}
 use Rattle.parser_input.specs.Lexed.{Lexed, leaves_of}
 use Rattle.parser_events.specs.Dress.{joined}
-use Rattle.parser_events.specs.Laying.{Lays, Place, behind_step, place_at, put_around, put_by, put_inside}
+use Rattle.parser_events.specs.Laying.{Lays, Place, after_step, place_at, put_around, put_by, put_inside}
 use Rattle.parser_events.specs.Seen.{step_of}
 use Rattle.parser_events.specs.Sinks.{TakesAll, RefusesOne}
 use Rattle.parser_events.specs.Steps as walk
 use Rattle.parser_events.specs.TextSteps.{TextStep, Enter, Exit, leaf_steps}
 use Rattle.parser_events.specs.declared.step.Step.{Step}
-use Rattle.parser_events.proofs.Sinks.{takes-then, refuses-in, refuses-behind}
+use Rattle.parser_events.proofs.Sinks.{takes-then, refuses-in, refuses-after}
 
 -- the steps of the first n of these, from front to end
 abbrev pub steps_left : List Step → ℕ → List walk.Step
@@ -25,12 +25,12 @@ left-step ss n d some within =
 pub left-all : (ss : List Step) (n : ℕ) → n ≡ length ss → steps_left ss n ≡ map step_of (reverse ss)
 left-all ss n e = ap (λ (l : List Step). map step_of (reverse l)) (take_all n ss (omega (arith, e)))
 
-inside-more : (step x : walk.Step) (rest xs : List walk.Step) (s : Place) → rest ≡ x ∷ xs → put_inside (step ∷ rest) s ≡ put_by step s ++ put_inside rest (behind_step step s)
+inside-more : (step x : walk.Step) (rest xs : List walk.Step) (s : Place) → rest ≡ x ∷ xs → put_inside (step ∷ rest) s ≡ put_by step s ++ put_inside rest (after_step step s)
 inside-more step x rest xs s e =
-    subst (λ (r : List walk.Step). put_inside (step ∷ r) s ≡ put_by step s ++ put_inside r (behind_step step s)) (sym e) refl
+    subst (λ (r : List walk.Step). put_inside (step ∷ r) s ≡ put_by step s ++ put_inside r (after_step step s)) (sym e) refl
 
 inside-step : (ss : List Step) (n : ℕ) (d : Step) (s : Place) → 1 < n → n ≤ length ss →
-    put_inside (steps_left ss n) s ≡ put_by (step_of (get_or ss (n - 1) d)) s ++ put_inside (steps_left ss (n - 1)) (behind_step (step_of (get_or ss (n - 1) d)) s)
+    put_inside (steps_left ss n) s ≡ put_by (step_of (get_or ss (n - 1) d)) s ++ put_inside (steps_left ss (n - 1)) (after_step (step_of (get_or ss (n - 1) d)) s)
 inside-step ss n d s some within =
     ap (λ (r : List walk.Step). put_inside r s) (left-step ss n d (omega (arith, some)) within)
     ∙ inside-more (step_of (get_or ss (n - 1) d)) _ (steps_left ss (n - 1)) _ s (left-step ss (n - 1) d (omega (arith, some)) (omega (arith, within)))
@@ -41,7 +41,7 @@ inside-last ss n d s e within =
     let one = left-step ss n d (omega (arith, e)) within ∙ ap (λ (r : List walk.Step). step_of (get_or ss (n - 1) d) ∷ r) rest in
     ap (λ (r : List walk.Step). put_inside r s) one
 
--- The steps behind a number were put: they and those that are left put what all do.
+-- The steps after a number were put: they and those that are left put what all do.
 pub record Inside {S : Type 0} (takes : S → TextStep → S → Type 0) (ls : List Lexed) (ss : List Step) (old : S) (left next : ℕ) (new : S) : Type 0 where
   pub some : 1 ≤ left
   pub within : left ≤ length ss
@@ -65,7 +65,7 @@ inside-next : {S : Type 0} (takes : S → TextStep → S → Type 0) (ls : List 
     (i : Inside takes ls ss old left next mid) → 1 < left →
     put_inside (map step_of (reverse ss)) (place_at ls 0)
     ≡ (i.done ++ put_by (step_of (get_or ss (left - 1) d)) (place_at ls next))
-    ++ put_inside (steps_left ss (left - 1)) (behind_step (step_of (get_or ss (left - 1) d)) (place_at ls next))
+    ++ put_inside (steps_left ss (left - 1)) (after_step (step_of (get_or ss (left - 1) d)) (place_at ls next))
 inside-next takes ls ss old mid left next d i some =
     i.are ∙ ap (λ (r : List TextStep). i.done ++ r) (inside-step ss left d (place_at ls next) some i.within) ∙ sym (append_assoc i.done _ _)
 
@@ -89,7 +89,7 @@ pub inside-refused : {S E : Type 0} (takes : S → TextStep → S → Type 0) (r
 inside-refused takes refuses ls ss old mid new e left next d i some r =
     let step = step_of (get_or ss (left - 1) d) in
     subst (λ (x : List TextStep). RefusesOne takes refuses old x e new) (sym (inside-next takes ls ss old mid left next d i some))
-    (refuses-in takes refuses old new e (i.done ++ put_by step (place_at ls next)) _ (refuses-behind takes refuses old mid new e i.done (put_by step (place_at ls next)) i.taken r))
+    (refuses-in takes refuses old new e (i.done ++ put_by step (place_at ls next)) _ (refuses-after takes refuses old mid new e i.done (put_by step (place_at ls next)) i.taken r))
 
 inside-all : {S : Type 0} (takes : S → TextStep → S → Type 0) (ls : List Lexed) (ss : List Step) (old mid : S) (left next : ℕ) (d : Step) →
     (i : Inside takes ls ss old left next mid) → left ≤ 1 →
@@ -116,7 +116,7 @@ pub inside-end-refused : {S E : Type 0} (takes : S → TextStep → S → Type 0
 inside-end-refused takes refuses ls ss old mid new e left next i last r =
     let d = first ss (omega (arith, i.some, i.within)) in
     subst (λ (x : List TextStep). RefusesOne takes refuses old x e new) (sym (inside-all takes ls ss old mid left next d i last))
-    (refuses-behind takes refuses old mid new e i.done (leaf_steps (drop next (leaves_of ls)) ++ Exit ∷ []) i.taken r)
+    (refuses-after takes refuses old mid new e i.done (leaf_steps (drop next (leaves_of ls)) ++ Exit ∷ []) i.taken r)
 
 pub inside-none : (ss : List Step) (s : Place) → length ss ≡ 0 → [] ≡ put_inside (map step_of (reverse ss)) s
 inside-none [] s e = refl

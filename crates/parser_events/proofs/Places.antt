@@ -11,7 +11,7 @@ use Rattle.parser_input.specs.Leaf.{is_trivia}
 use Rattle.parser_input.specs.Lexed.{Lexed, leaves_of}
 use Rattle.parser_input.specs.Stored.{leaf_at}
 use Rattle.parser_events.specs.Dress.{joined, reach}
-use Rattle.parser_events.specs.Laying.{Place, behind, place_at}
+use Rattle.parser_events.specs.Laying.{Place, after, place_at}
 use Rattle.parser_events.specs.Trivia.{pending}
 
 pub joined-then : (xs ys : List leaves.Leaf) → joined (xs ++ ys) ≡ joined xs ++ joined ys
@@ -23,8 +23,8 @@ joined-then (l ∷ xs) ys = ap (λ (t : List ℕ). l.text ++ t) (joined-then xs 
 abbrev bytes_of : List Lexed → ℕ → ℕ
 bytes_of ls n = length (encode_utf8_all (joined (take n (leaves_of ls))))
 
-bytes-behind : (ls : List Lexed) (i n : ℕ) → bytes_of ls i + length (encode_utf8_all (joined (take n (drop i (leaves_of ls))))) ≡ bytes_of ls (i + n)
-bytes-behind ls i n =
+bytes-after : (ls : List Lexed) (i n : ℕ) → bytes_of ls i + length (encode_utf8_all (joined (take n (drop i (leaves_of ls))))) ≡ bytes_of ls (i + n)
+bytes-after ls i n =
     let own = leaves_of ls in
     let front = joined (take i own) in
     let more = joined (take n (drop i own)) in
@@ -32,12 +32,12 @@ bytes-behind ls i n =
     ∙ ap length (sym (encodes-append front more))
     ∙ ap (λ (t : List ℕ). length (encodes t)) (sym (joined-then (take i own) (take n (drop i own))) ∙ ap joined (sym (take-add i n own)))
 
-pub behind-at : (ls : List Lexed) (i n : ℕ) → behind n (place_at ls i) ≡ place_at ls (i + n)
-behind-at ls i n =
-    ap (λ (k : ℕ). let p : Place = record { bytes = k; left = drop n (drop i (leaves_of ls)) } in p) (bytes-behind ls i n)
+pub after-at : (ls : List Lexed) (i n : ℕ) → after n (place_at ls i) ≡ place_at ls (i + n)
+after-at ls i n =
+    ap (λ (k : ℕ). let p : Place = record { bytes = k; left = drop n (drop i (leaves_of ls)) } in p) (bytes-after ls i n)
     ∙ ap (λ (l : List leaves.Leaf). let p : Place = record { bytes = bytes_of ls (i + n); left = l } in p) (drop-drop n i (leaves_of ls))
 
--- the leaf of a number, and those behind it
+-- the leaf of a number, and those after it
 pub leaf-next : (ls : List Lexed) (i : ℕ) → i < length ls → drop i (leaves_of ls) ≡ (leaf_at ls i).leaf ∷ drop (i + 1) (leaves_of ls)
 leaf-next [] i h = absurd (omega (arith, h))
 leaf-next (l ∷ ls) zero h = refl
@@ -76,7 +76,7 @@ pub pending-none : (ls : List Lexed) (i k : ℕ) → i < length ls → k ≡ (le
 pending-none ls i k within is b =
     ap (λ (r : List leaves.Leaf). length (pending r)) (leaf-next ls i within) ∙ pending-stop (leaf_at ls i).leaf (drop (i + 1) (leaves_of ls)) (is-trivia k (leaf_at ls i).leaf false is b)
 
--- How many leaves it takes to reach behind tokens.
+-- How many leaves it takes to reach after tokens.
 
 abbrev pub reach_at : List Lexed → ℕ → ℕ → ℕ
 reach_at ls n i = reach n (drop i (leaves_of ls))

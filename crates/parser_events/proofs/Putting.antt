@@ -6,12 +6,12 @@ use Rattle.parser_input.specs.Leaf as leaves
 use Rattle.parser_input.specs.Lexed.{Lexed, leaves_of}
 use Rattle.parser_input.specs.Stored.{leaf_at}
 use Rattle.parser_events.specs.Dress.{joined, next_text, reach}
-use Rattle.parser_events.specs.Laying.{Place, behind, behind_pending, behind_step, outside, place_at, put_by, split_steps}
+use Rattle.parser_events.specs.Laying.{Place, after, after_pending, after_step, outside, place_at, put_by, split_steps}
 use Rattle.parser_events.specs.Steps as walk
 use Rattle.parser_events.specs.TextSteps.{TextStep, Token, Enter, leaf_steps}
 use Rattle.parser_events.specs.Trivia.{pending, attached}
 use Rattle.parser_events.proofs.Dressings.{take-own}
-use Rattle.parser_events.proofs.Places.{behind-at, pending_at, reach_at, leaf-next}
+use Rattle.parser_events.proofs.Places.{after-at, pending_at, reach_at, leaf-next}
 
 leaf-steps-then : (xs ys : List leaves.Leaf) → leaf_steps (xs ++ ys) ≡ leaf_steps xs ++ leaf_steps ys
 leaf-steps-then [] ys = refl
@@ -92,10 +92,10 @@ token-steps ls kind n start first end text p r t =
     ∙ ap (λ (x : List leaves.Leaf). leaf_steps (pending (drop start own)) ++ Token kind (joined (take (reach n x) x)) ∷ []) left_is
 
 pub token-at : (ls : List Lexed) (kind n start first end : ℕ) → first ≡ start + pending_at ls start → end ≡ first + reach_at ls n first →
-    place_at ls end ≡ behind_step (walk.Token kind n) (place_at ls start)
+    place_at ls end ≡ after_step (walk.Token kind n) (place_at ls start)
 token-at ls kind n start first end p r =
-    let at : place_at ls first ≡ behind_pending (place_at ls start) = ap (place_at ls) p ∙ sym (behind-at ls start (pending_at ls start)) in
-    ap (place_at ls) r ∙ sym (behind-at ls first (reach_at ls n first)) ∙ ap (λ (q : Place). behind (reach n q.left) q) at
+    let at : place_at ls first ≡ after_pending (place_at ls start) = ap (place_at ls) p ∙ sym (after-at ls start (pending_at ls start)) in
+    ap (place_at ls) r ∙ sym (after-at ls first (reach_at ls n first)) ∙ ap (λ (q : Place). after (reach n q.left) q) at
 
 -- What a node's beginning puts.
 abbrev pub enter_steps : List Lexed → ℕ → ℕ → ℕ → ℕ → List TextStep
@@ -104,13 +104,13 @@ enter_steps ls kind start first end = leaf_steps (slice_range (leaves_of ls) sta
 pub enter-steps : (ls : List Lexed) (kind start first end : ℕ) → end ≡ start + pending_at ls start →
     end - first ≡ attached kind (slice_range (leaves_of ls) start end) → start ≤ first → first ≤ end →
     enter_steps ls kind start first end ≡ put_by (walk.Enter kind) (place_at ls start)
-enter-steps ls kind start first end p inside after before =
+enter-steps ls kind start first end p inside later before =
     let own = leaves_of ls in
     let next = drop start own in
     let held : end - first ≡ attached kind (pending next) = inside ∙ ap (attached kind) (pending-slice ls start end p) in
-    let out : first - start ≡ length (pending next) - attached kind (pending next) = omega (arith, p, held, after, before) in
+    let out : first - start ≡ length (pending next) - attached kind (pending next) = omega (arith, p, held, later, before) in
     let from : drop first own ≡ drop (first - start) next =
-    ap (λ (k : ℕ). drop k own) (let e : first ≡ start + (first - start) = omega (arith, after) in e) ∙ sym (drop-drop (first - start) start own) in
+    ap (λ (k : ℕ). drop k own) (let e : first ≡ start + (first - start) = omega (arith, later) in e) ∙ sym (drop-drop (first - start) start own) in
     let shape : ℕ → ℕ → List TextStep = λ o i. leaf_steps (take o next) ++ (Enter kind ∷ leaf_steps (take i (drop o next))) in
     ap (λ (r : List leaves.Leaf). leaf_steps (take (first - start) next) ++ (Enter kind ∷ leaf_steps (take (end - first) r))) from
     ∙ ap (λ (o : ℕ). shape o (end - first)) out
@@ -118,15 +118,15 @@ enter-steps ls kind start first end p inside after before =
 
 pub enter-at : (ls : List Lexed) (kind start first end : ℕ) → end ≡ start + pending_at ls start →
     end - first ≡ attached kind (slice_range (leaves_of ls) start end) → start ≤ first → first ≤ end →
-    place_at ls end ≡ behind_step (walk.Enter kind) (place_at ls start)
-enter-at ls kind start first end p inside after before =
+    place_at ls end ≡ after_step (walk.Enter kind) (place_at ls start)
+enter-at ls kind start first end p inside later before =
     let next = drop start (leaves_of ls) in
     let held : end - first ≡ attached kind (pending next) = inside ∙ ap (attached kind) (pending-slice ls start end p) in
-    let out : first - start ≡ outside kind (place_at ls start) = omega (arith, p, held, after, before) in
-    let shape : ℕ → ℕ → Place = λ o i. behind i (behind o (place_at ls start)) in
-    ap (place_at ls) (let e : end ≡ (start + (first - start)) + (end - first) = omega (arith, after, before) in e)
-    ∙ sym (behind-at ls (start + (first - start)) (end - first))
-    ∙ ap (behind (end - first)) (sym (behind-at ls start (first - start)))
+    let out : first - start ≡ outside kind (place_at ls start) = omega (arith, p, held, later, before) in
+    let shape : ℕ → ℕ → Place = λ o i. after i (after o (place_at ls start)) in
+    ap (place_at ls) (let e : end ≡ (start + (first - start)) + (end - first) = omega (arith, later, before) in e)
+    ∙ sym (after-at ls (start + (first - start)) (end - first))
+    ∙ ap (after (end - first)) (sym (after-at ls start (first - start)))
     ∙ ap (λ (o : ℕ). shape o (end - first)) out
     ∙ ap (shape (outside kind (place_at ls start))) held
 
@@ -136,22 +136,22 @@ pub split-steps : (ls : List Lexed) (e : Bool) (start first place : ℕ) (text :
     leaf_steps (slice_range (leaves_of ls) start first) ++ split_steps e place text ≡ put_by (walk.FloatSplit e) (place_at ls start)
 split-steps ls e start first place text p at_place t =
     let own = leaves_of ls in
-    let at : place_at ls first ≡ behind_pending (place_at ls start) = ap (place_at ls) p ∙ sym (behind-at ls start (pending_at ls start)) in
+    let at : place_at ls first ≡ after_pending (place_at ls start) = ap (place_at ls) p ∙ sym (after-at ls start (pending_at ls start)) in
     ap (λ (l : List leaves.Leaf). leaf_steps l ++ split_steps e place text) (pending-slice ls start first p)
     ∙ ap (λ (n : ℕ). leaf_steps (pending (drop start own)) ++ split_steps e n text) at_place
     ∙ ap (λ (x : List ℕ). leaf_steps (pending (drop start own)) ++ split_steps e (place_at ls first).bytes x) t
     ∙ ap (λ (q : Place). leaf_steps (pending (drop start own)) ++ split_steps e q.bytes (next_text q.left)) at
 
-pub split-at : (ls : List Lexed) (e : Bool) (start first end : ℕ) → first ≡ start + pending_at ls start → place_at ls end ≡ behind 1 (place_at ls first) →
-    place_at ls end ≡ behind_step (walk.FloatSplit e) (place_at ls start)
-split-at ls e start first end p h = h ∙ ap (behind 1) (ap (place_at ls) p ∙ sym (behind-at ls start (pending_at ls start)))
+pub split-at : (ls : List Lexed) (e : Bool) (start first end : ℕ) → first ≡ start + pending_at ls start → place_at ls end ≡ after 1 (place_at ls first) →
+    place_at ls end ≡ after_step (walk.FloatSplit e) (place_at ls start)
+split-at ls e start first end p h = h ∙ ap (after 1) (ap (place_at ls) p ∙ sym (after-at ls start (pending_at ls start)))
 
--- Behind the last leaf.
+-- After the last leaf.
 
 own-length : (ls : List Lexed) → length (leaves_of ls) ≡ length ls
 own-length ls = length-map ls (λ (x : Lexed). x.leaf)
 
-pub place-end : (ls : List Lexed) (i : ℕ) → length ls ≤ i → place_at ls i ≡ behind 1 (place_at ls i)
+pub place-end : (ls : List Lexed) (i : ℕ) → length ls ≤ i → place_at ls i ≡ after 1 (place_at ls i)
 place-end ls i h =
     let own = leaves_of ls in
     let e = own-length ls in
@@ -159,7 +159,7 @@ place-end ls i h =
     (take_all i own (omega (arith, h, e)) ∙ sym (take_all (i + 1) own (omega (arith, h, e))))
     ∙ ap (λ (l : List leaves.Leaf). let p : Place = record { bytes = length (encode_utf8_all (joined (take (i + 1) own))); left = l } in p)
     (drop_all i own (omega (arith, h, e)) ∙ sym (drop_all (i + 1) own (omega (arith, h, e))))
-    ∙ sym (behind-at ls i 1)
+    ∙ sym (after-at ls i 1)
 
 pub text-next : (ls : List Lexed) (i : ℕ) → i < length ls → (leaf_at ls i).leaf.text ≡ next_text (drop i (leaves_of ls))
 unfolding next_text

@@ -22,10 +22,10 @@ refuses-in takes refuses old new e (x ∷ xs) ys h = elim h [
   | inr n ↦ inr (n.0, (n.1.0, refuses-in takes refuses n.0 new e xs ys n.1.1))
 ]
 
-pub refuses-behind : {S E : Type 0} (takes : S → TextStep → S → Type 0) (refuses : S → TextStep → E → S → Type 0) (old mid new : S) (e : E) (xs ys : List TextStep) →
+pub refuses-after : {S E : Type 0} (takes : S → TextStep → S → Type 0) (refuses : S → TextStep → E → S → Type 0) (old mid new : S) (e : E) (xs ys : List TextStep) →
     TakesAll takes old xs mid → RefusesOne takes refuses mid ys e new → RefusesOne takes refuses old (xs ++ ys) e new
-refuses-behind takes refuses old mid new e [] ys a h = subst (λ s. RefusesOne takes refuses s ys e new) a h
-refuses-behind takes refuses old mid new e (x ∷ xs) ys a h = inr (a.0, (a.1.0, refuses-behind takes refuses a.0 mid new e xs ys a.1.1 h))
+refuses-after takes refuses old mid new e [] ys a h = subst (λ s. RefusesOne takes refuses s ys e new) a h
+refuses-after takes refuses old mid new e (x ∷ xs) ys a h = inr (a.0, (a.1.0, refuses-after takes refuses a.0 mid new e xs ys a.1.1 h))
 
 -- the steps of the code, from a place on
 pub map-from : (ss : List StrStep) (i : ℕ) (d : StrStep) → i < length ss →

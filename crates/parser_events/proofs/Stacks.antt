@@ -1,7 +1,7 @@
 -- Reading a record back gives the open nodes whose record it is.
 use Rattle.std.proofs.Common.{◌≡◌, ℕ, suc, ◌+◌, ◌-◌, List, [], ◌∷◌, ◌++◌, length, take, reverse, refl, ap, sym, ◌∙◌, append_assoc, append-nil, arith}
 use Rattle.std.proofs.lemmas.List.{take_at, drop_at, reverse-append}
-use Rattle.parser_events.specs.Marked.{Marked, End, Leaf, Said, Node, Split, ◌beside◌, size, front, behind}
+use Rattle.parser_events.specs.Marked.{Marked, End, Leaf, Said, Node, Split, ◌beside◌, size, front, after}
 use Rattle.parser_events.specs.Nodes as nodes
 use Rattle.parser_events.specs.Nodes.{Entry, Kept, entries, all_entries, starts, record_of, grown, read_from, read_back, nodes_of, IsRecord, with_entry, opened_at, opened_here, innermost, left_out, closed_as, split_as}
 use Rattle.parser_events.proofs.Forests.{beside-end, beside_assoc}
@@ -25,16 +25,16 @@ front-beside (Split e c f) g =
     let n : (size c + size f) - size c ≡ size f = omega arith in
     ap (Split e c) (ap (λ (m : ℕ). front m (f beside g)) n ∙ front-beside f g)
 
-pub behind-beside : (f g : Marked) → behind (size f) (f beside g) ≡ g
-behind-beside End g = refl
-behind-beside (Leaf k n f) g = behind-beside f g
-behind-beside (Said m f) g = behind-beside f g
-behind-beside (Node k c f) g =
+pub after-beside : (f g : Marked) → after (size f) (f beside g) ≡ g
+after-beside End g = refl
+after-beside (Leaf k n f) g = after-beside f g
+after-beside (Said m f) g = after-beside f g
+after-beside (Node k c f) g =
     let n : (size c + size f) - size c ≡ size f = omega arith in
-    ap (λ (m : ℕ). behind m (f beside g)) n ∙ behind-beside f g
-behind-beside (Split e c f) g =
+    ap (λ (m : ℕ). after m (f beside g)) n ∙ after-beside f g
+after-beside (Split e c f) g =
     let n : (size c + size f) - size c ≡ size f = omega arith in
-    ap (λ (m : ℕ). behind m (f beside g)) n ∙ behind-beside f g
+    ap (λ (m : ℕ). after m (f beside g)) n ∙ after-beside f g
 
 -- the entries of a node's further trees
 grown-at : (place at : ℕ) (f g : Marked) (rest : List Entry) → at ≡ size f + place → grown place f (entries at g ++ rest) ≡ grown place (f beside g) rest
@@ -50,9 +50,9 @@ grown-at place at f (Node k c g) rest e =
     let n : at - place ≡ size f = omega (arith, e) in
     ap (grown place f) (append_assoc (entries at c) (nodes.Closed k at ∷ entries next g) rest)
     ∙ grown-at place at f c (nodes.Closed k at ∷ (entries next g ++ rest)) e
-    ∙ ap (λ (m : ℕ). grown place (front m (f beside c) beside Node k (behind m (f beside c)) End) (entries next g ++ rest)) n
-    ∙ ap (λ (x : Marked). grown place (x beside Node k (behind (size f) (f beside c)) End) (entries next g ++ rest)) (front-beside f c)
-    ∙ ap (λ (x : Marked). grown place (f beside Node k x End) (entries next g ++ rest)) (behind-beside f c)
+    ∙ ap (λ (m : ℕ). grown place (front m (f beside c) beside Node k (after m (f beside c)) End) (entries next g ++ rest)) n
+    ∙ ap (λ (x : Marked). grown place (x beside Node k (after (size f) (f beside c)) End) (entries next g ++ rest)) (front-beside f c)
+    ∙ ap (λ (x : Marked). grown place (f beside Node k x End) (entries next g ++ rest)) (after-beside f c)
     ∙ grown-at place next (f beside Node k c End) g rest (omega (arith, e, size-beside f (Node k c End)))
     ∙ ap (λ (x : Marked). grown place x rest) (beside_assoc f (Node k c End) g)
 grown-at place at f (Split s c g) rest e =
@@ -60,9 +60,9 @@ grown-at place at f (Split s c g) rest e =
     let n : at - place ≡ size f = omega (arith, e) in
     ap (grown place f) (append_assoc (entries at c) (nodes.Ended s at ∷ entries next g) rest)
     ∙ grown-at place at f c (nodes.Ended s at ∷ (entries next g ++ rest)) e
-    ∙ ap (λ (m : ℕ). grown place (front m (f beside c) beside Split s (behind m (f beside c)) End) (entries next g ++ rest)) n
-    ∙ ap (λ (x : Marked). grown place (x beside Split s (behind (size f) (f beside c)) End) (entries next g ++ rest)) (front-beside f c)
-    ∙ ap (λ (x : Marked). grown place (f beside Split s x End) (entries next g ++ rest)) (behind-beside f c)
+    ∙ ap (λ (m : ℕ). grown place (front m (f beside c) beside Split s (after m (f beside c)) End) (entries next g ++ rest)) n
+    ∙ ap (λ (x : Marked). grown place (x beside Split s (after (size f) (f beside c)) End) (entries next g ++ rest)) (front-beside f c)
+    ∙ ap (λ (x : Marked). grown place (f beside Split s x End) (entries next g ++ rest)) (after-beside f c)
     ∙ grown-at place next (f beside Split s c End) g rest (omega (arith, e, size-beside f (Split s c End)))
     ∙ ap (λ (x : Marked). grown place x rest) (beside_assoc f (Split s c End) g)
 

@@ -56,7 +56,7 @@ open-total : (s : Dressing) → total (open_node s) ≡ joined s.left
 unfolding open_node
 open-total s = refl
 
--- a node closed behind what stood before it
+-- a node closed after what stood before it
 close-total : (k : ℕ) (before s : Dressing) → total s ≡ joined before.left → total (close_node k before s) ≡ total before
 unfolding close_node
 close-total k before s e =
@@ -73,7 +73,7 @@ unfolding next_text joined
 next-joined [] = refl
 next-joined (t ∷ ts) = sym (append-nil t.text)
 
--- what is left of a text is that of the next token, and of those behind it
+-- what is left of a text is that of the next token, and of those after it
 next-parts : (ts : List leaves.Leaf) → next_text ts ++ joined (drop 1 ts) ≡ joined ts
 next-parts ts = ap (λ (x : List ℕ). x ++ joined (drop 1 ts)) (next-joined ts) ∙ joined-parts 1 ts
 

@@ -47,7 +47,7 @@ pub starts-length : (f : Marked) (below : List Marked) → length (starts (f ∷
 starts-length f [] = refl
 starts-length f (g ∷ below) = omega (arith, length-append (starts (g ∷ below)) (length (all_entries (g ∷ below)) ∷ []), starts-length g below)
 
--- trees behind those of the innermost node stand at the end of the record
+-- trees after those of the innermost node stand at the end of the record
 pub all-beside : (f g : Marked) (below : List Marked) → all_entries ((f beside g) ∷ below) ≡ all_entries (f ∷ below) ++ entries (length (all_entries (f ∷ below))) g
 all-beside f g below =
     let b = length (all_entries below) in

@@ -52,7 +52,7 @@ none-begun b (p ∷ ps) laid h = elim (cases_Bool (p.start == suc b)) [
   | inr n ↦ rw n refl
 ]
 
--- an entry is passed where no node begins behind it
+-- an entry is passed where no node begins after it
 pass-one : (e : Entry) (rest : List Entry) (b : ℕ) (ps : List Pending) (laid : List Step) → length rest ≡ b → Begins b ps → unwind (e ∷ rest) (state ps laid) ≡ unwind rest (passed e (state ps laid))
 pass-one e rest b ps laid at h =
     ap (λ (n : ℕ). unwind rest (passed e (begun (suc n) ps laid))) at ∙ ap (λ (s : Unwound). unwind rest (passed e s)) (none-begun b ps laid h)

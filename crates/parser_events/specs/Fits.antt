@@ -41,7 +41,7 @@ abbrev pub is_end : List Step → Bool
 is_end [] = true
 is_end (s ∷ ss) = false
 
--- So many nodes are open inside the root; it is left by the last step alone. A split leaves a node, and what stands behind
+-- So many nodes are open inside the root; it is left by the last step alone. A split leaves a node, and what stands after
 -- its float is not in that.
 abbrev pub leaves_root : ℕ → List Step → Bool
 leaves_root level [] = false

@@ -7,7 +7,7 @@ use Rattle.parser_events.specs.Dress.{dress_root, joined}
 use Rattle.parser_events.specs.Marked.{Marked, ◌beside◌, marked, walk}
 use Rattle.parser_events.specs.Fits.{fits, IsRooted}
 use Rattle.parser_events.specs.Laying.{put_around}
-use Rattle.parser_events.specs.Steps.{steps, level_behind}
+use Rattle.parser_events.specs.Steps.{steps, level_after}
 use Rattle.parser_events.specs.TextSteps.{text_steps}
 
 -- nothing of the text is lost or moved: the leaves of the dressed tree, joined, are the leaves that it was dressed with
@@ -16,11 +16,11 @@ TextIsKept = (f : Forest) (leaves : List Leaf) → text_of (dress_root f leaves)
 
 -- steps leave every node that they enter, and no other
 abbrev pub StepsAreBalanced : Type 0
-StepsAreBalanced = (f : Forest) (level : ℕ) → level_behind level (steps f) ≡ Some level
+StepsAreBalanced = (f : Forest) (level : ℕ) → level_after level (steps f) ≡ Some level
 
 -- the steps of any marked trees do so too
 abbrev pub WalksAreBalanced : Type 0
-WalksAreBalanced = (f : Marked) (level : ℕ) → level_behind level (walk f) ≡ Some level
+WalksAreBalanced = (f : Marked) (level : ℕ) → level_after level (walk f) ≡ Some level
 
 -- a forest and what calls make of it have the same steps
 abbrev pub MarksKeepSteps : Type 0

@@ -15,33 +15,33 @@ pub record Place : Type 0 where
   pub bytes : ℕ
   pub left : List leaves.Leaf
 
--- before the leaf of this number; behind the last one, the end
+-- before the leaf of this number; after the last one, the end
 abbrev pub place_at : List Lexed → ℕ → Place
 place_at ls n =
     record { bytes = length (encode_utf8_all (joined (take n (leaves_of ls)))); left = drop n (leaves_of ls) }
 
--- behind the next leaves
-abbrev pub behind : ℕ → Place → Place
-behind count s = record { bytes = s.bytes + length (encode_utf8_all (joined (take count s.left))); left = drop count s.left }
+-- after the next leaves
+abbrev pub after : ℕ → Place → Place
+after count s = record { bytes = s.bytes + length (encode_utf8_all (joined (take count s.left))); left = drop count s.left }
 
--- behind the white space and comments that stand next
-abbrev pub behind_pending : Place → Place
-behind_pending s = behind (length (pending s.left)) s
+-- after the white space and comments that stand next
+abbrev pub after_pending : Place → Place
+after_pending s = after (length (pending s.left)) s
 
 -- how many of the leaves that stand next stand before a node of this kind
 abbrev pub outside : ℕ → Place → ℕ
 outside kind s = length (pending s.left) - attached kind (pending s.left)
 
 -- where a step leads
-abbrev pub behind_step : steps.Step → Place → Place
-behind_step (steps.Token kind count) s = let t = behind_pending s in behind (reach count t.left) t
-behind_step (steps.FloatSplit ends_in_dot) s = behind 1 (behind_pending s)
-behind_step (steps.Enter kind) s = behind (attached kind (pending s.left)) (behind (outside kind s) s)
-behind_step steps.Exit s = s
-behind_step (steps.Error message) s = s
+abbrev pub after_step : steps.Step → Place → Place
+after_step (steps.Token kind count) s = let t = after_pending s in after (reach count t.left) t
+after_step (steps.FloatSplit ends_in_dot) s = after 1 (after_pending s)
+after_step (steps.Enter kind) s = after (attached kind (pending s.left)) (after (outside kind s) s)
+after_step steps.Exit s = s
+after_step (steps.Error message) s = s
 
--- A float without a dot is an error behind a message. Any other ends the field access with the number before its dot; the
--- dot follows, and the number behind it, if that is not empty.
+-- A float without a dot is an error after a message. Any other ends the field access with the number before its dot; the
+-- dot follows, and the number after it, if that is not empty.
 abbrev pub split_steps : Bool → ℕ → List ℕ → List TextStep
 split_steps ends_in_dot place text =
     let rest = from_dot text in
@@ -55,20 +55,20 @@ split_steps ends_in_dot place text =
 -- it.
 abbrev pub put_by : steps.Step → Place → List TextStep
 put_by (steps.Token kind count) s =
-    let t = behind_pending s in leaf_steps (pending s.left) ++ Token kind (joined (take (reach count t.left) t.left)) ∷ []
+    let t = after_pending s in leaf_steps (pending s.left) ++ Token kind (joined (take (reach count t.left) t.left)) ∷ []
 put_by (steps.FloatSplit ends_in_dot) s =
-    let t = behind_pending s in leaf_steps (pending s.left) ++ split_steps ends_in_dot t.bytes (next_text t.left)
+    let t = after_pending s in leaf_steps (pending s.left) ++ split_steps ends_in_dot t.bytes (next_text t.left)
 put_by (steps.Enter kind) s =
-    let t = behind (outside kind s) s in
+    let t = after (outside kind s) s in
     leaf_steps (take (outside kind s) s.left) ++ Enter kind ∷ leaf_steps (take (attached kind (pending s.left)) t.left)
 put_by steps.Exit s = Exit ∷ []
 put_by (steps.Error message) s = Error message s.bytes ∷ []
 
--- What the steps behind the root's first one put. The last one leaves the root, and all that is left stands before that.
+-- What the steps after the root's first one put. The last one leaves the root, and all that is left stands before that.
 abbrev pub put_inside : List steps.Step → Place → List TextStep
 put_inside [] s = []
 put_inside (step ∷ []) s = leaf_steps s.left ++ Exit ∷ []
-put_inside (step ∷ next ∷ ss) s = put_by step s ++ put_inside (next ∷ ss) (behind_step step s)
+put_inside (step ∷ next ∷ ss) s = put_by step s ++ put_inside (next ∷ ss) (after_step step s)
 
 -- What the steps of one tree put. Nothing stands before the root.
 abbrev pub put_around : List steps.Step → List leaves.Leaf → List TextStep
@@ -79,5 +79,5 @@ put_around (step ∷ ss) ls = []
 -- From the leaf of this number on a step is put into a sink, and leads to that leaf.
 pub record Lays {S : Type 0} (takes : S → TextStep → S → Type 0) (ls : List Lexed) (step : steps.Step) (start : ℕ) (old : S) (next : ℕ) (new : S) : Type 0 where
   pub taken : TakesAll takes old (put_by step (place_at ls start)) new
-  pub at : place_at ls next ≡ behind_step step (place_at ls start)
+  pub at : place_at ls next ≡ after_step step (place_at ls start)
   pub within : next ≤ length ls

@@ -5,8 +5,8 @@ use Rattle.parser_events.specs.Forest as forest
 use Rattle.parser_events.specs.Forest.{Forest, Message}
 use Rattle.parser_events.specs.Steps.{Step, Token, FloatSplit, Enter, Exit, Error}
 
--- Trees side by side: nothing, or one tree and those behind it. A split is the trees of a field access with the float
--- that ends it; what the float has behind its first dot stands beside the access, not in it.
+-- Trees side by side: nothing, or one tree and those after it. A split is the trees of a field access with the float
+-- that ends it; what the float has after its first dot stands beside the access, not in it.
 pub data Marked : Type 0 where
   End : Marked
   Leaf : (kind count : ℕ) → Marked → Marked
@@ -40,14 +40,14 @@ front (suc n) (Said m f) = Said m (front n f)
 front (suc n) (Node k c f) = Node k c (front (n - size c) f)
 front (suc n) (Split e c f) = Split e c (front (n - size c) f)
 
--- the trees behind those
-abbrev pub behind : ℕ → Marked → Marked
-behind zero f = f
-behind (suc n) End = End
-behind (suc n) (Leaf k c f) = behind n f
-behind (suc n) (Said m f) = behind n f
-behind (suc n) (Node k c f) = behind (n - size c) f
-behind (suc n) (Split e c f) = behind (n - size c) f
+-- the trees after those
+abbrev pub after : ℕ → Marked → Marked
+after zero f = f
+after (suc n) End = End
+after (suc n) (Leaf k c f) = after n f
+after (suc n) (Said m f) = after n f
+after (suc n) (Node k c f) = after (n - size c) f
+after (suc n) (Split e c f) = after (n - size c) f
 
 -- the steps of marked trees
 unfoldable pub walk : Marked → List Step

@@ -2,9 +2,9 @@
 use Rattle.std.specs.Prelude.{ℕ, suc, ◌+◌, ◌-◌, ◌≡◌, Bool, List, [], ◌∷◌, ◌++◌, Option, Some, None, length, reverse, take, drop, slice_index_or as get_or}
 use Rattle.parser_events.specs.Forest.{Message}
 use Rattle.parser_events.specs.Marked as marked
-use Rattle.parser_events.specs.Marked.{Marked, End, ◌beside◌, size, front, behind}
+use Rattle.parser_events.specs.Marked.{Marked, End, ◌beside◌, size, front, after}
 
--- One entry of the record. A node's entry stands behind those of what it holds, and has the place of the first of them, or
+-- One entry of the record. A node's entry stands after those of what it holds, and has the place of the first of them, or
 -- its own where it holds nothing.
 pub data Entry : Type 0 where
   Token : (kind count : ℕ) → Entry
@@ -61,8 +61,8 @@ abbrev pub grown : ℕ → Marked → List Entry → Marked
 grown place f [] = f
 grown place f (Token k n ∷ es) = grown place (f beside marked.Leaf k n End) es
 grown place f (Said m ∷ es) = grown place (f beside marked.Said m End) es
-grown place f (Closed k s ∷ es) = grown place (front (s - place) f beside marked.Node k (behind (s - place) f) End) es
-grown place f (Ended e s ∷ es) = grown place (front (s - place) f beside marked.Split e (behind (s - place) f) End) es
+grown place f (Closed k s ∷ es) = grown place (front (s - place) f beside marked.Node k (after (s - place) f) End) es
+grown place f (Ended e s ∷ es) = grown place (front (s - place) f beside marked.Split e (after (s - place) f) End) es
 
 -- the trees of the open nodes, which begin at these places, the innermost first
 abbrev pub read_from : List Entry → List ℕ → List Marked

@@ -1,7 +1,7 @@
 -- The open nodes of a parser with the trees that each has so far: the innermost node's trees first; the last ones stand
 -- outside of all nodes. What each call makes of them.
 use Rattle.std.specs.Prelude.{ℕ, suc, ◌+◌, ◌-◌, ◌≡◌, Bool, List, [], ◌∷◌, Option, Some, None, IfSome, length}
-use Rattle.parser_events.specs.Marked.{Marked, End, Node, Split, ◌beside◌, size, front, behind, walk}
+use Rattle.parser_events.specs.Marked.{Marked, End, Node, Split, ◌beside◌, size, front, after, walk}
 use Rattle.parser_events.specs.Steps.{Step}
 
 -- how many nodes are open
@@ -21,7 +21,7 @@ Becomes change None (Some new) = ⊥
 Becomes change (Some old) None = Unit {0}
 Becomes change (Some old) (Some new) = new ≡ change old
 
--- a tree stands behind those of the innermost node
+-- a tree stands after those of the innermost node
 abbrev pub with_tree : Marked → List Marked → List Marked
 with_tree tree [] = []
 with_tree tree (f ∷ below) = (f beside tree) ∷ below
@@ -51,7 +51,7 @@ split ends_in_dot (f ∷ below) = Split ends_in_dot f End ∷ below
 -- of the nodes around counted too.
 abbrev pub wrapped : ℕ → List Marked → List Marked
 wrapped before [] = []
-wrapped before (f ∷ below) = behind (before - total_size below) f ∷ front (before - total_size below) f ∷ below
+wrapped before (f ∷ below) = after (before - total_size below) f ∷ front (before - total_size below) f ∷ below
 
 -- The innermost node is the one with so many open nodes around it. Where a growth was refused nothing is asked.
 abbrev pub IsInnermost : ℕ → Option (List Marked) → Type 0

@@ -4,7 +4,7 @@ use Rattle.parser_input.specs.Kinds.{ERROR, FIELD_EXPR}
 use Rattle.parser_events.specs.Forest as forest
 use Rattle.parser_events.specs.Forest.{Forest, Message}
 
--- One step: a leaf over the next `count` tokens of the input; a float behind a dot, which also leaves the field access
+-- One step: a leaf over the next `count` tokens of the input; a float after a dot, which also leaves the field access
 -- that it ends; a node that is entered; the end of the node that was entered last; a message.
 pub data Step : Type 0 where
   Token : (kind count : ℕ) → Step
@@ -25,14 +25,14 @@ steps (forest.Float ends_in_dot receiver f) =
     let two = Enter FIELD_EXPR ∷ Enter FIELD_EXPR ∷ (steps receiver ++ FloatSplit ends_in_dot ∷ Exit ∷ steps f) in
     if ends_in_dot then one else two
 
--- how many nodes are open behind the steps, where so many are open before them; none where a step leaves a node that is
+-- how many nodes are open after the steps, where so many are open before them; none where a step leaves a node that is
 -- not open
-unfoldable pub level_behind : ℕ → List Step → Option ℕ
-level_behind level [] = Some level
-level_behind level (Token kind count ∷ ss) = level_behind level ss
-level_behind level (Error message ∷ ss) = level_behind level ss
-level_behind level (Enter kind ∷ ss) = level_behind (suc level) ss
-level_behind zero (FloatSplit ends_in_dot ∷ ss) = None
-level_behind (suc level) (FloatSplit ends_in_dot ∷ ss) = level_behind level ss
-level_behind zero (Exit ∷ ss) = None
-level_behind (suc level) (Exit ∷ ss) = level_behind level ss
+unfoldable pub level_after : ℕ → List Step → Option ℕ
+level_after level [] = Some level
+level_after level (Token kind count ∷ ss) = level_after level ss
+level_after level (Error message ∷ ss) = level_after level ss
+level_after level (Enter kind ∷ ss) = level_after (suc level) ss
+level_after zero (FloatSplit ends_in_dot ∷ ss) = None
+level_after (suc level) (FloatSplit ends_in_dot ∷ ss) = level_after level ss
+level_after zero (Exit ∷ ss) = None
+level_after (suc level) (Exit ∷ ss) = level_after level ss

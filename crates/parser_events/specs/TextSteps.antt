@@ -16,7 +16,7 @@ pub data TextStep : Type 0 where
   Exit : TextStep
   Error : (message : Message) (place : ℕ) → TextStep
 
--- the elements in order; a node is entered before what it holds, and left behind it
+-- the elements in order; a node is entered before what it holds, and left after it
 abbrev pub text_steps : Dressed → List TextStep
 text_steps dressed.End = []
 text_steps (dressed.Leaf kind text d) = Token kind text ∷ text_steps d

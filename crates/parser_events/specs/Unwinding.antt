@@ -1,11 +1,11 @@
--- From the record's last entry to its first: the steps behind a place, and the nodes that go on before it.
+-- From the record's last entry to its first: the steps after a place, and the nodes that go on before it.
 use Rattle.std.specs.Prelude.{ℕ, suc, ◌==◌, List, [], ◌∷◌, length, if◌then◌else◌}
 use Rattle.parser_input.specs.Kinds.{FIELD_EXPR}
 use Rattle.parser_events.specs.Nodes as nodes
 use Rattle.parser_events.specs.Nodes.{Entry}
 use Rattle.parser_events.specs.Steps.{Step, Token, FloatSplit, Enter, Exit, Error}
 
--- a node that ends behind a place, and begins before it or there
+-- a node that ends after a place, and begins before it or there
 pub record Pending : Type 0 where
   pub kind : ℕ
   pub start : ℕ

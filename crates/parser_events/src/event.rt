@@ -3,7 +3,7 @@
 use crate::message::Message;
 use parser_input::syntax_kind::SyntaxKind;
 
-/// One entry of the record. A node stands behind what it holds, so that nothing is recorded where it is opened, left
+/// One entry of the record. A node stands after what it holds, so that nothing is recorded where it is opened, left
 /// out, or put around another.
 #[derive(Clone, Copy)]
 pub(crate) enum Event {
@@ -19,7 +19,7 @@ pub(crate) enum Event {
         kind: SyntaxKind,
         start: usize,
     },
-    /// The same of a field access, by a float behind a dot.
+    /// The same of a field access, by a float after a dot.
     Split {
         ends_in_dot: bool,
         start: usize,

@@ -77,7 +77,7 @@ pub(crate) fn has_one_root(backwards: &[Step]) -> bool
     leaves_root(&backwards[..last - 1])
 }
 
-/// The number of the leaf behind so many, from one on; none where one of them is white space or a comment, or the end comes
+/// The number of the leaf after so many, from one on; none where one of them is white space or a comment, or the end comes
 /// before that.
 fn unbroken_end(lexed: &LexedStr<'_>, start: usize, n: u8) -> Option<usize>
     requires { start ≤ length lexed.now.leaves }
@@ -127,7 +127,7 @@ fn is_split_at(lexed: &LexedStr<'_>, expected: bool, i: usize) -> bool
 
 /// The leaf that a step over so many tokens leads to, from one on; none where white space, a comment or the end stands
 /// between the tokens.
-fn behind_token(lexed: &LexedStr<'_>, n: u8, start: usize) -> Option<usize>
+fn after_token(lexed: &LexedStr<'_>, n: u8, start: usize) -> Option<usize>
     requires { start ≤ length lexed.now.leaves }
     ensures { MatchOption result ((kind : ℕ) → Misfits lexed.now.leaves (steps.Token kind n) start)
         (λ next. (kind : ℕ) → Leads lexed.now.leaves (steps.Token kind n) start next) }
@@ -140,7 +140,7 @@ fn behind_token(lexed: &LexedStr<'_>, n: u8, start: usize) -> Option<usize>
 }
 
 /// The leaf that a split leads to, from one on; none where the float that it is for does not stand there.
-fn behind_split(lexed: &LexedStr<'_>, expected: bool, start: usize) -> Option<usize>
+fn after_split(lexed: &LexedStr<'_>, expected: bool, start: usize) -> Option<usize>
     requires { start ≤ length lexed.now.leaves }
     ensures { MatchOption result (Misfits lexed.now.leaves (steps.FloatSplit expected) start)
         (λ next. Leads lexed.now.leaves (steps.FloatSplit expected) start next) }
@@ -156,7 +156,7 @@ fn behind_split(lexed: &LexedStr<'_>, expected: bool, start: usize) -> Option<us
 }
 
 /// The leaf that a step leads to, from one on; none where the step does not fit the leaves there.
-fn behind_step(lexed: &LexedStr<'_>, step: Step, start: usize) -> Option<usize>
+fn after_step(lexed: &LexedStr<'_>, step: Step, start: usize) -> Option<usize>
     requires { start ≤ length lexed.now.leaves }
     ensures { MatchOption result (Misfits lexed.now.leaves (step_of step) start)
         (λ next. Leads lexed.now.leaves (step_of step) start next) }
@@ -165,8 +165,8 @@ fn behind_step(lexed: &LexedStr<'_>, step: Step, start: usize) -> Option<usize>
         Step::Token {
             kind: _,
             n_input_tokens,
-        } => behind_token(lexed, n_input_tokens, start),
-        Step::FloatSplit { ends_in_dot } => behind_split(lexed, ends_in_dot, start),
+        } => after_token(lexed, n_input_tokens, start),
+        Step::FloatSplit { ends_in_dot } => after_split(lexed, ends_in_dot, start),
         Step::Enter { kind: _ } => Some(start),
         Step::Exit => Some(start),
         Step::Error { msg: _ } => Some(start),
@@ -181,7 +181,7 @@ pub(crate) fn covers(backwards: &[Step], lexed: &LexedStr<'_>) -> bool
     let mut next = 0;
     let mut left = backwards.len();
     'steps: while 0 < left {
-        match behind_step(lexed, backwards[left - 1], next) {
+        match after_step(lexed, backwards[left - 1], next) {
             Some(place) => next = place,
             None => return false,
         }

@@ -1,4 +1,4 @@
-//! A float behind a dot, with its text.
+//! A float after a dot, with its text.
 
 ghost use Rattle.std.specs.Prelude.{◌≡◌, chars, OnOk, IfErr};
 ghost use Rattle.parser_events.specs.Dress.{before_dot, from_dot};

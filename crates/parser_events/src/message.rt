@@ -19,7 +19,7 @@ pub enum Message {
     ExpectedField,
     /// Tokens that are left over.
     UnexpectedTokens,
-    /// A float behind a dot that has no dot of its own.
+    /// A float after a dot that has no dot of its own.
     IllegalFloat,
 }
 

@@ -151,7 +151,7 @@ impl<'t> Parser<'t> {
     }
 
     /// Whether the closed node is one of the trees of the innermost open node, or stands outside of all nodes where none is
-    /// open. Yes once a growth was refused. This passes over the trees behind it, each in one step.
+    /// open. Yes once a growth was refused. This passes over the trees after it, each in one step.
     pub fn can_precede(&self, completed: &CompletedMarker) -> bool
         ensures { (result ≡ true) ↔ IsChild completed.now self.now.nodes }
     {
@@ -250,7 +250,7 @@ impl Model for CompletedMarker {
 }
 
 impl CompletedMarker {
-    /// Opens a node around this one and all that stands behind it in the innermost open node, of which it must be a child.
+    /// Opens a node around this one and all that stands after it in the innermost open node, of which it must be a child.
     pub fn precede(self, p: &mut Parser<'_>) -> Marker
         requires { IsChild self p.old.nodes }
         ensures nodes { Becomes (wrapped self.before) p.old.nodes p.new.nodes }

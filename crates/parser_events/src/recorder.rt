@@ -134,7 +134,7 @@ impl Recorder {
     }
 
     /// Whether a node that was closed is one of the trees of the innermost open node: by the number of the first entry that
-    /// stands for it, and how many it holds. Yes once a growth was refused. This passes over the trees behind it.
+    /// stands for it, and how many it holds. Yes once a growth was refused. This passes over the trees after it.
     pub(crate) fn is_child(&self, first: usize, inside: usize) -> bool
         ensures tells { (kept : Kept) → self.now ≡ Some kept → (f : Marked) (below : List Marked)
             → kept.entered ≡ all_entries (f ∷ below) → innermost kept ≡ total_size below →

@@ -7,7 +7,7 @@ ghost use Rattle.parser_input.specs.Lexed.{leaves_of};
 ghost use Rattle.parser_events.specs.Dress.{dress_root, next_text, reach};
 ghost use Rattle.parser_events.specs.Fits.{fits, IsRooted};
 ghost use Rattle.parser_events.specs.Forest.{Forest};
-ghost use Rattle.parser_events.specs.Laying.{Lays, behind, place_at, put_around, put_by, put_inside};
+ghost use Rattle.parser_events.specs.Laying.{Lays, after, place_at, put_around, put_by, put_inside};
 ghost use Rattle.parser_events.specs.Seen.{message_of, step_of};
 ghost use Rattle.parser_events.specs.Sinks.{TakesAll, RefusesOne};
 ghost use Rattle.parser_events.specs.Steps as steps;
@@ -66,7 +66,7 @@ pub(crate) fn put_leaves<S: StrSink>(
     Ok(())
 }
 
-/// Where a leaf starts, in bytes; behind the last one, where the text ends.
+/// Where a leaf starts, in bytes; after the last one, where the text ends.
 pub(crate) fn start_of(lexed: &LexedStr<'_>, i: usize) -> usize
     requires { i ≤ length lexed.now.leaves }
     ensures { result ≡ (place_at lexed.now.leaves i).bytes }
@@ -74,7 +74,7 @@ pub(crate) fn start_of(lexed: &LexedStr<'_>, i: usize) -> usize
     lexed.range_text(0..i).len()
 }
 
-/// The number of the leaf behind so many tokens of the input, from a leaf on.
+/// The number of the leaf after so many tokens of the input, from a leaf on.
 pub(crate) fn token_end(lexed: &LexedStr<'_>, start: usize, n: u8) -> usize
     requires { start ≤ length lexed.now.leaves }
     ensures end { result ≡ start + reach n (drop start (leaves_of lexed.now.leaves)) }
@@ -150,7 +150,7 @@ pub(crate) fn put_enter<S: StrSink>(
     }
 }
 
-/// The text of a leaf; none behind the last one.
+/// The text of a leaf; none after the last one.
 fn text_at<'a>(lexed: &LexedStr<'a>, i: usize) -> &'a str
     ensures { chars result.now ≡ next_text (drop i (leaves_of lexed.now.leaves)) }
 {
@@ -160,10 +160,10 @@ fn text_at<'a>(lexed: &LexedStr<'a>, i: usize) -> &'a str
     ""
 }
 
-/// The number of the leaf behind one; behind the last one, the same.
-fn behind_one(lexed: &LexedStr<'_>, i: usize) -> usize
+/// The number of the leaf after one; after the last one, the same.
+fn after_one(lexed: &LexedStr<'_>, i: usize) -> usize
     requires { i ≤ length lexed.now.leaves }
-    ensures place { place_at lexed.now.leaves result ≡ behind 1 (place_at lexed.now.leaves i) }
+    ensures place { place_at lexed.now.leaves result ≡ after 1 (place_at lexed.now.leaves i) }
     ensures within { result ≤ length lexed.now.leaves }
 {
     if i < lexed.len() {
@@ -188,7 +188,7 @@ fn put_split<S: StrSink>(
     let first = pending_end(lexed, start);
     let text = text_at(lexed, first);
     let pos = start_of(lexed, first);
-    let end = behind_one(lexed, first);
+    let end = after_one(lexed, first);
     match put_leaves(lexed, start, first, sink) {
         Ok(()) => {}
         Err(error) => return Err(error),
@@ -212,7 +212,7 @@ fn put_exit<S: StrSink>(lexed: &LexedStr<'_>, start: usize, sink: &mut S) -> Res
     }
 }
 
-/// Says something of the place behind the last leaf put.
+/// Says something of the place after the last leaf put.
 fn put_message<S: StrSink>(
     lexed: &LexedStr<'_>,
     msg: Message,
@@ -274,7 +274,7 @@ fn put_end<S: StrSink>(lexed: &LexedStr<'_>, start: usize, sink: &mut S) -> Resu
     }
 }
 
-/// Puts what the steps behind the root's first one put, which are given last one first.
+/// Puts what the steps after the root's first one put, which are given last one first.
 fn put_inside<S: StrSink>(
     lexed: &LexedStr<'_>,
     backwards: &[Step],

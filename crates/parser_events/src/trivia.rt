@@ -26,14 +26,14 @@ fn is_inner(text: &str) -> bool
     begins_with(text, "//!") | begins_with(text, "/*!")
 }
 
-/// Whether a line comment is on what stands behind it.
+/// Whether a line comment is on what stands after it.
 fn is_outer_line(text: &str) -> bool
     ensures { result ≡ (begins_with (47 ∷ 47 ∷ 47 ∷ []) (chars text.now) && not (get_or (chars text.now) 3 0 == 47)) }
 {
     begins_with(text, "///") & !begins_with(text, "////")
 }
 
-/// Whether a block comment is on what stands behind it. The shortest one, of two stars and two slashes, is not.
+/// Whether a block comment is on what stands after it. The shortest one, of two stars and two slashes, is not.
 fn is_outer_block(text: &str) -> bool
     ensures { result ≡ (begins_with (47 ∷ 42 ∷ 42 ∷ []) (chars text.now) && not
         (get_or (chars text.now) 3 0 == 42) && not (get_or (chars text.now) 3 0 == 47)) }
@@ -41,14 +41,14 @@ fn is_outer_block(text: &str) -> bool
     begins_with(text, "/**") & !begins_with(text, "/***") & !begins_with(text, "/**/")
 }
 
-/// Whether a comment is on what stands behind it.
+/// Whether a comment is on what stands after it.
 fn is_outer(text: &str) -> bool
     ensures { result ≡ is_outer (chars text.now) }
 {
     is_outer_line(text) | is_outer_block(text)
 }
 
-/// Whether two line feeds stand one behind the other.
+/// Whether two line feeds stand one after the other.
 fn has_empty_line(text: &str) -> bool
     ensures { result ≡ has_empty_line (chars text.now) }
 {
@@ -100,7 +100,7 @@ pub(crate) fn pending_end(lexed: &LexedStr<'_>, start: usize) -> usize
     end
 }
 
-/// Whether the last of the leaves from one number to another is a comment on what stands behind it.
+/// Whether the last of the leaves from one number to another is a comment on what stands after it.
 fn is_outer_before(lexed: &LexedStr<'_>, start: usize, end: usize) -> bool
     requires order { start ≤ end }
     requires within { end ≤ length lexed.now.leaves }
@@ -127,7 +127,7 @@ fn stops_at(lexed: &LexedStr<'_>, start: usize, leaf: usize) -> bool
     has_empty_line(lexed.text(leaf)) & !is_outer_before(lexed, start, leaf)
 }
 
-/// Where the leaves begin, of the white space and comments from one number to another, that stand inside a node behind
+/// Where the leaves begin, of the white space and comments from one number to another, that stand inside a node after
 /// them which takes comments.
 fn first_inside(lexed: &LexedStr<'_>, start: usize, end: usize) -> usize
     requires order { start ≤ end }
@@ -152,7 +152,7 @@ fn first_inside(lexed: &LexedStr<'_>, start: usize, end: usize) -> usize
 }
 
 /// Where the leaves begin, of the white space and comments from one number to another, that stand inside a node of this
-/// kind behind them.
+/// kind after them.
 pub(crate) fn attached_from(
     lexed: &LexedStr<'_>,
     kind: SyntaxKind,

@@ -134,9 +134,9 @@ unfolding escape
 escape-unicode rules t h x u = let z : escape rules t ≡ (if opens_unicode rules (get_or t 0 0) (get_or t 1 0) then (if is_unicode rules (drop 2 t) then Some (3 + run_len hex_or_underscore (drop 2 t)) else None) else None) = rw (h, x) refl in z ∙ ap (λ (b : Bool). if b then (if is_unicode rules (drop 2 t) then Some (3 + run_len hex_or_underscore (drop 2 t)) else None) else None) u
 
 pub unicode-passes : (rules : Rules) (t new : List ℕ) (r : Bool) → escape rules t ≡ (if is_unicode rules (drop 2 t) then Some (3 + run_len hex_or_underscore (drop 2 t)) else None) → r ≡ is_unicode rules (drop 2 t) → (r ≡ true → new ≡ drop (3 + run_len hex_or_underscore (drop 2 t)) t) → Passes (escape rules t) t r new
-unicode-passes rules t new true e told behind =
-    pass-some (escape rules t) t new (3 + run_len hex_or_underscore (drop 2 t)) (e ∙ ap (λ (b : Bool). if b then Some (3 + run_len hex_or_underscore (drop 2 t)) else None) (sym told)) (behind refl)
-unicode-passes rules t new false e told behind =
+unicode-passes rules t new true e told after =
+    pass-some (escape rules t) t new (3 + run_len hex_or_underscore (drop 2 t)) (e ∙ ap (λ (b : Bool). if b then Some (3 + run_len hex_or_underscore (drop 2 t)) else None) (sym told)) (after refl)
+unicode-passes rules t new false e told after =
     pass-none (escape rules t) t new (e ∙ ap (λ (b : Bool). if b then Some (3 + run_len hex_or_underscore (drop 2 t)) else None) (sym told))
 
 -- Units.
@@ -150,10 +150,10 @@ more-passes : (o : Option ℕ) (c : ℕ) (cs new : List ℕ) (r : Bool) → Pass
 more-passes None c cs new r h = h
 more-passes (Some n) c cs new r h = h
 
-pub unit-escape : (rules : Rules) (t behind new : List ℕ) (r : Bool) → (t ≡ [] → ⊥) → (get_or t 0 0 == 92) ≡ true → behind ≡ drop 1 t → Passes (escape rules behind) behind r new → Passes (unit rules t) t r new
+pub unit-escape : (rules : Rules) (t after new : List ℕ) (r : Bool) → (t ≡ [] → ⊥) → (get_or t 0 0 == 92) ≡ true → after ≡ drop 1 t → Passes (escape rules after) after r new → Passes (unit rules t) t r new
 unfolding unit
-unit-escape rules [] behind new r some back is p = absurd (some refl)
-unit-escape rules (c ∷ cs) behind new r some back is p =
+unit-escape rules [] after new r some back is p = absurd (some refl)
+unit-escape rules (c ∷ cs) after new r some back is p =
     let e : unit rules (c ∷ cs) ≡ option_map (λ n. suc n) (escape rules cs) = rw (back, unit) refl in
     let P : List ℕ → Type 0 = λ b. Passes (escape rules b) b r new in
     let Q : Option ℕ → Type 0 = λ o. Passes o (c ∷ cs) r new in
@@ -190,20 +190,20 @@ unit-takes rules (c ∷ cs) n e =
 
 -- Whole texts.
 
-held-behind : (rules : Rules) (n : ℕ) (t : List ℕ) → is_sound rules n t ≡ is_sound rules 0 (drop n t)
+held-after : (rules : Rules) (n : ℕ) (t : List ℕ) → is_sound rules n t ≡ is_sound rules 0 (drop n t)
 unfolding is_sound
-held-behind rules zero t = refl
-held-behind rules (suc n) [] = refl
-held-behind rules (suc n) (c ∷ cs) = held-behind rules n cs
+held-after rules zero t = refl
+held-after rules (suc n) [] = refl
+held-after rules (suc n) (c ∷ cs) = held-after rules n cs
 
 pub sound-none : (rules : Rules) (t new : List ℕ) → (t ≡ [] → ⊥) → Passes (unit rules t) t false new → false ≡ is_sound rules 0 t
 unfolding is_sound
 sound-none rules [] new some p = absurd (some refl)
 sound-none rules (c ∷ cs) new some p = sym (rw (passes-false (unit rules (c ∷ cs)) (c ∷ cs) new p, is_sound) refl)
 
-behind-unit : (rules : Rules) (n c : ℕ) (cs : List ℕ) → 1 ≤ n → is_sound rules (pred n) cs ≡ is_sound rules 0 (drop n (c ∷ cs))
-behind-unit rules zero c cs h = absurd (omega arith)
-behind-unit rules (suc n) c cs h = held-behind rules n cs
+after-unit : (rules : Rules) (n c : ℕ) (cs : List ℕ) → 1 ≤ n → is_sound rules (pred n) cs ≡ is_sound rules 0 (drop n (c ∷ cs))
+after-unit rules zero c cs h = absurd (omega arith)
+after-unit rules (suc n) c cs h = held-after rules n cs
 
 sound-at : (rules : Rules) (n c : ℕ) (cs : List ℕ) → unit rules (c ∷ cs) ≡ Some n → is_sound rules 0 (c ∷ cs) ≡ is_sound rules (pred n) cs
 unfolding is_sound
@@ -215,7 +215,7 @@ sound-some rules [] new some p = absurd (some refl)
 sound-some rules (c ∷ cs) new some p =
     let u = passes-true (unit rules (c ∷ cs)) (c ∷ cs) new p in
     let e = sound-at rules u.0 c cs u.1 in
-    ap (λ (x : List ℕ). is_sound rules 0 x) u.2 ∙ sym (behind-unit rules u.0 c cs (unit-takes rules (c ∷ cs) u.0 u.1)) ∙ sym e
+    ap (λ (x : List ℕ). is_sound rules 0 x) u.2 ∙ sym (after-unit rules u.0 c cs (unit-takes rules (c ∷ cs) u.0 u.1)) ∙ sym e
 
 pub sound-end : (rules : Rules) (t : List ℕ) → t ≡ [] → true ≡ is_sound rules 0 t
 unfolding is_sound

@@ -116,7 +116,7 @@ unfolding input
 passed-all edition text ps i place tokens p h =
     sym (p.input_is ∙ ap (λ (l : List StoredLeaf). tokens ++ input edition (leaves_of (seen_from text place l))) (drop_all i ps h) ∙ append-nil tokens)
 
--- the next leaf ends behind where it starts, between characters
+-- the next leaf ends after where it starts, between characters
 pub record Ahead (text : List ℕ) (ps : List StoredLeaf) (i place : ℕ) (p : StoredLeaf) : Type 0 where
   pub order : place ≤ p.end
   pub boundary : IsCharBoundary text p.end

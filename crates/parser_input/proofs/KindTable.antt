@@ -12,12 +12,8 @@ use denote.Enum.Declared.{tag_of}
 use Rattle.parser_input.specs.contracts.syntax_kind.SyntaxKind.{the_type}
 use Rattle.parser_input.specs.declared.syntax_kind.SyntaxKind.{SyntaxKind}
 use Rattle.parser_input.specs.declared.syntax_kind.SyntaxKind.TheVariants.{TOMBSTONE}
-use Rattle.parser_input.specs.declared.kind_table.TheConstants.{KINDS}
+use Rattle.parser_input.specs.KindTable.{all_kinds}
 use Rattle.parser_input.specs.Kind.{raw_of, name_of, kind_count}
-
--- the table of kinds, under a name that does not compute where nothing asks for it
-unfoldable pub all_kinds : List SyntaxKind
-all_kinds = KINDS
 
 -- each kind stands at its raw number
 pub slice_get-kinds : (kind : SyntaxKind) → slice_get all_kinds (raw_of kind) ≡ Some kind

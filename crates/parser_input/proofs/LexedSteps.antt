@@ -22,13 +22,13 @@ use Rattle.parser_input.specs.Lexed.{Lexed, cut, is_split, next_leaf, quiet, she
 use Rattle.std.specs.Option.{is_some}
 use Rattle.rustc_lexer.specs.Shebang.{has_shebang, line_len, opens_attribute, shebang}
 use Rattle.parser_input.specs.Preface.{Piece}
-use Rattle.parser_input.proofs.Prefaces.{behind-none, behind-some, piece-none, piece-some}
+use Rattle.parser_input.proofs.Prefaces.{after-none, after-some, piece-none, piece-some}
 use Rattle.parser_input.specs.Stored.{Begun, Found, Placed, AreSpans, end_from, leaf_next, seen, seen_from}
 use Rattle.parser_input.specs.declared.edition.Edition.{Edition}
 use Rattle.parser_input.specs.declared.message.Message.{Message}
 use Rattle.parser_input.specs.declared.lexed_str.StoredLeaf.{StoredLeaf}
 
--- the place behind the first m characters of a text, in bytes
+-- the place after the first m characters of a text, in bytes
 pub record At (bs : List ℕ) (n m : ℕ) : Type 0 where
   pub within : n ≤ length bs
   pub boundary : IsCharBoundary bs n
@@ -47,8 +47,8 @@ at-size bs m u =
     let len : length xs ≡ n = size-encodes (take m cs) in
     let long : length bs ≡ length xs + length ys = ap (λ (l : List ℕ). length l) (sym whole ∙ parts) ∙ length-append xs ys in
     let within : n ≤ length bs = omega arith in
-    let behind : drop n (encodes cs) ≡ ys = ap (λ (k : ℕ). drop k (encodes cs)) (sym len) ∙ ap (λ (l : List ℕ). drop (length xs) l) parts ∙ drop-append_seam xs ys in
-    let s = seam bs n m u within behind in
+    let after : drop n (encodes cs) ≡ ys = ap (λ (k : ℕ). drop k (encodes cs)) (sym len) ∙ ap (λ (l : List ℕ). drop (length xs) l) parts ∙ drop-append_seam xs ys in
+    let s = seam bs n m u within after in
     let left_utf8 : IsUtf8 (drop n bs) = IsUtf8-drop bs n u s.boundary in
     let f = front-until bs (drop n bs) m u left_utf8 s.left in
     let same : length bs - length (drop n bs) ≡ n = omega (arith, length-drop n bs) in
@@ -85,11 +85,11 @@ one_front : (n : ℕ) (c : ℕ) (cs : List ℕ) → 1 ≤ n → take 1 (take n (
 one_front zero c cs h = absurd (omega arith)
 one_front (suc n) c cs h = refl
 
-held-behind : (edition : Edition) (n : ℕ) (t : List ℕ) → cut edition n t ≡ cut edition 0 (drop n t)
+held-after : (edition : Edition) (n : ℕ) (t : List ℕ) → cut edition n t ≡ cut edition 0 (drop n t)
 unfolding cut
-held-behind edition zero t = refl
-held-behind edition (suc n) [] = refl
-held-behind edition (suc n) (c ∷ cs) = held-behind edition n cs
+held-after edition zero t = refl
+held-after edition (suc n) [] = refl
+held-after edition (suc n) (c ∷ cs) = held-after edition n cs
 
 pub leaf-split : (edition : Edition) (l : lexer.Lexeme) → is_split edition l.kind ≡ true → next_leaf edition l ≡ quiet POUND (take 1 l.text)
 unfolding next_leaf
@@ -118,9 +118,9 @@ first-size (c ∷ cs) h =
 pub slice-front : (n : ℕ) (xs : List ℕ) → slice_range xs 0 n ≡ take n xs
 slice-front n xs = let z : n - 0 ≡ n = omega arith in rw z refl
 
-behind-next : (edition : Edition) (n c : ℕ) (cs : List ℕ) → 1 ≤ n → cut edition (pred n) cs ≡ cut edition 0 (drop n (c ∷ cs))
-behind-next edition zero c cs h = absurd (omega arith)
-behind-next edition (suc n) c cs h = held-behind edition n cs
+after-next : (edition : Edition) (n c : ℕ) (cs : List ℕ) → 1 ≤ n → cut edition (pred n) cs ≡ cut edition 0 (drop n (c ∷ cs))
+after-next edition zero c cs h = absurd (omega arith)
+after-next edition (suc n) c cs h = held-after edition n cs
 
 -- the next leaf is a front of the text, and the others are those of what is left
 pub record Next (edition : Edition) (t : List ℕ) (n : ℕ) : Type 0 where
@@ -151,7 +151,7 @@ next-whole edition c cs h =
     record {
       some = some;
       own = own;
-      rest = ap (λ (k : ℕ). leaf_next edition (c ∷ cs) ∷ cut edition (pred k) cs) long ∙ ap (λ (l : List Lexed). leaf_next edition (c ∷ cs) ∷ l) (behind-next edition n c cs some);
+      rest = ap (λ (k : ℕ). leaf_next edition (c ∷ cs) ∷ cut edition (pred k) cs) long ∙ ap (λ (l : List Lexed). leaf_next edition (c ∷ cs) ∷ l) (after-next edition n c cs some);
     }
 
 pub next-own : (edition : Edition) (t : List ℕ) → 1 ≤ length t → (n : ℕ) × Next edition t n
@@ -265,7 +265,7 @@ begun-none text ps u none e =
         utf8 = u;
       };
       seen_is = ap (λ (l : List StoredLeaf). seen_from text 0 l) none ∙ ap (λ (o : Option Piece). shebang_leaf o) (piece-none (chars text) told);
-      left_is = behind-none (chars text) told;
+      left_is = after-none (chars text) told;
     }
 
 pub begun-some : (text : List ℕ) (ps new : List StoredLeaf) (p : StoredLeaf) → IsUtf8 text → ps ≡ [] → shebang (chars text) ≡ Some p.end → raw_of p.kind ≡ SHEBANG → p.message ≡ None → new ≡ ps ++ p ∷ [] → Begun text p.end new
@@ -280,7 +280,7 @@ begun-some text ps new p u none e kind message is =
     record {
       placed = subst (λ (l : List StoredLeaf). Placed text p.end l) (sym all) more.placed;
       seen_is = ap (λ (l : List StoredLeaf). seen_from text 0 l) all ∙ ap (λ (x : Lexed). x ∷ []) here ∙ ap (λ (o : Option Piece). shebang_leaf o) (piece-some t told);
-      left_is = more.left ∙ behind-some t told;
+      left_is = more.left ∙ after-some t told;
     }
 
 pub seen-length : (text : List ℕ) (start : ℕ) (ps : List StoredLeaf) → length (seen_from text start ps) ≡ length ps

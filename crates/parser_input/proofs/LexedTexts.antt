@@ -6,14 +6,14 @@ use Rattle.rustc_lexer.specs.Shebang.{shebang, line_len}
 use Rattle.rustc_lexer.specs.Tokens as lexer
 use Rattle.rustc_lexer.proofs.Booleans.{bool_cases}
 use Rattle.parser_input.specs.Lexed.{Lexed, content, content_of, cut, frontmatter_leaf, lexed, preface, shebang_leaf}
-use Rattle.parser_input.specs.Lines.{behind_line, blank_len}
-use Rattle.parser_input.specs.Preface.{Piece, Source, bare, behind_shebang, fenced, opening_line, shebang_piece, source}
+use Rattle.parser_input.specs.Lines.{after_line, blank_len}
+use Rattle.parser_input.specs.Preface.{Piece, Source, bare, after_shebang, fenced, opening_line, shebang_piece, source}
 use Rattle.parser_input.specs.Single.{alone, single}
 use Rattle.parser_input.specs.declared.edition.Edition.{Edition}
 use Rattle.parser_input.specs.declared.frontmatter_error.FrontmatterError.{FrontmatterError}
 use Rattle.parser_input.proofs.LexedSteps.{next-own}
-use Rattle.parser_input.proofs.PrefaceSteps.{Form, Bare, Refused, Closed, Suffix, behind-suffix, form, suffix-of}
-use Rattle.parser_input.proofs.Prefaces.{behind-some, behind-none, by-length, piece-some, piece-none}
+use Rattle.parser_input.proofs.PrefaceSteps.{Form, Bare, Refused, Closed, Suffix, after-suffix, form, suffix-of}
+use Rattle.parser_input.proofs.Prefaces.{after-some, after-none, by-length, piece-some, piece-none}
 
 abbrev texts : List Lexed → List ℕ
 texts ls = flat_map (λ l. l.leaf.text) ls
@@ -52,13 +52,13 @@ pub single-text : (edition : Edition) (text : List ℕ) (l : Lexed) → single e
 unfolding single
 single-text edition text l e = sym (alone-leaf (lexer.tokens text) (cut edition 0 text) l e) ∙ cut-joined edition text
 
--- what is left of a text, behind all that was taken
+-- what is left of a text, after all that was taken
 whole-of : (rest left : List ℕ) → Suffix left rest → take (length rest - length left) rest ++ left ≡ rest
 whole-of rest left end =
     ap (λ (t : List ℕ). take (length rest - length left) rest ++ t) (by-length end.0 rest left end.1) ∙ take-append-drop (length rest - length left) rest
 
 abbrev Frame : List ℕ → Type 0
-Frame t = texts (frontmatter_leaf t (source t)) ++ content t ≡ behind_shebang t
+Frame t = texts (frontmatter_leaf t (source t)) ++ content t ≡ after_shebang t
 
 framed : (t : List ℕ) → Form t → Frame t
 unfolding content bare fenced opening_line
@@ -67,24 +67,24 @@ framed t (Bare is) =
 framed t (Refused x is) =
     ap (λ (r : Result Source FrontmatterError). texts (frontmatter_leaf t r) ++ content_of t r) is
 framed t (Closed closing is at) =
-    let r = behind_shebang t in
-    let left = behind_line closing in
+    let r = after_shebang t in
+    let left = after_line closing in
     let opening : Suffix (opening_line t) r = (blank_len r, refl) in
-    let inside = suffix-of (behind_line (opening_line t)) (opening_line t) r (behind-suffix (opening_line t)) opening in
-    let whole = suffix-of left closing r (behind-suffix closing) (suffix-of closing (behind_line (opening_line t)) r at inside) in
+    let inside = suffix-of (after_line (opening_line t)) (opening_line t) r (after-suffix (opening_line t)) opening in
+    let whole = suffix-of left closing r (after-suffix closing) (suffix-of closing (after_line (opening_line t)) r at inside) in
     ap (λ (q : Result Source FrontmatterError). texts (frontmatter_leaf t q) ++ content_of t q) is
     ∙ append_assoc (take (length r - length left) r) [] left
     ∙ whole-of r left whole
 
-shebang-first : (t : List ℕ) → texts (shebang_leaf (shebang_piece t)) ++ behind_shebang t ≡ t
+shebang-first : (t : List ℕ) → texts (shebang_leaf (shebang_piece t)) ++ after_shebang t ≡ t
 shebang-first t = elim (bool_cases (is_some (shebang t))) [
   | inl there ↦
-      ap (λ (o : Option Piece). texts (shebang_leaf o) ++ behind_shebang t) (sym (piece-some t there))
-      ∙ append_assoc (take (line_len t) t) [] (behind_shebang t)
-      ∙ ap (λ (r : List ℕ). take (line_len t) t ++ r) (sym (behind-some t there))
+      ap (λ (o : Option Piece). texts (shebang_leaf o) ++ after_shebang t) (sym (piece-some t there))
+      ∙ append_assoc (take (line_len t) t) [] (after_shebang t)
+      ∙ ap (λ (r : List ℕ). take (line_len t) t ++ r) (sym (after-some t there))
       ∙ take-append-drop (line_len t) t
   | inr none ↦
-      ap (λ (o : Option Piece). texts (shebang_leaf o) ++ behind_shebang t) (sym (piece-none t none)) ∙ sym (behind-none t none)
+      ap (λ (o : Option Piece). texts (shebang_leaf o) ++ after_shebang t) (sym (piece-none t none)) ∙ sym (after-none t none)
 ]
 
 pub leaves-joined : (edition : Edition) (text : List ℕ) → texts (lexed edition text) ≡ text

@@ -4,7 +4,7 @@ use Rattle.rustc_lexer.specs.Characters.{line_feed}
 use Rattle.rustc_lexer.specs.Shebang.{ends_line, line_len}
 use Rattle.rustc_lexer.proofs.Booleans.{bool_cases}
 use Rattle.parser_input.specs.LineList.{in_front, lines, joined}
-use Rattle.parser_input.specs.Lines.{first_line, behind_line}
+use Rattle.parser_input.specs.Lines.{first_line, after_line}
 
 joined-front : (c : ℕ) (ls : List (List ℕ)) → joined (in_front c ls) ≡ c ∷ joined ls
 joined-front c [] = refl
@@ -18,13 +18,13 @@ lines-other : (c : ℕ) (cs : List ℕ) → (c == line_feed) ≡ false → lines
 unfolding lines
 lines-other c cs h = rw (h, lines) refl
 
-behind-feed : (c : ℕ) (cs : List ℕ) → (c == line_feed) ≡ true → behind_line (c ∷ cs) ≡ cs
-unfolding behind_line
-behind-feed c cs h = rw (h, behind_line) refl
+after-feed : (c : ℕ) (cs : List ℕ) → (c == line_feed) ≡ true → after_line (c ∷ cs) ≡ cs
+unfolding after_line
+after-feed c cs h = rw (h, after_line) refl
 
-behind-other : (c : ℕ) (cs : List ℕ) → (c == line_feed) ≡ false → behind_line (c ∷ cs) ≡ behind_line cs
-unfolding behind_line
-behind-other c cs h = rw (h, behind_line) refl
+after-other : (c : ℕ) (cs : List ℕ) → (c == line_feed) ≡ false → after_line (c ∷ cs) ≡ after_line cs
+unfolding after_line
+after-other c cs h = rw (h, after_line) refl
 
 pub lines-join : (text : List ℕ) → joined (lines text) ≡ text
 unfolding lines
@@ -57,7 +57,7 @@ in-front-same c xs ys first same =
 -- the first of the lines of a text
 pub record FirstLine (text : List ℕ) : Type 0 where
   pub line : List ℕ
-  pub lines_are : lines text ≡ line ∷ lines (behind_line text)
+  pub lines_are : lines text ≡ line ∷ lines (after_line text)
   pub first_same : get_or line 0 0 ≡ get_or text 0 0
   pub line_same : first_line line ≡ first_line text
 
@@ -66,19 +66,19 @@ feed-first c cs h =
     let ends : (next : ℕ) → ends_line c next ≡ true = λ next. ap (λ b. b || (c == 13 && next == line_feed)) h in
     record {
       line = c ∷ [];
-      lines_are = lines-feed c cs h ∙ ap (λ (t : List ℕ). (c ∷ []) ∷ lines t) (sym (behind-feed c cs h));
+      lines_are = lines-feed c cs h ∙ ap (λ (t : List ℕ). (c ∷ []) ∷ lines t) (sym (after-feed c cs h));
       first_same = refl;
       line_same = ends-at-once c [] (ends 0) ∙ sym (ends-at-once c cs (ends (get_or cs 0 0)));
     }
 
 first-there : (c : ℕ) (cs : List ℕ) → FirstLine (c ∷ cs)
-unfolding lines behind_line
+unfolding lines after_line
 first-there c [] =
     elim (bool_cases (c == line_feed)) [
       | inl h ↦ feed-first c [] h
       | inr h ↦ record {
         line = c ∷ [];
-        lines_are = lines-other c [] h ∙ ap (λ (t : List ℕ). (c ∷ []) ∷ lines t) (sym (behind-other c [] h));
+        lines_are = lines-other c [] h ∙ ap (λ (t : List ℕ). (c ∷ []) ∷ lines t) (sym (after-other c [] h));
         first_same = refl;
         line_same = refl;
       }
@@ -92,7 +92,7 @@ first-there c (d ∷ ds) =
             line = c ∷ rest.line;
             lines_are =
                 lines-other c (d ∷ ds) h ∙ ap (λ (ls : List (List ℕ)). in_front c ls) rest.lines_are
-                ∙ ap (λ (t : List ℕ). (c ∷ rest.line) ∷ lines t) (sym (behind-other c (d ∷ ds) h));
+                ∙ ap (λ (t : List ℕ). (c ∷ rest.line) ∷ lines t) (sym (after-other c (d ∷ ds) h));
             first_same = refl;
             line_same = in-front-same c rest.line (d ∷ ds) rest.first_same rest.line_same;
           }
@@ -102,8 +102,8 @@ pub first-of : (text : List ℕ) → (text ≡ [] → ⊥) → FirstLine text
 first-of [] some = absurd (some refl)
 first-of (c ∷ cs) some = first-there c cs
 
--- the first line and what is behind it are the text
-pub line-joined : (text : List ℕ) (first : FirstLine text) → first.line ++ behind_line text ≡ text
+-- the first line and what is after it are the text
+pub line-joined : (text : List ℕ) (first : FirstLine text) → first.line ++ after_line text ≡ text
 line-joined text first =
-    ap (λ (t : List ℕ). first.line ++ t) (sym (lines-join (behind_line text)))
+    ap (λ (t : List ℕ). first.line ++ t) (sym (lines-join (after_line text)))
     ∙ ap joined (sym first.lines_are) ∙ lines-join text

@@ -1,4 +1,4 @@
--- The preface as one or two leaves, and the content behind it.
+-- The preface as one or two leaves, and the content after it.
 use Rattle.std.proofs.Common.{◌≡◌, ℕ, suc, ◌+◌, ◌-◌, inl, inr, true, ◌==◌, nat_lt, List, [], ◌∷◌, ◌++◌, length, take, drop, refl, sym, subst, ◌∙◌, ap, arith, chars, length-drop, append-nil, Option, Some, None, Result, Ok, Err}
 use Rattle.std.specs.Str.{IsUtf8}
 use Rattle.std.proofs.Math.Seq.{drop-length}
@@ -10,8 +10,8 @@ use Rattle.rustc_lexer.proofs.Sizes.{size-chars, size-parts}
 use Rattle.parser_input.specs.Kind.{raw_of}
 use Rattle.parser_input.specs.Kinds.{FRONTMATTER}
 use Rattle.parser_input.specs.Lexed.{Lexed, content, content_of, cut, frontmatter_leaf, lexed, preface, quiet, shebang_leaf}
-use Rattle.parser_input.specs.Lines.{behind_line, blank_len, dashes}
-use Rattle.parser_input.specs.Preface.{Source, bare, behind_shebang, closing_line, enclosed, fenced, opening_line, shebang_piece, source, too_few, unclosed}
+use Rattle.parser_input.specs.Lines.{after_line, blank_len, dashes}
+use Rattle.parser_input.specs.Preface.{Source, bare, after_shebang, closing_line, enclosed, fenced, opening_line, shebang_piece, source, too_few, unclosed}
 use Rattle.parser_input.specs.Stored.{Begun, Found, Opened, Placed, frontmatter_end, seen, seen_from}
 use Rattle.parser_input.specs.declared.edition.Edition.{Edition}
 use Rattle.parser_input.specs.declared.frontmatter_error.FrontmatterError.{FrontmatterError}
@@ -26,15 +26,15 @@ Suffix xs ys = (n : ℕ) × (xs ≡ drop n ys)
 pub suffix-of : (xs ys zs : List ℕ) → Suffix xs ys → Suffix ys zs → Suffix xs zs
 suffix-of xs ys zs a b = (b.0 + a.0, a.1 ∙ ap (λ (l : List ℕ). drop a.0 l) b.1 ∙ drop-drop a.0 b.0 zs)
 
-pub behind-suffix : (t : List ℕ) → Suffix (behind_line t) t
-unfolding behind_line
-behind-suffix [] = (0, refl)
-behind-suffix (c ∷ cs) =
+pub after-suffix : (t : List ℕ) → Suffix (after_line t) t
+unfolding after_line
+after-suffix [] = (0, refl)
+after-suffix (c ∷ cs) =
     elim (bool_cases (c == line_feed)) [
-      | inl feed ↦ (1, let z : behind_line (c ∷ cs) ≡ cs = rw (feed, behind_line) refl in z)
+      | inl feed ↦ (1, let z : after_line (c ∷ cs) ≡ cs = rw (feed, after_line) refl in z)
       | inr other ↦
-          let z : behind_line (c ∷ cs) ≡ behind_line cs = rw (other, behind_line) refl in
-          let rest = behind-suffix cs in
+          let z : after_line (c ∷ cs) ≡ after_line cs = rw (other, after_line) refl in
+          let rest = after-suffix cs in
           (suc rest.0, z ∙ rest.1)
     ]
 
@@ -42,11 +42,11 @@ behind-suffix (c ∷ cs) =
 pub data Form (t : List ℕ) : Type 0 where
   Bare : source t ≡ Ok (bare t) → Form t
   Refused : (e : FrontmatterError) → source t ≡ Err e → Form t
-  Closed : (closing : List ℕ) → source t ≡ Ok (fenced t (opening_line t) closing) → Suffix closing (behind_line (opening_line t)) → Form t
+  Closed : (closing : List ℕ) → source t ≡ Ok (fenced t (opening_line t) closing) → Suffix closing (after_line (opening_line t)) → Form t
 
-enclosed-form : (t : List ℕ) (n : ℕ) (o : Option (List ℕ)) → closing_line n true (behind_line (opening_line t)) ≡ o → source t ≡ enclosed t n o → Form t
+enclosed-form : (t : List ℕ) (n : ℕ) (o : Option (List ℕ)) → closing_line n true (after_line (opening_line t)) ≡ o → source t ≡ enclosed t n o → Form t
 enclosed-form t n None e is = Refused (unclosed t n) is
-enclosed-form t n (Some closing) e is = Closed closing is (closing-suffix n true (behind_line (opening_line t)) closing e)
+enclosed-form t n (Some closing) e is = Closed closing is (closing-suffix n true (after_line (opening_line t)) closing e)
 
 pub form : (t : List ℕ) → Form t
 unfolding source
@@ -56,12 +56,12 @@ form t =
       | inl none ↦ Bare (rw none refl)
       | inr some ↦ elim (bool_cases (nat_lt n 3)) [
         | inl few ↦ Refused (too_few t n) (rw (some, few) refl)
-        | inr many ↦ enclosed-form t n (closing_line n true (behind_line (opening_line t))) refl (rw (some, many) refl)
+        | inr many ↦ enclosed-form t n (closing_line n true (after_line (opening_line t))) refl (rw (some, many) refl)
       ]
     ]
 
 abbrev Plain : List ℕ → Type 0
-Plain t = (frontmatter_leaf t (source t) ≡ []) × (content t ≡ behind_shebang t)
+Plain t = (frontmatter_leaf t (source t) ≡ []) × (content t ≡ after_shebang t)
 
 preface-plain : (t : List ℕ) → frontmatter_end (source t) ≡ None → Form t → Plain t
 unfolding content bare fenced
@@ -69,22 +69,22 @@ preface-plain t e (Bare is) = (ap (λ (r : Result Source FrontmatterError). fron
 preface-plain t e (Refused x is) = (ap (λ (r : Result Source FrontmatterError). frontmatter_leaf t r) is, ap (λ (r : Result Source FrontmatterError). content_of t r) is)
 preface-plain t e (Closed closing is at) = let z = sym (ap (λ (r : Result Source FrontmatterError). frontmatter_end r) is) ∙ e in absurd (cc)
 
--- the frontmatter's characters are the first m behind the shebang
+-- the frontmatter's characters are the first m after the shebang
 record Framed (t : List ℕ) (end m : ℕ) : Type 0 where
-  leaf_is : frontmatter_leaf t (source t) ≡ quiet FRONTMATTER (take m (behind_shebang t)) ∷ []
-  content_is : content t ≡ drop m (behind_shebang t)
-  end_is : end ≡ size t - size (drop m (behind_shebang t))
+  leaf_is : frontmatter_leaf t (source t) ≡ quiet FRONTMATTER (take m (after_shebang t)) ∷ []
+  content_is : content t ≡ drop m (after_shebang t)
+  end_is : end ≡ size t - size (drop m (after_shebang t))
 
 preface-framed : (t : List ℕ) (end : ℕ) → frontmatter_end (source t) ≡ Some end → Form t → (m : ℕ) × Framed t end m
 unfolding content bare fenced opening_line
 preface-framed t end e (Bare is) = let z = sym (ap (λ (r : Result Source FrontmatterError). frontmatter_end r) is) ∙ e in absurd (cc)
 preface-framed t end e (Refused x is) = let z = sym (ap (λ (r : Result Source FrontmatterError). frontmatter_end r) is) ∙ e in absurd (cc)
 preface-framed t end e (Closed closing is at) =
-    let r = behind_shebang t in
-    let left = behind_line closing in
+    let r = after_shebang t in
+    let left = after_line closing in
     let opening : Suffix (opening_line t) r = (blank_len r, refl) in
-    let inside = suffix-of (behind_line (opening_line t)) (opening_line t) r (behind-suffix (opening_line t)) opening in
-    let whole = suffix-of left closing r (behind-suffix closing) (suffix-of closing (behind_line (opening_line t)) r at inside) in
+    let inside = suffix-of (after_line (opening_line t)) (opening_line t) r (after-suffix (opening_line t)) opening in
+    let whole = suffix-of left closing r (after-suffix closing) (suffix-of closing (after_line (opening_line t)) r at inside) in
     let m = length r - length left in
     let own : left ≡ drop m r = by-length whole.0 r left whole.1 in
     let told : size t - size left ≡ end = let z = sym (ap (λ (q : Result Source FrontmatterError). frontmatter_end q) is) ∙ e in cc in (
@@ -111,7 +111,7 @@ pub opened-some : (text : List ℕ) (place : ℕ) (ps new : List StoredLeaf) (p 
 unfolding preface
 opened-some text place ps new p u b e kind message is =
     let t = chars text in
-    let r = behind_shebang t in
+    let r = after_shebang t in
     let f = preface-framed t p.end e (form t) in
     let m = f.0 in
     let rest = drop place text in

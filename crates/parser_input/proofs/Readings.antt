@@ -24,8 +24,8 @@ piece-at : (text : List ℕ) (a b : ℕ) → IsUtf8 text → a ≤ b → IsCharB
 piece-at text a b u order at to =
     let rest = drop a text in
     let back : IsUtf8 rest = IsUtf8-drop text a u at in
-    let behind : drop (b - a) rest ≡ drop b text = drop-drop (b - a) a text ∙ ap (λ (k : ℕ). drop k text) (let z : a + (b - a) ≡ b = omega arith in z) in
-    let past : IsUtf8 (drop (b - a) rest) = subst (λ (l : List ℕ). IsUtf8 l) (sym behind) (IsUtf8-drop text b u to) in
+    let after : drop (b - a) rest ≡ drop b text = drop-drop (b - a) a text ∙ ap (λ (k : ℕ). drop k text) (let z : a + (b - a) ≡ b = omega arith in z) in
+    let past : IsUtf8 (drop (b - a) rest) = subst (λ (l : List ℕ). IsUtf8 l) (sym after) (IsUtf8-drop text b u to) in
     let inside : b - a ≤ length rest = omega (arith, length-drop a text, to.0) in
     let here = IsCharBoundary-from_drop rest (b - a) inside past in
     let own : IsUtf8 (take (b - a) rest) = IsUtf8-take rest (b - a) back here in
@@ -34,7 +34,7 @@ piece-at text a b u order at to =
       bytes = omega (arith, bytes, length-take (b - a) rest, inside);
       split =
           ap (λ (l : List ℕ). chars l) (sym (take-append-drop (b - a) rest)) ∙ chars-append (take (b - a) rest) (drop (b - a) rest) own
-          ∙ ap (λ (l : List ℕ). chars (take (b - a) rest) ++ chars l) behind;
+          ∙ ap (λ (l : List ℕ). chars (take (b - a) rest) ++ chars l) after;
     }
 
 -- where a stored leaf ends

@@ -9,15 +9,15 @@ use Rattle.rustc_lexer.specs.Shebang.{shebang, line_len}
 use Rattle.rustc_lexer.proofs.Booleans.{bool_cases}
 use Rattle.rustc_lexer.proofs.Sizes.{size-append, size-parts}
 use Rattle.parser_input.specs.Lexed.{lexed}
-use Rattle.parser_input.specs.Lines.{first_line, behind_line, blank_len, solid_len, dashes}
-use Rattle.parser_input.specs.Preface.{Piece, Source, place, piece, remainder, behind_shebang, shebang_piece, opening_line, unless_empty, info_piece, bare, fenced, source}
+use Rattle.parser_input.specs.Lines.{first_line, after_line, blank_len, solid_len, dashes}
+use Rattle.parser_input.specs.Preface.{Piece, Source, place, piece, remainder, after_shebang, shebang_piece, opening_line, unless_empty, info_piece, bare, fenced, source}
 use Rattle.parser_input.specs.Slices.{IsSlice, AreSlices, leaf_piece}
 use Rattle.parser_input.specs.Spans.{end_of}
 use Rattle.parser_input.specs.Stored.{offset}
 use Rattle.parser_input.specs.declared.edition.Edition.{Edition}
 use Rattle.parser_input.proofs.LexedTexts.{leaves-joined}
-use Rattle.parser_input.proofs.PrefaceSteps.{Form, Bare, Refused, Closed, Suffix, suffix-of, behind-suffix, form}
-use Rattle.parser_input.proofs.Prefaces.{behind-some, behind-none, piece-some, piece-none}
+use Rattle.parser_input.proofs.PrefaceSteps.{Form, Bare, Refused, Closed, Suffix, suffix-of, after-suffix, form}
+use Rattle.parser_input.proofs.Prefaces.{after-some, after-none, piece-some, piece-none}
 use Rattle.parser_input.proofs.Readings.{front-at, range-of, offset-more, text-one}
 
 -- what stands between two other parts of a text
@@ -93,16 +93,16 @@ shebang-slice bytes u =
       | inr none ↦ subst (λ (o : Option Piece). IfSome o (IsSlice bytes)) (piece-none text none) tt
     ]
 
-shebang-suffix : (text : List ℕ) → Suffix (behind_shebang text) text
+shebang-suffix : (text : List ℕ) → Suffix (after_shebang text) text
 shebang-suffix text =
     elim (bool_cases (is_some (shebang text))) [
-      | inl some ↦ (line_len text, sym (behind-some text some))
-      | inr none ↦ (0, sym (behind-none text none))
+      | inl some ↦ (line_len text, sym (after-some text some))
+      | inr none ↦ (0, sym (after-none text none))
     ]
 
 opening-suffix : (text : List ℕ) → Suffix (opening_line text) text
 unfolding opening_line
-opening-suffix text = suffix-of (opening_line text) (behind_shebang text) text (blank_len (behind_shebang text), refl) (shebang-suffix text)
+opening-suffix text = suffix-of (opening_line text) (after_shebang text) text (blank_len (after_shebang text), refl) (shebang-suffix text)
 
 bare-slices : (bytes : List ℕ) → IsUtf8 bytes → AreSlices bytes (bare (chars bytes))
 unfolding bare
@@ -112,25 +112,25 @@ bare-slices bytes u = record {
   info = tt;
   frontmatter = tt;
   closing_is = tt;
-  content = remainder-slice bytes (behind_shebang (chars bytes)) u (shebang-suffix (chars bytes));
+  content = remainder-slice bytes (after_shebang (chars bytes)) u (shebang-suffix (chars bytes));
 }
 
-fenced-slices : (bytes closing : List ℕ) → IsUtf8 bytes → Suffix closing (behind_line (opening_line (chars bytes))) → AreSlices bytes (fenced (chars bytes) (opening_line (chars bytes)) closing)
+fenced-slices : (bytes closing : List ℕ) → IsUtf8 bytes → Suffix closing (after_line (opening_line (chars bytes))) → AreSlices bytes (fenced (chars bytes) (opening_line (chars bytes)) closing)
 unfolding fenced
 fenced-slices bytes closing u at =
     let text = chars bytes in
     let opening = opening_line text in
     let o = opening-suffix text in
-    let inside = suffix-of (behind_line opening) opening text (behind-suffix opening) o in
-    let c = suffix-of closing (behind_line opening) text at inside in
+    let inside = suffix-of (after_line opening) opening text (after-suffix opening) o in
+    let c = suffix-of closing (after_line opening) text at inside in
     let after = suffix-of (drop (dashes opening) opening) opening text (dashes opening, refl) o in
     record {
       shebang = shebang-slice bytes u;
       opening_is = piece-slice bytes opening (dashes opening) u o;
       info = info-slice bytes (drop (dashes opening) opening) u after;
-      frontmatter = piece-slice bytes (behind_line opening) (length (behind_line opening) - length closing) u inside;
+      frontmatter = piece-slice bytes (after_line opening) (length (after_line opening) - length closing) u inside;
       closing_is = piece-slice bytes closing (dashes closing) u c;
-      content = remainder-slice bytes (behind_line closing) u (suffix-of (behind_line closing) closing text (behind-suffix closing) c);
+      content = remainder-slice bytes (after_line closing) u (suffix-of (after_line closing) closing text (after-suffix closing) c);
     }
 
 form-slices : (bytes : List ℕ) (parts : Source) → IsUtf8 bytes → source (chars bytes) ≡ Ok parts → Form (chars bytes) → AreSlices bytes parts

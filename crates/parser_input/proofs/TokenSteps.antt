@@ -49,10 +49,10 @@ held text place tokens i d h e =
       rest = tail ∙ ap (λ (n : ℕ). lexer.token_list (drop n t)) taken;
     }
 
--- what is left behind a token that is one leaf
-pub behind-token : (edition : Edition) (text : List ℕ) (place : ℕ) (ps : List StoredLeaf) (end : ℕ) → Found edition text place ps → is_split edition (lexer.first_lexeme (chars (drop place text))).kind ≡ false → end ≡ place + size (leaf_next edition (chars (drop place text))).leaf.text → chars (drop end text) ≡ drop (lexeme (chars (drop place text))).taken (chars (drop place text))
+-- what is left after a token that is one leaf
+pub after-token : (edition : Edition) (text : List ℕ) (place : ℕ) (ps : List StoredLeaf) (end : ℕ) → Found edition text place ps → is_split edition (lexer.first_lexeme (chars (drop place text))).kind ≡ false → end ≡ place + size (leaf_next edition (chars (drop place text))).leaf.text → chars (drop end text) ≡ drop (lexeme (chars (drop place text))).taken (chars (drop place text))
 unfolding lexer.first_lexeme leaf_of
-behind-token edition text place ps end f whole e =
+after-token edition text place ps end f whole e =
     let rest = drop place text in
     let t = chars rest in
     let n = (lexeme t).taken in

@@ -2,6 +2,7 @@ pub mod Edition
 pub mod Keywords
 pub mod Kind
 pub mod Kinds
+pub mod KindTable
 pub mod Leaf
 pub mod Lines
 pub mod Lexed

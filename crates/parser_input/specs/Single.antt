@@ -19,8 +19,8 @@ unfoldable pub single : Edition → List ℕ → Option Lexed
 single edition text = alone (lexer.tokens text) (cut edition 0 text)
 
 -- a leaf's kind, and what is wrong with it, in words
-abbrev pub told : Lexed → ℕ × Option (List ℕ)
-told l = (l.leaf.kind, option_map wording l.message)
+abbrev pub kind_and_message : Lexed → ℕ × Option (List ℕ)
+kind_and_message l = (l.leaf.kind, option_map wording l.message)
 
 abbrev pub read : SyntaxKind × Option (Bor (List ℕ)) → ℕ × Option (List ℕ)
 read r = (raw_of r.0, option_map bytes_of r.1)

@@ -8,7 +8,7 @@ use Rattle.parser_input.specs.Input.{Token, input}
 use Rattle.parser_input.specs.Kind.{raw_of}
 use Rattle.parser_input.specs.Kinds.{EOF}
 use Rattle.parser_input.specs.Lexed.{Lexed, content, cut, leaves_of, lexed, next_leaf, preface, quiet, shebang_leaf}
-use Rattle.parser_input.specs.Preface.{Source, behind_shebang, shebang_piece}
+use Rattle.parser_input.specs.Preface.{Source, after_shebang, shebang_piece}
 use Rattle.parser_input.specs.declared.frontmatter_error.FrontmatterError.{FrontmatterError}
 use Rattle.parser_input.specs.declared.edition.Edition.{Edition}
 use Rattle.parser_input.specs.declared.lexed_str.StoredLeaf.{StoredLeaf}
@@ -76,7 +76,7 @@ pub record Placed (text : List ℕ) (place : ℕ) (ps : List StoredLeaf) : Type 
 pub record Begun (text : List ℕ) (place : ℕ) (ps : List StoredLeaf) : Type 0 where
   pub placed : Placed text place ps
   pub seen_is : seen_from text 0 ps ≡ shebang_leaf (shebang_piece (chars text))
-  pub left_is : chars (drop place text) ≡ behind_shebang (chars text)
+  pub left_is : chars (drop place text) ≡ after_shebang (chars text)
 
 -- The preface is stored.
 pub record Opened (text : List ℕ) (place : ℕ) (ps : List StoredLeaf) : Type 0 where

@@ -66,7 +66,7 @@ impl Rules {
         self.unicode && first == 'u' && second == '{'
     }
 
-    // `n r t \ ' "` or `0`, behind a `\`.
+    // `n r t \ ' "` or `0`, after a `\`.
     #[tactic(auto, unfolding(crate::specs::Escapes::is_simple))]
     fn is_simple(self, c: char) -> bool
         ensures { result ≡ is_simple self c }
@@ -121,7 +121,7 @@ fn is_scalar(n: u32) -> bool
     n <= 0xD7FF || (0xE000 <= n && n <= 0x10FFFF)
 }
 
-// Two hexadecimal digits, behind `\x`.
+// Two hexadecimal digits, after `\x`.
 fn is_byte(rules: Rules, first: char, second: char) -> bool
     ensures { result ≡ is_byte rules first second }
 {
@@ -157,10 +157,10 @@ fn eat_digits(rest: &mut Cursor) -> Option<u32>
     Some(value)
 }
 
-// Passes over the digits and the `}` of a Unicode escape, behind its `{`; no where they are not right.
+// Passes over the digits and the `}` of a Unicode escape, after its `{`; no where they are not right.
 fn eat_unicode(rules: Rules, rest: &mut Cursor) -> bool
     ensures told { result ≡ is_unicode rules rest.old }
-    ensures behind { result ≡ true → rest.new ≡ drop 1 (drop (run_len hex_or_underscore rest.old) rest.old) }
+    ensures after { result ≡ true → rest.new ≡ drop 1 (drop (run_len hex_or_underscore rest.old) rest.old) }
 {
     if !is_hex_digit(rest.first()) {
         return false;
@@ -177,7 +177,7 @@ fn eat_unicode(rules: Rules, rest: &mut Cursor) -> bool
     }
 }
 
-// Passes over an escape, behind its `\`; no where there is none.
+// Passes over an escape, after its `\`; no where there is none.
 fn eat_escape(rules: Rules, rest: &mut Cursor) -> bool
     ensures { Passes (escape rules rest.old) rest.old result rest.new }
 {

@@ -2,11 +2,11 @@
 
 ghost use Rattle.std.specs.Prelude.{◌≡◌, ◌+◌, ◌≤◌, ◌<◌, ◌^◌, ℕ, true, IfSome, Ok, chars, drop, length, option_map};
 ghost use Rattle.rustc_lexer.specs.Characters.{size, is_whitespace};
-ghost use Rattle.parser_input.specs.Lines.{behind_line, first_line, is_fence};
+ghost use Rattle.parser_input.specs.Lines.{after_line, first_line, is_fence};
 ghost use Rattle.parser_input.specs.Preface.{
   Piece,
   bare,
-  behind_shebang,
+  after_shebang,
   closing_line,
   fenced,
   info_piece,
@@ -56,7 +56,7 @@ impl<'s> Model for Piece<'s> {
 }
 
 impl<'s> Piece<'s> {
-    // A piece that begins so many bytes behind the front of its text.
+    // A piece that begins so many bytes after the front of its text.
     fn new(start: usize, text: &'s str) -> Piece<'s>
         requires { start + length text.now < 2 ^ 64 }
         ensures { result ≡ record { start = start; text = chars text.now } }
@@ -102,9 +102,9 @@ impl<'s> Piece<'s> {
     }
 }
 
-// What is left behind the shebang.
-fn behind_shebang<'s>(text: &Cursor<'s>) -> Cursor<'s>
-    ensures rest { result ≡ behind_shebang text.now }
+// What is left after the shebang.
+fn after_shebang<'s>(text: &Cursor<'s>) -> Cursor<'s>
+    ensures rest { result ≡ after_shebang text.now }
     ensures inside { size result ≤ size text.now }
 {
     let mut rest = text.here();
@@ -130,7 +130,7 @@ fn opening_line<'s>(text: &Cursor<'s>) -> Cursor<'s>
     ensures line { result ≡ opening_line text.now }
     ensures inside { size result ≤ size text.now }
 {
-    let mut rest = behind_shebang(text);
+    let mut rest = after_shebang(text);
     eat_blank_lines(&mut rest);
     rest
 }
@@ -176,7 +176,7 @@ fn is_fence(rest: &Cursor, count: usize) -> bool
 // The first line with so many dashes and nothing else but tabs and spaces.
 fn closing_line<'s>(mut rest: Cursor<'s>, count: usize) -> Option<Cursor<'s>>
     ensures line { result ≡ closing_line count true rest.entry }
-    ensures behind { IfSome result (λ line. (n : ℕ) × (line ≡ drop n rest.entry)) }
+    ensures after { IfSome result (λ line. (n : ℕ) × (line ≡ drop n rest.entry)) }
 {
     'lines: while !rest.is_empty() {
         if is_fence(&rest, count) {
@@ -189,7 +189,7 @@ fn closing_line<'s>(mut rest: Cursor<'s>, count: usize) -> Option<Cursor<'s>>
 
 /// The first lines of a text, told apart from what the grammar reads.
 ///
-/// A shebang is a first line that begins with `#!`, unless that begins an attribute. Behind it a line that begins with three dashes or
+/// A shebang is a first line that begins with `#!`, unless that begins an attribute. After it a line that begins with three dashes or
 /// more opens a frontmatter, and a line of as many dashes closes it.
 #[derive(Drop)]
 pub struct ScriptSource<'s> {
@@ -240,14 +240,14 @@ impl<'s> ScriptSource<'s> {
             info: None,
             frontmatter: None,
             closing: None,
-            content: Piece::remainder(text, &behind_shebang(text)),
+            content: Piece::remainder(text, &after_shebang(text)),
         }
     }
 
     // A text with a frontmatter between the lines that start at these places.
     fn fenced(text: &Cursor<'s>, opening: &Cursor<'s>, closing: &Cursor<'s>) -> ScriptSource<'s>
         requires inside { size opening.now ≤ size text.now }
-        requires order { (n : ℕ) × (closing.now ≡ drop n (behind_line opening.now)) }
+        requires order { (n : ℕ) × (closing.now ≡ drop n (after_line opening.now)) }
         ensures { result ≡ fenced text.now opening.now closing.now }
     {
         let mut after = opening.here();
@@ -348,7 +348,7 @@ impl<'s> ScriptSource<'s> {
         span_of(&self.closing)
     }
 
-    /// What is left for the grammar: all behind the frontmatter, or behind the shebang.
+    /// What is left for the grammar: all after the frontmatter, or after the shebang.
     pub fn content(&self) -> &'s str
         ensures { chars result.now ≡ self.now.content.text }
     {

@@ -11,7 +11,7 @@ ghost use Rattle.parser_input.specs.Kinds.{EOF};
 ghost use Rattle.parser_input.specs.Lexed.{content, is_split, leaves_of};
 ghost use Rattle.parser_input.specs.Faults.{faults};
 ghost use Rattle.parser_input.specs.Messages.{wording};
-ghost use Rattle.parser_input.specs.Single.{read, single, told};
+ghost use Rattle.parser_input.specs.Single.{read, single, kind_and_message};
 ghost use Rattle.parser_input.specs.Stored.{AreSpans, Begun, Found, Opened, bytes_of, frontmatter_end, leaf_at, leaf_next, offset, seen_from, whole_of};
 
 use crate::edition::Edition;
@@ -159,7 +159,7 @@ fn frontmatter_end(text: &str) -> Option<usize>
     }
 }
 
-// Adds the shebang of a text, if it has one. Gives the place behind it.
+// Adds the shebang of a text, if it has one. Gives the place after it.
 fn push_shebang(text: &str, leaves: &mut Vec<StoredLeaf>) -> Result<usize, AllocError>
     requires { leaves.old.items ≡ [] }
     ensures { IfOk result (λ place. Begun text.now place leaves.new.items) }
@@ -178,7 +178,7 @@ fn push_shebang(text: &str, leaves: &mut Vec<StoredLeaf>) -> Result<usize, Alloc
     }
 }
 
-// Adds the frontmatter of a text, if it has one, behind the shebang. Gives the place of the content.
+// Adds the frontmatter of a text, if it has one, after the shebang. Gives the place of the content.
 fn push_frontmatter(
     text: &str,
     start: usize,
@@ -280,7 +280,7 @@ impl<'a> LexedStr<'a> {
         })
     }
 
-    /// Reads a text like [`LexedStr::new`], where the tokens of what is left behind its first lines are known. Before 2024
+    /// Reads a text like [`LexedStr::new`], where the tokens of what is left after its first lines are known. Before 2024
     /// none of them may be a guarded prefix, which is no token there.
     pub fn from_tokens(
         alloc: Global,
@@ -306,7 +306,7 @@ impl<'a> LexedStr<'a> {
     /// The kind of a text that is one token, with what is wrong with it. `None` where it is not one token, or is cut into
     /// several leaves. No preface is read: a shebang is no token.
     pub fn single_token(edition: Edition, text: &str) -> Option<(SyntaxKind, Option<&'static str>)>
-        ensures { option_map read result ≡ option_map told (single edition (chars text.now)) }
+        ensures { option_map read result ≡ option_map kind_and_message (single edition (chars text.now)) }
     {
         if text.is_empty() {
             return None;

@@ -31,7 +31,7 @@ fn ends_in_dot(text: &str) -> bool
     text.ends_with('.')
 }
 
-/// Whether a leaf touches the token behind it; `is_followed` says that the next leaf is one that the parser sees.
+/// Whether a leaf touches the token after it; `is_followed` says that the next leaf is one that the parser sees.
 pub(crate) fn is_joint(kind: SyntaxKind, text: &str, is_followed: bool) -> bool
     ensures { (next : List Leaf) → is_followed ≡ touches next → result ≡ is_joint
         record { kind = raw_of kind; text = chars text.now } next }

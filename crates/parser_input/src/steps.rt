@@ -1,7 +1,7 @@
 //! Steps over dashes and lines, from a place in a text.
 
 ghost use Rattle.std.specs.Prelude.{◌≡◌, drop, if◌then◌else◌};
-ghost use Rattle.parser_input.specs.Lines.{behind_line, blank_len, solid_len, dashes};
+ghost use Rattle.parser_input.specs.Lines.{after_line, blank_len, solid_len, dashes};
 
 use rustc_lexer::{Cursor, is_whitespace};
 
@@ -40,7 +40,7 @@ pub(crate) fn eat_blank_lines<'a>(rest: &mut Cursor<'a>)
 
 /// Passes over the line and the line feed that ends it.
 pub(crate) fn eat_whole_line(rest: &mut Cursor)
-    ensures { rest.new ≡ behind_line rest.old }
+    ensures { rest.new ≡ after_line rest.old }
 {
     'line: while !rest.is_empty() {
         let ends_line = rest.first() == '\n';

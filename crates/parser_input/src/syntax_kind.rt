@@ -295,7 +295,7 @@ pub enum SyntaxKind {
 
 const FIRST_KEYWORD: u16 = SyntaxKind::AS_KW as u16;
 
-/// Contextual keywords stand directly behind the keywords.
+/// Contextual keywords stand right after the keywords.
 const LAST_KEYWORD: u16 = SyntaxKind::UNION_KW as u16;
 
 impl SyntaxKind {

@@ -8,7 +8,7 @@ use Rattle.parser_events.specs.View.{View}
 use Rattle.parser_events.proofs.Forests.{marked-then}
 use Rattle.grammar_reader.specs.Stands.{left, Holds}
 use Rattle.rust_grammar.specs.Rule.{Production, Look, Spelling, Rule, Nothing, One, Any, Then, Near, Or, Opt, Node, Wrap, Want, Say, Skip, When, Unless, Call, Continue, Mode, begins}
-use Rattle.rust_grammar.specs.Meaning.{Reading, ahead, fresh, behind, node, wrapped, say, skip, leaf, read, meaning}
+use Rattle.rust_grammar.specs.Meaning.{Reading, ahead, fresh, after, node, wrapped, say, skip, leaf, read, meaning}
 use Rattle.rust_grammar.specs.Whole.{rule, whole}
 use Rattle.ra_parser.specs.Stands.{looks, Opens, Closes, Leaves, Does, Gives, Goes, Reads, Completes, Saw}
 use Rattle.rust_grammar.proofs.WholeTable.{whole-means}
@@ -45,8 +45,8 @@ does-node {f} kind {old} {mid} {end} {new} o p q = record {
 }
 
 -- what is done in a node that is left out
-pub does-inside : {f : Reading → Reading} {old mid end new : View} → Opens old mid → Does f mid end → Leaves end new → Does (λ s. behind s (f (fresh s))) old new
-unfolding marked fresh behind
+pub does-inside : {f : Reading → Reading} {old mid end new : View} → Opens old mid → Does f mid end → Leaves end new → Does (λ s. after s (f (fresh s))) old new
+unfolding marked fresh after
 does-inside {f} {old} {mid} {end} {new} o p q = record {
   rest = λ s e. q.rest ∙ p.rest (fresh s) (o.rest ∙ e);
   nodes = λ s below e h.
@@ -149,8 +149,8 @@ module _ (c : Bool) where
   }
 
   -- a look before it
-  pub behind-look : {a : Rule} {old mid new : View} → Does (λ s. s) old mid → Reads c a mid new → Reads c a old new
-  behind-look p q = record { does = does-then p q.does }
+  pub after-look : {a : Rule} {old mid new : View} → Does (λ s. s) old mid → Reads c a mid new → Reads c a old new
+  after-look p q = record { does = does-then p q.does }
 
   pub reads-say : {m : Message} {old new : View} → Does (say m) old new → Reads c (Say m) old new
   unfolding read
@@ -162,7 +162,7 @@ module _ (c : Bool) where
 
 -- a production's function, from its rule, in a node of its own that is left out in the end
 pub gives : (x : Production) (c : Bool) {old mid end new : View} → Opens old mid → Reads c (rule x) mid end → Leaves end new → Gives x c old new
-gives x c o p q = record { does = does-as (λ s e. ap (λ (t : Reading). behind s t) (sym (whole-means x c (fresh s)))) (does-inside o p.does q) }
+gives x c o p q = record { does = does-as (λ s e. ap (λ (t : Reading). after s t) (sym (whole-means x c (fresh s)))) (does-inside o p.does q) }
 
 -- and one that continues
 pub goes : (x : Production) (c : Bool) {old new : View} → Reads c (rule x) old new → Goes x c old new

@@ -5,11 +5,11 @@ use Rattle.parser_events.specs.View.{View}
 use Rattle.parser_events.proofs.Forests.{marked-then}
 use Rattle.grammar_reader.specs.Stands.{left, Holds}
 use Rattle.rust_grammar.specs.Rule.{Production, Rule, Nothing, One, Any, Then, Near, Or, Opt, Star, Node, Wrap, Want, Say, Skip, Split, When, Unless, Call, Continue, Mode, begins}
-use Rattle.rust_grammar.specs.Meaning.{Reading, sees, fresh, behind, node, wrapped, say, turns, read, meaning}
+use Rattle.rust_grammar.specs.Meaning.{Reading, sees, fresh, after, node, wrapped, say, turns, read, meaning}
 use Rattle.rust_grammar.specs.Whole.{rule, whole}
 use Rattle.ra_parser.specs.Stands.{looks, Opens, Leaves, Does, Gives, Reads, Anew, Completes}
 use Rattle.ra_parser.proofs.ByHand.{does-as, does-inside, does-then, completes-as}
-use Rattle.ra_parser.proofs.Prefixes.{is_behind, reads-anew}
+use Rattle.ra_parser.proofs.Prefixes.{is_after, reads-anew}
 use Rattle.rust_grammar.proofs.WholeTable.{whole-means}
 use Rattle.ra_parser.proofs.Facts.{Fact, HoldAll, Known, Right, starts, is_start}
 
@@ -117,7 +117,7 @@ reads-here {c} {fs} {r} {old} {new} known p = record { does = does-as (λ s e. i
 
 pub anew-here : {c : Bool} {fs : List Fact} {r : Rule} {old new : View} → Known c fs old → Anew c (simple fs r) old new → Anew c r old new
 unfolding fresh
-anew-here {c} {fs} {r} {old} {new} known p = record { does = does-as (λ s e. ap (λ (t : Reading). behind s t) (is_simple c old fs known.at r (fresh s) e)) p.does }
+anew-here {c} {fs} {r} {old} {new} known p = record { does = does-as (λ s e. ap (λ (t : Reading). after s t) (is_simple c old fs known.at r (fresh s) e)) p.does }
 
 -- in a node that is left out in the end
 pub anew-inside : {c : Bool} {r : Rule} {old mid end new : View} → Opens old mid → Reads c r mid end → Leaves end new → Anew c r old new
@@ -125,7 +125,7 @@ anew-inside o p q = record { does = does-inside o p.does q }
 
 -- in a node that is closed at the end
 pub anew-completes : {c : Bool} {r : Rule} {old mid new : View} → Opens old mid → Completes c r mid new → Anew c r old new
-unfolding marked fresh behind
+unfolding marked fresh after
 anew-completes {c} {r} {old} {mid} {new} o q = record {
   does = record {
     rest = λ s e. q.rest (fresh s) (o.rest ∙ e);
@@ -136,7 +136,7 @@ anew-completes {c} {r} {old} {mid} {new} o q = record {
   };
 }
 
--- behind a look
+-- after a look
 pub anew-look : {c : Bool} {r : Rule} {old mid new : View} → Does (λ s. s) old mid → Anew c r mid new → Anew c r old new
 anew-look p q = record { does = does-then p q.does }
 
@@ -144,9 +144,9 @@ pub completes-here : {c : Bool} {fs : List Fact} {r : Rule} {old new : View} →
 completes-here {c} {fs} {r} {old} {new} known p = completes-as (λ s e. is_simple c old fs known.at r s e) p
 
 -- in no node, where the rule does not touch what was given
-pub anew-behind : {c : Bool} {r : Rule} {old new : View} → is_behind looks r ≡ true → Reads c r old new → Anew c r old new
-anew-behind {c} {r} {old} {new} plain p = record { does = does-as (λ s e. reads-anew c r s plain) p.does }
+pub anew-after : {c : Bool} {r : Rule} {old new : View} → is_after looks r ≡ true → Reads c r old new → Anew c r old new
+anew-after {c} {r} {old} {new} plain p = record { does = does-as (λ s e. reads-anew c r s plain) p.does }
 
 -- a production's function, from its row
 pub gives-anew : {x : Production} {c : Bool} {old new : View} → Anew c (rule x) old new → Gives x c old new
-gives-anew {x} {c} p = record { does = does-as (λ s e. ap (λ (t : Reading). behind s t) (sym (whole-means x c (fresh s)))) p.does }
+gives-anew {x} {c} p = record { does = does-as (λ s e. ap (λ (t : Reading). after s t) (sym (whole-means x c (fresh s)))) p.does }

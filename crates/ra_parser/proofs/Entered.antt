@@ -14,7 +14,7 @@ use Rattle.parser_events.specs.View.{View}
 use Rattle.rust_grammar.specs.Rule.{Production}
 use Rattle.rust_grammar.specs.Notation.{wanted}
 use Rattle.rust_grammar.specs.Meaning.{Reading, meaning, sees, look_of}
-use Rattle.rust_grammar.specs.Entry.{is_used_up, takes_all, told, entry}
+use Rattle.rust_grammar.specs.Entry.{is_used_up, takes_all, with_message, entry}
 use Rattle.rust_grammar.specs.Whole.{whole}
 use Rattle.rust_grammar.specs.Begun.{asks_nothing, IsBegun}
 use Rattle.rust_grammar.proofs.EntriesInOrder.{lists-begin}
@@ -49,7 +49,7 @@ unfolding entry
 entry-every x ts e = rw e refl
 
 pub entry-missing : (x : Production) (ts : List Token) (m : Message) → can_enter x (from ts) ≡ false → (takes_all x ≡ false → wanted x ≡ Some m) → entry whole x ts ≡ strayed m (from ts)
-unfolding entry told can_enter strayed
+unfolding entry with_message can_enter strayed
 entry-missing x ts m h says = elim (cases_Bool (takes_all x)) [
   | inl e ↦ absurd (true≢false (let same : true ≡ false = subst (λ (b : Bool). (if b then true else sees false (from ts) (look_of whole x)) ≡ false) e h in same))
   | inr e ↦ rw (e, subst (λ (b : Bool). (if b then true else sees false (from ts) (look_of whole x)) ≡ false) e h, says e) refl

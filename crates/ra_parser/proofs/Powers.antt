@@ -4,7 +4,7 @@ use Rattle.parser_events.specs.View.{View}
 use Rattle.grammar_reader.specs.Stands.{left}
 use Rattle.ra_parser.specs.Layers.{repeated}
 use Rattle.rust_grammar.specs.Rule.{Production, Rule, Then, Star, Call, begins}
-use Rattle.rust_grammar.specs.Meaning.{Reading, sees, fresh, behind, read, meaning}
+use Rattle.rust_grammar.specs.Meaning.{Reading, sees, fresh, after, read, meaning}
 use Rattle.rust_grammar.specs.Whole.{rule, whole}
 use Rattle.ra_parser.specs.Stands.{looks, Does, Gives, Reads, Anew, Saw}
 use Rattle.ra_parser.proofs.ByHand.{does-then, does-as}
@@ -88,7 +88,7 @@ module _ (c : Bool) where
 
   -- one more layer around them
   pub more-layers : (x y base : Production) (xs : List Rule) (b : Rule) → rule x ≡ Then (Call y) (Star b) → Layered y base xs → Layered x base (xs ++ (b ∷ []))
-  unfolding read fresh behind
+  unfolding read fresh after
   more-layers x y base xs b is inner s =
       whole-means x c (fresh s)
       ∙ ap (λ (r : Rule). does r (fresh s)) is
@@ -96,4 +96,4 @@ module _ (c : Bool) where
       ∙ sym (joined xs b (does (Call base) (fresh s)))
 
   pub gives-layers : (x base : Production) (xs : List Rule) {old new : View} → Layered x base xs → Anew c (Then (Call base) (repeated xs)) old new → Gives x c old new
-  gives-layers x base xs is p = record { does = does-as (λ s e. ap (λ (t : Reading). behind s t) (sym (is s))) p.does }
+  gives-layers x base xs is p = record { does = does-as (λ s e. ap (λ (t : Reading). after s t) (sym (is s))) p.does }

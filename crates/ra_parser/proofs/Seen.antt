@@ -18,7 +18,7 @@ use Rattle.ra_parser.proofs.Facts.{Fact, Answers, Begins, HoldAll, Known, Right,
 pub still-left : {old mid : View} → Does (λ s. s) old mid → left mid ≡ left old
 still-left {old} {mid} p = p.rest (record { given = forest.End; rest = left old }) refl
 
--- what is seen behind a look was there before it
+-- what is seen after a look was there before it
 pub saw-before : {c : Bool} {l : Look} {b : Bool} {old mid : View} → Does (λ s. s) old mid → Saw c l mid b → Saw c l old b
 saw-before p saw = record { at = λ s e. saw.at s (still-left p ∙ e) }
 
@@ -50,7 +50,7 @@ pub saw-condition : {condition b : Bool} {v : View} → condition ≡ b → Saw 
 unfolding sees
 saw-condition is = record { at = λ s e. is }
 
--- two kinds, one behind the other, that touch
+-- two kinds, one after the other, that touch
 pub saw-pair : {c : Bool} {l m n : Look} {b : Bool} {v : View} → Saw c l v true → Saw c m v true → Saw c n v b → Saw c (Both l (Both m n)) v b
 unfolding sees
 saw-pair f g h = record { at = λ s e. rw (f.at s e, g.at s e) (h.at s e) }
@@ -81,8 +81,8 @@ begins-else x y {c} {fs} {v} same known saw not_else = record { at = λ s e. ap 
         let no : sees c s (begins looks (rule y)) ≡ false = subst (λ (o : Option Bool). Right c s (begins looks (rule y)) o) not_else (is_start c s (Begins x false ∷ fs) (is, h) (anew-seen c (fresh s) (looks x) ∙ sym (anew-seen c s (looks x)) ∙ is, i) (rule y)) in
         absurd (let z : true ≡ false = sym begins_there ∙ ap (λ (l : Look). sees c s l) (whole-begins y) ∙ no in cc)
 
-pub saw-behind : {c : Bool} {l : Look} {b : Bool} {old mid : View} → Does (λ s. s) old mid → Saw c l old b → Saw c l mid b
-saw-behind p saw = record { at = λ s e. saw.at s (sym (still-left p) ∙ e) }
+pub saw-after : {c : Bool} {l : Look} {b : Bool} {old mid : View} → Does (λ s. s) old mid → Saw c l old b → Saw c l mid b
+saw-after p saw = record { at = λ s e. saw.at s (sym (still-left p) ∙ e) }
 
 -- no token is left
 abbrev at_the_end : List Fact
@@ -164,7 +164,7 @@ sees-ahead c m (Both x y) s t a e = rw (sees-ahead c m x s t (and_l (is_ahead x)
 sees-ahead c m (Either x y) s t a e = rw (sees-ahead c m x s t (and_l (is_ahead x) (is_ahead y) a) e, sees-ahead c m y s t (and_r (is_ahead x) (is_ahead y) a) e) refl
 sees-ahead c m (Not x) s t a e = ap not (sees-ahead c m x s t a e)
 
--- what was seen behind a leaf is seen once that is taken
+-- what was seen after a leaf is seen once that is taken
 pub saw-taken : {c d : Bool} {x : Spelling} {b : Bool} {old new : View} (l : Look) → is_ahead l ≡ true → Reads d (One x) old new → Saw c (shift (length x.parts) l) old b → Saw c l new b
 unfolding read leaf
 saw-taken {c} {d} {x} {b} {old} {new} l plain p saw = record {

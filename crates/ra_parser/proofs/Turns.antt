@@ -32,7 +32,7 @@ module _ (test : Reading → Bool) (turn : Reading → Reading) (ends : (t : Rea
       let less = ltb-true (length (turn s).rest) (length s.rest) e in
       enough n m (turn s) (omega (arith, p, less)) (omega (arith, q, less)))
 
-  -- a turn, and those behind it
+  -- a turn, and those after it
   pub one-turn : (s : Reading) → test s ≡ true → length (turn s).rest < length s.rest → turns (length s.rest) test turn s ≡ turns (length (turn s).rest) test turn (turn s)
   unfolding turns
   one-turn s e less = first (length s.rest) refl

@@ -8,12 +8,12 @@ use Rattle.rust_grammar.specs.Words.{'+', '-', '*', '/', '%'}
 use Rattle.rust_grammar.specs.Rule.{Rule, Look, Never, Nothing, Then, Star, Want, begins}
 use Rattle.ra_parser.specs.Stands.{looks}
 
--- The turns of some layers, those of the layer that binds most first: each repeated, one behind the other.
+-- The turns of some layers, those of the layer that binds most first: each repeated, one after the other.
 abbrev pub repeated : List Rule → Rule
 repeated [] = Nothing
 repeated (a ∷ xs) = Then (Star a) (repeated xs)
 
--- One operator of a product, and one of a sum, with the operand behind it.
+-- One operator of a product, and one of a sum, with the operand after it.
 abbrev pub product_turn : Rule
 product_turn = BIN_EXPR <⟨ (op '*' or op '/' or op '%') ▸ Want Cast ExpectedExpression ⟩
 

@@ -5,7 +5,7 @@ use Rattle.parser_events.specs.Stack.{IsInnermost}
 use Rattle.parser_events.specs.View.{View}
 use Rattle.grammar_reader.specs.Stands.{left, Holds}
 use Rattle.rust_grammar.specs.Rule.{Production, Look, Rule}
-use Rattle.rust_grammar.specs.Meaning.{Reading, sees, fresh, behind, read, look_of, meaning}
+use Rattle.rust_grammar.specs.Meaning.{Reading, sees, fresh, after, read, look_of, meaning}
 use Rattle.rust_grammar.specs.Whole.{whole}
 pub use Rattle.grammar_reader.specs.Moves.{Does, Opens, Closes, Leaves}
 
@@ -15,7 +15,7 @@ looks = look_of whole
 
 -- It reads what the production means.
 pub record Gives (x : Production) (c : Bool) (old new : View) : Type 0 where
-  pub does : Does (λ s. behind s (meaning whole x c (fresh s))) old new
+  pub does : Does (λ s. after s (meaning whole x c (fresh s))) old new
 
 -- It reads that as a continuation of the present production.
 pub record Goes (x : Production) (c : Bool) (old new : View) : Type 0 where
@@ -25,12 +25,12 @@ pub record Goes (x : Production) (c : Bool) (old new : View) : Type 0 where
 pub record Reads (c : Bool) (r : Rule) (old new : View) : Type 0 where
   pub does : Does (read (look_of whole) (meaning whole) c r) old new
 
--- It reads what the rule says of nothing given, and puts that behind what was given before.
+-- It reads what the rule says of nothing given, and puts that after what was given before.
 pub record Anew (c : Bool) (r : Rule) (old new : View) : Type 0 where
-  pub does : Does (λ s. behind s (read (look_of whole) (meaning whole) c r (fresh s))) old new
+  pub does : Does (λ s. after s (read (look_of whole) (meaning whole) c r (fresh s))) old new
 
 -- It reads what the rule says in the innermost node, and closes that: the trees, as the rule leaves them, stand in the node
--- around it, behind those that this had.
+-- around it, after those that this had.
 pub record Completes (c : Bool) (r : Rule) (old new : View) : Type 0 where
   pub rest : (s : Reading) → left old ≡ s.rest → left new ≡ (read (look_of whole) (meaning whole) c r s).rest
   pub nodes : (s : Reading) (around : Marked) (below : List Marked) → left old ≡ s.rest → Holds old.nodes (marked s.given ∷ around ∷ below) → Holds new.nodes ((around beside marked (read (look_of whole) (meaning whole) c r s).given) ∷ below)

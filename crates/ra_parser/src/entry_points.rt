@@ -57,7 +57,7 @@ impl TopEntryPoint {
     ///
     /// # Errors
     ///
-    /// An input of more than [`MOST_TOKENS`] tokens, and want of memory.
+    /// An input of more than [`MOST_TOKENS`] tokens, or out of memory.
     pub fn parse(self, alloc: Global, input: &Input) -> Result<Output, ParseError>
         ensures parsed { IfOk result (λ output. output.steps ≡ steps (entry whole (production_of self) input.now)) }
         ensures looks { IfOk result (λ output. output.looks ≤ STEPS_PER_TOKEN * (length input.now + 1)) }

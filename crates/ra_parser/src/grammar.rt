@@ -64,7 +64,7 @@ fn at(p: &mut Parser<'_>, kind: SyntaxKind) -> bool
     p.kind_at(0).to_raw() == kind.to_raw()
 }
 
-/// Whether the token behind the next one is of this kind.
+/// Whether the token after the next one is of this kind.
 fn at_second(p: &mut Parser<'_>, kind: SyntaxKind) -> bool
     ensures sees { (c : Bool) → Saw c (Kind 1 (raw_of kind)) p.old result }
     ensures some { IsTrue result → raw_of kind ≢ kinds.EOF → 2 ≤ tokens p.old }
@@ -210,7 +210,7 @@ fn expect(p: &mut Parser<'_>, kind: SyntaxKind)
     error(p, Message::Expected(kind));
 }
 
-/// Takes the next token into an error, behind the message.
+/// Takes the next token into an error, after the message.
 fn skip(p: &mut Parser<'_>, message: Message)
     requires { 1 ≤ tokens p.old }
     ensures reads { (c : Bool) → Reads c (Skip (message_of message)) p.old p.new }

@@ -15,12 +15,12 @@ within_character [] = 0
 within_character (b ∷ bs) = if nat_le 128 b && nat_lt b 192 then suc (within_character bs) else 0
 
 -- the first character boundary from byte 21 on
-abbrev pub shown_end : List ℕ → ℕ
-shown_end text = 21 + within_character (drop 21 text)
+abbrev pub excerpt_end : List ℕ → ℕ
+excerpt_end text = 21 + within_character (drop 21 text)
 
 -- a text of 25 bytes or more is cut there
-abbrev pub shown : List ℕ → List ℕ
-shown text = if nat_lt (length text) 25 then text else take (shown_end text) text ++ codes " ..."
+abbrev pub excerpt : List ℕ → List ℕ
+excerpt text = if nat_lt (length text) 25 then text else take (excerpt_end text) text ++ codes " ..."
 
 -- what a line begins with: two spaces a level, the name of a kind and a range
 abbrev pub line_front : ℕ → List ℕ → ℕ → ℕ → List ℕ
@@ -29,7 +29,7 @@ line_front depth name start end =
 
 -- what a token's line ends with: its text, quoted
 abbrev pub line_text : List ℕ → Option (List ℕ)
-line_text text = Some (codes " ") ++? debug_str (shown text) ++? Some (codes "\n")
+line_text text = Some (codes " ") ++? debug_str (excerpt text) ++? Some (codes "\n")
 
 abbrev pub line_end : Cursor → Option (List ℕ)
 line_end (Node p) = Some (codes "\n")

@@ -11,7 +11,6 @@ use crate::cursor;
 use crate::language::Language;
 use rowan_green::{GreenNode, GreenToken, NodeOrToken, TextRange, TextSize};
 use std::alloc::{AllocError, Global};
-use std::hash::{Hash, Hasher};
 use std::marker::{Model, PhantomData};
 
 /// A node where it stands in a tree. A clone takes no memory.
@@ -78,6 +77,7 @@ impl<L: Language> SyntaxNode<L> {
         Ok(SyntaxNode::of(cursor::SyntaxNode::new_root(alloc, green)?))
     }
 
+    /// Its kind, by its language.
     pub fn kind(&self) -> L::Kind
         ensures { result ≡ L.from_raw (kind_at self.now) }
     {
@@ -100,12 +100,14 @@ impl<L: Language> SyntaxNode<L> {
         self.cursor.index() as usize
     }
 
+    /// The green node that stands there, lent by the tree.
     pub fn green(&self) -> &GreenNode
         ensures { term_at self.now ≡ Some (Node result.now) }
     {
         self.cursor.green()
     }
 
+    /// Its parent; none for a root.
     pub fn parent(&self) -> Result<Option<SyntaxNode<L>>, AllocError>
         ensures { IfOk result (λ r. r ≡ above self.now) }
     {
@@ -179,6 +181,7 @@ impl<L: Language> SyntaxNode<L> {
         Ok(node_of(self.cursor.prev_sibling(alloc)?))
     }
 
+    /// The next child of its parent, a node or a token, if there is one.
     pub fn next_sibling_or_token(
         &self,
         alloc: Global,
@@ -188,6 +191,7 @@ impl<L: Language> SyntaxNode<L> {
         Ok(element_of(self.cursor.next_sibling_or_token(alloc)?))
     }
 
+    /// The child of its parent before it, a node or a token, if there is one.
     pub fn prev_sibling_or_token(
         &self,
         alloc: Global,
@@ -309,6 +313,7 @@ impl<L: Language> SyntaxToken<L> {
         &self.cursor
     }
 
+    /// Its kind, by its language.
     pub fn kind(&self) -> L::Kind
         ensures { result ≡ L.from_raw (kind_at self.now) }
     {
@@ -332,12 +337,14 @@ impl<L: Language> SyntaxToken<L> {
         index as usize
     }
 
+    /// Its text.
     pub fn text(&self) -> &str
         ensures { result.now ≡ text_at self.now }
     {
         self.cursor.text()
     }
 
+    /// The green token that stands there, lent by the tree.
     pub fn green(&self) -> &GreenToken
         ensures { term_at self.now ≡ Some (Token result.now) }
     {
@@ -359,6 +366,7 @@ impl<L: Language> SyntaxToken<L> {
         Ok(SyntaxNode::of(self.cursor.tree_top().clone()?))
     }
 
+    /// The next child of its parent, a node or a token, if there is one.
     pub fn next_sibling_or_token(
         &self,
         alloc: Global,
@@ -368,6 +376,7 @@ impl<L: Language> SyntaxToken<L> {
         Ok(element_of(self.cursor.next_sibling_or_token(alloc)?))
     }
 
+    /// The child of its parent before it, a node or a token, if there is one.
     pub fn prev_sibling_or_token(
         &self,
         alloc: Global,
@@ -429,77 +438,5 @@ impl<L: Language> From<SyntaxToken<L>> for NodeOrToken<SyntaxNode<L>, SyntaxToke
 
     fn from(token: SyntaxToken<L>) -> SyntaxElement<L> {
         NodeOrToken::Token(token)
-    }
-}
-
-impl<L: Language> PartialEq for SyntaxNode<L> {
-    ghost use Rattle.rowan.specs.Same.{same_place, same_place-equiv};
-    ghost use Rattle.std.specs.Cmp.{partial_equiv_from_equiv};
-
-    ghost eq = { same_place };
-
-    ghost laws = { partial_equiv_from_equiv same_place-equiv };
-
-    /// Equal root terms and equal paths.
-    fn eq(&self, other: &SyntaxNode<L>) -> bool {
-        self.cursor == other.cursor
-    }
-}
-
-impl<L: Language> Eq for SyntaxNode<L> {
-    ghost use Rattle.rowan.specs.Same.{same_place-equiv};
-
-    ghost laws = { same_place-equiv };
-}
-
-impl<L: Language> Hash for SyntaxNode<L> {
-    ghost use Rattle.rowan.specs.Place.{Place, start_of, index_of};
-    ghost use Rattle.rowan.specs.Same.{same_place-Decides};
-    ghost use Rattle.std.specs.Prelude.{◌++◌};
-    ghost use Rattle.std.specs.Hash as fed;
-    ghost use Rattle.std.proofs.Common.{ap};
-
-    ghost hash_input = { λ p. fed.u32 (start_of p) ++ fed.u32 (index_of p) };
-
-    ghost respects_eq = { λ x y p. ap (λ (q : Place). fed.u32 (start_of q) ++ fed.u32 (index_of q)) ((same_place-Decides x y).0 p) };
-
-    fn hash<H: Hasher>(&self, state: &mut H) {
-        self.cursor.hash(state);
-    }
-}
-
-impl<L: Language> PartialEq for SyntaxToken<L> {
-    ghost use Rattle.rowan.specs.Same.{same_place, same_place-equiv};
-    ghost use Rattle.std.specs.Cmp.{partial_equiv_from_equiv};
-
-    ghost eq = { same_place };
-
-    ghost laws = { partial_equiv_from_equiv same_place-equiv };
-
-    /// Equal root terms and equal paths.
-    fn eq(&self, other: &SyntaxToken<L>) -> bool {
-        self.cursor == other.cursor
-    }
-}
-
-impl<L: Language> Eq for SyntaxToken<L> {
-    ghost use Rattle.rowan.specs.Same.{same_place-equiv};
-
-    ghost laws = { same_place-equiv };
-}
-
-impl<L: Language> Hash for SyntaxToken<L> {
-    ghost use Rattle.rowan.specs.Place.{Place, start_of, index_of};
-    ghost use Rattle.rowan.specs.Same.{same_place-Decides};
-    ghost use Rattle.std.specs.Prelude.{◌++◌};
-    ghost use Rattle.std.specs.Hash as fed;
-    ghost use Rattle.std.proofs.Common.{ap};
-
-    ghost hash_input = { λ p. fed.u32 (start_of p) ++ fed.u32 (index_of p) };
-
-    ghost respects_eq = { λ x y p. ap (λ (q : Place). fed.u32 (start_of q) ++ fed.u32 (index_of q)) ((same_place-Decides x y).0 p) };
-
-    fn hash<H: Hasher>(&self, state: &mut H) {
-        self.cursor.hash(state);
     }
 }

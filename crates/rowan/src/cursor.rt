@@ -107,12 +107,14 @@ impl SyntaxNode {
         Ok(SyntaxNode { shared })
     }
 
+    /// The green node that stands there, lent by the tree.
     pub fn green(&self) -> &GreenNode
         ensures { term_at self.now ≡ Some (Node result.now) }
     {
         &self.shared.green
     }
 
+    /// Its kind, as a raw number.
     pub fn kind(&self) -> SyntaxKind
         ensures { result.0 ≡ kind_at self.now }
     {
@@ -225,18 +227,21 @@ impl SyntaxNode {
 }
 
 impl SyntaxToken {
+    /// The green token that stands there.
     pub fn green(&self) -> &GreenToken
         ensures { term_at self.now ≡ Some (Token result.now) }
     {
         &self.green
     }
 
+    /// Its kind, as a raw number.
     pub fn kind(&self) -> SyntaxKind
         ensures { result.0 ≡ kind_at self.now }
     {
         self.green().kind()
     }
 
+    /// Its text.
     pub fn text(&self) -> &str
         ensures { result.now ≡ text_at self.now }
     {
@@ -266,6 +271,7 @@ impl SyntaxToken {
         self.index
     }
 
+    /// The node that it is a child of.
     pub fn parent(&self) -> &SyntaxNode
         ensures { Some result.now ≡ above self.now }
     {

@@ -10,6 +10,7 @@ use rowan_green::NodeOrToken;
 use std::alloc::{AllocError, Global};
 
 impl SyntaxNode {
+    /// Its first child, a node or a token, if it has one.
     pub fn first_child_or_token(&self, alloc: Global) -> Result<Option<SyntaxElement>, AllocError>
         ensures { IfOk result (λ r. r ≡ first (children self.now)) }
     {
@@ -41,12 +42,14 @@ impl SyntaxNode {
         self.child(alloc, number, offset)
     }
 
+    /// Its last child, a node or a token, if it has one.
     pub fn last_child_or_token(&self, alloc: Global) -> Result<Option<SyntaxElement>, AllocError>
         ensures { IfOk result (λ r. r ≡ first (children_back self.now)) }
     {
         self.child_before(alloc, self.green().children().len(), self.end())
     }
 
+    /// The next child of its parent, a node or a token, if there is one.
     pub fn next_sibling_or_token(&self, alloc: Global) -> Result<Option<SyntaxElement>, AllocError>
         ensures { IfOk result (λ r. r ≡ first (siblings_after self.now)) }
     {
@@ -56,6 +59,7 @@ impl SyntaxNode {
         }
     }
 
+    /// The child of its parent before it, a node or a token, if there is one.
     pub fn prev_sibling_or_token(&self, alloc: Global) -> Result<Option<SyntaxElement>, AllocError>
         ensures { IfOk result (λ r. r ≡ first (siblings_before self.now)) }
     {
@@ -148,18 +152,21 @@ impl SyntaxNode {
 }
 
 impl SyntaxNode {
+    /// Its first child that is a node, if it has one.
     pub fn first_child(&self, alloc: Global) -> Result<Option<SyntaxNode>, AllocError>
         ensures { IfOk result (λ r. r ≡ first (nodes (children self.now))) }
     {
         self.node_from(alloc, 0, self.start())
     }
 
+    /// Its last child that is a node, if it has one.
     pub fn last_child(&self, alloc: Global) -> Result<Option<SyntaxNode>, AllocError>
         ensures { IfOk result (λ r. r ≡ first (nodes (children_back self.now))) }
     {
         self.node_before(alloc, self.green().children().len(), self.end())
     }
 
+    /// The next child of its parent that is a node, if there is one.
     pub fn next_sibling(&self, alloc: Global) -> Result<Option<SyntaxNode>, AllocError>
         ensures { IfOk result (λ r. r ≡ first (nodes (siblings_after self.now))) }
     {
@@ -169,6 +176,7 @@ impl SyntaxNode {
         }
     }
 
+    /// The last child of its parent before it that is a node, if there is one.
     pub fn prev_sibling(&self, alloc: Global) -> Result<Option<SyntaxNode>, AllocError>
         ensures { IfOk result (λ r. r ≡ first (nodes (siblings_before self.now))) }
     {
@@ -191,6 +199,7 @@ impl SyntaxNode {
 }
 
 impl SyntaxToken {
+    /// The next child of its parent, a node or a token, if there is one.
     pub fn next_sibling_or_token(&self, alloc: Global) -> Result<Option<SyntaxElement>, AllocError>
         ensures { IfOk result (λ r. r ≡ first (siblings_after self.now)) }
     {
@@ -198,6 +207,7 @@ impl SyntaxToken {
         parent.child(alloc, self.index() as usize + 1, self.end())
     }
 
+    /// The child of its parent before it, a node or a token, if there is one.
     pub fn prev_sibling_or_token(&self, alloc: Global) -> Result<Option<SyntaxElement>, AllocError>
         ensures { IfOk result (λ r. r ≡ first (siblings_before self.now)) }
     {
@@ -214,6 +224,7 @@ impl SyntaxToken {
     }
 }
 
+/// The next child of an element's parent, if there is one.
 pub fn next_sibling_of(
     element: &SyntaxElement,
     alloc: Global,
@@ -226,6 +237,7 @@ pub fn next_sibling_of(
     }
 }
 
+/// The child of an element's parent before it, if there is one.
 pub fn prev_sibling_of(
     element: &SyntaxElement,
     alloc: Global,
@@ -238,6 +250,7 @@ pub fn prev_sibling_of(
     }
 }
 
+/// The parent of an element; none for a root.
 pub fn parent_of(element: &SyntaxElement) -> Option<&SyntaxNode>
     ensures { option_copied result ≡ above (place_in element.now) }
 {

@@ -4,7 +4,7 @@ ghost use Rattle.std.specs.Fmt.{AppendsText, debug_str};
 ghost use Rattle.rowan_green.specs.declared.utility_types.NodeOrToken.TheVariants.{Node};
 ghost use Rattle.rowan.specs.Text.{IsCut};
 ghost use Rattle.rowan.specs.Walk.{walk};
-ghost use Rattle.rowan.specs.Debug.{shown_end, shown, line_front, line_text, line_of, lines_of};
+ghost use Rattle.rowan.specs.Debug.{excerpt_end, excerpt, line_front, line_text, line_of, lines_of};
 
 use crate::api::{SyntaxElement, SyntaxNode};
 use crate::element::ElementExt;
@@ -15,9 +15,9 @@ use std::alloc::{AllocError, Global};
 use std::fmt::Write;
 
 /// Where a long text is cut: its first character boundary from byte 21 on.
-fn shown_end(text: &str) -> usize
+fn excerpt_end(text: &str) -> usize
     requires { 21 ≤ length text.now }
-    ensures end { result ≡ shown_end text.now }
+    ensures end { result ≡ excerpt_end text.now }
     ensures cut { IsCut text.now result }
 {
     let bytes = text.as_bytes();
@@ -30,12 +30,12 @@ fn shown_end(text: &str) -> usize
 
 /// Puts a token's text, quoted, after what is printed.
 fn push_quoted(alloc: Global, text: &str, to: &mut String) -> Result<(), AllocError>
-    ensures { OnOk result (AppendsText (string_bytes to.old) (string_bytes to.new) (debug_str (shown text.now))) }
+    ensures { OnOk result (AppendsText (string_bytes to.old) (string_bytes to.new) (debug_str (excerpt text.now))) }
 {
     if text.len() < 25 {
         return write!(to, "{text:?}");
     }
-    let front = &text[..shown_end(text)];
+    let front = &text[..excerpt_end(text)];
     let cut = format!(in alloc; "{front} ...")?;
     write!(to, "{cut:?}")
 }

@@ -25,6 +25,7 @@ mod cursor_tokens;
 mod debug_tree;
 mod display;
 pub mod element;
+mod equality;
 pub mod error;
 pub mod language;
 pub mod laws;

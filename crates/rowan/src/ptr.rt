@@ -19,6 +19,7 @@ pub struct SyntaxNodePtr<L: Language> {
 }
 
 impl<L: Language> SyntaxNodePtr<L> {
+    /// A pointer to a node: its kind and range.
     pub fn new(node: &SyntaxNode<L>) -> SyntaxNodePtr<L>
         ensures kind { result.kind ≡ L.from_raw (kind_at node.now) }
         ensures start { result.range.start.0 ≡ start_of node.now }
@@ -30,12 +31,14 @@ impl<L: Language> SyntaxNodePtr<L> {
         }
     }
 
+    /// The kind of the node that it was made from.
     pub fn kind(&self) -> L::Kind
         ensures { result ≡ self.now.kind }
     {
         self.kind
     }
 
+    /// The bytes of the node that it was made from, in the text of its tree.
     pub fn text_range(&self) -> TextRange
         ensures { result ≡ self.now.range }
     {

@@ -65,6 +65,7 @@ impl SyntaxText {
         TextSize(self.end - self.start)
     }
 
+    /// Whether it has no bytes.
     pub fn is_empty(&self) -> bool
         ensures { result ≡ (length self.now == 0) }
     {

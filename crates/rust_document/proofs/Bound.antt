@@ -158,23 +158,23 @@ some-shown (forest.Float b c f) r h t s e = elim h.1.1.1.1 [
   ]
 ]
 
--- what stands behind a node that something follows
-behind-node : (j : ℕ) (i r : Forest) → is_none r ≡ false → right_level (node j i r) ≡ right_level r
+-- what stands after a node that something follows
+after-node : (j : ℕ) (i r : Forest) → is_none r ≡ false → right_level (node j i r) ≡ right_level r
 unfolding is_none right_level
-behind-node j i empty e = absurd (true≢false e)
-behind-node j i (leaf l r) e = refl
-behind-node j i (node k f r) e = refl
+after-node j i empty e = absurd (true≢false e)
+after-node j i (leaf l r) e = refl
+after-node j i (node k f r) e = refl
 
-behind-tree : (j : ℕ) (c f : forest.Forest) → is_end f ≡ false → grammar.right_level (forest.Node j c f) ≡ grammar.right_level f
+after-tree : (j : ℕ) (c f : forest.Forest) → is_end f ≡ false → grammar.right_level (forest.Node j c f) ≡ grammar.right_level f
 unfolding is_end grammar.right_level
-behind-tree j c forest.End e = absurd (true≢false e)
-behind-tree j c (forest.Leaf k n f) e = refl
-behind-tree j c (forest.Said m f) e = refl
-behind-tree j c (forest.ErrorLeaf m k f) e = refl
-behind-tree j c (forest.Node k d f) e = refl
-behind-tree j c (forest.Float b d f) e = refl
+after-tree j c forest.End e = absurd (true≢false e)
+after-tree j c (forest.Leaf k n f) e = refl
+after-tree j c (forest.Said m f) e = refl
+after-tree j c (forest.ErrorLeaf m k f) e = refl
+after-tree j c (forest.Node k d f) e = refl
+after-tree j c (forest.Float b d f) e = refl
 
--- the last of a node and what it shows behind it
+-- the last of a node and what it shows after it
 last-node : (j : ℕ) (i r : Forest) (c f : forest.Forest) → is_end f ≡ true → Shows f r → right_level (node j i r) ≡ level j i
 unfolding is_end right_level
 last-node j i r c forest.End e h = ap (λ (g : Forest). right_level (node j i g)) h
@@ -224,8 +224,8 @@ right-shown (forest.Node j c f) k h t s e =
           ap right_level h.1.1.1.1 ∙ last-node j i r c f end h.1.1.1.0
           ∙ level-shown j c i h.1.1.0 all.inner_told all.inner_solid all.own ∙ sym (last-tree j c f end)
       | inr more ↦
-          ap right_level h.1.1.1.1 ∙ behind-node j i r (some-shown f r h.1.1.1.0 all.rest_told all.rest_solid more)
-          ∙ right-shown f r h.1.1.1.0 all.rest_told all.rest_solid all.rest ∙ sym (behind-tree j c f more)
+          ap right_level h.1.1.1.1 ∙ after-node j i r (some-shown f r h.1.1.1.0 all.rest_told all.rest_solid more)
+          ∙ right-shown f r h.1.1.1.0 all.rest_told all.rest_solid all.rest ∙ sym (after-tree j c f more)
     ]
 right-shown (forest.Float b c f) k h t s e =
     let r = h.1.0 in

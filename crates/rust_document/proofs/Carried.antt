@@ -47,7 +47,7 @@ module _ (given : forest.Forest → Bool) (holds : Forest → Bool) (carried : C
   kept : Kept holds
   kept = carried.kept
 
-  -- What stands behind the last tree is leaves.
+  -- What stands after the last tree is leaves.
   leaves-hold : (ls : List Leaf) → holds (shown (as_dressed ls)) ≡ true
   unfolding shown as_dressed
   leaves-hold [] = kept.nothing

@@ -66,7 +66,7 @@ last-alone : (kind : ℕ) → Solid kind → last_kind (kind_before kind empty) 
 unfolding kind_before last_kind
 last-alone kind s = rw s.stays refl
 
--- a leaf ends the trees, or what stands behind it does
+-- a leaf ends the trees, or what stands after it does
 ends-leaf : (kind j n : ℕ) (f : forest.Forest) → ends_with kind (forest.Leaf j n f) ≡ true → ((f ≡ forest.End) × ((j == kind) ≡ true)) ⊎ (ends_with kind f ≡ true)
 unfolding ends_with
 ends-leaf kind j n forest.End e = inl (refl, and_l (j == kind) (n == 1) e)

@@ -26,11 +26,11 @@ use Rattle.parser_input.specs.Preface.{Piece, Source, bare, opening_line, source
 use Rattle.parser_input.specs.declared.edition.Edition.{Edition}
 use Rattle.parser_input.specs.declared.frontmatter_error.FrontmatterError.{FrontmatterError}
 use Rattle.parser_input.specs.declared.message.Message.{Message}
-use Rattle.parser_input.proofs.Prefaces.{behind-none, piece-none, source-bare}
+use Rattle.parser_input.proofs.Prefaces.{after-none, piece-none, source-bare}
 use Rattle.rust_document.specs.Reading.{OfLeaf, of_leaves}
 use Rattle.rust_document.specs.Payload.{lexer_messages}
 
--- a text behind a `;`
+-- a text after a `;`
 abbrev after_semicolon : List ℕ → List ℕ
 after_semicolon t = 59 ∷ t
 
@@ -54,9 +54,9 @@ no-shebang t = ap is_some (shebang-none (after_semicolon t) refl)
 
 no-dashes : (t : List ℕ) → dashes (opening_line (after_semicolon t)) ≡ 0
 unfolding opening_line blank_len dashes run_len is_whitespace
-no-dashes t = ap (λ (r : List ℕ). dashes (drop (blank_len r) r)) (sym (behind-none (after_semicolon t) (no-shebang t)))
+no-dashes t = ap (λ (r : List ℕ). dashes (drop (blank_len r) r)) (sym (after-none (after_semicolon t) (no-shebang t)))
 
--- the leaves behind a `;` are those of the text as a content
+-- the leaves after a `;` are those of the text as a content
 leaves-after : (edition : Edition) (t : List ℕ) → lexed edition (after_semicolon t) ≡ quiet SEMICOLON (59 ∷ []) ∷ cut edition 0 t
 unfolding lexed preface content bare
 leaves-after edition t =
@@ -64,7 +64,7 @@ leaves-after edition t =
     let own = source-bare xs (no-dashes t) in
     ap (λ (o : Option Piece). (shebang_leaf o ++ frontmatter_leaf xs (source xs)) ++ cut edition 0 (content_of xs (source xs))) (sym (piece-none xs (no-shebang t)))
     ∙ ap (λ (r : Result Source FrontmatterError). frontmatter_leaf xs r ++ cut edition 0 (content_of xs r)) (sym own)
-    ∙ ap (λ (r : List ℕ). cut edition 0 r) (sym (behind-none xs (no-shebang t)))
+    ∙ ap (λ (r : List ℕ). cut edition 0 r) (sym (after-none xs (no-shebang t)))
     ∙ semicolon-cut edition t
 
 -- there is a fault of a leaf where there is a message about one
@@ -85,7 +85,7 @@ some-fault : (n place : ℕ) (ls : List Lexed) → nat_lt 0 (length (faults n (m
 some-fault n place [] = refl
 some-fault n place (l ∷ ls) = fault-at n place l ls l.message refl (λ k at. some-fault k at ls)
 
--- what the lexer says of a text is told behind a `;`
+-- what the lexer says of a text is told after a `;`
 pub has-messages :
     (edition : Edition) (text bytes : List ℕ) → IsUtf8 bytes → bytes ≡ 59 ∷ text → nat_lt 0 (length (faults 0 (map (λ l. l.message) (lexed edition (chars bytes))))) ≡ nat_lt 0 (length (lexer_messages edition (chars text)))
 unfolding lexer_messages encode

@@ -1,4 +1,4 @@
--- A fact of elements that holds side by side, in a file and in a field access, holds around a float behind a dot.
+-- A fact of elements that holds side by side, in a file and in a field access, holds around a float after a dot.
 use Rattle.std.proofs.Common.{◌≡◌, Bool, true, []}
 use Rattle.rowan_green.specs.Forest.{Forest, empty, node, leaf}
 use Rattle.rowan_green.specs.Leaf as green

@@ -21,5 +21,5 @@ pub mod Carried
 pub mod Closed
 pub mod Solid
 pub mod Bound
-pub mod Behind
+pub mod After
 pub mod AnnotatedRanges

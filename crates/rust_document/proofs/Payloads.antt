@@ -12,7 +12,7 @@ use Rattle.parser_input.specs.Kind.{raw_of}
 use Rattle.parser_input.specs.Leaf as leaves
 use Rattle.parser_input.specs.Lexed.{Lexed, cut}
 use Rattle.parser_input.specs.Messages.{wording}
-use Rattle.parser_input.specs.Single.{single, alone, told}
+use Rattle.parser_input.specs.Single.{single, alone, kind_and_message}
 use Rattle.parser_input.specs.declared.edition.Edition.{Edition}
 use Rattle.parser_input.specs.declared.message.Message as inputs
 use Rattle.parser_input.proofs.LexedTexts.{single-text}
@@ -48,13 +48,13 @@ unfolding first_fit
 by_single edition text o h none e = payload-is edition text false false (le-ltb MAX_TEXT (length text) h) none ∙ ap only e
 
 -- what was read of a leaf is of that leaf
-told-some : (o : Option Lexed) (k : ℕ × Option (List ℕ)) → Some k ≡ option_map told o → (l : Lexed) × (o ≡ Some l) × (k.0 ≡ l.leaf.kind) × (k.1 ≡ option_map wording l.message)
+told-some : (o : Option Lexed) (k : ℕ × Option (List ℕ)) → Some k ≡ option_map kind_and_message o → (l : Lexed) × (o ≡ Some l) × (k.0 ≡ l.leaf.kind) × (k.1 ≡ option_map wording l.message)
 told-some (Some l) k e =
-    let own : k ≡ told l = ap (λ (p : Option (ℕ × Option (List ℕ))). elim p [ None ↦ k | Some q ↦ q ]) e in
+    let own : k ≡ kind_and_message l = ap (λ (p : Option (ℕ × Option (List ℕ))). elim p [ None ↦ k | Some q ↦ q ]) e in
     (l, refl, ap (λ (q : ℕ × Option (List ℕ)). q.0) own, ap (λ (q : ℕ × Option (List ℕ)). q.1) own)
 told-some None k e = absurd (cc)
 
-told-none : (o : Option Lexed) → None ≡ option_map told o → o ≡ None
+told-none : (o : Option Lexed) → None ≡ option_map kind_and_message o → o ≡ None
 told-none (Some l) e = absurd (cc)
 told-none None e = refl
 
@@ -81,7 +81,7 @@ one-message l None words e some = absurd (cc)
 one-message l (Some m) words e some = rw e refl
 
 pub one_token :
-    (edition : Edition) (found : Leaf) → length found.text.now ≤ MAX_TEXT → IsUtf8 found.text.now → Some (raw_of found.kind, None) ≡ option_map told (single edition (chars found.text.now)) → token_payload edition found.text.now ≡ One (seen found)
+    (edition : Edition) (found : Leaf) → length found.text.now ≤ MAX_TEXT → IsUtf8 found.text.now → Some (raw_of found.kind, None) ≡ option_map kind_and_message (single edition (chars found.text.now)) → token_payload edition found.text.now ≡ One (seen found)
 one_token edition found h u e =
     let t = told-some (single edition (chars found.text.now)) (raw_of found.kind, None) e in
     let l = t.0 in
@@ -91,13 +91,13 @@ one_token edition found h u e =
     ∙ ap One (sym (piece-seen found l.leaf u t.2 (sym (single-text edition (chars found.text.now) l t.1))))
 
 pub faulty_token :
-    (edition : Edition) (text : List ℕ) (kind : ℕ) (words : List ℕ) → length text ≤ MAX_TEXT → Some (kind, Some words) ≡ option_map told (single edition (chars text)) → token_payload edition text ≡ Message
+    (edition : Edition) (text : List ℕ) (kind : ℕ) (words : List ℕ) → length text ≤ MAX_TEXT → Some (kind, Some words) ≡ option_map kind_and_message (single edition (chars text)) → token_payload edition text ≡ Message
 faulty_token edition text kind words h e =
     let t = told-some (single edition (chars text)) (kind, Some words) e in
     with_message edition text h
     (one-message t.0 t.0.message words refl t.3 ∙ sym (ap (λ (ms : List _). nat_lt 0 (length ms)) (alone-messages edition (chars text) t.0 t.1)))
 
-pub not_one : (edition : Edition) (text : List ℕ) → length text ≤ MAX_TEXT → nat_lt 0 (length (lexer_messages edition (chars text))) ≡ false → None ≡ option_map told (single edition (chars text)) → token_payload edition text ≡ NotOneToken
+pub not_one : (edition : Edition) (text : List ℕ) → length text ≤ MAX_TEXT → nat_lt 0 (length (lexer_messages edition (chars text))) ≡ false → None ≡ option_map kind_and_message (single edition (chars text)) → token_payload edition text ≡ NotOneToken
 not_one edition text h none e = by_single edition text None h none (told-none (single edition (chars text)) e)
 
 -- ---- entries
@@ -111,17 +111,17 @@ unfolding first_fit
 entry_too_long x edition text h = entry-is x edition text true _ (lt-ltb MAX_TEXT (length text) h) refl
 
 -- as many messages as the code has
-same-count : (es : List SyntaxError) (ms : List reading.Message) → map own.told es ≡ ms → length es ≡ length ms
-same-count es ms e = sym (length-map es own.told) ∙ ap (λ (xs : List reading.Message). length xs) e
+same-count : (es : List SyntaxError) (ms : List reading.Message) → map own.message_of_error es ≡ ms → length es ≡ length ms
+same-count es ms e = sym (length-map es own.message_of_error) ∙ ap (λ (xs : List reading.Message). length xs) e
 
 pub entry_message :
-    (x : Production) (edition : Edition) (text : List ℕ) (es : List SyntaxError) → length text ≤ MAX_TEXT → map own.told es ≡ messages_by x edition (chars text) → 0 < length es → entry_payload x edition text ≡ Message
+    (x : Production) (edition : Edition) (text : List ℕ) (es : List SyntaxError) → length text ≤ MAX_TEXT → map own.message_of_error es ≡ messages_by x edition (chars text) → 0 < length es → entry_payload x edition text ≡ Message
 unfolding first_fit
 entry_message x edition text es h e some =
     entry-is x edition text false true (le-ltb MAX_TEXT (length text) h) (lt-ltb 0 (length (messages_by x edition (chars text))) (omega (arith, some, same-count es _ e)))
 
 pub entry_tree :
-    (x : Production) (edition : Edition) (text : List ℕ) (es : List SyntaxError) (root : Tree) → length text ≤ MAX_TEXT → map own.told es ≡ messages_by x edition (chars text) → length es ≤ 0 → root ≡ tree_by x edition (chars text) → entry_payload x edition text ≡ Whole root
+    (x : Production) (edition : Edition) (text : List ℕ) (es : List SyntaxError) (root : Tree) → length text ≤ MAX_TEXT → map own.message_of_error es ≡ messages_by x edition (chars text) → length es ≤ 0 → root ≡ tree_by x edition (chars text) → entry_payload x edition text ≡ Whole root
 unfolding first_fit
 entry_tree x edition text es root h e none is =
     entry-is x edition text false false (le-ltb MAX_TEXT (length text) h) (le-ltb 0 (length (messages_by x edition (chars text))) (omega (arith, none, same-count es _ e)))

@@ -110,7 +110,7 @@ pending-no-more : (l : Leaf) (ls : List Leaf) → is_trivia l ≡ false → pend
 unfolding pending
 pending-no-more l ls i = rw i refl
 
--- What is left behind the next tokens, and behind white space and comments.
+-- What is left after the next tokens, and after white space and comments.
 seen-reach : (e : Edition) (n : ℕ) (ls : List Leaf) → seen e (drop (reach n ls) ls) ≡ drop n (seen e ls)
 unfolding seen reach
 seen-reach e zero ls = refl
@@ -249,7 +249,7 @@ pub seen-pending : (e : Edition) (s : Dressing) → seen e (put_pending s).left 
 unfolding put_pending put_each put
 seen-pending e s = seen-over e (length (pending s.left)) s.left (omega arith)
 
--- what stands inside a node is opened behind the white space and comments that stay outside
+-- what stands inside a node is opened after the white space and comments that stay outside
 unfoldable pub inside : ℕ → Dressing → Dressing
 inside k s = put_each (attached k (pending s.left)) (open_node (put_each (length (pending s.left) - attached k (pending s.left)) s))
 

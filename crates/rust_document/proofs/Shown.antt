@@ -15,14 +15,14 @@ use Rattle.rust_document.proofs.Shapes.{shown, beside, beside-empty, shown-follo
 unfoldable pub kind_before : ℕ → Forest → Forest
 kind_before k r = if k == WHITESPACE || k == COMMENT then r else leaf (record { kind = k; text = [] }) r
 
--- a number behind a dot
+-- a number after a dot
 unfoldable pub number_shown : Forest
 number_shown = node NAME_REF (leaf (record { kind = INT_NUMBER; text = [] }) empty) empty
 
 unfoldable pub dot_before : Forest → Forest
 dot_before r = leaf (record { kind = DOT; text = [] }) r
 
--- a float behind a receiver that shows c, before r: `a.`, `a.b`, and one without a dot
+-- a float after a receiver that shows c, before r: `a.`, `a.b`, and one without a dot
 unfoldable pub parted : Forest → Forest → Forest
 parted c r = node FIELD_EXPR (beside c number_shown) (dot_before r)
 
@@ -67,7 +67,7 @@ pub from-nothing : (p : Dressing) (r : Forest) → beside (shown (open_node p).g
 unfolding open_node shown beside
 from-nothing p r = refl
 
--- What dressing adds is shown behind what was given.
+-- What dressing adds is shown after what was given.
 pub record Added (f : forest.Forest) (given after : Dressed) : Type 0 where
   pub more : Forest
   pub shows : Shows f more
@@ -101,7 +101,7 @@ inside-shown : (k : ℕ) (s : Dressing) → shown (inside k s).given ≡ empty
 unfolding inside outside open_node shown
 inside-shown k s = idle-shown (attached k (pending s.left)) (open_node (outside k s)) (within k s)
 
--- trees, and what they show behind what was shown
+-- trees, and what they show after what was shown
 added : (f : forest.Forest) (given middle after : Dressed) (k : Forest) → shown middle ≡ beside (shown given) k → (m : Forest) → Shows f m → shown after ≡ beside (shown middle) m → (l : Forest) → l ≡ beside k m → shown after ≡ beside (shown given) l
 added f given middle after k p m h q l e = q ∙ ap (λ (g : Forest). beside g m) p ∙ beside-assoc (shown given) k m ∙ ap (λ (g : Forest). beside (shown given) g) (sym e)
 
@@ -127,7 +127,7 @@ dot-of : (t : List ℕ) (d : Dressed) → shown (dressed.Leaf DOT t d) ≡ dot_b
 unfolding shown dot_before
 dot-of t d = refl
 
--- a number put behind a receiver, and both closed as a field access
+-- a number put after a receiver, and both closed as a field access
 pub numbered : (before r : Dressing) (i : Forest) (t : List ℕ) → shown r.given ≡ i → shown (close_node FIELD_EXPR before (put (number t) (next_text r.left) 1 r)).given ≡ beside (shown before.given) (node FIELD_EXPR (beside i number_shown) empty)
 numbered before r i t own =
     close-shown FIELD_EXPR before (put (number t) (next_text r.left) 1 r)
@@ -154,13 +154,13 @@ two-shown : (p r : Dressing) (i : Forest) → shown r.given ≡ i → is_empty (
 unfolding access accessed
 two-shown p r i own f =
     let rest = from_dot (next_text r.left) in
-    let behind = dressed.Leaf DOT (take 1 rest) (number (drop 1 rest)) in
+    let beyond = dressed.Leaf DOT (take 1 rest) (number (drop 1 rest)) in
     let inner = close_node FIELD_EXPR (open_node p) (put (number (before_dot (next_text r.left))) (next_text r.left) 1 r) in
-    let all : shown (put behind [] 0 inner).given ≡ node FIELD_EXPR (beside i number_shown) (dot_before number_shown) =
-    put-shown behind [] 0 inner
-    ∙ ap (λ (g : Forest). beside g (shown behind)) (numbered (open_node p) r i (before_dot (next_text r.left)) own ∙ from-nothing p (node FIELD_EXPR (beside i number_shown) empty))
+    let all : shown (put beyond [] 0 inner).given ≡ node FIELD_EXPR (beside i number_shown) (dot_before number_shown) =
+    put-shown beyond [] 0 inner
+    ∙ ap (λ (g : Forest). beside g (shown beyond)) (numbered (open_node p) r i (before_dot (next_text r.left)) own ∙ from-nothing p (node FIELD_EXPR (beside i number_shown) empty))
     ∙ accessed-one i (take 1 rest) (drop 1 rest) in
-    rw f (close-shown FIELD_EXPR p (put behind [] 0 inner) ∙ ap (λ (g : Forest). beside (shown p.given) (node FIELD_EXPR g empty)) all)
+    rw f (close-shown FIELD_EXPR p (put beyond [] 0 inner) ∙ ap (λ (g : Forest). beside (shown p.given) (node FIELD_EXPR g empty)) all)
 
 wrong-shown : (p r : Dressing) (i : Forest) → shown r.given ≡ i → is_empty (from_dot (next_text r.left)) ≡ true → shown (close_node FIELD_EXPR p (access (open_node p) r)).given ≡ beside (shown p.given) (wronged i empty)
 unfolding access wronged
@@ -188,7 +188,7 @@ pub either-dressing : (q : Bool) (P : Dressing → Type 0) (x y : Dressing) → 
 either-dressing true P x y p r = p refl
 either-dressing false P x y p r = r refl
 
--- what stands behind a float
+-- what stands after a float
 float-added :
     (b : Bool) (c f : forest.Forest) (s x : Dressing) (i k m l : Forest) → Shows c i → shown x.given ≡ beside (shown s.given) k
     → (after : Dressed) → Shows f m → shown after ≡ beside (shown x.given) m → l ≡ beside k m → (l ≡ parted i m) ⊎ ((l ≡ accessed i m) ⊎ (l ≡ wronged i m)) → Added (forest.Float b c f) s.given after

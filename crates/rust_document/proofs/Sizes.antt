@@ -11,13 +11,13 @@ use Rattle.rustc_lexer.specs.Tokens.{first_lexeme}
 use Rattle.rustc_lexer.proofs.Booleans.{bool_cases, and_left}
 use Rattle.rustc_lexer.proofs.Lines.{shebang-none}
 use Rattle.parser_input.specs.Lexed.{Lexed, lexed, leaves_of, next_leaf, cut, preface, content, content_of, shebang_leaf, frontmatter_leaf}
-use Rattle.parser_input.specs.Lines.{behind_line, blank_len, dashes}
-use Rattle.parser_input.specs.Preface.{Piece, Source, bare, behind_shebang, fenced, opening_line, shebang_piece, source}
+use Rattle.parser_input.specs.Lines.{after_line, blank_len, dashes}
+use Rattle.parser_input.specs.Preface.{Piece, Source, bare, after_shebang, fenced, opening_line, shebang_piece, source}
 use Rattle.parser_input.specs.declared.edition.Edition.{Edition}
 use Rattle.parser_input.specs.declared.frontmatter_error.FrontmatterError.{FrontmatterError}
 use Rattle.parser_input.proofs.LexedTexts as whole
-use Rattle.parser_input.proofs.PrefaceSteps.{Form, Bare, Refused, Closed, form, Suffix, behind-suffix}
-use Rattle.parser_input.proofs.Prefaces.{behind-some, behind-none, piece-some, piece-none, behind-shorter, source-bare}
+use Rattle.parser_input.proofs.PrefaceSteps.{Form, Bare, Refused, Closed, form, Suffix, after-suffix}
+use Rattle.parser_input.proofs.Prefaces.{after-some, after-none, piece-some, piece-none, after-shorter, source-bare}
 use Rattle.parser_events.specs.Dress as dress
 use Rattle.rust_document.specs.Reading.{leaves_in}
 
@@ -55,7 +55,7 @@ shebang-line text h = elim (bool_cases (has_shebang text)) [
 ]
 
 abbrev with_shebang : List ℕ → ℕ
-with_shebang t = length (shebang_leaf (shebang_piece t)) + length (behind_shebang t)
+with_shebang t = length (shebang_leaf (shebang_piece t)) + length (after_shebang t)
 
 one-less : (n : ℕ) (t : List ℕ) → 1 ≤ n → 1 ≤ length t → 1 + length (drop n t) ≤ length t
 one-less n t some long = omega (arith, length-drop n t, some, long)
@@ -72,11 +72,11 @@ few-shebang t = elim (bool_cases (is_some (shebang t))) [
       omega (
         arith,
         ap (λ (o : Option Piece). length (shebang_leaf o)) (piece-some t there),
-        ap (λ (r : List ℕ). length r) (behind-some t there),
+        ap (λ (r : List ℕ). length r) (after-some t there),
         one-less (line_len t) t line (line-within t line),
       )
   | inr none ↦
-      omega (arith, ap (λ (o : Option Piece). length (shebang_leaf o)) (piece-none t none), ap (λ (r : List ℕ). length r) (behind-none t none))
+      omega (arith, ap (λ (o : Option Piece). length (shebang_leaf o)) (piece-none t none), ap (λ (r : List ℕ). length r) (after-none t none))
 ]
 
 abbrev with_frontmatter : List ℕ → ℕ
@@ -93,7 +93,7 @@ never-closed t closing is none =
     let closings : Result Source FrontmatterError → Option Piece = λ r. elim r [ Ok s ↦ s.closing | Err e ↦ None ] in
     let y = ap closings z in cc
 
-few-frontmatter : (t : List ℕ) → Form t → with_frontmatter t ≤ length (behind_shebang t)
+few-frontmatter : (t : List ℕ) → Form t → with_frontmatter t ≤ length (after_shebang t)
 unfolding content bare fenced opening_line
 few-frontmatter t (Bare is) =
     omega (arith, ap (λ (r : Result Source FrontmatterError). length (frontmatter_leaf t r)) is, ap (λ (r : Result Source FrontmatterError). length (content_of t r)) is)
@@ -104,10 +104,10 @@ few-frontmatter t (Closed closing is at) =
       arith,
       ap (λ (r : Result Source FrontmatterError). length (frontmatter_leaf t r)) is,
       ap (λ (r : Result Source FrontmatterError). length (content_of t r)) is,
-      suffix-within (behind_line closing) closing (behind-suffix closing),
-      suffix-within closing (behind_line (opening_line t)) at,
-      behind-shorter (opening_line t) (never-closed t closing is),
-      length-drop (blank_len (behind_shebang t)) (behind_shebang t),
+      suffix-within (after_line closing) closing (after-suffix closing),
+      suffix-within closing (after_line (opening_line t)) at,
+      after-shorter (opening_line t) (never-closed t closing is),
+      length-drop (blank_len (after_shebang t)) (after_shebang t),
     )
 
 -- a text has no more leaves than characters

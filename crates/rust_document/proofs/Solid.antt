@@ -126,7 +126,7 @@ spelled-solid k n ts s e = elim (or_cases ((n == 1) && (is_token k ts || is_cont
   | inr i ↦ mark-solid marks k n ts marks-solid i
 ]
 
--- Trees over such tokens have solid leaves, and the tokens behind them are such too.
+-- Trees over such tokens have solid leaves, and the tokens after them are such too.
 abbrev Solid : forest.Forest → List Token → Type 0
 Solid f us = (has_solid_leaves f ≡ true) × (are_solid us ≡ true)
 
@@ -152,8 +152,8 @@ trees-solid (forest.Node k c f) ts us s e =
 trees-solid (forest.Float b c f) ts us s e =
     let at = after-some (tokens_after c ts) (λ vs. then_after (drop_if (is_float b vs) 1 vs) (tokens_after f)) us e in
     let inner = trees-solid c ts at.0 s at.1.0 in
-    let behind = after-some (drop_if (is_float b at.0) 1 at.0) (tokens_after f) us at.1.1 in
-    let rest = trees-solid f behind.0 us (left-solid (is_float b at.0) 1 at.0 behind.0 inner.1 behind.1.0) behind.1.1 in
+    let after = after-some (drop_if (is_float b at.0) 1 at.0) (tokens_after f) us at.1.1 in
+    let rest = trees-solid f after.0 us (left-solid (is_float b at.0) 1 at.0 after.0 inner.1 after.1.0) after.1.1 in
     (both-true (has_solid_leaves c) (has_solid_leaves f) inner.0 rest.0, rest.1)
 
 pub entry-solid : (x : Production) (edition : Edition) (ls : List Leaf) → has_solid_leaves (entry whole x (input edition ls)) ≡ true

@@ -1,4 +1,4 @@
--- The steps of a dressed tree are refused for want of memory alone.
+-- The steps of a dressed tree are refused out of memory alone.
 use Rattle.std.proofs.Common.{◌≡◌, ℕ, zero, suc, ◌+◌, ◌<◌, ◌≤◌, ◌^◌, Bool, true, false, List, [], ◌∷◌, ◌++◌, length, drop, encode_utf8_all, refl, sym, ◌∙◌, ap, subst, inl, inr, arith, append_assoc, append-nil, length-append}
 use Rattle.std.proofs.Math.Utf8.{encodes}
 use Rattle.std.proofs.lemmas.Str.{encodes-append}
@@ -89,7 +89,7 @@ leaves_entered zero (texts.Exit ∷ ss) = false
 leaves_entered (suc level) (texts.Exit ∷ ss) = leaves_entered level ss
 leaves_entered level (texts.Error message place ∷ ss) = leaves_entered level ss
 
--- the bytes of what is built behind a step
+-- the bytes of what is built after a step
 bytes-built : (b : Building) (s : TextStep) → bytes_in (read (built b s).word) ≡ bytes_in (read b.word) + step_bytes s
 bytes-built b (texts.Token kind text) =
     let l : Leaf = record { kind = kind; text = encode_utf8_all text } in
@@ -133,15 +133,15 @@ record HasRoom (b : Building) (ss : List TextStep) : Type 0 where
   terms : terms_in (read b.word) + length ss < 2 ^ 32
   nodes : b.started + length ss < 2 ^ 64
 
-room-behind : (b : Building) (s : TextStep) (ss : List TextStep) → HasRoom b (s ∷ ss) → HasRoom (built b s) ss
-room-behind b s ss r = record {
+room-after : (b : Building) (s : TextStep) (ss : List TextStep) → HasRoom b (s ∷ ss) → HasRoom (built b s) ss
+room-after b s ss r = record {
   level = level-built b s ss r.level;
   bytes = omega (arith, r.bytes, bytes-built b s);
   terms = omega (arith, r.terms, terms-built b s);
   nodes = omega (arith, r.nodes, started-built b s);
 }
 
--- where something fits, a refusal is for want of memory
+-- where something fits, a refusal is one out of memory
 memory-unless : (Fits : Type 0) (e : GreenError) → Fits → RefusesUnless Fits e → e ≡ NoMemory
 memory-unless Fits TooLong f h = absurd (h f)
 memory-unless Fits Unbalanced f h = absurd h
@@ -160,12 +160,12 @@ memory-here b (texts.Enter kind) ss e r h = memory-unless (b.started + 1 < 2 ^ 6
 memory-here b texts.Exit ss e r h = memory-close b ss e r h
 memory-here b (texts.Error message place) ss e r h = h
 
--- where there is room, some step is refused for want of memory alone
+-- where there is room, some step is refused out of memory alone
 memory-in : (old new : TreeSink) (ss : List TextStep) (e : GreenError) → HasRoom old.builder ss → RefusesOne IsTaken IsRefused old ss e new → e ≡ NoMemory
 memory-in old new [] e r h = absurd h
 memory-in old new (s ∷ ss) e r h = elim h [
   | inl refused ↦ memory-here old.builder s ss e r refused.reason
-  | inr taken ↦ memory-in taken.0 new ss e (let P : Building → Type 0 = λ b. HasRoom b ss in subst P (sym taken.1.0.builder) (room-behind old.builder s ss r)) taken.1.1
+  | inr taken ↦ memory-in taken.0 new ss e (let P : Building → Type 0 = λ b. HasRoom b ss in subst P (sym taken.1.0.builder) (room-after old.builder s ss r)) taken.1.1
 ]
 
 -- ---- the steps of a dressed tree
@@ -202,7 +202,7 @@ room-whole f ls bytes few =
     let own : bytes_of (text_steps d) ≡ length (encode_utf8_all (joined ls)) = bytes-tree d ∙ ap (λ (t : List ℕ). length (encodes t)) (text-is-text f ls) in
     record { level = level-whole d; bytes = omega (arith, own, bytes); terms = omega (arith, few); nodes = omega (arith, few) }
 
--- From nothing built, the steps of a tree are refused for want of memory alone.
+-- From nothing built, the steps of a tree are refused out of memory alone.
 pub memory-alone :
     (old new : TreeSink) (ss : List Step) (ls : List leaves.Leaf) (e : GreenError) → old.builder ≡ nothing_built → IsTreeOf ss ls → RefusesOne IsTaken IsRefused old (put_around ss ls) e new → e ≡ NoMemory
 memory-alone old new ss ls e start t h =

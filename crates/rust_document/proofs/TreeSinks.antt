@@ -15,7 +15,7 @@ use Rattle.parser_events.specs.Sinks.{TakesAll}
 use Rattle.parser_events.specs.Steps.{Step, steps}
 use Rattle.parser_events.specs.TextSteps as texts
 use Rattle.parser_events.specs.TextSteps.{TextStep, text_steps}
-use Rattle.rust_document.specs.Seen.{told}
+use Rattle.rust_document.specs.Seen.{message_of_error}
 use Rattle.rust_document.specs.Reading.{terms_of, root_of, Message, of_grammar}
 use Rattle.rust_document.specs.TreeBuilt.{AreStepsOf, IsBuilt, IsTreeOf}
 use Rattle.rust_document.specs.TreeSinks.{built, heard, IsTaken}
@@ -55,13 +55,13 @@ taken-word old new (s ∷ ss) h =
     ∙ append_assoc old.builder.word (signs s) (all_signs ss)
 
 -- the messages
-taken-told : (old new : TreeSink) (ss : List TextStep) → TakesAll IsTaken old ss new → map told new.errors.items ≡ map told old.errors.items ++ all_heard ss
-taken-told old new [] h = ap (λ (t : TreeSink). map told t.errors.items) h ∙ sym (append-nil (map told old.errors.items))
+taken-told : (old new : TreeSink) (ss : List TextStep) → TakesAll IsTaken old ss new → map message_of_error new.errors.items ≡ map message_of_error old.errors.items ++ all_heard ss
+taken-told old new [] h = ap (λ (t : TreeSink). map message_of_error t.errors.items) h ∙ sym (append-nil (map message_of_error old.errors.items))
 taken-told old new (s ∷ ss) h =
     let next = h.0 in
     taken-told next new ss h.1.1
     ∙ ap (λ (w : List Message). w ++ all_heard ss) h.1.0.errors
-    ∙ append_assoc (map told old.errors.items) (heard s) (all_heard ss)
+    ∙ append_assoc (map message_of_error old.errors.items) (heard s) (all_heard ss)
 
 -- ---- the steps of a dressed tree
 
@@ -120,9 +120,9 @@ root-is t u e = let same : (Node t ∷ []) ≡ (Node u ∷ []) = words-injective
 
 -- and the messages are those that stand in it.
 told-all :
-    (old new : TreeSink) (d : Dressed) → old.errors.items ≡ [] → TakesAll IsTaken old (text_steps d) new → map told new.errors.items ≡ map of_grammar (sayings_of d)
+    (old new : TreeSink) (d : Dressed) → old.errors.items ≡ [] → TakesAll IsTaken old (text_steps d) new → map message_of_error new.errors.items ≡ map of_grammar (sayings_of d)
 told-all old new d start h =
-    taken-told old new (text_steps d) h ∙ ap (λ (es : List SyntaxError). map told es ++ all_heard (text_steps d)) start ∙ heard-tree d
+    taken-told old new (text_steps d) h ∙ ap (λ (es : List SyntaxError). map message_of_error es ++ all_heard (text_steps d)) start ∙ heard-tree d
 
 abbrev Takes : TreeSink → TreeSink → List Step → List leaves.Leaf → Type 0
 Takes old new ss ls = (f : forest.Forest) → IsRooted f → ss ≡ steps f → fits ss ls ≡ true → TakesAll IsTaken old (text_steps (dress_root f ls)) new
@@ -130,7 +130,7 @@ Takes old new ss ls = (f : forest.Forest) → IsRooted f → ss ≡ steps f → 
 takes-all : (old new : TreeSink) (ss : List Step) (ls : List leaves.Leaf) (f : forest.Forest) → Takes old new ss ls → AreStepsOf ss ls f → TakesAll IsTaken old (text_steps (dress_root f ls)) new
 takes-all old new ss ls f h a = h f a.rooted a.are (ap (λ (xs : List Step). fits xs ls) a.are ∙ a.fit)
 
--- what is finished behind all steps is the tree, with its messages
+-- what is finished after all steps is the tree, with its messages
 pub is-built :
     (old new : TreeSink) (ss : List Step) (ls : List leaves.Leaf) (root : Tree) → old.builder ≡ nothing_built → old.errors.items ≡ [] → Takes old new ss ls → new.builder.word ≡ words (Node root ∷ []) → IsBuilt ss ls root new.errors.items
 is-built old new ss ls root start silent h word = record {

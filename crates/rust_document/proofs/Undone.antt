@@ -20,8 +20,8 @@ up m n le = omega (arith, le)
 
 whole : (text : List ℕ) (start end : ℕ) → start ≤ end → take start text ++ bytes_between text start end ++ drop end text ≡ text
 whole text start end ordered =
-    let behind = ap (λ n. drop n text) (up end start ordered) in
-    let rest = (ap (λ l. bytes_between text start end ++ l) (sym (drop-drop (end - start) start text ∙ behind)) ∙ take-append-drop (end - start) (drop start text)) in
+    let after = ap (λ n. drop n text) (up end start ordered) in
+    let rest = (ap (λ l. bytes_between text start end ++ l) (sym (drop-drop (end - start) start text ∙ after)) ∙ take-append-drop (end - start) (drop start text)) in
     append_assoc (take start text) (bytes_between text start end) (drop end text) ∙ ap (λ l. take start text ++ l) rest ∙ take-append-drop start text
 
 at-seam : (bs : List ℕ) (i j : ℕ) → IsCharBoundary bs i → i ≡ j → is_boundary j bs ≡ true
@@ -34,10 +34,10 @@ undone text put start end utf8 put8 can =
     let front = length-take-le start text first.0 in
     let back8 = IsUtf8-drop text end utf8 last in
     let new = edited text start end put in
-    let behind = IsCharBoundary-at_seam new (take start text) (put ++ drop end text) (append_assoc (take start text) put (drop end text)) (IsUtf8-append put (drop end text) put8 back8) in
-    let behind-put = IsCharBoundary-at_seam new (take start text ++ put) (drop end text) refl back8 in
+    let after = IsCharBoundary-at_seam new (take start text) (put ++ drop end text) (append_assoc (take start text) put (drop end text)) (IsUtf8-append put (drop end text) put8 back8) in
+    let after-put = IsCharBoundary-at_seam new (take start text ++ put) (drop end text) refl back8 in
     record {
-      can_be = editable new start (start + length put) (omega arith) (at-seam new (length (take start text)) start behind front)
-          (at-seam new (length (take start text ++ put)) (start + length put) behind-put (length-append (take start text) put ∙ ap (λ n. n + length put) front));
+      can_be = editable new start (start + length put) (omega arith) (at-seam new (length (take start text)) start after front)
+          (at-seam new (length (take start text ++ put)) (start + length put) after-put (length-append (take start text) put ∙ ap (λ n. n + length put) front));
       old_text = rw (first-part (take start text) put (drop end text) start front, last-part (take start text) put (drop end text) start front) (whole text start end (in-order text start end can));
     }

@@ -17,9 +17,9 @@ use Rattle.rust_grammar.proofs.EntriesFit.{entry-rooted, entry-fits}
 use Rattle.rust_grammar.proofs.EntriesShort.{entry-short}
 use Rattle.rust_grammar.proofs.Lengths.{input-most}
 use Rattle.rust_document.specs.Reading.{Message, forest_by, of_leaves, leaves_in, dressed_by, tree_by, messages_by}
-use Rattle.rust_document.specs.Seen.{in_bytes, told}
+use Rattle.rust_document.specs.Seen.{in_bytes, message_of_error}
 use Rattle.rust_document.specs.IsReading.{IsReadingBy}
-use Rattle.rust_document.specs.Tokens.{spans_from, shown}
+use Rattle.rust_document.specs.Tokens.{spans_from, span_of}
 use Rattle.rust_document.specs.TreeBuilt.{AreStepsOf, IsTreeOf, IsBuilt}
 use Rattle.rust_document.specs.declared.tokens.LexedToken.{LexedToken}
 use Rattle.rust_document.specs.declared.syntax_error.SyntaxError.{SyntaxError}
@@ -63,8 +63,8 @@ are-tree top edition ls ss are bytes count =
 pub whole :
     (top : TopEntryPoint) (edition : Edition) (text : List ℕ) (tokens : List LexedToken) (root : Tree) (first errors : List SyntaxError)
     → IsBuilt (steps (forest_by (production_of top) edition (leaves_in edition text))) (leaves_in edition text) root first
-    → map told errors ≡ map told first ++ of_leaves 0 (lexed edition text)
-    → map shown tokens ≡ spans_from 0 (map in_bytes (leaves_in edition text))
+    → map message_of_error errors ≡ map message_of_error first ++ of_leaves 0 (lexed edition text)
+    → map span_of tokens ≡ spans_from 0 (map in_bytes (leaves_in edition text))
     → IsReadingBy (production_of top) edition text tokens root errors
 unfolding tree_by messages_by dressed_by
 whole top edition text tokens root first errors built more placed =

@@ -9,7 +9,7 @@ use Rattle.syntax_tree.specs.declared.error.TreeError.TheVariants as trees
 use Rattle.syntax_editor.specs.declared.error.RewriteError.{RewriteError}
 use Rattle.syntax_editor.specs.declared.error.RewriteError.TheVariants as rewrites
 
--- A refusal tells what the verdict says. Want of a tree number comes only where none is left, want of memory at any point.
+-- A refusal tells what the verdict says. Out of tree numbers comes only where none is left, out of memory at any point.
 abbrev pub RefusesCommit : Verdict → ℕ → CommitError → Type 0
 RefusesCommit v number Foreign = v ≡ step.Foreign
 RefusesCommit v number Intersecting = v ≡ step.Intersecting

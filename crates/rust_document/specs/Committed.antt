@@ -6,7 +6,7 @@ use Rattle.syntax_tree.specs.Handle.{element_of}
 use Rattle.syntax_tree.specs.declared.element.SyntaxElement.{SyntaxElement}
 use Rattle.syntax_editor.specs.declared.annotation.SyntaxAnnotation.{SyntaxAnnotation}
 
--- a range as its first byte and the byte behind it
+-- a range as its first byte and the byte after it
 abbrev pub ends_of : TextRange → ℕ × ℕ
 ends_of r = (r.start.0, r.end.0)
 

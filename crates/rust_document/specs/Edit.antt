@@ -12,7 +12,7 @@ use Rattle.rust_document.specs.declared.error.EditError.TheVariants.{TooLong, No
 abbrev pub edited : List ℕ → ℕ → ℕ → List ℕ → List ℕ
 edited text start end put = take start text ++ put ++ drop end text
 
--- Behind so many bytes a character starts, or the text ends.
+-- After so many bytes a character starts, or the text ends.
 unfoldable pub is_boundary : ℕ → List ℕ → Bool
 is_boundary zero [] = true
 is_boundary zero (b ∷ bs) = is_char_start b

@@ -22,9 +22,9 @@ use Rattle.rust_grammar.specs.Whole.{whole}
 abbrev pub leaves_in : Edition → List ℕ → List Leaf
 leaves_in edition text = leaves_of (lexed edition text)
 
--- those behind the preface
-abbrev pub behind_preface : Edition → List ℕ → List Lexed
-behind_preface edition text = cut edition 0 (content text)
+-- those after the preface
+abbrev pub after_preface : Edition → List ℕ → List Lexed
+after_preface edition text = cut edition 0 (content text)
 
 -- dressed elements as terms: texts in bytes, and no messages
 abbrev pub terms_of : Dressed → Forest

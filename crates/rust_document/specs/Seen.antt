@@ -23,8 +23,8 @@ abbrev pub fault_of : SyntaxMessage → Fault
 fault_of (Parser m) = OfGrammar (message_of m)
 fault_of (Lexer words) = OfLeaf words.now
 
-abbrev pub told : SyntaxError → Message
-told e = (e.offset, fault_of e.message)
+abbrev pub message_of_error : SyntaxError → Message
+message_of_error e = (e.offset, fault_of e.message)
 
 -- its text
 abbrev pub words_of : SyntaxMessage → List ℕ

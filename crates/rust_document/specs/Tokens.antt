@@ -23,5 +23,5 @@ abbrev pub tokens_of : Edition → List ℕ → List Span
 tokens_of edition text = spans_from 0 (map in_bytes (leaves_in edition text))
 
 -- a token as code has it
-abbrev pub shown : LexedToken → Span
-shown t = record { kind = raw_of t.kind; start = t.range.start.0; end = t.range.end.0 }
+abbrev pub span_of : LexedToken → Span
+span_of t = record { kind = raw_of t.kind; start = t.range.start.0; end = t.range.end.0 }

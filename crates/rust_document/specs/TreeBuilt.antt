@@ -8,7 +8,7 @@ use Rattle.parser_events.specs.Fits.{fits, IsRooted}
 use Rattle.parser_events.specs.Forest.{Forest}
 use Rattle.parser_events.specs.Steps.{Step, steps}
 use Rattle.parser_events.specs.TextSteps.{text_steps}
-use Rattle.rust_document.specs.Seen.{told}
+use Rattle.rust_document.specs.Seen.{message_of_error}
 use Rattle.rust_document.specs.Reading.{root_of, terms_of, of_grammar}
 use Rattle.rust_document.specs.declared.syntax_error.SyntaxError.{SyntaxError}
 
@@ -28,4 +28,4 @@ pub record IsTreeOf (ss : List Step) (ls : List Leaf) : Type 0 where
 -- the tree is the node dressed with the leaves, and the messages are those that stand in it
 pub record IsBuilt (ss : List Step) (ls : List Leaf) (root : Tree) (errors : List SyntaxError) : Type 0 where
   pub root_is : (f : Forest) → AreStepsOf ss ls f → root ≡ root_of (terms_of (dress_root f ls))
-  pub errors_are : (f : Forest) → AreStepsOf ss ls f → map told errors ≡ map of_grammar (sayings_of (dress_root f ls))
+  pub errors_are : (f : Forest) → AreStepsOf ss ls f → map message_of_error errors ≡ map of_grammar (sayings_of (dress_root f ls))

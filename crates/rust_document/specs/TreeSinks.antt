@@ -8,10 +8,10 @@ use Rattle.rowan_green.specs.declared.error.GreenError.{GreenError}
 use Rattle.rowan_green.specs.declared.error.GreenError.TheVariants.{TooLong, Unbalanced, NoMemory}
 use Rattle.parser_events.specs.TextSteps.{TextStep, Token, Enter, Exit, Error}
 use Rattle.rust_document.specs.Reading.{Message, OfGrammar}
-use Rattle.rust_document.specs.Seen.{told}
+use Rattle.rust_document.specs.Seen.{message_of_error}
 use Rattle.rust_document.specs.declared.tree_sink.TreeSink.{TreeSink}
 
--- the builder behind a step: a leaf is added, a node is opened, the innermost one is closed
+-- the builder after a step: a leaf is added, a node is opened, the innermost one is closed
 abbrev pub built : Building → TextStep → Building
 built b (Token kind text) = with_sign b (token (record { kind = kind; text = encode_utf8_all text }))
 built b (Enter kind) = with_opened b (b.word ++ opens kind ∷ [])
@@ -28,7 +28,7 @@ heard (Error message place) = (place, OfGrammar message) ∷ []
 -- a step is taken
 pub record IsTaken (old : TreeSink) (step : TextStep) (new : TreeSink) : Type 0 where
   pub builder : new.builder ≡ built old.builder step
-  pub errors : map told new.errors.items ≡ map told old.errors.items ++ heard step
+  pub errors : map message_of_error new.errors.items ≡ map message_of_error old.errors.items ++ heard step
 
 -- why the innermost node cannot be closed
 abbrev pub MayNotClose : Building → GreenError → Type 0

@@ -11,11 +11,11 @@ ghost use Rattle.rust_document.specs.Costs.{most_steps};
 ghost use Rattle.rust_document.specs.Edit.{RefusesEdit, can_edit, edited};
 ghost use Rattle.rust_document.specs.Open.{IsOpened, RefusesOpen};
 ghost use Rattle.rust_document.specs.IsReading.{IsReading};
-ghost use Rattle.rust_document.specs.Seen.{told};
-ghost use Rattle.rust_document.specs.Reading.{behind_preface, messages};
+ghost use Rattle.rust_document.specs.Seen.{message_of_error};
+ghost use Rattle.rust_document.specs.Reading.{after_preface, messages};
 ghost use Rattle.rust_document.specs.Rewrite.{annotated, rewritten, changed};
 ghost use Rattle.rust_document.specs.Step.{MAX_TEXT, first_element, is_foreign, root_element, verdict, Accepted};
-ghost use Rattle.rust_document.specs.Tokens.{shown, tokens_of};
+ghost use Rattle.rust_document.specs.Tokens.{span_of, tokens_of};
 ghost use Rattle.rust_document.specs.WithoutMessages.{HasPairedBrackets, HasPlacedOperators};
 
 use crate::edit::edited;
@@ -53,9 +53,9 @@ pub struct Committed {
 pub struct Edited {
     /// How many tokens before the edit were kept.
     pub front: usize,
-    /// How many tokens behind the preface were lexed.
+    /// How many tokens after the preface were lexed.
     pub lexed: usize,
-    /// How many tokens behind the edit were kept.
+    /// How many tokens after the edit were kept.
     pub back: usize,
     /// How many looks at the tokens of the new text the parser made.
     pub steps: u64,
@@ -149,14 +149,14 @@ impl Document {
 
     /// The tokens of the text in order, white space too.
     pub fn tokens(&self) -> Tokens<'_>
-        ensures { map shown result ≡ tokens_of self.now.edition (chars self.now.text) }
+        ensures { map span_of result ≡ tokens_of self.now.edition (chars self.now.text) }
     {
         Tokens::of(&self.tokens)
     }
 
     /// The messages: the parser's in the order of its steps, then the lexer's in the order of the tokens.
     pub fn errors(&self) -> &[SyntaxError]
-        ensures { map told result.now ≡ messages self.now.edition (chars self.now.text) }
+        ensures { map message_of_error result.now ≡ messages self.now.edition (chars self.now.text) }
     {
         &self.errors
     }
@@ -192,7 +192,7 @@ impl Document {
         ensures brackets { OnOk result (HasPairedBrackets self.new) }
         ensures operators { OnOk result (HasPlacedOperators self.new) }
         ensures front { IfOk result (λ e. e.front ≡ 0) }
-        ensures lexed { IfOk result (λ e. e.lexed ≡ length (behind_preface self.old.edition
+        ensures lexed { IfOk result (λ e. e.lexed ≡ length (after_preface self.old.edition
             (chars (edited self.old.text range.start.0 range.end.0 text.now)))) }
         ensures back { IfOk result (λ e. e.back ≡ 0) }
         ensures steps { IfOk result (λ e. e.steps ≤ most_steps self.old.edition

@@ -41,7 +41,7 @@ pub fn token_trees_are_closed()
 {}
 
 /// In a document without messages a right operand that is a binary expression binds more tightly than the operator before it,
-/// unless that is an assignment; a left one binds no less tightly than the operator behind it, and is no assignment. Some trees
+/// unless that is an assignment; a left one binds no less tightly than the operator after it, and is no assignment. Some trees
 /// where that is so are told from some where it is not.
 pub fn operators_bind_by_power()
     ensures documents { OperatorsBindByPower }

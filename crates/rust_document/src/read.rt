@@ -9,8 +9,8 @@ ghost use Rattle.ra_parser.specs.Entries.{production_of};
 ghost use Rattle.rust_document.specs.IsReading.{IsReadingBy};
 ghost use Rattle.parser_input.specs.Input.{input};
 ghost use Rattle.rust_document.specs.Costs.{most_steps, steps_for};
-ghost use Rattle.rust_document.specs.Reading.{behind_preface, forest_by, of_leaf_at, of_leaves};
-ghost use Rattle.rust_document.specs.Seen.{told};
+ghost use Rattle.rust_document.specs.Reading.{after_preface, forest_by, of_leaf_at, of_leaves};
+ghost use Rattle.rust_document.specs.Seen.{message_of_error};
 ghost use Rattle.rust_document.specs.TreeBuilt.{IsBuilt};
 
 use crate::syntax_error::{SyntaxError, SyntaxMessage};
@@ -24,7 +24,7 @@ use rowan_green::GreenNode;
 use rustc_lexer::strip_shebang;
 use std::alloc::{AllocError, Global};
 
-/// The tokens, the tree and the messages of a text, how many of the tokens stand behind its preface, and how many looks at them the
+/// The tokens, the tree and the messages of a text, how many of the tokens stand after its preface, and how many looks at them the
 /// parser made.
 #[derive(Drop)]
 pub struct Reading {
@@ -74,7 +74,7 @@ fn append_fault(
 ) -> Result<(), AllocError>
     requires { leaf < length lexed.now.leaves }
     ensures { OnOk result
-        (map told errors.new.items ≡ map told errors.old.items ++ of_leaf_at lexed.now.leaves leaf) }
+        (map message_of_error errors.new.items ≡ map message_of_error errors.old.items ++ of_leaf_at lexed.now.leaves leaf) }
 {
     let Some(words) = lexed.error(leaf) else {
         return Ok(());
@@ -87,7 +87,7 @@ fn append_fault(
 
 /// Appends the messages of the lexer.
 fn append_faults(lexed: &LexedStr<'_>, errors: &mut Vec<SyntaxError>) -> Result<(), AllocError>
-    ensures { OnOk result (map told errors.new.items ≡ map told errors.old.items ++ of_leaves 0 lexed.now.leaves) }
+    ensures { OnOk result (map message_of_error errors.new.items ≡ map message_of_error errors.old.items ++ of_leaves 0 lexed.now.leaves) }
 {
     for leaf in 0..lexed.len() {
         append_fault(lexed, leaf, errors)?;
@@ -118,10 +118,10 @@ fn frontmatter_len(text: &str) -> usize
     }
 }
 
-/// How many of a text's leaves stand behind its preface.
-fn behind_preface(text: &str, lexed: &LexedStr<'_>) -> usize
+/// How many of a text's leaves stand after its preface.
+fn after_preface(text: &str, lexed: &LexedStr<'_>) -> usize
     requires { lexed.now ≡ whole_of lexed.now.edition (chars text.now) }
-    ensures { result ≡ length (behind_preface lexed.now.edition (chars text.now)) }
+    ensures { result ≡ length (after_preface lexed.now.edition (chars text.now)) }
 {
     lexed.len() - (shebang_len(text) + frontmatter_len(text))
 }
@@ -136,7 +136,7 @@ pub fn read(
     requires { length text.now ≤ 16777216 }
     ensures read { IfOk result (λ r. IsReadingBy (production_of entry) edition (chars text.now)
         r.tokens.items r.root r.errors.items) }
-    ensures lexed { IfOk result (λ r. r.lexed ≡ length (behind_preface edition (chars text.now))) }
+    ensures lexed { IfOk result (λ r. r.lexed ≡ length (after_preface edition (chars text.now))) }
     ensures steps { IfOk result (λ r. r.steps ≤ most_steps edition (chars text.now)) }
 {
     let lexed = LexedStr::new(alloc, edition, text)?;
@@ -144,7 +144,7 @@ pub fn read(
     let Built { root, mut errors } = built;
     append_faults(&lexed, &mut errors)?;
     let tokens = lexed_tokens(alloc, &lexed)?;
-    let lexed = behind_preface(text, &lexed);
+    let lexed = after_preface(text, &lexed);
     Ok(Reading {
         tokens,
         root,

@@ -3,7 +3,7 @@ ghost use Rattle.std.specs.Prelude.{◌≡◌, ◌≤◌, length, map, encode_ut
 ghost use Rattle.parser_input.specs.Lexed.{leaves_of};
 ghost use Rattle.parser_events.specs.Dress.{joined};
 ghost use Rattle.rust_document.specs.Seen.{in_bytes};
-ghost use Rattle.rust_document.specs.Tokens.{shown, spans_from};
+ghost use Rattle.rust_document.specs.Tokens.{span_of, spans_from};
 
 use parser_input::lexed_str::LexedStr;
 use parser_input::syntax_kind::SyntaxKind;
@@ -64,7 +64,7 @@ pub(crate) fn lexed_tokens(
     lexed: &LexedStr<'_>,
 ) -> Result<Vec<LexedToken>, AllocError>
     requires { length (encode_utf8_all (joined (leaves_of lexed.now.leaves))) ≤ 16777216 }
-    ensures { IfOk result (λ v. map shown v.items ≡ spans_from 0 (map in_bytes (leaves_of lexed.now.leaves))) }
+    ensures { IfOk result (λ v. map span_of v.items ≡ spans_from 0 (map in_bytes (leaves_of lexed.now.leaves))) }
 {
     let mut tokens = Vec::with_capacity(alloc, lexed.len())?;
     let mut place = TextSize::new(0);

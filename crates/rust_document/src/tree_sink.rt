@@ -6,7 +6,7 @@ ghost use Rattle.parser_input.specs.Lexed.{leaves_of};
 ghost use Rattle.parser_events.specs.Seen.{message_of};
 ghost use Rattle.parser_events.specs.TextSteps as texts;
 ghost use Rattle.rust_document.specs.Reading.{OfGrammar};
-ghost use Rattle.rust_document.specs.Seen.{told};
+ghost use Rattle.rust_document.specs.Seen.{message_of_error};
 ghost use Rattle.rust_document.specs.TreeBuilt.{IsBuilt, IsTreeOf};
 ghost use Rattle.rust_document.specs.TreeSinks.{built, MayRefuse};
 
@@ -67,7 +67,7 @@ fn put_message(
     message: Message,
     offset: usize,
 ) -> Result<(), GreenError>
-    ensures ok { OnOk result (map told errors.new.items ≡ map told errors.old.items ++
+    ensures ok { OnOk result (map message_of_error errors.new.items ≡ map message_of_error errors.old.items ++
         (offset, OfGrammar (message_of message)) ∷ []) }
     ensures refused { IfErr result (λ error. error ≡ NoMemory) }
     ensures err { OnErr result (errors.new.items ≡ errors.old.items) }
@@ -96,7 +96,7 @@ impl StrSink for TreeSink<'_> {
     }
 }
 
-/// The refusal that is for want of memory.
+/// The refusal when memory is out.
 fn want_of_memory(error: GreenError) -> AllocError
     requires { error ≡ NoMemory }
 {
@@ -119,7 +119,7 @@ pub(crate) struct Built {
 ///
 /// # Errors
 ///
-/// Want of memory.
+/// Out of memory.
 pub(crate) fn build(
     alloc: Global,
     lexed: &LexedStr<'_>,

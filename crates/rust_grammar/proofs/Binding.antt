@@ -5,7 +5,7 @@ use Rattle.parser_input.specs.Kinds.{BIN_EXPR}
 use Rattle.parser_events.specs.Forest as forest
 use Rattle.parser_events.specs.Forest.{Forest, Message, ◌then◌}
 use Rattle.rust_grammar.specs.Rule.{Production, Rule, Look, Nothing, One, Any, Then, Near, Or, Opt, Star, Node, Wrap, Want, Say, Skip, Split, When, Unless, Call, Continue, Mode, body, literal, block, statement_end, macro_statement_end, expression, operation, operation_tail, disjunction, conjunction, comparison, bit_or, bit_xor, bit_and, bit_shift, sum, product, cast, prefixed, postfix, after_dot, atom, block_like, if_expr, begins}
-use Rattle.rust_grammar.specs.Meaning.{Reading, Calls, read, sees, ahead, fresh, leaf, say, skip, split, node, wrapped, behind, turns}
+use Rattle.rust_grammar.specs.Meaning.{Reading, Calls, read, sees, ahead, fresh, leaf, say, skip, split, node, wrapped, after, turns}
 use Rattle.rust_grammar.specs.Powers.{power, are_operators_placed}
 use Rattle.rust_grammar.proofs.Plain.{and_l, and_r}
 use Rattle.rust_grammar.proofs.Spelled.{chosen}
@@ -66,12 +66,12 @@ unfoldable pub binary : (p q : ℕ) → Rule → Standing → Standing
 binary p q a (Operand r) = if has_power p a && fits_between p q r then Operand p else Unknown
 binary p q a r = Unknown
 
--- the same, of an operand and what stands behind it
+-- the same, of an operand and what stands after it
 unfoldable pub operated : Standing → Rule → Standing
 operated (Operand q) (Then a (Want (Call y) m)) = binary (first_power a) q a (ends y)
 operated p a = Unknown
 
--- What is known of the trees behind a rule.
+-- What is known of the trees after a rule.
 unfoldable pub gives : Standing → Rule → Standing
 gives p Nothing = p
 gives p (One x) = beside p Placed
@@ -104,7 +104,7 @@ record OneOperator (p : ℕ) (s t : Reading) : Type 0 where
   pub is : t.given ≡ s.given then forest.Leaf kind count forest.End
   pub of : power kind ≡ p
 
--- what each turn keeps holds behind the repetition
+-- what each turn keeps holds after the repetition
 turns-keep : (p : Standing) (n : ℕ) (test : Reading → Bool) (turn : Reading → Reading) (s : Reading)
     → ((v : Reading) → is_of p v.given ≡ true → is_of p (turn v).given ≡ true) → is_of p s.given ≡ true
     → is_of p (turns n test turn s).given ≡ true
@@ -161,7 +161,7 @@ module _ (looks : Production → Look) (call : Calls) (ok : (y : Production) (d 
   binary-so : (p q r : ℕ) (a : Rule) (y : Production) (m : Message) (c : Bool) (s : Reading)
       → ends y ≡ Operand r → has_power p a ≡ true → Fits p q r → is_of (Operand q) s.given ≡ true
       → is_of (Operand p) (forest.Node BIN_EXPR (read looks call c (Then a (Want (Call y) m)) s).given forest.End) ≡ true
-  unfolding read behind say
+  unfolding read after say
   binary-so p q r a y m c s e i fit h =
       let one = one-operator looks call a p c s i in
       let t = read looks call c a s in
@@ -169,7 +169,7 @@ module _ (looks : Production → Look) (call : Calls) (ok : (y : Production) (d 
       let right = right-there r operand fit.right_bound (subst (λ (u : Standing). is_of u operand ≡ true) e (called-is y c t)) in
       let missing = forest.Said m forest.End in
       chosen (λ (u : Reading). is_of (Operand p) (forest.Node BIN_EXPR u.given forest.End) ≡ true) (sees c t (begins looks (Call y)))
-      (behind t (call y c (fresh t))) (say m t)
+      (after t (call y c (fresh t))) (say m t)
       (λ j. subst (λ (f : Forest). is_of (Operand p) (forest.Node BIN_EXPR (f then operand) forest.End) ≡ true) (sym one.is)
       (binary-is p q r s.given one.kind one.count operand one.of fit h right.0 right.1))
       (λ j. subst (λ (f : Forest). is_of (Operand p) (forest.Node BIN_EXPR (f then missing) forest.End) ≡ true) (sym one.is)
@@ -199,9 +199,9 @@ module _ (looks : Production → Look) (call : Calls) (ok : (y : Production) (d 
       of Unknown e = unknown-is tree
   operated-is p a c s h = unknown-is _
 
-  -- What is known of the trees behind a rule is true.
+  -- What is known of the trees after a rule is true.
   pub placed-so : (r : Rule) (p : Standing) (c : Bool) (s : Reading) → is_of p s.given ≡ true → is_of (gives p r) (read looks call c r s).given ≡ true
-  unfolding gives read leaf say skip split fresh node wrapped behind
+  unfolding gives read leaf say skip split fresh node wrapped after
   placed-so Nothing p c s h = h
   placed-so (One x) p c s h = of-beside p Placed s.given (forest.Leaf x.kind (length x.parts) forest.End) h (one-placed x.kind (length x.parts))
   placed-so Any p c s h = of-beside p Placed s.given (forest.Leaf (ahead 0 s.rest).kind 1 forest.End) h (one-placed (ahead 0 s.rest).kind 1)

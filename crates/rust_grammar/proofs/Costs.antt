@@ -6,7 +6,7 @@ use Rattle.parser_input.specs.Input.{Token}
 use Rattle.parser_events.specs.Forest as forest
 use Rattle.parser_events.specs.Forest.{Forest, ◌then◌}
 use Rattle.rust_grammar.specs.Rule.{Production, Rule, Look, Nothing, One, Any, Then, Near, Or, Opt, Star, Node, Wrap, Want, Say, Skip, Split, When, Unless, Call, Continue, Mode, begins}
-use Rattle.rust_grammar.specs.Meaning.{Reading, Calls, read, sees, ahead, fresh, leaf, say, skip, split, node, wrapped, behind, turns}
+use Rattle.rust_grammar.specs.Meaning.{Reading, Calls, read, sees, ahead, fresh, leaf, say, skip, split, node, wrapped, after, turns}
 use Rattle.rust_grammar.proofs.Fine.{takes}
 use Rattle.rust_grammar.proofs.Plain.{and_l, and_r}
 use Rattle.rust_grammar.proofs.Spelled.{chosen}
@@ -213,8 +213,8 @@ in-wrap k i d a s t (inl h) =
 in-wrap k i d a s t (inr h) = inr (record { more = h.more; leaves = omega (arith, h.leaves); few = omega (arith, h.few) })
 
 -- a call, after what was given
-in-call : (i d : ℕ) (a : Bool) (s t : Reading) → Costs i d a (fresh s) t → Costs (if a then 0 else i) d a s (behind s t)
-unfolding fresh behind
+in-call : (i d : ℕ) (a : Bool) (s t : Reading) → Costs i d a (fresh s) t → Costs (if a then 0 else i) d a s (after s t)
+unfolding fresh after
 in-call i d a s t (inl h) =
     let leaves = leaves-then s.given t.given in
     let steps = steps-then s.given t.given in

@@ -6,7 +6,7 @@ use Rattle.parser_events.specs.Forest as forest
 use Rattle.parser_events.specs.Forest.{Forest, Message, UnexpectedTokens, ◌then◌}
 use Rattle.rust_grammar.specs.Rule.{Production, source_file, macro_items, macro_statements}
 use Rattle.rust_grammar.specs.Meaning.{Reading, meaning, sees, look_of}
-use Rattle.rust_grammar.specs.Entry.{leaves, is_used_up, takes_all, told, entry}
+use Rattle.rust_grammar.specs.Entry.{leaves, is_used_up, takes_all, with_message, entry}
 use Rattle.rust_grammar.specs.Notation.{wanted}
 use Rattle.rust_grammar.specs.Spelled.{then_after, tokens_after}
 use Rattle.rust_grammar.specs.Whole.{whole}
@@ -33,9 +33,9 @@ pub chosen-forest : (P : Forest → Type 0) (b : Bool) (f g : Forest) → (b ≡
 chosen-forest P true f g p q = p refl
 chosen-forest P false f g p q = q refl
 
--- trees behind a message, if there is one
-pub with-message : (P : Forest → Type 0) (m : Option Message) (f : Forest) → P f → ((n : Message) → P (forest.Said n f)) → P (told m f)
-unfolding told
+-- trees after a message, if there is one
+pub with-message : (P : Forest → Type 0) (m : Option Message) (f : Forest) → P f → ((n : Message) → P (forest.Said n f)) → P (with_message m f)
+unfolding with_message
 with-message P None f p q = p
 with-message P (Some n) f p q = q n
 

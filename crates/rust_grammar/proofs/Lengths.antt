@@ -10,7 +10,7 @@ use Rattle.parser_events.specs.Dress.{dress_root, joined, is_empty, from_dot, ne
 use Rattle.parser_events.specs.Fits.{fits, IsRooted}
 use Rattle.parser_events.specs.Forest as forest
 use Rattle.parser_events.specs.Forest.{Forest, UnexpectedTokens, ◌then◌}
-use Rattle.parser_events.specs.Laying.{Place, behind, behind_pending, outside, behind_step, split_steps, put_by, put_inside, put_around}
+use Rattle.parser_events.specs.Laying.{Place, after, after_pending, outside, after_step, split_steps, put_by, put_inside, put_around}
 use Rattle.parser_events.specs.Steps as walk
 use Rattle.parser_events.specs.Steps.{Step, steps}
 use Rattle.parser_events.specs.TextSteps as text
@@ -44,18 +44,18 @@ weights [] = 0
 weights (step ∷ ss) = weight step + weights ss
 
 -- a step puts one step for each leaf that it passes, and few more
-step-most : (step : Step) (s : Place) → length (put_by step s) + length (behind_step step s).left ≤ length s.left + weight step
+step-most : (step : Step) (s : Place) → length (put_by step s) + length (after_step step s).left ≤ length s.left + weight step
 step-most (walk.Token k n) s =
     let most = pending-most s.left in
-    omega (arith, most, length-append (leaf_steps (pending s.left)) (text.Token k (joined (take (reach n (behind_pending s).left) (behind_pending s).left)) ∷ []), leaf-count (pending s.left), length-drop (length (pending s.left)) s.left, length-drop (reach n (behind_pending s).left) (behind_pending s).left)
+    omega (arith, most, length-append (leaf_steps (pending s.left)) (text.Token k (joined (take (reach n (after_pending s).left) (after_pending s).left)) ∷ []), leaf-count (pending s.left), length-drop (length (pending s.left)) s.left, length-drop (reach n (after_pending s).left) (after_pending s).left)
 step-most (walk.FloatSplit e) s =
     let most = pending-most s.left in
-    let t = behind_pending s in
+    let t = after_pending s in
     omega (arith, most, length-append (leaf_steps (pending s.left)) (split_steps e t.bytes (next_text t.left)), leaf-count (pending s.left), split-most e t.bytes (next_text t.left), length-drop (length (pending s.left)) s.left, length-drop 1 t.left)
 step-most (walk.Enter k) s =
     let n = outside k s in
     let m = attached k (pending s.left) in
-    let t = behind n s in
+    let t = after n s in
     let most = pending-most s.left in
     let some = attached-most k (pending s.left) in
     omega (
@@ -84,8 +84,8 @@ inside-most : (ss : List Step) (s : Place) → length (put_inside ss s) ≤ leng
 inside-most [] s = omega arith
 inside-most (step ∷ []) s = omega (arith, length-append (leaf_steps s.left) (text.Exit ∷ []), leaf-count s.left, weight-some step)
 inside-most (step ∷ next ∷ ss) s =
-    let more = inside-most (next ∷ ss) (behind_step step s) in
-    omega (arith, more, step-most step s, length-append (put_by step s) (put_inside (next ∷ ss) (behind_step step s)))
+    let more = inside-most (next ∷ ss) (after_step step s) in
+    omega (arith, more, step-most step s, length-append (put_by step s) (put_inside (next ∷ ss) (after_step step s)))
 
 around-most : (ss : List Step) (ls : List Leaf) → length (put_around ss ls) ≤ length ls + weights ss
 around-most [] ls = omega arith

@@ -4,7 +4,7 @@ use Rattle.std.proofs.lemmas.Bool.{cases_Bool, ltb-true, lt-ltb}
 use Rattle.std.proofs.lemmas.List.{length-drop}
 use Rattle.parser_input.specs.Input.{Token}
 use Rattle.rust_grammar.specs.Rule.{Production, Rule, Look, Always, Never, Nothing, One, Any, Then, Near, Or, Opt, Star, Node, Wrap, Want, Say, Skip, Split, When, Unless, Call, Continue, Mode, begins, there_at, anew}
-use Rattle.rust_grammar.specs.Meaning.{Reading, Calls, read, sees, fresh, leaf, say, skip, split, node, wrapped, behind, turns}
+use Rattle.rust_grammar.specs.Meaning.{Reading, Calls, read, sees, fresh, leaf, say, skip, split, node, wrapped, after, turns}
 use Rattle.rust_grammar.proofs.Plain.{and_l, and_r}
 use Rattle.rust_grammar.proofs.Known.{either-if, implies, implied, cut, cut-seen}
 use Rattle.rust_grammar.proofs.Elsewhere.{anew-seen, without, without-seen, asked, asked-seen, IsMode}
@@ -96,8 +96,8 @@ module _ (g : Movers) (call : Calls) (ok : Moved g call) where
   claimed true l c s t e = e refl
   claimed false l c s t e = λ same. refl
 
-  call-moves : (y : Production) (c : Bool) (s : Reading) → g.always y ≡ true → 0 < length s.rest → length (behind s (call y c (fresh s))).rest < length s.rest
-  unfolding behind fresh
+  call-moves : (y : Production) (c : Bool) (s : Reading) → g.always y ≡ true → 0 < length s.rest → length (after s (call y c (fresh s))).rest < length s.rest
+  unfolding after fresh
   call-moves y c s e some = ok.always y c (fresh s) e some
 
   option-kept : (a : Rule) (m : Option Bool) (k : Look) (c : Bool) (s : Reading) → IsMode m c → sees c s k ≡ true → 0 < length s.rest → Unmoved (unmoved_option g m k a) c s (read g.looks call c (Opt a) s)
@@ -105,15 +105,15 @@ module _ (g : Movers) (call : Calls) (ok : Moved g call) where
   option-kept (One x) m k c s mode h some = claimed (nat_lt 0 (length x.parts)) _ c s _ (λ e.
       kept k (there_at 0 x.parts) m c s s (leaf x.kind (length x.parts) s) (sees c s (there_at 0 x.parts)) mode h (λ f. fewer (length x.parts) s.rest (ltb-true _ _ e) some) refl)
   option-kept (Call y) m k c s mode h some = claimed (g.always y) _ c s _ (λ e.
-      kept k (anew (g.looks y)) m c s s (behind s (call y c (fresh s))) (sees c s (anew (g.looks y))) mode h (λ f. call-moves y c s e some) refl)
+      kept k (anew (g.looks y)) m c s s (after s (call y c (fresh s))) (sees c s (anew (g.looks y))) mode h (λ f. call-moves y c s e some) refl)
   option-kept a m k c s mode h some = λ same. refl
 
   star-kept : (a : Rule) (m : Option Bool) (k : Look) (c : Bool) (s : Reading) → IsMode m c → sees c s k ≡ true → 0 < length s.rest → Unmoved (unmoved_calls g m k a) c s (read g.looks call c (Star a) s)
   unfolding unmoved_calls read begins sees
   star-kept (Call y) m k c s mode h some = claimed (g.always y) _ c s _ (λ e.
       elim (cases_Bool (sees c s (anew (g.looks y)))) [
-        | inl f ↦ λ same. absurd (omega (arith, same, first-turn (length s.rest) (λ t. sees c t (anew (g.looks y))) (λ v. behind v (call y c (fresh v))) s (λ v. less (Call y) c v) f (call-moves y c s e some) (omega arith)))
-        | inr f ↦ λ same. subst (λ (u : Reading). sees c u (cut k (asked m (anew (g.looks y)))) ≡ true) (sym (no-turns (length s.rest) (λ t. sees c t (anew (g.looks y))) (λ v. behind v (call y c (fresh v))) s f)) (cut-seen c s k (asked m (anew (g.looks y))) (asked-seen c s m (anew (g.looks y)) mode ∙ f) h)
+        | inl f ↦ λ same. absurd (omega (arith, same, first-turn (length s.rest) (λ t. sees c t (anew (g.looks y))) (λ v. after v (call y c (fresh v))) s (λ v. less (Call y) c v) f (call-moves y c s e some) (omega arith)))
+        | inr f ↦ λ same. subst (λ (u : Reading). sees c u (cut k (asked m (anew (g.looks y)))) ≡ true) (sym (no-turns (length s.rest) (λ t. sees c t (anew (g.looks y))) (λ v. after v (call y c (fresh v))) s f)) (cut-seen c s k (asked m (anew (g.looks y))) (asked-seen c s m (anew (g.looks y)) mode ∙ f) h)
       ])
   star-kept a m k c s mode h some = λ same. refl
 
@@ -134,7 +134,7 @@ module _ (g : Movers) (call : Calls) (ok : Moved g call) where
       ]
 
   pub takes-token : (r : Rule) (m : Option Bool) (k : Look) (c : Bool) (s : Reading) → moves g m k r ≡ true → IsMode m c → sees c s k ≡ true → 0 < length s.rest → length (read g.looks call c r s).rest < length s.rest
-  unfolding moves read leaf say skip split fresh node wrapped behind sees
+  unfolding moves read leaf say skip split fresh node wrapped after sees
   takes-token Nothing m k c s e mode h some = absurd (true≢false (sym e))
   takes-token (One x) m k c s e mode h some = fewer (length x.parts) s.rest (ltb-true _ _ e) some
   takes-token Any m k c s e mode h some = fewer 1 s.rest (omega arith) some

@@ -17,7 +17,7 @@ use Rattle.rust_grammar.proofs.WholeTable.{claim, all_fine}
 use Rattle.rust_grammar.proofs.Only.{only-meaning}
 use Rattle.rust_grammar.proofs.OnlyLooks.{asks_less, asks_only, reaches_second, only-looks}
 
--- A rank will do, but behind the mark of a range the looks of an operand are asked.
+-- A rank will do, but after the mark of a range the looks of an operand are asked.
 unfoldable depth : Production → ℕ
 depth operation_tail = 15
 depth x = rank x

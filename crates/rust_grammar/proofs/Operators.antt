@@ -38,7 +38,7 @@ fits-so p q r e =
       right = and_r (nat_le r 12) _ e4;
     }
 
--- The children of a binary expression: the left operand, the operator, and what stands behind it
+-- The children of a binary expression: the left operand, the operator, and what stands after it
 abbrev pub around : Forest → (kind count : ℕ) → Forest → Forest
 around f k n g = (f then forest.Leaf k n forest.End) then g
 
@@ -103,7 +103,7 @@ binary-is p q r f k n g is fit e i h =
     let own = operator-placed p q r f k n g is fit operand i in
     rw own (rw inner (rw (operator-around q f k n g operand) (rw is (rw (le-leb p p (omega arith)) refl))))
 
--- what stands behind the operator: an operand, or the message that it is missing
+-- what stands after the operator: an operand, or the message that it is missing
 pub said-only : (m : Message) → are_operators_placed (forest.Said m forest.End) ≡ true
 unfolding are_operators_placed
 said-only m = refl

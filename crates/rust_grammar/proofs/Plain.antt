@@ -6,7 +6,7 @@ use Rattle.parser_input.specs.Kinds.{EOF}
 use Rattle.parser_events.specs.Forest.{Forest}
 use Rattle.parser_input.specs.Input.{Token}
 use Rattle.rust_grammar.specs.Rule.{Production, Rule, Look, Always, Never, Kind, Contextual, Joint, Left, InCondition, Given, Both, Either, Not, Nothing, One, Any, Then, Near, Or, Opt, Star, Node, Wrap, Want, Say, Skip, Split, When, Unless, Call, Continue, Mode, begins}
-use Rattle.rust_grammar.specs.Meaning.{Reading, Table, read, look_of, Calls, meaning, calls, sees, fresh, behind, node, wrapped, say, skip, split, leaf, turns, ahead}
+use Rattle.rust_grammar.specs.Meaning.{Reading, Table, read, look_of, Calls, meaning, calls, sees, fresh, after, node, wrapped, say, skip, split, leaf, turns, ahead}
 use Rattle.rust_grammar.proofs.Fine.{takes, ranked, fails, ranked_at_end, fine}
 use Rattle.rust_grammar.proofs.Unfolds.{meaning_unfolds}
 use Rattle.rust_grammar.proofs.Followed.{call_followed}
@@ -106,9 +106,9 @@ module _ (g : Table) (f : Production → Bool) (x : Production) (n : ℕ) (call 
   unfolding low
   falls t y s e le lt = elim (or_cases t (low y) e) [ inl p ↦ inl (lt p) | inr p ↦ inr (le, ltb-true _ _ p) ]
 
-  pub after : (a : Rule) (t c : Bool) (s : Reading) → 0 < n → length s.rest ≤ n → (t ≡ true → length s.rest < n) → Same c a s →
+  pub fewer-after : (a : Rule) (t c : Bool) (s : Reading) → 0 < n → length s.rest ≤ n → (t ≡ true → length s.rest < n) → Same c a s →
       (t || takes f a) ≡ true → length (read (look_of g) (meaning g) c a s).rest < n
-  after a t c s z le lt p e = elim (or_cases t (takes f a) e) [
+  fewer-after a t c s z le lt p e = elim (or_cases t (takes f a) e) [
     | inl h ↦ both (lt h) p.shrinks
     | inr h ↦ elim (some_or_none (length s.rest)) [
       | inl i ↦ later (p.took h i) le
@@ -148,7 +148,7 @@ module _ (g : Table) (f : Production → Bool) (x : Production) (n : ℕ) (call 
       Same c (Then a b) s
   unfolding read takes
   same-then a b t c s z le lt p next =
-      let q = next (through p.shrinks le) (after a t c s z le lt p) in
+      let q = next (through p.shrinks le) (fewer-after a t c s z le lt p) in
       record {
         same = ap (λ (u : Reading). read (look_of g) call c b u) p.same ∙ q.same;
         shrinks = through q.shrinks p.shrinks;
@@ -171,7 +171,7 @@ module _ (g : Table) (f : Production → Bool) (x : Production) (n : ℕ) (call 
   }
 
   pub agrees : Known → 0 < n → (r : Rule) (t c : Bool) (s : Reading) → ranked f low t r ≡ true → length s.rest ≤ n → (t ≡ true → length s.rest < n) → Same c r s
-  unfolding read ranked takes fresh node wrapped behind say skip split leaf
+  unfolding read ranked takes fresh node wrapped after say skip split leaf
   agrees k z Nothing t c s e le lt = record { same = refl; shrinks = omega arith; took = λ p q. absurd (true≢false (sym p)) }
   agrees k z (One y) t c s e le lt = record { same = refl; shrinks = drops (length y.parts) s.rest; took = λ p q. drops_some (length y.parts) s.rest (ltb-true _ _ p) q }
   agrees k z Any t c s e le lt = record { same = refl; shrinks = drops 1 s.rest; took = λ p q. drops_some 1 s.rest (omega arith) q }
@@ -213,7 +213,7 @@ module _ (g : Table) (f : Production → Bool) (x : Production) (n : ℕ) (call 
   agrees k z (Call y) t c s e le lt =
       let i = falls t y s e le lt in
       let h = k y c (fresh s) i in
-      record { same = ap (λ (u : Reading). behind s u) (agreed y c (fresh s) i); shrinks = h.shrinks; took = h.took }
+      record { same = ap (λ (u : Reading). after s u) (agreed y c (fresh s) i); shrinks = h.shrinks; took = h.took }
   agrees k z (Continue y) t c s e le lt =
       let i = falls t y s e le lt in
       let h = k y c s i in
@@ -256,7 +256,7 @@ module _ (g : Table) (f : Production → Bool) (x : Production) (n : ℕ) (call 
       through p q = omega arith
 
   pub ends : Known → (r : Rule) (c : Bool) (s : Reading) → ranked_at_end (look_of g) low r ≡ true → length s.rest ≤ 0 → Same c r s
-  unfolding read ranked_at_end takes fresh node wrapped behind say skip split leaf low
+  unfolding read ranked_at_end takes fresh node wrapped after say skip split leaf low
   ends k Nothing c s e z = record { same = refl; shrinks = omega arith; took = λ p q. absurd (true≢false (sym p)) }
   ends k (One y) c s e z = record { same = refl; shrinks = drops (length y.parts) s.rest; took = λ p q. absurd (omega arith) }
   ends k Any c s e z = record { same = refl; shrinks = drops 1 s.rest; took = λ p q. absurd (omega arith) }
@@ -299,7 +299,7 @@ module _ (g : Table) (f : Production → Bool) (x : Production) (n : ℕ) (call 
   ends k (Call y) c s e z =
       let i : IsBelow g x n y s = inr (omega arith, ltb-true _ _ e) in
       let h = k y c (fresh s) i in
-      record { same = ap (λ (u : Reading). behind s u) (agreed y c (fresh s) i); shrinks = h.shrinks; took = h.took }
+      record { same = ap (λ (u : Reading). after s u) (agreed y c (fresh s) i); shrinks = h.shrinks; took = h.took }
   ends k (Continue y) c s e z =
       let i : IsBelow g x n y s = inr (omega arith, ltb-true _ _ e) in
       let h = k y c s i in

@@ -167,12 +167,12 @@ then-placed (forest.Float b c f) h e i =
     let own = are_operators_placed c in
     both-true own (are_operators_placed (f then h)) (and_l own (are_operators_placed f) e) (then-placed f h (and_r own (are_operators_placed f) e) i)
 
-behind-placed : (q : Standing) (f g : Forest) → are_operators_placed f ≡ true → is_of (placed q) g ≡ true → is_of (placed q) (f then g) ≡ true
+after-placed : (q : Standing) (f g : Forest) → are_operators_placed f ≡ true → is_of (placed q) g ≡ true → is_of (placed q) (f then g) ≡ true
 unfolding placed is_of
-behind-placed Empty f g e i = then-placed f g e i
-behind-placed (Operand q) f g e i = then-placed f g e i
-behind-placed Placed f g e i = then-placed f g e i
-behind-placed Unknown f g e i = refl
+after-placed Empty f g e i = then-placed f g e i
+after-placed (Operand q) f g e i = then-placed f g e i
+after-placed Placed f g e i = then-placed f g e i
+after-placed Unknown f g e i = refl
 
 nothing-there : (f : Forest) → is_end f ≡ true → f ≡ forest.End
 unfolding is_end
@@ -187,8 +187,8 @@ pub of-beside : (p q : Standing) (f g : Forest) → is_of p f ≡ true → is_of
 unfolding beside is_of is_within
 of-beside Empty q f g e i = rw (nothing-there f e) i
 of-beside Unknown q f g e i = refl
-of-beside (Operand p) q f g e i = behind-placed q f g (and_r (is_operand p f) (are_operators_placed f) e) (of-placed q g i)
-of-beside Placed q f g e i = behind-placed q f g e (of-placed q g i)
+of-beside (Operand p) q f g e i = after-placed q f g (and_r (is_operand p f) (are_operators_placed f) e) (of-placed q g i)
+of-beside Placed q f g e i = after-placed q f g e (of-placed q g i)
 
 if-none : (b x : Bool) → b ≡ false → (if b then x else true) ≡ true
 if-none true x e = absurd (true≢false e)

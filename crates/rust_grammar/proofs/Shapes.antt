@@ -4,7 +4,7 @@ use Rattle.parser_events.specs.Fits.{IsRooted}
 use Rattle.parser_events.specs.Forest as forest
 use Rattle.parser_events.specs.Forest.{Forest, ◌then◌}
 use Rattle.rust_grammar.specs.Rule.{Production, Rule, Look, Joint, Nothing, One, Any, Then, Near, Or, Opt, Star, Node, Wrap, Want, Say, Skip, Split, When, Unless, Call, Continue, Mode, begins}
-use Rattle.rust_grammar.specs.Meaning.{Reading, Calls, read, sees, ahead, fresh, leaf, say, skip, split, node, wrapped, behind, turns}
+use Rattle.rust_grammar.specs.Meaning.{Reading, Calls, read, sees, ahead, fresh, leaf, say, skip, split, node, wrapped, after, turns}
 use Rattle.rust_grammar.proofs.Known.{implies, implied}
 use Rattle.rust_grammar.proofs.Spelled.{chosen}
 
@@ -125,7 +125,7 @@ turns-keep p (suc n) test turn s each h =
 
 module _ (g : Rooting) (call : Calls) (ok : Rooted g call) where
   pub has-shape : (r : Rule) (j : Bool) (p : Shape) (c : Bool) (s : Reading) → (j ≡ true → (ahead 0 s.rest).joint ≡ true) → HasShape p s.given → HasShape (shape g j p r) (read g.looks call c r s).given
-  unfolding shape read call_shape continued_shape leaf say skip split fresh node wrapped behind sees
+  unfolding shape read call_shape continued_shape leaf say skip split fresh node wrapped after sees
   has-shape Nothing j p c s joint h = h
   has-shape (One x) j p c s joint h = tt
   has-shape Any j p c s joint h = tt

@@ -4,7 +4,7 @@ use Rattle.std.proofs.lemmas.Bool.{cases_Bool, lt-ltb}
 use Rattle.std.proofs.lemmas.List.{length-drop}
 use Rattle.parser_input.specs.Input.{Token}
 use Rattle.rust_grammar.specs.Rule.{Production, Look, Rule, Nothing, One, Any, Then, Near, Or, Opt, Star, Node, Wrap, Want, Say, Skip, Split, When, Unless, Call, Continue, Mode, begins}
-use Rattle.rust_grammar.specs.Meaning.{Reading, Calls, read, meaning, sees, look_of, leaf, say, skip, split, fresh, node, wrapped, behind, turns}
+use Rattle.rust_grammar.specs.Meaning.{Reading, Calls, read, meaning, sees, look_of, leaf, say, skip, split, fresh, node, wrapped, after, turns}
 use Rattle.rust_grammar.specs.Whole.{whole}
 use Rattle.rust_grammar.proofs.Plain.{all_facts}
 use Rattle.rust_grammar.proofs.WholeTable.{claim, all_fine}
@@ -24,7 +24,7 @@ turns-shrink (suc n) test turn m s each h =
 
 module _ (looks : Production → Look) (call : Calls) (less : (y : Production) (d : Bool) (t : Reading) → length (call y d t).rest ≤ length t.rest) where
   pub shorter-after : (r : Rule) (c : Bool) (s : Reading) → length (read looks call c r s).rest ≤ length s.rest
-  unfolding read leaf say skip split fresh node wrapped behind
+  unfolding read leaf say skip split fresh node wrapped after
   shorter-after Nothing c s = omega arith
   shorter-after (One x) c s = shorter (length x.parts) s.rest
   shorter-after Any c s = shorter 1 s.rest

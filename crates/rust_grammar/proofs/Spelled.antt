@@ -6,12 +6,12 @@ use Rattle.parser_input.specs.Input.{Token}
 use Rattle.parser_events.specs.Forest as forest
 use Rattle.parser_events.specs.Forest.{Forest, ◌then◌}
 use Rattle.rust_grammar.specs.Rule.{Production, Rule, Spelling, Look, Always, Never, Kind, Contextual, Joint, Left, InCondition, Given, Both, Either, Not, Nothing, One, Any, Then, Near, Or, Opt, Star, Node, Wrap, Want, Say, Skip, Split, When, Unless, Call, Continue, Mode, begins, there_at, anew}
-use Rattle.rust_grammar.specs.Meaning.{Reading, Calls, read, sees, ahead, fresh, is_end, leaf, say, skip, split, node, wrapped, behind, turns}
+use Rattle.rust_grammar.specs.Meaning.{Reading, Calls, read, sees, ahead, fresh, is_end, leaf, say, skip, split, node, wrapped, after, turns}
 use Rattle.rust_grammar.specs.Spelled.{marks, is_token, is_contextual, is_one_of, is_spelled, drop_if, then_after, tokens_after}
 use Rattle.rust_grammar.proofs.Plain.{and_l, and_r}
 use Rattle.rust_grammar.proofs.Known.{either-if, both-if-l, both-if-r, if-first, if-second, if-both, implies, implied, cut, cut-seen, sift, sift-seen}
 use Rattle.rust_grammar.proofs.Elsewhere.{anew-seen, without, without-seen, back-seen, asked, asked-seen, IsMode}
-use Rattle.rust_grammar.proofs.Spelling.{first_width, Claims, Sound, IsInOrder, counts, denies, denies_first, decided, past, after_call, after_calls, after_option, after_other, after, at, no_end, is_among, is_word, is_mark, safe, more-in-order, or-first, or-second, token-seen, contextual-seen, own-token, float-seen, spelling-seen, among-marks, unlike}
+use Rattle.rust_grammar.proofs.Spelling.{first_width, Claims, Sound, IsInOrder, counts, denies, denies_first, decided, past, after_call, after_calls, after_option, after_other, look_after, at, no_end, is_among, is_word, is_mark, safe, more-in-order, or-first, or-second, token-seen, contextual-seen, own-token, float-seen, spelling-seen, among-marks, unlike}
 
 -- one of two readings
 pub chosen : (P : Reading → Type 0) (b : Bool) (u v : Reading) → (b ≡ true → P u) → (b ≡ false → P v) → P (if b then u else v)
@@ -178,10 +178,10 @@ module _ (looks : Production → Look) (call : Calls) where
 
 module _ (g : Claims) (call : Calls) (ok : Sound g call) where
   -- after a call
-  call-seen : (k : Look) (y : Production) (c : Bool) (s : Reading) → sees c s k ≡ true → sees c (behind s (call y c (fresh s))) (after_call g k y) ≡ true
-  unfolding after_call behind fresh
+  call-seen : (k : Look) (y : Production) (c : Bool) (s : Reading) → sees c s k ≡ true → sees c (after s (call y c (fresh s))) (after_call g k y) ≡ true
+  unfolding after_call after fresh
   call-seen k y c s h = elim (cases_Bool (implies k (anew (g.one y)))) [
-    | inl e ↦ rw e (back-seen c s (behind s (call y c (fresh s))) 1 (ok.takes_one y c (fresh s) (sym (anew-seen c s (g.one y)) ∙ implied c s k (anew (g.one y)) e h)) k h)
+    | inl e ↦ rw e (back-seen c s (after s (call y c (fresh s))) 1 (ok.takes_one y c (fresh s) (sym (anew-seen c s (g.one y)) ∙ implied c s k (anew (g.one y)) e h)) k h)
     | inr e ↦ rw e (ok.ends_so y c (fresh s) (s.given then (call y c (fresh s)).given))
   ]
 
@@ -194,8 +194,8 @@ module _ (g : Claims) (call : Calls) (ok : Sound g call) where
   claimed true l c t e = e refl
   claimed false l c t e = refl
 
-  gave : (y : Production) (c : Bool) (s : Reading) → g.gives y ≡ true → is_end (behind s (call y c (fresh s))).given ≡ false
-  unfolding behind
+  gave : (y : Production) (c : Bool) (s : Reading) → g.gives y ≡ true → is_end (after s (call y c (fresh s))).given ≡ false
+  unfolding after
   gave y c s e = then-some s.given (call y c (fresh s)).given (ok.gives_some y c (fresh s) e)
 
   known-first : (k : Look) (c : Bool) (t : Reading) → sees c t k ≡ true → sees c t (Either k Given) ≡ true
@@ -209,7 +209,7 @@ module _ (g : Claims) (call : Calls) (ok : Sound g call) where
       (λ e. rw e refl) (λ e. rw e refl) k h
   option-seen (Call y) k c s h = claimed (g.gives y) (Either k Given) c _ (λ e.
       chosen (λ (u : Reading). sees c u (Either k Given) ≡ true) (sees c s (anew (g.looks y))) _ _
-      (λ i. given-too k c (behind s (call y c (fresh s))) (gave y c s e))
+      (λ i. given-too k c (after s (call y c (fresh s))) (gave y c s e))
       (λ i. known-first k c s h))
   option-seen Nothing k c s h = refl
   option-seen Any k c s h = refl
@@ -232,9 +232,9 @@ module _ (g : Claims) (call : Calls) (ok : Sound g call) where
   star-seen : (a : Rule) (k : Look) (c : Bool) (s : Reading) → sees c s k ≡ true → sees c (read g.looks call c (Star a) s) (after_calls g k a) ≡ true
   unfolding after_calls read begins sees
   star-seen (Call y) k c s h = claimed (g.gives y) (Either k Given) c _ (λ e.
-      elim (turns-some (length s.rest) (λ t. sees c t (anew (g.looks y))) (λ v. behind v (call y c (fresh v))) s (λ v. gave y c v e)) [
+      elim (turns-some (length s.rest) (λ t. sees c t (anew (g.looks y))) (λ v. after v (call y c (fresh v))) s (λ v. gave y c v e)) [
         | inl i ↦ subst (λ (u : Reading). sees c u (Either k Given) ≡ true) (sym i) (known-first k c s h)
-        | inr i ↦ given-too k c (turns (length s.rest) (λ t. sees c t (anew (g.looks y))) (λ v. behind v (call y c (fresh v))) s) i
+        | inr i ↦ given-too k c (turns (length s.rest) (λ t. sees c t (anew (g.looks y))) (λ v. after v (call y c (fresh v))) s) i
       ])
   star-seen (One x) k c s h = refl
   star-seen Nothing k c s h = refl
@@ -277,8 +277,8 @@ module _ (g : Claims) (call : Calls) (ok : Sound g call) where
   other-seen (Continue y) k c s h = refl
   other-seen (Mode d a) k c s h = refl
 
-  pub after-seen : (a : Rule) (k : Look) (c : Bool) (s : Reading) → sees c s k ≡ true → sees c (read g.looks call c a s) (after g k a) ≡ true
-  unfolding after
+  pub after-seen : (a : Rule) (k : Look) (c : Bool) (s : Reading) → sees c s k ≡ true → sees c (read g.looks call c a s) (look_after g k a) ≡ true
+  unfolding look_after
   after-seen a k c s h = elim (cases_Bool (counts (first_width a) a)) [
     | inl e ↦ rw e (back-seen c s (read g.looks call c a s) (first_width a) (counted g.looks call a (first_width a) c s e) k h)
     | inr e ↦ rw e (other-seen a k c s h)
@@ -291,16 +291,16 @@ module _ (g : Claims) (call : Calls) (ok : Sound g call) where
   ]
 
   pub in-order : (r : Rule) (m : Option Bool) (k : Look) (c : Bool) (s : Reading) (ts : List Token) → safe g m k r ≡ true → IsMode m c → sees c s k ≡ true → IsInOrder ts s → IsInOrder ts (read g.looks call c r s)
-  unfolding safe read tokens_after then_after drop_if leaf node wrapped fresh behind say skip split sees
+  unfolding safe read tokens_after then_after drop_if leaf node wrapped fresh after say skip split sees
   in-order Nothing m k c s ts e mode h i = i
   in-order (One x) m k c s ts e mode h i = more-in-order s (forest.Leaf x.kind (length x.parts) forest.End) ts (drop (length x.parts) s.rest) i (rw (spelled-there k x c s e h) refl)
   in-order Any m k c s ts e mode h i = more-in-order s (forest.Leaf (ahead 0 s.rest).kind 1 forest.End) ts (drop 1 s.rest) i (rw (any-there s.rest (implied c s k Left e h)) refl)
   in-order (Then a b) m k c s ts e mode h i =
-      in-order b m (after g k a) c (read g.looks call c a s) ts (and_r (safe g m k a) (safe g m (after g k a) b) e) mode (after-seen a k c s h)
-      (in-order a m k c s ts (and_l (safe g m k a) (safe g m (after g k a) b) e) mode h i)
+      in-order b m (look_after g k a) c (read g.looks call c a s) ts (and_r (safe g m k a) (safe g m (look_after g k a) b) e) mode (after-seen a k c s h)
+      (in-order a m k c s ts (and_l (safe g m k a) (safe g m (look_after g k a) b) e) mode h i)
   in-order (Near w a b) m k c s ts e mode h i =
-      in-order b m (after g k a) c (read g.looks call c a s) ts (and_r (safe g m k a) (safe g m (after g k a) b) e) mode (after-seen a k c s h)
-      (in-order a m k c s ts (and_l (safe g m k a) (safe g m (after g k a) b) e) mode h i)
+      in-order b m (look_after g k a) c (read g.looks call c a s) ts (and_r (safe g m k a) (safe g m (look_after g k a) b) e) mode (after-seen a k c s h)
+      (in-order a m k c s ts (and_l (safe g m k a) (safe g m (look_after g k a) b) e) mode h i)
   in-order (Or a b) m k c s ts e mode h i =
       let l = begins g.looks a in
       chosen (IsInOrder ts) (sees c s l) _ _

@@ -85,8 +85,8 @@ after_other g k (Star a) = after_calls g k a
 after_other g k (Call y) = after_call g k y
 after_other g k a = Always
 
-unfoldable pub after : Claims → Look → Rule → Look
-after g k a = let other = after_other g k a in if counts (first_width a) a then back (first_width a) k else other
+unfoldable pub look_after : Claims → Look → Rule → Look
+look_after g k a = let other = after_other g k a in if counts (first_width a) a then back (first_width a) k else other
 
 -- what is known where this is seen, too
 unfoldable pub at : Look → Look → Look
@@ -119,8 +119,8 @@ unfoldable pub safe : Claims → Option Bool → Look → Rule → Bool
 safe g m k Nothing = true
 safe g m k (One x) = is_word k x.kind x.parts || is_mark k x
 safe g m k Any = implies k Left
-safe g m k (Then a b) = safe g m k a && safe g m (after g k a) b
-safe g m k (Near w a b) = safe g m k a && safe g m (after g k a) b
+safe g m k (Then a b) = safe g m k a && safe g m (look_after g k a) b
+safe g m k (Near w a b) = safe g m k a && safe g m (look_after g k a) b
 safe g m k (Or a b) = let l = asked m (begins g.looks a) in safe g m (at k l) a && safe g m (cut k l) b
 safe g m k (When l a) = safe g m k a
 safe g m k (Unless l a) = safe g m k a

@@ -5,7 +5,7 @@ use Rattle.parser_events.specs.Forest as forest
 use Rattle.parser_events.specs.Forest.{Forest, Message, ◌then◌}
 use Rattle.rust_grammar.specs.TokenTrees.{partner, is_opening, is_missing, ends_with, is_bracketed, are_token_trees_bracketed}
 use Rattle.rust_grammar.specs.Rule.{Production, Rule, Look, Nothing, One, Any, Then, Near, Or, Opt, Star, Node, Wrap, Want, Say, Skip, Split, When, Unless, Call, Continue, Mode, begins}
-use Rattle.rust_grammar.specs.Meaning.{Reading, Calls, read, sees, ahead, fresh, leaf, say, skip, split, node, wrapped, behind, turns}
+use Rattle.rust_grammar.specs.Meaning.{Reading, Calls, read, sees, ahead, fresh, leaf, say, skip, split, node, wrapped, after, turns}
 use Rattle.rust_grammar.proofs.Plain.{and_l, and_r}
 use Rattle.rust_grammar.proofs.Spelled.{chosen}
 use Rattle.rust_grammar.proofs.Spelling.{both-true}
@@ -133,7 +133,7 @@ record Ended (k : ℕ) (s t : Reading) : Type 0 where
 
 module _ (looks : Production → Look) (call : Calls) where
   added : (r : Rule) (c : Bool) (s : Reading) → adds r ≡ true → Added s (read looks call c r s)
-  unfolding adds read leaf say skip node behind
+  unfolding adds read leaf say skip node after
   added Nothing c s e = none-added s
   added (One x) c s e = record { more = forest.Leaf x.kind (length x.parts) forest.End; is = refl }
   added Any c s e = record { more = forest.Leaf (ahead 0 s.rest).kind 1 forest.End; is = refl }
@@ -205,7 +205,7 @@ module _ (looks : Production → Look) (call : Calls) (ok : (y : Production) (d 
       (λ e. h)
 
   pub bracketed : (r : Rule) (c : Bool) (s : Reading) → brackets r ≡ true → are_token_trees_bracketed s.given ≡ true → are_token_trees_bracketed (read looks call c r s).given ≡ true
-  unfolding brackets read leaf say skip split fresh node wrapped behind are_token_trees_bracketed
+  unfolding brackets read leaf say skip split fresh node wrapped after are_token_trees_bracketed
   bracketed Nothing c s e h = h
   bracketed (One x) c s e h = then-bracketed s.given (forest.Leaf x.kind (length x.parts) forest.End) h refl
   bracketed Any c s e h = then-bracketed s.given (forest.Leaf (ahead 0 s.rest).kind 1 forest.End) h refl

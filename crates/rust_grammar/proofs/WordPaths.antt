@@ -6,7 +6,7 @@ use Rattle.parser_input.specs.Kinds.{COLON, COLON2, BANG, IDENT, NAME_REF, PATH,
 use Rattle.parser_input.specs.Input.{Token}
 use Rattle.parser_events.specs.Forest.{Forest, Message, Expected}
 use Rattle.rust_grammar.specs.Rule.{name_ref, path, expr_path, Rule, Look, Either, Not, Nothing, One, Then, Opt, Star, Want, When, Unless, begins, passes, is_silent, anew, there_at}
-use Rattle.rust_grammar.specs.Meaning.{Reading, read, meaning, sees, ahead, look_of, leaf, fresh, node, wrapped, behind}
+use Rattle.rust_grammar.specs.Meaning.{Reading, read, meaning, sees, ahead, look_of, leaf, fresh, node, wrapped, after}
 use Rattle.rust_grammar.specs.Notation.{◌▸◌, ⁅◌⁆, ◌!, ◌⟨◌⟩, ◌<⟨◌⟩, ◌before◌, row, one_of}
 use Rattle.rust_grammar.specs.Words.{'::', '<'}
 use Rattle.rust_grammar.specs.Calls.{Ref, GenericArgs}
@@ -109,7 +109,7 @@ word-begins c s e = ap (λ (l : Look). sees c s l) (whole-begins name_ref) ∙ i
 
 -- the first segment of a word before a `!` is that word
 word-segment : (c : Bool) (s : Reading) → ((ahead 0 s.rest).kind == IDENT) ≡ true → ((ahead 1 s.rest).kind == BANG) ≡ true → (gives c (first_segment expression_args) s).rest ≡ drop 1 s.rest
-unfolding read fresh node behind begins
+unfolding read fresh node after begins
 word-segment c s e d =
     let f = fresh (fresh s) in
     let w = gives c Ref f in

@@ -24,19 +24,19 @@ takes_all macro_items = true
 takes_all macro_statements = true
 takes_all x = false
 
--- trees behind a message, if there is one
-unfoldable pub told : Option Message → Forest → Forest
-told (Some m) f = Said m f
-told None f = f
+-- trees after a message, if there is one
+unfoldable pub with_message : Option Message → Forest → Forest
+with_message (Some m) f = Said m f
+with_message None f = f
 
--- The one tree of an input. What cannot begin the production stands whole in an error, behind what is expected; where tokens are
+-- The one tree of an input. What cannot begin the production stands whole in an error, after what is expected; where tokens are
 -- left over, tree, message and tokens stand in an error.
 unfoldable pub entry : Table → Production → List Token → Forest
 entry g x ts =
     let start : Reading = record { given = End; rest = ts } in
     let s = meaning g x false start in
     let over = Node ERROR (s.given then Said UnexpectedTokens (leaves s.rest)) End in
-    let missing = Node ERROR (told (wanted x) (leaves ts)) End in
+    let missing = Node ERROR (with_message (wanted x) (leaves ts)) End in
     let one = if is_used_up s.rest then s.given else over in
     let other = if sees false start (look_of g x) then one else missing in
     if takes_all x then s.given else other

@@ -15,7 +15,7 @@ abbrev pub apart : ℕ → Token
 apart k = record { kind = k; contextual = if k == IDENT then IDENT else EOF; joint = false }
 
 -- The writing of trees: a leaf over one token, one over several, a message, an error with the token that it takes, a float
--- behind a dot; `a · b` stands side by side, `N ⟪ a ⟫` is a node.
+-- after a dot; `a · b` stands side by side, `N ⟪ a ⟫` is a node.
 infixr 50 ◌·◌
 infixl 80 ◌⟪◌⟫
 abbrev ◌·◌ : Forest → Forest → Forest

@@ -1,4 +1,4 @@
--- The rows of expressions: ranges and assignments, the layers of operators, what stands behind an expression, and the rest.
+-- The rows of expressions: ranges and assignments, the layers of operators, what stands after an expression, and the rest.
 use Rattle.std.specs.Prelude.{[], ◌∷◌}
 use Rattle.parser_input.specs.Kinds.{COMMA, PARAM_LIST, PARAM, MACRO_CALL, NAME_REF, BLOCK_EXPR, RANGE_EXPR, BIN_EXPR, CAST_EXPR, PREFIX_EXPR, REF_EXPR, CALL_EXPR, ARG_LIST, INDEX_EXPR, TRY_EXPR, METHOD_CALL_EXPR, FIELD_EXPR, MACRO_EXPR, RECORD_EXPR, RECORD_EXPR_FIELD_LIST, RECORD_EXPR_FIELD, PATH_EXPR, TUPLE_EXPR, PAREN_EXPR, ARRAY_EXPR, RETURN_EXPR, BREAK_EXPR, CONTINUE_EXPR, CLOSURE_EXPR, LET_EXPR, IF_EXPR, WHILE_EXPR, LOOP_EXPR, FOR_EXPR, MATCH_EXPR, MATCH_ARM_LIST, MATCH_ARM, MATCH_GUARD}
 use Rattle.parser_events.specs.Forest.{Expected, ExpectedExpression, ExpectedMatchArm, ExpectedField}
@@ -38,15 +38,15 @@ value = ⁅ Unless body_begins Operation ⁆
 abbrev closure_params : Rule
 closure_params = PARAM_LIST ⟨ listed PARAM_LIST '|' (PARAM ⟨ SinglePattern ▸ ⁅ One ':' ▸ AnyType ! ⁆ ⟩) '|' ⟩
 
--- what stands behind a path: the rest of a macro call, the fields of a record, or nothing; `!=` is an operator
-abbrev behind_path : Rule
-behind_path =
+-- what stands after a path: the rest of a macro call, the fields of a record, or nothing; `!=` is an operator
+abbrev after_path : Rule
+after_path =
     Unless (next '!=') (MACRO_CALL <⟨ One '!' ▸ TokenTree ! ⟩ ▸ MACRO_EXPR <⟨ Nothing ⟩)
     or Unless InCondition (RECORD_EXPR <⟨ FieldValues ⟩)
     or PATH_EXPR <⟨ Nothing ⟩
 
--- Condition mode ends inside brackets and blocks. Of a float behind a dot nothing more is read, unless it ends in a dot:
--- then it is read on behind that dot.
+-- Condition mode ends inside brackets and blocks. Of a float after a dot nothing more is read, unless it ends in a dot:
+-- then it is read on after that dot.
 unfoldable pub expressions : (others : Production → Rule) → Production → Rule
 expressions others expression = Operation
 expressions others operation =
@@ -89,7 +89,7 @@ expressions others arguments = ARG_LIST ⟨ listed ARG_LIST 'l_paren' Expression
 expressions others atom =
     Literal
     or BlockLike
-    or ExprPath ▸ behind_path
+    or ExprPath ▸ after_path
     or One 'l_paren' ▸ (TUPLE_EXPR <⟨ One 'r_paren' ⟩ or off (Expression !) ▸ (TUPLE_EXPR <⟨ One 'comma' ▸ rest_listed TUPLE_EXPR Expression 'r_paren' ⟩ or PAREN_EXPR <⟨ One 'r_paren' ! ⟩))
     or ARRAY_EXPR ⟨ One '[' ▸ (off Expression ▸ (One 'semi' ▸ off (Expression !) ▸ One ']' ! or One 'comma' ▸ rest_listed ARRAY_EXPR Expression ']' or One ']' !) or One ']' !) ⟩
     or RETURN_EXPR ⟨ One 'return' ▸ value ⟩

@@ -16,7 +16,7 @@ items_until ends = (Unless ends (When ('#' before '!') Attribute or Item)) *
 abbrev items_in_braces : Rule
 items_in_braces = One 'l_curly' ▸ off (items_until (until 'r_curly')) ▸ One 'r_curly' !
 
--- where a bracket behind `pub` belongs to it, and is not the type of a field
+-- where a bracket after `pub` belongs to it, and is not the type of a field
 abbrev pub visibility_goes_on : Look
 visibility_goes_on =
     any_of
@@ -40,9 +40,9 @@ inner_token = TokenTree or When (Both Left (Not (one_of 0 ('r_paren' ∷ 'r_curl
 abbrev tokens : Rule
 tokens = inner_token *
 
--- behind the path of a use tree: more of it, or another name
-abbrev pub behind_use : Rule
-behind_use = ⁅ One '::' ▸ (One '*' or UseList) or RENAME ⟨ One 'as' ▸ (One '_' or Name !) ⟩ ⁆
+-- after the path of a use tree: more of it, or another name
+abbrev pub after_use : Rule
+after_use = ⁅ One '::' ▸ (One '*' or UseList) or RENAME ⟨ One 'as' ▸ (One '_' or Name !) ⟩ ⁆
 
 -- A body stands around the attributes and the visibility before it. A word that begins no item is read as the path of a macro.
 unfoldable pub items : (others : Production → Rule) → Production → Rule
@@ -79,6 +79,6 @@ items others token_tree =
     or TOKEN_TREE ⟨ One '[' ▸ tokens ▸ One ']' ! ⟩
     or TOKEN_TREE ⟨ One 'l_curly' ▸ tokens ▸ One 'r_curly' ! ⟩
 items others use_tree =
-    USE_TREE ⟨ ⁅ When colons_before_more (One '::') ⁆ ▸ (One '*' or UseList or Path ▸ behind_use) ⟩
+    USE_TREE ⟨ ⁅ When colons_before_more (One '::') ⁆ ▸ (One '*' or UseList or Path ▸ after_use) ⟩
 items others use_list = USE_TREE_LIST ⟨ listed USE_TREE_LIST 'l_curly' UseTree 'r_curly' ⟩
 items others x = others x

@@ -68,12 +68,12 @@ IsReadTurnByTurn a = (in_condition : Bool) (s : Reading) → reads in_condition 
 abbrev pub RepetitionsAreReadTurnByTurn : Type 0
 RepetitionsAreReadTurnByTurn = (x : Production) → All IsReadTurnByTurn (repeated (all.rule x))
 
--- To see where a rule begins behind so many tokens is to see it at the place behind them.
+-- To see where a rule begins after so many tokens is to see it at the place after them.
 abbrev pub LooksAhead : Rule → Type 0
 LooksAhead a =
     (count : ℕ) (in_condition : Bool) (s : Reading)
-    → let behind : Reading = record { given = s.given; rest = drop count s.rest } in
-    sees in_condition s (shift count (begins (look_of all.whole) a)) ≡ sees in_condition behind (begins (look_of all.whole) a)
+    → let after : Reading = record { given = s.given; rest = drop count s.rest } in
+    sees in_condition s (shift count (begins (look_of all.whole) a)) ≡ sees in_condition after (begins (look_of all.whole) a)
 
 -- So it is with each part of the whole grammar whose looks are asked together with those of the part before it.
 abbrev pub PartsLookAhead : Type 0

@@ -61,8 +61,8 @@ node kind s t = record { given = s.given then forest.Node kind t.given forest.En
 unfoldable pub wrapped : ℕ → Reading → Reading
 wrapped kind t = record { given = forest.Node kind t.given forest.End; rest = t.rest }
 
-unfoldable pub behind : Reading → Reading → Reading
-behind s t = record { given = s.given then t.given; rest = t.rest }
+unfoldable pub after : Reading → Reading → Reading
+after s t = record { given = s.given then t.given; rest = t.rest }
 
 -- turns of a repetition, one for each token at most; a turn that takes no token is the last
 unfoldable pub turns : ℕ → (Reading → Bool) → (Reading → Reading) → Reading → Reading
@@ -103,7 +103,7 @@ read f call c (Skip m) s = skip m s
 read f call c Split s = split s
 read f call c (When l a) s = read f call c a s
 read f call c (Unless l a) s = read f call c a s
-read f call c (Call x) s = behind s (call x c (fresh s))
+read f call c (Call x) s = after s (call x c (fresh s))
 read f call c (Continue x) s = call x c s
 read f call c (Mode d a) s = read f call d a s
 

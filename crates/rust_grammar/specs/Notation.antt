@@ -35,7 +35,7 @@ width (When l a) = width a
 width (Node k a) = width a
 width a = None
 
--- `a ▹ b` is a rule where a is one leaf, of so many tokens; behind any other part it is none, and an error where a rule is asked.
+-- `a ▹ b` is a rule where a is one leaf, of so many tokens; after any other part it is none, and an error where a rule is asked.
 abbrev pub Measured : Option ℕ → Type 0
 Measured (Some n) = Rule
 Measured None = Unit {0}
@@ -106,7 +106,7 @@ expected (Call x) = wanted x
 expected (Mode c a) = expected a
 expected a = None
 
--- A part with a message is a rule where it is expected; `!` behind any other part is no rule, and an error where one is asked.
+-- A part with a message is a rule where it is expected; `!` after any other part is no rule, and an error where one is asked.
 abbrev pub Wanted : Option Message → Type 0
 Wanted (Some m) = Rule
 Wanted None = Unit {0}
@@ -122,7 +122,7 @@ a ! = want a (expected a)
 abbrev pub at_end : Look
 at_end = Not Left
 
--- these spellings stand one behind the other, from the n-th token on
+-- these spellings stand one after the other, from the n-th token on
 unfoldable pub row : ℕ → List Spelling → Look
 row n [] = Always
 row n (x ∷ xs) = Both (there_at n x.parts) (row (n + length x.parts) xs)
@@ -139,7 +139,7 @@ any_of (l ∷ ls) = Either l (any_of ls)
 abbrev pub next : Spelling → Look
 next x = row 0 (x ∷ [])
 
--- x is next, and y behind it; and one of these is; and none of these is
+-- x is next, and y after it; and one of these is; and none of these is
 infix 68 ◌before◌
 infix 68 ◌before_any◌
 infix 68 ◌not_before◌
@@ -160,7 +160,7 @@ until x = Either (Not Left) (next x)
 abbrev pub stops : List Spelling
 stops = 'semi' ∷ 'l_curly' ∷ 'r_curly' ∷ 'r_paren' ∷ ']' ∷ []
 
--- The rest of a list behind its opening spelling, in the node `list`: elements with commas between them, up to `close`. A
+-- The rest of a list after its opening spelling, in the node `list`: elements with commas between them, up to `close`. A
 -- missing comma is told; what begins no element stands in an error, up to a token at which the list gives up.
 abbrev pub rest_listed : (list : ℕ) → (element : Rule) → (close : Spelling) → Rule
 rest_listed list element close =

@@ -96,7 +96,7 @@ pub record Spelling : Type 0 where
 -- The nine forms are: one leaf (One, Any); a sequence (Nothing, Then, Near, which asks the looks of both parts, those of the
 -- second so many tokens further on); a choice by looks (Or, When, Unless); an option; a repetition; a node; a wrap around all
 -- that the present production gave so far; an expected part (Want: it, or a message); an error (Say: a message; Skip: a message
--- about the next token, which is taken; Split: a float behind a dot). Call begins a production anew, Continue goes on in the
+-- about the next token, which is taken; Split: a float after a dot). Call begins a production anew, Continue goes on in the
 -- present one, Mode reads a rule in condition mode or out of it.
 -- A choice reads its first part where that begins, and else its second, of which it asks nothing: where all looks of a chain of
 -- choices fail, its last part is read. When puts its look in the place of those of its rule, Unless asks besides those of its

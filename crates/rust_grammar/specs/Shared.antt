@@ -9,11 +9,11 @@ use Rattle.rust_grammar.specs.Notation.{◌or◌, ◌⟨◌⟩, ◌before_any◌
 abbrev pub refs : List Spelling
 refs = 'ident' ∷ 'self' ∷ 'super' ∷ 'crate' ∷ 'Self' ∷ []
 
--- the `::` behind which a `*` or a list of uses stands, which ends a path
+-- the `::` after which a `*` or a list of uses stands, which ends a path
 abbrev pub colons_before_more : Look
 colons_before_more = '::' before_any ('*' ∷ 'l_curly' ∷ [])
 
--- a `::` behind which a path goes on
+-- a `::` after which a path goes on
 abbrev pub path_goes_on : Look
 path_goes_on = Both (Not colons_before_more) (Both (Kind 0 COLON) (Both (Joint 0) (Kind 1 COLON)))
 

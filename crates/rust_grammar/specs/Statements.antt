@@ -19,7 +19,7 @@ item_begins =
 abbrev goes_on : Look
 goes_on = Either (next '?') (Both (next 'dot') (Not (next 'dots')))
 
--- A list of statements: where it ends, one of its statements, and what stands behind an expression in it.
+-- A list of statements: where it ends, one of its statements, and what stands after an expression in it.
 record Listing : Type 0 where
   ends : Look
   one : Production
@@ -36,7 +36,7 @@ in_macro = record { ends = at_end; one = macro_statement; end = macro_statement_
 abbrev all_of : Listing → Rule
 all_of list = (Unless list.ends (Call list.one)) *
 
--- A statement, with what stands behind an expression: an expression that ends in a block needs no `;`, and the last expression
+-- A statement, with what stands after an expression: an expression that ends in a block needs no `;`, and the last expression
 -- of a list is no statement.
 abbrev statement_of : Listing → Rule
 statement_of list =
@@ -48,7 +48,7 @@ statement_of list =
     or Expression ▸ more list.end
     or Skip ExpectedStatement
 
--- what stands behind an expression that needs a `;`, unless it is the last of its list
+-- what stands after an expression that needs a `;`, unless it is the last of its list
 abbrev end_of : Listing → Rule
 end_of list = EXPR_STMT <⟨ One 'semi' ⟩ or When list.ends Nothing or EXPR_STMT <⟨ One 'semi' ! ⟩
 

@@ -23,7 +23,7 @@ pub fn repetitions_are_read_turn_by_turn()
     ensures { RepetitionsAreReadTurnByTurn }
 {}
 
-/// Looks behind a part are those of the place behind it. A call and a node begin where they would with nothing given, and what
+/// Looks after a part are those of the place after it. A call and a node begin where they would with nothing given, and what
 /// was given makes no difference to where a production begins.
 pub fn looks_are_of_their_place()
     ensures ahead { PartsLookAhead }
@@ -51,7 +51,7 @@ pub fn token_trees_are_bracketed()
 {}
 
 /// A right operand that is a binary expression binds more tightly than the operator before it, unless that is an assignment; a
-/// left one binds no less tightly than the operator behind it, and is no assignment. Some trees where that is not so are told.
+/// left one binds no less tightly than the operator after it, and is no assignment. Some trees where that is not so are told.
 pub fn operators_bind_by_power()
     ensures productions { OperatorsOfProductionsBindByPower }
     ensures entries { OperatorsOfEntriesBindByPower }

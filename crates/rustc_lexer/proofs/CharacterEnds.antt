@@ -7,7 +7,7 @@ use Rattle.rustc_lexer.specs.Endings.{backslashes_before, is_even, EndsCharacter
 use Rattle.rustc_lexer.specs.Lexeme.{is_single, character_end}
 use Rattle.rustc_lexer.proofs.Booleans.{bool_cases, not_not, and_false}
 use Rattle.rustc_lexer.proofs.Reading.{picks-then, picks-else}
-use Rattle.rustc_lexer.proofs.StringEnds.{parity, at_place, behind_place}
+use Rattle.rustc_lexer.proofs.StringEnds.{parity, at_place, after_place}
 use Rattle.rustc_lexer.proofs.Steps.{ticked-closes, ticked-stops, ticked-goes}
 
 -- what the first end says of the rest of a character, by how far it is
@@ -95,21 +95,21 @@ first-end text n zero k (c ∷ cs) false far e run end none =
     let same : k ≡ n = omega arith in
     stops-here text n c cs e (subst (λ z. EndsCharacterAt text z) same end) ∙ ap (λ z. end_at (get_or text z 0 == tick) 0) (sym same)
 first-end text n (suc d) k (c ∷ cs) true far e run end none =
-    ap past (first-end text (suc n) d k cs false (omega arith) (behind_place text n c cs e) (goes-past text n c (at_place text n c cs e) run) end (λ j low high p. none j (omega arith) high p))
+    ap past (first-end text (suc n) d k cs false (omega arith) (after_place text n c cs e) (goes-past text n c (at_place text n c cs e) run) end (λ j low high p. none j (omega arith) high p))
     ∙ past-end (get_or text k 0 == tick) d
 first-end text n (suc d) k (c ∷ cs) false far e run end none =
     steps-on text n c cs e run (λ p. none n (omega arith) (omega arith) p)
-    ∙ ap past (first-end text (suc n) d k cs (c == backslash) (omega arith) (behind_place text n c cs e) (goes-on text n c (at_place text n c cs e) run) end (λ j low high p. none j (omega arith) high p))
+    ∙ ap past (first-end text (suc n) d k cs (c == backslash) (omega arith) (after_place text n c cs e) (goes-on text n c (at_place text n c cs e) run) end (λ j low high p. none j (omega arith) high p))
     ∙ past-end (get_or text k 0 == tick) d
 
 stays-open : (text : List ℕ) (n : ℕ) (rest : List ℕ) (escaped : Bool) → drop n text ≡ rest → not (is_even (backslashes_before n text)) ≡ escaped → ((j : ℕ) → EndsCharacterAt text j → ⊥) → ticked escaped rest ≡ unclosed (length rest)
 unfolding ticked
 stays-open text n [] escaped e run none = refl
 stays-open text n (c ∷ cs) true e run none =
-    ap past (stays-open text (suc n) cs false (behind_place text n c cs e) (goes-past text n c (at_place text n c cs e) run) none)
+    ap past (stays-open text (suc n) cs false (after_place text n c cs e) (goes-past text n c (at_place text n c cs e) run) none)
 stays-open text n (c ∷ cs) false e run none =
     steps-on text n c cs e run (none n)
-    ∙ ap past (stays-open text (suc n) cs (c == backslash) (behind_place text n c cs e) (goes-on text n c (at_place text n c cs e) run) none)
+    ∙ ap past (stays-open text (suc n) cs (c == backslash) (after_place text n c cs e) (goes-on text n c (at_place text n c cs e) run) none)
 
 abbrev choice : Bool → List ℕ → Taken Bool
 choice b text =

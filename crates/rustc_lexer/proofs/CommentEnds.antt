@@ -8,7 +8,7 @@ use Rattle.rustc_lexer.proofs.Booleans.{bool_cases}
 use Rattle.rustc_lexer.proofs.Steps.{mark_cases, block-opens, block-ends, block-closes, block-neither}
 use Rattle.rustc_lexer.proofs.Alike.{Alike, alike-trans, reads-alike, one_on, two_on}
 
--- as many comments closed one behind the other, and one more
+-- as many comments closed one after the other, and one more
 abbrev CloseAll : ℕ → List ℕ → List ℕ → Type 0
 CloseAll zero text rest = Nested text rest
 CloseAll (suc d) text rest = (mid : List ℕ) × Nested text mid × CloseAll d mid rest

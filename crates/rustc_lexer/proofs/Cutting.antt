@@ -10,7 +10,7 @@ use Rattle.rustc_lexer.specs.Lexeme.{lexeme}
 use Rattle.rustc_lexer.specs.Tokens.{Lexeme, first_lexeme, cut, tokens, joined, next_lexeme, token, token_list}
 use Rattle.rustc_lexer.specs.declared.token.TokenKind.{TokenKind}
 use Rattle.rustc_lexer.specs.declared.token.TokenKind.TheVariants.{Eof}
-use Rattle.rustc_lexer.proofs.Agree.{fewer, behind}
+use Rattle.rustc_lexer.proofs.Agree.{fewer, after}
 use Rattle.rustc_lexer.proofs.LexemesLocal.{lexeme-local, lexeme-fits, lexeme-takes}
 use Rattle.rustc_lexer.proofs.Sizes.{size-append, length-size}
 
@@ -25,7 +25,7 @@ drop_pred : (n : ℕ) (x : ℕ) (xs : List ℕ) → 1 ≤ n → drop (pred n) xs
 drop_pred zero x xs h = absurd (omega arith)
 drop_pred (suc n) x xs h = refl
 
--- a text's lexemes are the first one and those of what is left behind it
+-- a text's lexemes are the first one and those of what is left after it
 pub tokens-cons : (x : ℕ) (xs : List ℕ) → tokens (x ∷ xs) ≡ first_lexeme (x ∷ xs) ∷ tokens (drop (lexeme (x ∷ xs)).taken (x ∷ xs))
 unfolding tokens cut
 tokens-cons x xs =
@@ -117,19 +117,19 @@ pub lengths-sum : (xs : List ℕ) → sum_by (λ t. t.len) (token_list xs) ≡ s
 unfolding token_list
 lengths-sum xs = sum-sizes (tokens xs) ∙ ap size (tokens-joined xs)
 
--- the tokens behind the first k, from where these end
-pub tokens-behind : (k : ℕ) (xs : List ℕ) → tokens (drop (length (joined (take k (tokens xs)))) xs) ≡ drop k (tokens xs)
+-- the tokens after the first k, from where these end
+pub tokens-after : (k : ℕ) (xs : List ℕ) → tokens (drop (length (joined (take k (tokens xs)))) xs) ≡ drop k (tokens xs)
 unfolding tokens cut
-tokens-behind zero xs = refl
-tokens-behind (suc k) [] = refl
-tokens-behind (suc k) (x ∷ xs) =
+tokens-after zero xs = refl
+tokens-after (suc k) [] = refl
+tokens-after (suc k) (x ∷ xs) =
     let X = x ∷ xs in
     let n = (lexeme X).taken in
     let rest = tokens (drop n X) in
     let all = tokens-cons x xs in
     let sum : length (joined (take (suc k) (tokens X))) ≡ n + length (joined (take k rest)) =
     ap (λ l. length (joined (take (suc k) l))) all ∙ length-append (first_lexeme X).text (joined (take k rest)) ∙ ap (λ m. m + length (joined (take k rest))) (first-length X) in
-    ap (λ m. tokens (drop m X)) sum ∙ ap tokens (sym (drop-drop (length (joined (take k rest))) n X)) ∙ tokens-behind k (drop n X) ∙ sym (ap (λ l. drop (suc k) l) all)
+    ap (λ m. tokens (drop m X)) sum ∙ ap tokens (sym (drop-drop (length (joined (take k rest))) n X)) ∙ tokens-after k (drop n X) ∙ sym (ap (λ l. drop (suc k) l) all)
 
 first-same : (n : ℕ) (xs ys : List ℕ) → take n xs ≡ take n ys → lexeme ys ≡ lexeme xs → (lexeme xs).taken ≡ n → first_lexeme xs ≡ first_lexeme ys
 unfolding first_lexeme
@@ -157,8 +157,8 @@ front-kept (suc k) (suc m) (x ∷ xs) (y ∷ ys) e h =
     ap (λ l. length (joined (take (suc k) l))) a ∙ length-append (first_lexeme X).text (joined (take k rest)) ∙ ap (λ j. j + length (joined (take k rest))) (first-length X) in
     let same : lexeme Y ≡ lexeme X = lexeme-local.at X Y (fewer (suc (suc n)) (suc m) X Y (omega arith) e) in
     let parts : suc m ≡ n + (suc m - n) = omega arith in
-    let behind_it = behind n (suc m - n) X Y (subst (λ j. take j X ≡ take j Y) parts e) in
-    let ih = front-kept k (suc m - n) (drop n X) (drop n Y) behind_it (omega arith) in
+    let after_it = after n (suc m - n) X Y (subst (λ j. take j X ≡ take j Y) parts e) in
+    let ih = front-kept k (suc m - n) (drop n X) (drop n Y) after_it (omega arith) in
     let first : first_lexeme X ≡ first_lexeme Y = first-same n X Y (fewer n (suc m) X Y (omega arith) e) same refl in
     ap (λ t. take (suc k) t) a ∙ ap (λ t. first_lexeme X ∷ t) ih ∙ ap (λ l. l ∷ take k (tokens (drop n Y))) first
     ∙ ap (λ l. first_lexeme Y ∷ take k (tokens (drop l.taken Y))) (sym same) ∙ sym (ap (λ t. take (suc k) t) b)

@@ -109,7 +109,7 @@ run-all p (x ∷ xs) = elim (bool_cases (p x)) [
   | inr h ↦ ap (λ n. list_all p (take n (x ∷ xs))) (run-false p x xs h)
 ]
 
--- an identifier takes its first character and the run behind it
+-- an identifier takes its first character and the run after it
 identifier-taken : (x : ℕ) (xs : List ℕ) → (identifier (x ∷ xs)).taken ≡ suc (run_len is_id_continue xs)
 unfolding identifier ◌▸◌ skip run look give
 identifier-taken x xs = omega arith

@@ -153,7 +153,7 @@ sound-lexeme : Sound lexeme
 unfolding lexeme
 sound-lexeme = sound-begin case_of lexeme_in takes-lexeme_in sound-lexeme_in
 
--- what a lexeme is depends on nothing past two characters behind it
+-- what a lexeme is depends on nothing past two characters after it
 pub lexeme-local : Local lexeme
 lexeme-local = sound-lexeme.local
 

@@ -49,7 +49,7 @@ or_true : (a b : Bool) → b ≡ true → (a || b) ≡ true
 or_true true b h = refl
 or_true false b h = h
 
--- behind a dot that no digit follows stands no digit, no `_` and no exponent
+-- after a dot that no digit follows stands no digit, no `_` and no exponent
 no-start : (b : ℕ) → is_point dot b ≡ true → is_id_start b ≡ false
 unfolding is_point
 no-start b h =

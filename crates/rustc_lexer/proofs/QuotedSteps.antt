@@ -61,7 +61,7 @@ escaped : (ys : List ℕ) → get_or ys 0 0 ≢ double_quote → plain (get_or y
 escaped [] other h = alike-refl (quoted false) []
 escaped (y ∷ ys) other h = quoted-escape (y ∷ ys) (omega arith) (is_backslash y other h)
 
--- behind the plain characters stands no quote: a `\` and one more, or the end
+-- after the plain characters stands no quote: a `\` and one more, or the end
 pub quoted-next : (xs ys : List ℕ) → ys ≡ drop (run_len plain xs) xs → get_or ys 0 0 ≢ double_quote → Alike (quoted false) (drop 2 ys) (quoted false) xs
 quoted-next xs ys e other =
     alike-trans

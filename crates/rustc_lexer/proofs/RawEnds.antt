@@ -1,4 +1,4 @@
--- A raw string closes at its first quote with its hashes behind it.
+-- A raw string closes at its first quote with its hashes after it.
 use Rattle.std.proofs.Common.{◌≡◌, ℕ, suc, zero, ◌+◌, ◌<◌, Bool, true, false, ◌&&◌, ◌==◌, List, [], ◌∷◌, length, refl, sym, ◌∙◌, ap, subst, arith, inl, inr, eqb-true, eq-eqb}
 use Rattle.std.specs.Bool.{MatchBool}
 use Rattle.rustc_lexer.specs.Characters.{double_quote}

@@ -28,7 +28,7 @@ raw-plain n (x ∷ xs) =
       | inr h ↦ alike-at (ap (λ k. drop k (x ∷ xs)) (run-false unquoted x xs h)) (alike-refl (raw n) (x ∷ xs))
     ]
 
--- behind the run of others stands a quote, or nothing
+-- after the run of others stands a quote, or nothing
 pub raw-past : (n : ℕ) (xs : List ℕ) → hashes_follow n (drop 1 xs) ≡ false → Alike (raw n) (drop 1 xs) (raw n) xs
 raw-past n [] h = alike-refl (raw n) []
 raw-past n (x ∷ xs) h =
@@ -45,7 +45,7 @@ unfolding raw
 raw-end n [] h = record { value_is = refl; rest_is = refl }
 raw-end n (x ∷ xs) h = cc
 
--- behind the others stands nothing where no quote does
+-- after the others stands nothing where no quote does
 pub raw-nothing : (n : ℕ) (xs ys : List ℕ) → ys ≡ drop (run_len unquoted xs) xs → (get_or ys 0 0 == double_quote) ≡ false → Alike (raw n) (drop 1 ys) (raw n) xs
 raw-nothing n xs ys e other =
     alike-trans

@@ -1,4 +1,4 @@
--- Runs of bytes and runs of characters: a text's bytes behind a run of bytes are its characters behind a run of characters.
+-- Runs of bytes and runs of characters: a text's bytes after a run of bytes are its characters after a run of characters.
 use Rattle.std.proofs.Common.{◌≡◌, ℕ, suc, zero, ◌+◌, ◌-◌, ◌<◌, ◌≤◌, Bool, true, false, ◌&&◌, ◌==◌, ltb, List, [], ◌∷◌, ◌++◌, length, take, drop, get_or, refl, sym, ◌∙◌, ap, subst, arith, chars, length-append, inl, inr, lit<, eqb-true}
 use Rattle.std.specs.Str.{IsUtf8, IsCharBoundary}
 use Rattle.std.proofs.Math.Utf8.{encodes, encode, scalars}
@@ -120,14 +120,14 @@ seam bs n m u within e =
       left = ap chars left ∙ chars-encodes (drop m (chars bs)) good;
     }
 
--- behind a run that non-ASCII bytes do not end
+-- after a run that non-ASCII bytes do not end
 pub seam-open : (p : ℕ → Bool) → ((b : ℕ) → 128 ≤ b → p b ≡ true) → (bs : List ℕ) → IsUtf8 bs → Seam bs (run_len p bs) (run_len p (chars bs))
 seam-open p wides bs u =
     let whole : encodes (chars bs) ≡ bs = encodes-chars bs u in
     seam bs (run_len p bs) (run_len p (chars bs)) u (run_len-fits p bs)
     (ap (λ z. drop (run_len p z) (encodes (chars bs))) (sym whole) ∙ run-open p wides (chars bs))
 
--- behind a run of ASCII bytes
+-- after a run of ASCII bytes
 pub seam-closed : (p : ℕ → Bool) → ((b : ℕ) → 128 ≤ b → p b ≡ false) → (bs : List ℕ) → IsUtf8 bs → Seam bs (run_len p bs) (run_len p (chars bs))
 seam-closed p wides bs u =
     let whole : encodes (chars bs) ≡ bs = encodes-chars bs u in
@@ -158,7 +158,7 @@ closed-found p wides bs bytes n u same found =
     let len : run_len p bs ≡ n = sym (found ∙ ap (λ z. run_len p z) same) in
     subst (λ k. Seam bs k (run_len p (chars bs))) len (seam-closed p wides bs u)
 
--- and all of it, where an ASCII character or nothing stands behind it
+-- and all of it, where an ASCII character or nothing stands after it
 pub run-front-all : (p : ℕ → Bool) (cs : List ℕ) → p 0 ≡ false → get_or (drop (run_len (λ b. ltb b 128 && p b) cs) cs) 0 0 < 128 → drop (run_len (λ b. ltb b 128 && p b) cs) cs ≡ drop (run_len p cs) cs
 run-front-all p cs none small =
     let t : ℕ → Bool = λ b. ltb b 128 && p b in
@@ -166,7 +166,7 @@ run-front-all p cs none small =
     let stop : p (get_or front 0 0) ≡ false = small_and p (get_or front 0 0) small (run_after t cs (ap (λ z. true && z) none)) in
     sym (ap (λ n. drop n front) (run_none p front stop)) ∙ run-front p cs
 
--- behind some of the hashes that are next
+-- after some of the hashes that are next
 drop-hashes : (n : ℕ) (cs : List ℕ) → n ≤ run_len (λ c. c == hash) cs → drop n (encodes cs) ≡ encodes (drop n cs)
 unfolding run_len
 drop-hashes zero cs h = refl
@@ -223,7 +223,7 @@ front-until bs ls n u v e =
       front = ap chars at ∙ chars-encodes (take n cs) (scalars-take n cs (scalars-chars bs u));
     }
 
--- behind an ASCII character
+-- after an ASCII character
 seam-ascii-list : (cs : List ℕ) → 0 < get_or cs 0 0 → get_or cs 0 0 < 128 → (1 ≤ length (encodes cs)) × (drop 1 (encodes cs) ≡ encodes (drop 1 cs))
 seam-ascii-list [] h g = absurd (omega arith)
 seam-ascii-list (c ∷ cs) h g =

@@ -30,8 +30,8 @@ pub at_place : (text : List ℕ) (n c : ℕ) (cs : List ℕ) → drop n text ≡
 at_place text n c cs e =
     ap (λ k. get_or text k 0) (let z : n ≡ n + 0 = omega arith in z) ∙ sym (get_or-drop n text 0 0) ∙ ap (λ z. get_or z 0 0) e
 
-pub behind_place : (text : List ℕ) (n c : ℕ) (cs : List ℕ) → drop n text ≡ c ∷ cs → drop (suc n) text ≡ cs
-behind_place text n c cs e =
+pub after_place : (text : List ℕ) (n c : ℕ) (cs : List ℕ) → drop n text ≡ c ∷ cs → drop (suc n) text ≡ cs
+after_place text n c cs e =
     ap (λ k. drop k text) (let z : suc n ≡ n + 1 = omega arith in z) ∙ sym (drop-drop 1 n text) ∙ ap (λ z. drop 1 z) e
 
 -- from one place further on
@@ -79,7 +79,7 @@ ends text n (c ∷ cs) odd e within run =
           (n, (let z : n + 1 ≡ suc n = omega arith in z), record { inside = more; quote = at ∙ eqb-true c double_quote (and_left (c == double_quote) (not odd) h); even = sym (not_not (is_even (backslashes_before n text))) ∙ ap not run ∙ and_right (c == double_quote) (not odd) h }, λ j low high closes. absurd (omega arith))
       | inr h ↦
           let next = (c == backslash) && not odd in
-          let ih = ends text (suc n) cs next (behind_place text n c cs e) (omega arith) (parity text n c odd at run) in
+          let ih = ends text (suc n) cs next (after_place text n c cs e) (omega arith) (parity text n c odd at run) in
           subst (λ r. Ends text n r) (sym (quoted-false odd c cs h)) (wider text n (quoted next cs) (not_here text n c odd at run h) ih)
     ]
 

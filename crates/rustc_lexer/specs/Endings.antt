@@ -20,7 +20,7 @@ pub record ClosesAt (text : List ℕ) (k : ℕ) : Type 0 where
   pub quote : get_or text k 0 ≡ double_quote
   pub even : is_even (backslashes_before k text) ≡ true
 
--- at place k of a raw string's inside stands a quote with so many hashes behind it
+-- at place k of a raw string's inside stands a quote with so many hashes after it
 pub record ClosesRawAt (hashes : ℕ) (text : List ℕ) (k : ℕ) : Type 0 where
   pub inside : k < length text
   pub quote : get_or text k 0 ≡ double_quote
@@ -33,7 +33,7 @@ pub data Nested : List ℕ → List ℕ → Type 0 where
   inner : {cs mid rest : List ℕ} → Nested cs mid → Nested mid rest → Nested (slash ∷ star ∷ cs) rest
   other : {c : ℕ} {cs rest : List ℕ} → mark c (peek 0 cs) ≡ Neither → Nested cs rest → Nested (c ∷ cs) rest
 
--- at place k behind the first `'` of a character stands what ends it, with an even run of `\` before it: a `'`, a `/`, or a
+-- at place k after the first `'` of a character stands what ends it, with an even run of `\` before it: a `'`, a `/`, or a
 -- line feed that no `'` follows
 pub record EndsCharacterAt (text : List ℕ) (k : ℕ) : Type 0 where
   pub inside : k < length text

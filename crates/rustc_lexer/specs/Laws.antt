@@ -13,7 +13,7 @@ use Rattle.rustc_lexer.specs.declared.token.LiteralKind.{LiteralKind}
 use Rattle.rustc_lexer.specs.declared.token.LiteralKind.TheVariants.{Char}
 use Rattle.rustc_lexer.specs.declared.token.TokenKind.TheVariants.{Ident, Literal, RawLifetime}
 
--- a lexeme depends on its own characters and on two behind it; where fewer follow, on that too
+-- a lexeme depends on its own characters and on two after it; where fewer follow, on that too
 abbrev pub LexemeIsLocal : Type 0
 LexemeIsLocal =
     (text other : List ℕ) → take ((lexeme text).taken + 2) text ≡ take ((lexeme text).taken + 2) other →
@@ -25,13 +25,13 @@ FrontIsKept =
     (k m : ℕ) (text other : List ℕ) → take m text ≡ take m other →
     length (joined (take k (tokens text))) + 2 ≤ m → take k (tokens text) ≡ take k (tokens other)
 
--- a text's lexemes are its first one and those of what is left behind it
+-- a text's lexemes are its first one and those of what is left after it
 abbrev pub TokensGoOn : Type 0
 TokensGoOn =
     (c : ℕ) (cs : List ℕ) →
     tokens (c ∷ cs) ≡ first_lexeme (c ∷ cs) ∷ tokens (drop (length (first_lexeme (c ∷ cs)).text) (c ∷ cs))
 
--- from the end of any lexeme on stand those behind it
+-- from the end of any lexeme on stand those after it
 abbrev pub BoundariesCut : Type 0
 BoundariesCut = (k : ℕ) (text : List ℕ) → tokens (drop (length (joined (take k (tokens text)))) text) ≡ drop k (tokens text)
 
@@ -88,7 +88,7 @@ NumbersHaveParts =
     (text : List ℕ) → is_digit (peek 0 text) ≡ true →
     NumberParts text (number text).value.kind (drop (number text).taken text)
 
--- one character and a `'` behind it, if it is no `\`
+-- one character and a `'` after it, if it is no `\`
 abbrev pub OneCharacterCloses : Type 0
 OneCharacterCloses = (text : List ℕ) → is_single (peek 0 text) (peek 1 text) ≡ true → character_end text ≡ closing 2
 
@@ -105,7 +105,7 @@ CharactersStayOpen =
     ((k : ℕ) → EndsCharacterAt text k → ⊥) →
     character_end text ≡ unclosed (length text)
 
--- what begins a name, or a digit, with no `'` behind it
+-- what begins a name, or a digit, with no `'` after it
 abbrev pub BeginsLifetime : ℕ → List ℕ → Type 0
 BeginsLifetime first text = (not (peek 0 text == tick) && (is_id_start first || is_digit first)) ≡ true
 
@@ -117,7 +117,7 @@ LifetimesEnd =
     LongestRun is_id_continue text word rest → (peek 0 rest == tick) ≡ false →
     Reads lexeme (tick ∷ first ∷ text) (lifetime_kind (is_digit first) (peek 0 rest)) rest
 
--- with a `'` behind it it is a character
+-- with a `'` after it it is a character
 abbrev pub QuotedNamesAreCharacters : Type 0
 QuotedNamesAreCharacters =
     (first : ℕ) (text word rest : List ℕ) → BeginsLifetime first text →

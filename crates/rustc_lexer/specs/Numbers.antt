@@ -30,7 +30,7 @@ pub data ExponentPart : List ℕ → Option (List ℕ) → List ℕ → Type 0 w
   signed : {e s : ℕ} {text run rest : List ℕ} → is_exponent e ≡ true → is_sign s ≡ true →
       LongestRun digit_or_underscore text run rest → ExponentPart (e ∷ s ∷ text) (Some run) rest
 
--- whether a dot stands at the front of a text, and what it leaves, with the digits and `_` behind it
+-- whether a dot stands at the front of a text, and what it leaves, with the digits and `_` after it
 pub data PointPart : List ℕ → Bool → List ℕ → Type 0 where
   no_point : {text : List ℕ} → is_point (peek 0 text) (peek 1 text) ≡ false → PointPart text false text
   point : {text run rest : List ℕ} → is_point dot (peek 0 text) ≡ true →

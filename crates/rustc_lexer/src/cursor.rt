@@ -50,25 +50,25 @@ impl<'a> Cursor<'a> {
         }
     }
 
-    /// The character behind the next one, `'\0'` past the end.
+    /// The character after the next one, `'\0'` past the end.
     pub fn second(&self) -> char
         ensures { result ≡ peek 1 self.now }
     {
-        self.behind().first()
+        self.after().first()
     }
 
     /// The third character, `'\0'` past the end.
     pub fn third(&self) -> char
         ensures { result ≡ peek 2 self.now }
     {
-        self.behind().second()
+        self.after().second()
     }
 
     /// The fourth character, `'\0'` past the end.
     pub(crate) fn fourth(&self) -> char
         ensures { result ≡ peek 3 self.now }
     {
-        self.behind().third()
+        self.after().third()
     }
 
     /// The same place, to be kept while this cursor moves on.
@@ -88,8 +88,8 @@ impl<'a> Cursor<'a> {
         }
     }
 
-    /// The place behind the next character, the end's at the end.
-    pub(crate) fn behind(&self) -> Cursor<'a>
+    /// The place after the next character, the end's at the end.
+    pub(crate) fn after(&self) -> Cursor<'a>
         ensures { result ≡ drop 1 self.now }
     {
         let mut rest = self.rest.chars();

@@ -23,7 +23,7 @@ ghost use Rattle.rustc_lexer.specs.Laws.{
   RawLifetimesEnd,
 };
 
-/// What is lexed at a place depends on nothing past two characters behind the token's end.
+/// What is lexed at a place depends on nothing past two characters after the token's end.
 pub fn lexeme_is_local()
     ensures { LexemeIsLocal }
 {}
@@ -38,7 +38,7 @@ pub fn tokens_go_on()
     ensures { TokensGoOn }
 {}
 
-/// Lexing from the end of a token gives the tokens behind it.
+/// Lexing from the end of a token gives the tokens after it.
 pub fn boundaries_cut()
     ensures { BoundariesCut }
 {}
@@ -61,7 +61,7 @@ pub fn idents_are_idents()
 {}
 
 /// A string closes at the first quote with an even run of `\` before it inside the string, a raw string at the first with its
-/// hashes behind it; else they run to the end.
+/// hashes after it; else they run to the end.
 pub fn strings_close()
     ensures plain { StringsClose }
     ensures raw { RawStringsClose }
@@ -79,7 +79,7 @@ pub fn numbers_have_parts()
     ensures parts { NumbersHaveParts }
 {}
 
-/// A character ends with the `'` behind its only character, or at the first `'`, `/` or line feed that no `\` takes away; else
+/// A character ends with the `'` after its only character, or at the first `'`, `/` or line feed that no `\` takes away; else
 /// it runs to the end.
 pub fn characters_end()
     ensures one { OneCharacterCloses }

@@ -100,7 +100,7 @@ impl<'a> Cursor<'a> {
         }
     }
 
-    /// The rest of a string behind its first quote; whether it is closed.
+    /// The rest of a string after its first quote; whether it is closed.
     pub(crate) fn eat_quoted(&mut self) -> bool
         ensures { Reads (quoted false) self.old result self.new }
     {
@@ -116,7 +116,7 @@ impl<'a> Cursor<'a> {
         false
     }
 
-    /// The rest of a character or byte behind its first `'`; whether it is closed.
+    /// The rest of a character or byte after its first `'`; whether it is closed.
     pub(crate) fn eat_character(&mut self) -> bool
         ensures { Reads character_end self.old result self.new }
     {
@@ -149,7 +149,7 @@ impl<'a> Cursor<'a> {
         false
     }
 
-    /// The rest of a raw string behind its `r`; the number of its hashes, if it is closed and they are at most 255.
+    /// The rest of a raw string after its `r`; the number of its hashes, if it is closed and they are at most 255.
     pub(crate) fn eat_raw_string(&mut self) -> Option<u8>
         ensures { Reads raw_end self.old result self.new }
     {
@@ -163,7 +163,7 @@ impl<'a> Cursor<'a> {
         counted(hashes, closed)
     }
 
-    // The rest of a raw string behind its first quote; whether it is closed.
+    // The rest of a raw string after its first quote; whether it is closed.
     fn eat_raw(&mut self, hashes: usize) -> bool
         ensures { Reads (raw hashes) self.old result self.new }
     {

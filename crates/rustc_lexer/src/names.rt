@@ -50,7 +50,7 @@ impl<'a> Cursor<'a> {
         }
     }
 
-    /// An identifier behind `r#`.
+    /// An identifier after `r#`.
     pub(crate) fn raw_identifier(&mut self) -> TokenKind
         ensures { Reads raw_identifier self.old result self.new }
     {

@@ -166,7 +166,7 @@ impl<'a> Cursor<'a> {
         has
     }
 
-    // What stands behind the first digits of a number.
+    // What stands after the first digits of a number.
     fn fraction(&mut self, base: Base) -> Body
         ensures { Reads (fraction base) self.old result self.new }
     {

@@ -17,7 +17,7 @@ pub fn strip_shebang(text: &str) -> Option<usize>
     if !opens_shebang(line.first(), line.second()) {
         return None;
     }
-    if opens_attribute(Tokens::from_cursor(line.behind().behind())) {
+    if opens_attribute(Tokens::from_cursor(line.after().after())) {
         return None;
     }
     let start = line.remaining();

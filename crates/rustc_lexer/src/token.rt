@@ -29,7 +29,7 @@ pub enum Base {
 /// The kind of a literal, and what is wrong with its end.
 #[derive(Clone, Copy, Debug, PartialEq, Eq, PartialOrd, Ord)]
 pub enum LiteralKind {
-    /// `12_u8`, `0o77`; `empty_int` says that a base's prefix has no digit behind it, as in `0x`.
+    /// `12_u8`, `0o77`; `empty_int` says that a base's prefix has no digit after it, as in `0x`.
     Int { base: Base, empty_int: bool },
 
     /// `1.5`, `1e3`; `empty_exponent` says that an exponent has no digit, as in `1e`.
@@ -95,7 +95,7 @@ pub enum TokenKind {
     /// `#"` or `##`.
     GuardedStrPrefix,
 
-    /// A literal with its suffix, which starts that many bytes behind the token's start; without a suffix that is the token's end.
+    /// A literal with its suffix, which starts that many bytes after the token's start; without a suffix that is the token's end.
     Literal {
         kind: LiteralKind,
         suffix_start: usize,

@@ -93,7 +93,7 @@ pub record GoesOn (n kind a b : ℕ) (v w : List Event) : Type 0 where
   pub same : found n kind a b v ≡ found n kind a b w
   pub shorter : length w < length v
 
--- behind an element that is not the one
+-- after an element that is not the one
 pub goes_on : (n kind a b : ℕ) (c : Cursor) (v w : List Event) → v ≡ Enter c ∷ w → Nested v → is_of kind a b (element_of (with_cursor n c)).place ≡ false → GoesOn n kind a b v w
 goes_on n kind a b c v w is h other = record {
   nested = let P : List Event → Type 0 = Nested in let all = subst P is h in all.1;
@@ -110,7 +110,7 @@ shorter-skipped (suc d) (Leave c ∷ w) = omega (arith, shorter-skipped d w)
 out_of : (a b from to : ℕ) → (nat_le from a && nat_le b to) ≡ false → from ≤ a → b ≤ to → ⊥
 out_of a b from to out l r = both_ways _ out (and_from _ _ (le-leb from a l) (le-leb b to r))
 
--- behind an element that does not contain the range, and all that is inside it
+-- after an element that does not contain the range, and all that is inside it
 pub goes_over : (n kind a b : ℕ) (c : Cursor) (v w : List Event) → v ≡ Enter c ∷ w → Nested v → is_of kind a b (element_of (with_cursor n c)).place ≡ false
     → (nat_le (start_of (element_of (with_cursor n c)).place) a && nat_le b (end_of (element_of (with_cursor n c)).place)) ≡ false
     → GoesOn n kind a b v (skipped zero w)
@@ -148,12 +148,12 @@ inside-forest d p i (leaf l r) w = ap (λ (cs : List Cursor). Token (below p i) 
 inside-forest d p i (node k g r) w =
     let here : Cursor = Node (below p i) in
     let below_it = walk_forest (below p i) 0 g in
-    let behind = walk_forest p (i + 1) r in
-    ap (λ (v : List Event). here ∷ inside (suc d) v) (append_assoc below_it (Leave here ∷ behind) w)
-    ∙ ap (λ (cs : List Cursor). here ∷ cs) (inside-forest (suc d) (below p i) 0 g (Leave here ∷ (behind ++ w)))
+    let after = walk_forest p (i + 1) r in
+    ap (λ (v : List Event). here ∷ inside (suc d) v) (append_assoc below_it (Leave here ∷ after) w)
+    ∙ ap (λ (cs : List Cursor). here ∷ cs) (inside-forest (suc d) (below p i) 0 g (Leave here ∷ (after ++ w)))
     ∙ ap (λ (cs : List Cursor). here ∷ (entered below_it ++ cs)) (inside-forest d p (i + 1) r w)
-    ∙ ap (λ (cs : List Cursor). here ∷ cs) (sym (append_assoc (entered below_it) (entered behind) (inside d w)))
-    ∙ ap (λ (cs : List Cursor). here ∷ (cs ++ inside d w)) (sym (entered-append below_it (Leave here ∷ behind)))
+    ∙ ap (λ (cs : List Cursor). here ∷ cs) (sym (append_assoc (entered below_it) (entered after) (inside d w)))
+    ∙ ap (λ (cs : List Cursor). here ∷ (cs ++ inside d w)) (sym (entered-append below_it (Leave here ∷ after)))
 
 -- what is entered below an element lies within its range
 forest-in : (p : Place) (i : ℕ) (f : Forest) → AreIn (start_of p) (end_of p) (entered (walk_forest p i f))
@@ -161,11 +161,11 @@ forest-in p i empty = tt
 forest-in p i (leaf l r) = (omega arith, end_within p i, forest-in p (i + 1) r)
 forest-in p i (node k g r) =
     let below_it = walk_forest (below p i) 0 g in
-    let behind = walk_forest p (i + 1) r in
+    let after = walk_forest p (i + 1) r in
     let inner = wider _ _ (start_of p) (end_of p) (entered below_it) (omega arith) (end_within p i) (forest-in (below p i) 0 g) in
-    let both = all-in _ _ (entered below_it) (entered behind) inner (forest-in p (i + 1) r) in
+    let both = all-in _ _ (entered below_it) (entered after) inner (forest-in p (i + 1) r) in
     let P : List Cursor → Type 0 = AreIn (start_of p) (end_of p) in
-    (omega arith, end_within p i, subst P (sym (entered-append below_it (Leave (Node (below p i)) ∷ behind))) both)
+    (omega arith, end_within p i, subst P (sym (entered-append below_it (Leave (Node (below p i)) ∷ after))) both)
 
 -- what is entered from here on and before the leaving of an element is what stands below it
 below-within : (p : Place) (i : ℕ) (f : Forest) (w : List Event) → AreWithin (Node p) (inside zero (walk_forest p i f ++ Leave (Node p) ∷ w))

@@ -40,21 +40,21 @@ text_alone : (e : Term) → length (texts_of (e ∷ [])) ≡ term_len e
 text_alone (Node t) = omega (arith, length-append (tree_text t) [])
 text_alone (Token l) = omega (arith, length-append l.text [])
 
--- the new child stands behind the same text as the old one
+-- the new child stands after the same text as the old one
 child_within : (o : Option Term) (i : ℕ) (e : Term) → length (texts_of (take i (children_in o))) + term_len e ≤ term_len (with_child o i e)
 child_within o i e =
     let before = take i (children_in o) in
-    let behind = drop (i + 1) (children_in o) in
+    let after = drop (i + 1) (children_in o) in
     omega (
       arith,
       text_alone e,
-      ap length (texts_of-append (before ++ e ∷ []) behind),
-      length-append (texts_of (before ++ e ∷ [])) (texts_of behind),
+      ap length (texts_of-append (before ++ e ∷ []) after),
+      length-append (texts_of (before ++ e ∷ [])) (texts_of after),
       ap length (texts_of-append before (e ∷ [])),
       length-append (texts_of before) (texts_of (e ∷ [])),
     )
 
--- what is put in stands behind the same text as what stood there, and within the new text
+-- what is put in stands after the same text as what stood there, and within the new text
 pub new_within : (t : Tree) (up : Way) (e : Term) → start_by t up + term_len e ≤ term_len (replaced t up e)
 new_within t [] e = omega arith
 new_within t (i ∷ up) e = omega (arith, new_within t up (with_child (term_by t up) i e), child_within (term_by t up) i e)
@@ -76,9 +76,9 @@ fits : (t : Tree) (up : Way) (i : ℕ) (g : Tree) (e whole : Term) → i < lengt
     → FitsNode (spliced (children_of g) i (i + 1) (e ∷ []))
 fits t up i g e whole within count is short =
     let before = take i (children_of g) in
-    let behind = drop (i + 1) (children_of g) in
+    let after = drop (i + 1) (children_of g) in
     record {
-      count = omega (arith, within, count, length-append (before ++ e ∷ []) behind, length-append before (e ∷ []), length-take i (children_of g), length-drop (i + 1) (children_of g));
+      count = omega (arith, within, count, length-append (before ++ e ∷ []) after, length-append before (e ∷ []), length-take i (children_of g), length-drop (i + 1) (children_of g));
       text = omega (arith, short, ap term_len is, new_within t up (Node (tree_of g.kind (spliced (children_of g) i (i + 1) (e ∷ [])))));
     }
 

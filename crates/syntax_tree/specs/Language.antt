@@ -4,7 +4,8 @@ use Rattle.std.proofs.Common.{ap}
 use Rattle.parser_input.specs.declared.syntax_kind.SyntaxKind.{SyntaxKind}
 use Rattle.parser_input.specs.declared.syntax_kind.SyntaxKind.TheVariants.{ERROR}
 use Rattle.parser_input.specs.Kind.{raw_of}
-use Rattle.parser_input.proofs.KindTable.{all_kinds, slice_get-kinds}
+use Rattle.parser_input.proofs.KindTable.{slice_get-kinds}
+use Rattle.parser_input.specs.KindTable.{all_kinds}
 
 -- the kind of a raw number; a number that is no kind's reads as an error
 abbrev pub kind_of_raw : ℕ → SyntaxKind

@@ -6,7 +6,7 @@ use Rattle.rowan_green.specs.Term.{Term}
 use Rattle.rowan_green.specs.declared.utility_types.NodeOrToken.{NodeOrToken}
 use Rattle.rowan_green.specs.declared.utility_types.NodeOrToken.TheVariants.{Node, Token}
 
--- the element behind the reference
+-- the element after the reference
 abbrev pub lent : NodeOrToken (Bor Tree) (Bor Leaf) → Term
 lent (Node n) = Node n.now
 lent (Token t) = Token t.now

@@ -5,7 +5,7 @@ use Rattle.syntax_tree.specs.Handle.{parent_of}
 use Rattle.syntax_tree.specs.declared.error.PositionError.{PositionError}
 use Rattle.syntax_tree.specs.declared.error.PositionError.TheVariants.{NoParent, NoMemory}
 
--- for want of a parent exactly where there is none; for want of memory at any point
+-- for want of a parent exactly where there is none; out of memory at any point
 abbrev pub RefusesPosition : Element → PositionError → Type 0
 RefusesPosition e NoParent = parent_of e ≡ None
 RefusesPosition e NoMemory = Unit {0}

@@ -3,7 +3,7 @@ use Rattle.std.specs.Prelude.{◌≡◌, ℕ, ◌^◌, List, codes}
 use Rattle.syntax_tree.specs.declared.error.TreeError.{TreeError}
 use Rattle.syntax_tree.specs.declared.error.TreeError.TheVariants.{Spent, NoMemory}
 
--- for want of a number only where none is left; for want of memory at any point
+-- for want of a number only where none is left; out of memory at any point
 abbrev pub RefusesTree : ℕ → TreeError → Type 0
 RefusesTree number Spent = number ≡ 2 ^ 32
 RefusesTree number NoMemory = Unit {0}

@@ -90,6 +90,7 @@ impl SyntaxElement {
         }
     }
 
+    /// Its kind; a raw number that is no kind's reads as an error.
     pub fn kind(&self) -> SyntaxKind
         ensures { result ≡ kind_of_raw (kind_at (element_of self.now).place) }
     {
@@ -161,6 +162,7 @@ impl SyntaxElement {
         }
     }
 
+    /// Whether it is a node.
     pub fn is_node(&self) -> bool
         ensures { result ≡ is_node (term_of (element_of self.now)) }
     {

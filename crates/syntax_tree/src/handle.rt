@@ -124,6 +124,7 @@ impl SyntaxNode {
         Ok(path)
     }
 
+    /// Its kind; a raw number that is no kind's reads as an error.
     pub fn kind(&self) -> SyntaxKind
         ensures { result ≡ kind_of_raw (kind_at self.now.place) }
     {
@@ -250,12 +251,14 @@ impl SyntaxToken {
         Ok(path)
     }
 
+    /// Its kind; a raw number that is no kind's reads as an error.
     pub fn kind(&self) -> SyntaxKind
         ensures { result ≡ kind_of_raw (kind_at self.now.place) }
     {
         self.cursor.kind()
     }
 
+    /// Its text.
     pub fn text(&self) -> &str
         ensures { result.now ≡ text_at self.now.place }
     {

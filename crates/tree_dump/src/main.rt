@@ -41,7 +41,7 @@ fn dump_record<W: Write>(alloc: Global, out: &mut W, record: &str) -> anyhow::Re
     dump(alloc, out, edition, entry_point, text)
 }
 
-/// Writes the lines of each record, and an empty line behind them.
+/// Writes the lines of each record, and an empty line after them.
 fn dump_records<W: Write>(alloc: Global, out: &mut W, records: &str) -> anyhow::Result<()> {
     for record in records.split_terminator('\u{1E}') {
         dump_record(alloc, out, record)?;

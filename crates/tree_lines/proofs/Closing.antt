@@ -5,11 +5,11 @@ use Rattle.tree_lines.specs.Elements.{Element}
 use Rattle.tree_lines.specs.Listed.{closed, element_of}
 use Rattle.tree_lines.specs.declared.rows.Row.{Row}
 
--- the element that stands behind some others
-pub closed-behind : (xs : List Element) (e : Element) (ys : List Element) (end : ℕ) →
+-- the element that stands after some others
+pub closed-after : (xs : List Element) (e : Element) (ys : List Element) (end : ℕ) →
     closed (length xs) end (xs ++ e ∷ ys) ≡ xs ++ record { depth = e.depth; kind = e.kind; start = e.start; end = end } ∷ ys
-closed-behind [] e ys end = refl
-closed-behind (x ∷ xs) e ys end = ap (λ (l : List Element). x ∷ l) (closed-behind xs e ys end)
+closed-after [] e ys end = refl
+closed-after (x ∷ xs) e ys end = ap (λ (l : List Element). x ∷ l) (closed-after xs e ys end)
 
 -- what is written over a row that has another end
 pub closed-set : (rows : List Row) (n end : ℕ) (old new : Row) → n < length rows → old ≡ get_or rows n old →
@@ -22,7 +22,7 @@ closed-set (r ∷ rs) zero end old new within is same =
 closed-set (r ∷ rs) (suc n) end old new within is same =
     ap (λ (l : List Element). element_of r ∷ l) (closed-set rs n end old new (omega arith) is same)
 
--- lists with one more element behind them
+-- lists with one more element after them
 pub snoc-parts : (xs ys : List ℕ) (a b : ℕ) → xs ++ a ∷ [] ≡ ys ++ b ∷ [] → (xs ≡ ys) × (a ≡ b)
 snoc-parts [] [] a b e = (refl, cc)
 snoc-parts [] (y ∷ ys) a b e = absurd (omega (arith, ap (λ (l : List ℕ). length l) e, length-append ys (b ∷ [])))

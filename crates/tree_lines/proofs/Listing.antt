@@ -10,9 +10,9 @@ use Rattle.tree_lines.specs.Listed.{closed, element_of, saying_of, IsTaken, IsLe
 use Rattle.tree_lines.specs.declared.rows.Row.{Row}
 use Rattle.tree_lines.specs.declared.rows.Said.{Said}
 use Rattle.tree_lines.specs.declared.rows.Rows.{Rows}
-use Rattle.tree_lines.proofs.Closing.{closed-behind}
+use Rattle.tree_lines.proofs.Closing.{closed-after}
 
--- what is listed behind some dressed elements
+-- what is listed after some dressed elements
 pub record IsListed (old : Rows) (d : Dressed) (new : Rows) : Type 0 where
   pub elements_are : map element_of new.rows.items ≡ map element_of old.rows.items ++ elements (length old.entered.items) old.offset d
   pub entered : new.entered.items ≡ old.entered.items
@@ -99,13 +99,13 @@ listed (dressed.Node kind c d) s t h =
     let v = listed d e t parts.1.1.1.1 in
     let old = map element_of s.rows.items in
     let begun : Element = record { depth = length s.entered.items; kind = kind; start = s.offset; end = s.offset + 0 } in
-    let behind = s.offset + bytes_of c in
-    let whole : Element = record { depth = length s.entered.items; kind = kind; start = s.offset; end = behind } in
+    let beyond = s.offset + bytes_of c in
+    let whole : Element = record { depth = length s.entered.items; kind = kind; start = s.offset; end = beyond } in
     let inner = elements (length s.entered.items + 1) s.offset c in
-    let after = elements (length s.entered.items) behind d in
+    let after = elements (length s.entered.items) beyond d in
     let deeper : length a.entered.items ≡ length s.entered.items + 1 = ap (λ (l : List ℕ). length l) p.entered ∙ length-append s.entered.items (length s.rows.items ∷ []) in
     let starts : a.offset ≡ s.offset = omega (arith, p.place) in
-    let ends : b.offset ≡ behind = omega (arith, w.place, p.place) in
+    let ends : b.offset ≡ beyond = omega (arith, w.place, p.place) in
     let inside : map element_of b.rows.items ≡ old ++ begun ∷ inner =
     w.elements_are
     ∙ ap (λ (l : List Element). l ++ elements (length a.entered.items) a.offset c) p.elements
@@ -115,7 +115,7 @@ listed (dressed.Node kind c d) s t h =
     x.elements
     ∙ ap (λ (n : ℕ). closed n b.offset (map element_of b.rows.items)) (sym (length-map s.rows.items element_of))
     ∙ ap (λ (l : List Element). closed (length old) b.offset l) inside
-    ∙ closed-behind old begun inner b.offset
+    ∙ closed-after old begun inner b.offset
     ∙ ap (λ (n : ℕ). old ++ record { depth = length s.entered.items; kind = kind; start = s.offset; end = n } ∷ inner) ends in
     record {
       elements_are =
@@ -123,7 +123,7 @@ listed (dressed.Node kind c d) s t h =
           ∙ ap (λ (l : List Element). l ++ elements (length e.entered.items) e.offset d) left
           ∙ append_assoc old (whole ∷ inner) (elements (length e.entered.items) e.offset d)
           ∙ ap (λ (l : List Element). old ++ whole ∷ (inner ++ l))
-          (elements-from d (length e.entered.items) (length s.entered.items) e.offset behind (ap (λ (l : List ℕ). length l) x.entered) (x.place ∙ ends));
+          (elements-from d (length e.entered.items) (length s.entered.items) e.offset beyond (ap (λ (l : List ℕ). length l) x.entered) (x.place ∙ ends));
       entered = v.entered ∙ x.entered;
       place = omega (arith, v.place, x.place, ends);
       sayings =

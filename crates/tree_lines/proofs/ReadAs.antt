@@ -45,7 +45,7 @@ pub record IsEmpty (s : Rows) : Type 0 where
   pub entered : s.entered.items ≡ []
   pub place : s.offset ≡ 0
 
--- a tree that is listed behind nothing
+-- a tree that is listed after nothing
 listed-alone : (d : Dressed) (s t : Rows) → IsEmpty s → TakesAll IsTaken s (text_steps d) t → map element_of t.rows.items ≡ elements 0 0 d
 listed-alone d s t empty h =
     (listed d s t h).elements_are

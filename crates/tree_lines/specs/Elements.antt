@@ -1,4 +1,4 @@
--- The elements of a tree with its text, one behind the other.
+-- The elements of a tree with its text, one after the other.
 use Rattle.std.specs.Prelude.{ℕ, ◌+◌, List, [], ◌∷◌, ◌++◌, length, encode_utf8_all}
 use Rattle.parser_events.specs.Dressed as dressed
 use Rattle.parser_events.specs.Dressed.{Dressed}
@@ -18,14 +18,14 @@ bytes_of (dressed.Said message place d) = bytes_of d
 bytes_of (dressed.Node kind children d) = bytes_of children + bytes_of d
 
 -- The elements inside so many nodes, from a byte of the text on: each node stands before what it holds, and what it holds before
--- what stands behind it.
+-- what stands after it.
 abbrev pub elements : ℕ → ℕ → Dressed → List Element
 elements depth place dressed.End = []
 elements depth place (dressed.Leaf kind text d) =
-    let behind = place + length (encode_utf8_all text) in
-    record { depth = depth; kind = kind; start = place; end = behind } ∷ elements depth behind d
+    let after = place + length (encode_utf8_all text) in
+    record { depth = depth; kind = kind; start = place; end = after } ∷ elements depth after d
 elements depth place (dressed.Said message at d) = elements depth place d
 elements depth place (dressed.Node kind children d) =
-    let behind = place + bytes_of children in
-    record { depth = depth; kind = kind; start = place; end = behind }
-    ∷ (elements (depth + 1) place children ++ elements depth behind d)
+    let after = place + bytes_of children in
+    record { depth = depth; kind = kind; start = place; end = after }
+    ∷ (elements (depth + 1) place children ++ elements depth after d)

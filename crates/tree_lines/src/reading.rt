@@ -42,7 +42,7 @@ impl<'a> Reading<'a> {
     ///
     /// # Errors
     ///
-    /// A text of too many tokens, and want of memory.
+    /// A text of too many tokens, or out of memory.
     pub fn new(
         alloc: Global,
         edition: Edition,

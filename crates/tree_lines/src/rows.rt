@@ -1,4 +1,4 @@
-//! The elements of a tree, one behind the other, as the steps of the tree come.
+//! The elements of a tree, one after the other, as the steps of the tree come.
 ghost use Rattle.std.specs.Prelude.{◌≡◌, [], OnOk, chars, encode_utf8_all, length};
 ghost use Rattle.parser_input.specs.Kind.{raw_of};
 ghost use Rattle.parser_events.specs.Seen.{message_of};
@@ -60,7 +60,7 @@ impl Rows {
     ///
     /// # Errors
     ///
-    /// Want of memory, which a text of 2^64 bytes would need.
+    /// Out of memory, which a text of 2^64 bytes would need.
     fn push(&mut self, kind: SyntaxKind, length: usize) -> Result<(), AllocError>
         ensures { OnOk result (IsPushed self.old (raw_of kind) length self.new) }
     {

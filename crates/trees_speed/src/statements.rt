@@ -33,6 +33,7 @@ const STATEMENTS: u32 = 10;
 #[derive(Clone, Copy, PartialEq, Eq, PartialOrd, Ord, Hash, Debug)]
 pub struct Statements;
 
+/// The kind of an element, by its raw number.
 #[derive(Clone, Copy, PartialEq, Eq, PartialOrd, Ord, Hash, Debug)]
 pub struct Kind(u16);
 

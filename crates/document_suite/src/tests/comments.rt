@@ -86,7 +86,7 @@ const INNER: Row = Row {
     errors: &[],
 };
 
-/// The missing name is told where the last leaf before it ends; the comment stands behind that.
+/// The missing name is told where the last leaf before it ends; the comment stands after that.
 const INSIDE: Row = Row {
     text: "struct /* n */ ;",
     tree: &[

@@ -161,7 +161,7 @@ fn ranges(rt: HostRuntime) -> Result<(), Fail> {
     Ok(())
 }
 
-/// Why so many spaces, and then one, are not put behind `struct S;`.
+/// Why so many spaces, and then one, are not put after `struct S;`.
 fn refusals(
     alloc: Global,
     document: &mut Document,
@@ -189,7 +189,7 @@ fn refused_edits(rt: HostRuntime) -> Result<(), Fail> {
     Ok(())
 }
 
-/// How many tokens an edit of a document kept before it, lexed, and kept behind it.
+/// How many tokens an edit of a document kept before it, lexed, and kept after it.
 fn counts(
     alloc: Global,
     document: &mut Document,
@@ -222,9 +222,9 @@ const LEXED: &[Lexed] = &[
     ("#\"a\" b", (5, 6), "c", 4),
 ];
 
-/// All tokens behind the preface are lexed, and none is kept. A `#` before a string is a token of its own before 2024.
+/// All tokens after the preface are lexed, and none is kept. A `#` before a string is a token of its own before 2024.
 #[test]
-fn tokens_behind_the_preface(rt: HostRuntime) -> Result<(), Fail> {
+fn tokens_after_the_preface(rt: HostRuntime) -> Result<(), Fail> {
     for row in LEXED {
         assert!(rt; is_lexed(rt.alloc(), row)?, "at {}", row.0);
     }

@@ -25,7 +25,7 @@ enum Change {
     Put(New),
     /// Another one comes before it.
     Before(New),
-    /// Another one comes behind it.
+    /// Another one comes after it.
     After(New),
     Delete,
     /// It goes, with all siblings up to this one.
@@ -87,7 +87,7 @@ fn insert_before(
     Ok(())
 }
 
-/// Records that an element comes behind another.
+/// Records that an element comes after another.
 fn insert_after(
     alloc: Global,
     editor: &mut SyntaxEditor,
@@ -280,7 +280,7 @@ const NO_RESULT: Row = Row {
     becomes: "fn it() {\n    \n}",
 };
 
-/// The gap behind a deleted element is not deleted.
+/// The gap after a deleted element is not deleted.
 const DELETED_AND_AFTER: Row = Row {
     text: "struct S; struct T;",
     changes: &[

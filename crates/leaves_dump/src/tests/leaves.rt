@@ -2,14 +2,14 @@
 use parser_input::{Edition, LexedStr, SyntaxKind};
 use std::alloc::{AllocError, Global};
 
-/// What is wrong with a leaf, behind its number.
+/// What is wrong with a leaf, after its number.
 type Wrong = (usize, &'static str);
 
 fn is_wrong(messages: &[Wrong], place: usize, wrong: Wrong) -> bool {
     place < messages.len() && messages[place] == wrong
 }
 
-// The count of messages up to behind a leaf, where it is of this kind and has the next message or none.
+// The count of messages up to after a leaf, where it is of this kind and has the next message or none.
 fn read_leaf(
     lexed: &LexedStr<'_>,
     leaf: usize,
@@ -42,7 +42,7 @@ fn has_size(lexed: &LexedStr<'_>, text: &str, count: usize) -> bool {
     (lexed.as_str() == text) & (lexed.len() == count) & (lexed.is_empty() == (count == 0))
 }
 
-// The kinds of the leaves and the messages, each behind the number of its leaf.
+// The kinds of the leaves and the messages, each after the number of its leaf.
 fn reads(
     alloc: Global,
     edition: Edition,

@@ -78,7 +78,7 @@ fn first_segment(p: &mut Parser<'_>)
     complete(p, path, SyntaxKind::PATH);
 }
 
-/// Whether a path goes on here: at a `::` with neither `*` nor `{` behind it.
+/// Whether a path goes on here: at a `::` with neither `*` nor `{` after it.
 pub(crate) fn at_next_segment(p: &mut Parser<'_>) -> bool
     ensures sees { (c : Bool) → Saw c path_goes_on p.old result }
     ensures some { IsTrue result → 2 ≤ tokens p.old }

@@ -65,7 +65,7 @@ pub(crate) fn at_pattern(p: &mut Parser<'_>) -> bool
     }
 }
 
-/// Whether a field by name or number is next, with a colon behind it.
+/// Whether a field by name or number is next, with a colon after it.
 pub(crate) fn at_named_field(p: &mut Parser<'_>) -> bool
     ensures sees { (c : Bool) → Saw c (begins looks (field_name ▹ One ':')) p.old result }
     ensures some { IsTrue result → 1 ≤ tokens p.old }

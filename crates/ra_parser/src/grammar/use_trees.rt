@@ -8,7 +8,7 @@ ghost use Rattle.ra_parser.specs.Looks.{tokens, spent};
 ghost use Rattle.rust_grammar.specs.Notation.{◌or◌, ◌▸◌, ⁅◌⁆, ◌*, ◌!, ◌⟨◌⟩, next, one_of, stops, until};
 ghost use Rattle.rust_grammar.specs.Words.{'::', 'comma', 'l_curly', 'r_curly', '*', 'as', '_'};
 ghost use Rattle.rust_grammar.specs.Calls.{Name, Path, UseTree, UseList};
-ghost use Rattle.rust_grammar.specs.Items.{behind_use};
+ghost use Rattle.rust_grammar.specs.Items.{after_use};
 ghost use Rattle.rust_grammar.specs.Shared.{colons_before_more, path_goes_on};
 ghost use Rattle.rust_grammar.specs.Rule as rules;
 ghost use Rattle.rust_grammar.specs.Rule.{Left, Both, Either, Not, Nothing, One, Say, Skip, When, Unless};
@@ -22,7 +22,7 @@ use parser_events::message::Message;
 use parser_events::parser::Parser;
 use parser_input::syntax_kind::SyntaxKind;
 
-/// Whether a `::` is next with a `*` or a `{` behind it.
+/// Whether a `::` is next with a `*` or a `{` after it.
 fn at_colons_before_more(p: &mut Parser<'_>) -> bool
     ensures sees { (c : Bool) → Saw c colons_before_more p.old result }
     ensures some { IsTrue result → 3 ≤ tokens p.old }
@@ -103,11 +103,11 @@ fn star_or_list(p: &mut Parser<'_>)
     use_list(p);
 }
 
-/// What stands behind the path of a use tree, where that is more or a new name.
+/// What stands after the path of a use tree, where that is more or a new name.
 #[cycle(use_trees)]
-fn behind_path(p: &mut Parser<'_>)
+fn after_path(p: &mut Parser<'_>)
     requires ends { (c : Bool) → Saw c path_goes_on p.old false }
-    ensures reads { (c : Bool) → Reads c behind_use p.old p.new }
+    ensures reads { (c : Bool) → Reads c after_use p.old p.new }
     ensures left { tokens p.new ≤ tokens p.old }
     ensures looks { spent p.new ≤ spent p.old + 5 }
 {
@@ -121,25 +121,25 @@ fn behind_path(p: &mut Parser<'_>)
     }
 }
 
-/// A path with what stands behind it.
+/// A path with what stands after it.
 #[cycle(use_trees)]
 fn path_tree(p: &mut Parser<'_>)
     requires begins { (c : Bool) → Saw c (looks rules.path) p.old true }
     requires some { 1 ≤ tokens p.old }
-    ensures reads { (c : Bool) → Reads c (Path ▸ behind_use) p.old p.new }
+    ensures reads { (c : Bool) → Reads c (Path ▸ after_use) p.old p.new }
     ensures left { tokens p.new + 1 ≤ tokens p.old }
     ensures looks { spent p.new + 3900 ≤ spent p.old }
 {
     path(p);
-    behind_path(p);
+    after_path(p);
 }
 
-/// What stands behind a `::` that a use tree begins with.
+/// What stands after a `::` that a use tree begins with.
 #[cycle(use_trees)]
-fn behind_colons(p: &mut Parser<'_>)
+fn after_colons(p: &mut Parser<'_>)
     requires next { (c : Bool) → Saw c (one_of 0 ('*' ∷ 'l_curly' ∷ [])) p.old true }
     requires some { 1 ≤ tokens p.old }
-    ensures reads { (c : Bool) → Reads c (One '*' or UseList or Path ▸ behind_use) p.old p.new }
+    ensures reads { (c : Bool) → Reads c (One '*' or UseList or Path ▸ after_use) p.old p.new }
     ensures left { tokens p.new + 1 ≤ tokens p.old }
     ensures looks { spent p.new + 3900 ≤ spent p.old }
 {
@@ -157,13 +157,13 @@ fn inside(p: &mut Parser<'_>)
     requires some { 1 ≤ tokens p.old }
     ensures reads { (c : Bool) → Reads c
         (⁅ When colons_before_more (One '::') ⁆
-        ▸ (One '*' or UseList or Path ▸ behind_use)) p.old p.new }
+        ▸ (One '*' or UseList or Path ▸ after_use)) p.old p.new }
     ensures left { tokens p.new + 1 ≤ tokens p.old }
     ensures looks { spent p.new + 3890 ≤ spent p.old }
 {
     if at_colons_before_more(p) {
         take_pair(p, SyntaxKind::COLON2);
-        behind_colons(p);
+        after_colons(p);
         return;
     }
     match current(p) {

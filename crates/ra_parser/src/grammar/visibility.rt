@@ -15,7 +15,7 @@ use crate::grammar::{at, at_second, at_third, complete, eat, expect, nth, start,
 use parser_events::parser::Parser;
 use parser_input::syntax_kind::SyntaxKind;
 
-/// Whether a bracket is next that belongs to the `pub` before it: what stands in it is a path behind `in`, or one word.
+/// Whether a bracket is next that belongs to the `pub` before it: what stands in it is a path after `in`, or one word.
 fn at_scope(p: &mut Parser<'_>) -> bool
     ensures sees { (c : Bool) → Saw c visibility_goes_on p.old result }
     ensures some { IsTrue result → 1 ≤ tokens p.old }
@@ -38,7 +38,7 @@ fn at_scope(p: &mut Parser<'_>) -> bool
     }
 }
 
-/// The bracket behind `pub`, where it belongs to that.
+/// The bracket after `pub`, where it belongs to that.
 fn opt_scope(p: &mut Parser<'_>)
     ensures reads { (c : Bool) → Reads c
         ⁅ When visibility_goes_on (One 'l_paren' ▸ ⁅ One 'in' ⁆ ▸ Path ! ▸ One 'r_paren' !) ⁆ p.old p.new }

@@ -23,6 +23,7 @@ pub struct AstPtr<N: AstNode> {
 }
 
 impl<N: AstNode> AstPtr<N> {
+    /// A pointer to a typed node: its kind and range.
     pub fn new(node: &N) -> AstPtr<N>
         ensures kind { result.raw.kind ≡ N.Language.from_raw (kind_at (N.place node.now)) }
         ensures start { result.raw.range.start.0 ≡ start_of (N.place node.now) }
@@ -34,12 +35,14 @@ impl<N: AstNode> AstPtr<N> {
         }
     }
 
+    /// The kind of the node that it was made from.
     pub fn kind(&self) -> <N::Language as Language>::Kind
         ensures { result ≡ self.now.raw.kind }
     {
         self.raw.kind
     }
 
+    /// The bytes of the node that it was made from, in the text of its tree.
     pub fn text_range(&self) -> TextRange
         ensures { result ≡ self.now.raw.range }
     {

@@ -20,7 +20,7 @@ enum Ask {
 type Row = (Ask, &'static str);
 
 /// A walk from after the subtree of the second element on.
-fn behind_second(
+fn after_second(
     mut walk: PreorderWithTokens<Lists>,
 ) -> Result<PreorderWithTokens<Lists>, AllocError> {
     let _first = walk.next();
@@ -45,14 +45,14 @@ fn answer_of(alloc: Global, out: &mut String, ask: Ask, list: &Node) -> Result<(
         Ask::Nodes => show_all(alloc, out, list.preorder(alloc)?),
         Ask::Descendants => show_all(alloc, out, list.descendants(alloc)?),
         Ask::DescendantsWithTokens => show_all(alloc, out, list.descendants_with_tokens(alloc)?),
-        Ask::SkippedSubtree => show_behind_second(alloc, out, list),
+        Ask::SkippedSubtree => show_after_second(alloc, out, list),
         Ask::SkippedWalk => show_skipped(alloc, out, list),
     }
 }
 
-fn show_behind_second(alloc: Global, out: &mut String, list: &Node) -> Result<(), Fail> {
+fn show_after_second(alloc: Global, out: &mut String, list: &Node) -> Result<(), Fail> {
     let walk = list.preorder_with_tokens(alloc)?;
-    show_all(alloc, out, behind_second(walk)?)
+    show_all(alloc, out, after_second(walk)?)
 }
 
 fn show_skipped(alloc: Global, out: &mut String, list: &Node) -> Result<(), Fail> {

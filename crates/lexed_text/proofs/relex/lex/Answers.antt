@@ -3,7 +3,7 @@ use Rattle.rustc_lexer.specs.Characters.{size}
 use Rattle.rustc_lexer.proofs.Sizes.{size-chars}
 use Rattle.lexed_text.proofs.Turns.{turn-none, turn-meets, turn-next, shorter, Turned, turned-passed, turned-kept}
 use Rattle.lexed_text.proofs.relex.lex.Goals as goal
-use Rattle.lexed_text.proofs.relex.lex.Goals.{then-behind-most+else-at-behind, else-behind-most}
+use Rattle.lexed_text.proofs.relex.lex.Goals.{then-after-most+else-at-after, else-after-most}
 
 pub lexing-init : goal.lexing-init
 lexing-init c = record {
@@ -12,13 +12,13 @@ lexing-init c = record {
 }
 
 -- a turn that goes on
-turned : (c : goal.In_ok-push) → Turned c.args.old.now (chars c.args.text.now) c.args.front.count c.args.most c.lexing.cursor c.lexing.tokens.items c.lexing.lexed c.if-behind-most.at.count c.if-behind-most.at.bytes
+turned : (c : goal.In_ok-push) → Turned c.args.old.now (chars c.args.text.now) c.args.front.count c.args.most c.lexing.cursor c.lexing.tokens.items c.lexing.lexed c.if-after-most.at.count c.if-after-most.at.bytes
 turned c =
-    elim c.if-behind-most.branch [
-      | then-behind-most+else-at-behind w ↦
-          turned-passed _ _ _ _ _ _ _ _ _ _ _ _ _ _ c.lexing.invariant.turn c.remaining-behind.ensures w.pass-at.ensures w.if-at-behind.false (ap (λ p. p.count) w.at-is) (ap (λ p. p.bytes) w.at-is)
-      | else-behind-most w ↦
-          turned-kept _ _ _ _ _ _ _ _ _ _ _ _ c.lexing.invariant.turn c.remaining-behind.ensures w.if-behind-most.false (ap (λ p. p.count) w.at-is) (ap (λ p. p.bytes) w.at-is)
+    elim c.if-after-most.branch [
+      | then-after-most+else-at-after w ↦
+          turned-passed _ _ _ _ _ _ _ _ _ _ _ _ _ _ c.lexing.invariant.turn c.remaining-after.ensures w.pass-at.ensures w.if-at-after.false (ap (λ p. p.count) w.at-is) (ap (λ p. p.bytes) w.at-is)
+      | else-after-most w ↦
+          turned-kept _ _ _ _ _ _ _ _ _ _ _ _ c.lexing.invariant.turn c.remaining-after.ensures w.if-after-most.false (ap (λ p. p.count) w.at-is) (ap (λ p. p.bytes) w.at-is)
     ]
 
 pub lexing-smaller : goal.lexing-smaller
@@ -35,4 +35,4 @@ lexing-preserved c =
 
 pub returns-clause-meets : goal.returns-clause-meets
 returns-clause-meets c =
-    turn-meets _ _ _ _ _ _ _ _ _ _ _ _ c.lexing.invariant.turn c.remaining-behind.ensures c.if-behind-most.true c.pass-at.ensures c.if-at-behind.true
+    turn-meets _ _ _ _ _ _ _ _ _ _ _ _ c.lexing.invariant.turn c.remaining-after.ensures c.if-after-most.true c.pass-at.ensures c.if-at-after.true

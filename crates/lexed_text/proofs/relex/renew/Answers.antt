@@ -7,7 +7,7 @@ use Rattle.rustc_lexer.specs.declared.token.Token.{Token}
 use Rattle.lexed_text.specs.declared.runs.Run.{Run}
 use Rattle.lexed_text.specs.Inside.{taken, Meets}
 use Rattle.lexed_text.specs.Runs.{run_tokens, RunsFrom}
-use Rattle.lexed_text.proofs.Renewals.{Changed, changed-fits, runs-before, runs-behind}
+use Rattle.lexed_text.proofs.Renewals.{Changed, changed-fits, runs-before, runs-after}
 use Rattle.lexed_text.proofs.relex.renew.Goals as goal
 use Rattle.lexed_text.proofs.relex.renew.Goals.{then-next-len, else-next-len}
 
@@ -44,7 +44,7 @@ renew_runs-requires-clause-ends c =
       | then-next-len w ↦ inl (omega arith, w.to-is)
       | else-next-len w ↦ inr (omega arith, w.to-is ∙ w.len-to.ensures ∙ sym whole)
     ] in
-    let later = runs-behind old N new c.args.front.count lexing.lexed lexing.stop next.run next.count c.if-next-len.to runs changed c.requires.runs within count past where_to in
+    let later = runs-after old N new c.args.front.count lexing.lexed lexing.stop next.run next.count c.if-next-len.to runs changed c.requires.runs within count past where_to in
     later.ends
 
 pub renew_runs-requires-clause-fits : goal.renew_runs-requires-clause-fits
@@ -131,7 +131,7 @@ renew_runs-requires-clause-back c =
       | then-next-len w ↦ inl (omega arith, w.to-is)
       | else-next-len w ↦ inr (omega arith, w.to-is ∙ w.len-to.ensures ∙ sym whole)
     ] in
-    let later = runs-behind old N new c.args.front.count lexing.lexed lexing.stop next.run next.count c.if-next-len.to runs changed c.requires.runs within count past where_to in
+    let later = runs-after old N new c.args.front.count lexing.lexed lexing.stop next.run next.count c.if-next-len.to runs changed c.requires.runs within count past where_to in
     subst (λ (z : List Run). RunsFrom c.if-next-len.to (taken c.if-next-len.to new) (drop next.run z) new) (sym c.room_for.ensures.runs) later.back
 
 pub returns-clause-renewed : goal.returns-clause-renewed

@@ -1,4 +1,4 @@
--- What stands behind the first dot decides what the float puts.
+-- What stands after the first dot decides what the float puts.
 use Rattle.std.proofs.Common.{◌≡◌, Bool, ℕ, List, [], ◌∷◌, Some, None, OnOk, IfErr, chars, sym, ap, subst, ◌∙◌, arith}
 use Rattle.std.proofs.lemmas.Str.Pattern.{strip_prefix_char}
 use Rattle.parser_input.specs.Kinds.{NAME_REF, INT_NUMBER, DOT}

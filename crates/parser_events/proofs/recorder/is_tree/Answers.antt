@@ -1,4 +1,4 @@
--- The last tree that is left is the node, or begins behind it.
+-- The last tree that is left is the node, or begins after it.
 use Rattle.std.proofs.Common.{arith}
 use Rattle.parser_events.proofs.Children.{start-walk, walk-on, found, not-found}
 use Rattle.parser_events.proofs.recorder.is_tree.Goals as goal

@@ -3,7 +3,7 @@ use Rattle.std.proofs.Common.{◌<◌, List, length, map, sym, subst, inl, arith
 use Rattle.std.proofs.lemmas.List.{take_all}
 use Rattle.parser_events.specs.Sinks.{TakesAll, RefusesOne}
 use Rattle.parser_events.specs.TextSteps.{TextStep, text_step_of}
-use Rattle.parser_events.proofs.Sinks.{map-from, map-more, takes-then, takes-one, refuses-behind}
+use Rattle.parser_events.proofs.Sinks.{map-from, map-more, takes-then, takes-one, refuses-after}
 use Rattle.parser_events.specs.declared.str_step.StrStep.{StrStep}
 use Rattle.parser_events.proofs.shortcuts.put_all.Goals as goal
 
@@ -27,4 +27,4 @@ returns-in-Err-clause-refused g c =
     let steps = c.args.steps.now in
     let within : c.loop-i.i < length steps = omega arith in
     subst (λ (ss : List TextStep). RefusesOne takes refuses c.args.sink.now ss c.in-Err.error c.step.new.self) (sym (map-from steps c.loop-i.i _ within))
-    (refuses-behind takes refuses c.args.sink.now c.loop-i.sink c.step.new.self c.in-Err.error _ _ c.loop-i.invariant (inl c.in-Err.ensures.refused))
+    (refuses-after takes refuses c.args.sink.now c.loop-i.sink c.step.new.self c.in-Err.error _ _ c.loop-i.invariant (inl c.in-Err.ensures.refused))

@@ -4,7 +4,7 @@ use Rattle.parser_input.specs.Leaf.{Leaf}
 use Rattle.parser_events.specs.Sinks.{TakesAll, RefusesOne}
 use Rattle.parser_events.specs.TextSteps.{Exit, leaf_steps}
 use Rattle.parser_events.proofs.Putting.{slice-rest}
-use Rattle.parser_events.proofs.Sinks.{takes-then, refuses-behind, refuses-in}
+use Rattle.parser_events.proofs.Sinks.{takes-then, refuses-after, refuses-in}
 use Rattle.parser_events.proofs.shortcuts.put_end.Goals as goal
 
 pub returns-in-Err-clause-refused : goal.returns-in-Err-clause-refused
@@ -17,7 +17,7 @@ pub returns-in-Err-put_all-clause-refused : goal.returns-in-Err-put_all-clause-r
 returns-in-Err-put_all-clause-refused g c =
     subst (λ (r : List Leaf). RefusesOne g.S.StrSink.takes g.S.StrSink.refuses c.args.sink.now (leaf_steps r ++ Exit ∷ []) c.in-Err-put_all.error c.put_all.new.sink)
     (slice-rest c.args.lexed.now.leaves c.args.start c.len.result c.len.ensures)
-    (refuses-behind g.S.StrSink.takes g.S.StrSink.refuses c.args.sink.now c.put_leaves.new.sink c.put_all.new.sink c.in-Err-put_all.error _ (Exit ∷ []) c.in-Ok.ensures.taken c.in-Err-put_all.ensures.refused)
+    (refuses-after g.S.StrSink.takes g.S.StrSink.refuses c.args.sink.now c.put_leaves.new.sink c.put_all.new.sink c.in-Err-put_all.error _ (Exit ∷ []) c.in-Ok.ensures.taken c.in-Err-put_all.ensures.refused)
 
 pub returns-in-Ok-put_all-clause-taken : goal.returns-in-Ok-put_all-clause-taken
 returns-in-Ok-put_all-clause-taken g c =

@@ -5,7 +5,7 @@ use Rattle.parser_input.specs.Lexed.{leaves_of}
 use Rattle.parser_events.specs.Sinks.{TakesAll, RefusesOne}
 use Rattle.parser_events.specs.TextSteps.{TextStep, Enter, leaf_steps}
 use Rattle.parser_events.proofs.Putting.{enter-steps, enter-at}
-use Rattle.parser_events.proofs.Sinks.{takes-then, refuses-behind, refuses-in}
+use Rattle.parser_events.proofs.Sinks.{takes-then, refuses-after, refuses-in}
 use Rattle.parser_events.proofs.shortcuts.put_enter.Goals as goal
 
 pub returns-in-Err-clause-refused : goal.returns-in-Err-clause-refused
@@ -23,7 +23,7 @@ returns-in-Err-put_all-clause-refused g c =
     let is = enter-steps ls (raw_of c.args.kind) c.args.start c.attached_from-first.result c.pending_end-end.result c.pending_end-end.ensures.end c.attached_from-first.ensures.inside c.attached_from-first.ensures.after c.attached_from-first.ensures.before in
     let rest : List TextStep = leaf_steps (slice_range (leaves_of ls) c.attached_from-first.result c.pending_end-end.result) in
     subst (λ (ss : List TextStep). RefusesOne takes refuses c.args.sink.now ss c.in-Err-put_all.error c.put_all.new.sink) is
-    (refuses-behind takes refuses c.args.sink.now c.put_leaves.new.sink c.put_all.new.sink c.in-Err-put_all.error _ _ c.in-Ok.ensures.taken
+    (refuses-after takes refuses c.args.sink.now c.put_leaves.new.sink c.put_all.new.sink c.in-Err-put_all.error _ _ c.in-Ok.ensures.taken
     (refuses-in takes refuses c.put_leaves.new.sink c.put_all.new.sink c.in-Err-put_all.error (Enter (raw_of c.args.kind) ∷ []) rest c.in-Err-put_all.ensures.refused))
 
 pub returns-in-Err-put_leaves-clause-refused : goal.returns-in-Err-put_leaves-clause-refused
@@ -34,8 +34,8 @@ returns-in-Err-put_leaves-clause-refused g c =
     let is = enter-steps ls (raw_of c.args.kind) c.args.start c.attached_from-first.result c.pending_end-end.result c.pending_end-end.ensures.end c.attached_from-first.ensures.inside c.attached_from-first.ensures.after c.attached_from-first.ensures.before in
     let rest : List TextStep = leaf_steps (slice_range (leaves_of ls) c.attached_from-first.result c.pending_end-end.result) in
     subst (λ (ss : List TextStep). RefusesOne takes refuses c.args.sink.now ss c.in-Err-put_leaves.error c.put_leaves-2.new.sink) is
-    (refuses-behind takes refuses c.args.sink.now c.put_leaves.new.sink c.put_leaves-2.new.sink c.in-Err-put_leaves.error _ _ c.in-Ok.ensures.taken
-    (refuses-behind takes refuses c.put_leaves.new.sink c.put_all.new.sink c.put_leaves-2.new.sink c.in-Err-put_leaves.error (Enter (raw_of c.args.kind) ∷ []) rest c.in-Ok-put_all.ensures.taken c.in-Err-put_leaves.ensures.refused))
+    (refuses-after takes refuses c.args.sink.now c.put_leaves.new.sink c.put_leaves-2.new.sink c.in-Err-put_leaves.error _ _ c.in-Ok.ensures.taken
+    (refuses-after takes refuses c.put_leaves.new.sink c.put_all.new.sink c.put_leaves-2.new.sink c.in-Err-put_leaves.error (Enter (raw_of c.args.kind) ∷ []) rest c.in-Ok-put_all.ensures.taken c.in-Err-put_leaves.ensures.refused))
 
 pub returns-in-Ok-put_leaves-clause-taken : goal.returns-in-Ok-put_leaves-clause-taken
 returns-in-Ok-put_leaves-clause-taken g c =

@@ -4,7 +4,7 @@ use Rattle.parser_input.specs.Lexed.{leaves_of}
 use Rattle.parser_events.specs.Sinks.{TakesAll, RefusesOne}
 use Rattle.parser_events.specs.TextSteps.{TextStep, leaf_steps}
 use Rattle.parser_events.proofs.Putting.{leaf-more, leaf-from}
-use Rattle.parser_events.proofs.Sinks.{takes-then, takes-one, refuses-behind}
+use Rattle.parser_events.proofs.Sinks.{takes-then, takes-one, refuses-after}
 use Rattle.parser_events.proofs.shortcuts.put_leaves.Goals as goal
 
 pub loop-i-preserved : goal.loop-i-preserved
@@ -25,7 +25,7 @@ returns-in-Err-clause-refused g c =
     let order : c.args.start ≤ c.loop-i.i = omega arith in
     let within : c.loop-i.i < length ls = omega arith in
     subst (λ (ss : List TextStep). RefusesOne takes refuses c.args.sink.now ss c.in-Err.error c.step.new.self) (sym (leaf-from ls c.args.start c.loop-i.i c.args.end _ _ order (omega arith) within c.kind.ensures c.text.ensures))
-    (refuses-behind takes refuses c.args.sink.now c.loop-i.sink c.step.new.self c.in-Err.error _ _ c.loop-i.invariant (inl c.in-Err.ensures.refused))
+    (refuses-after takes refuses c.args.sink.now c.loop-i.sink c.step.new.self c.in-Err.error _ _ c.loop-i.invariant (inl c.in-Err.ensures.refused))
 
 pub returns-clause-taken : goal.returns-clause-taken
 returns-clause-taken g c =

@@ -4,7 +4,7 @@ use Rattle.parser_input.specs.Kind.{raw_of}
 use Rattle.parser_events.specs.Sinks.{TakesAll, RefusesOne}
 use Rattle.parser_events.specs.TextSteps.{TextStep, Enter}
 use Rattle.parser_events.proofs.Insides.{around-takes-none, around-takes-other, around-is}
-use Rattle.parser_events.proofs.Sinks.{takes-then, refuses-in, refuses-behind}
+use Rattle.parser_events.proofs.Sinks.{takes-then, refuses-in, refuses-after}
 use Rattle.parser_events.proofs.shortcuts.put_output.Goals as goal
 
 pub returns-then-last-eq0-clause-taken : goal.returns-then-last-eq0-clause-taken
@@ -28,7 +28,7 @@ returns-in-Err-put_inside-clause-refused g c =
     let inner = take (length ss - 1) ss in
     let is = around-is c.args.lexed.now.leaves ss inner c.args.output.now.steps (length ss) _ (raw_of c.in-Some.kind) c.backwards-backwards.ensures refl (omega (arith, c.if-last-eq0.false)) c.in-Some.ensures refl in
     subst (λ (x : List TextStep). RefusesOne g.S.StrSink.takes g.S.StrSink.refuses c.args.sink.now x c.in-Err-put_inside.error c.put_inside.new.sink) is
-    (refuses-behind g.S.StrSink.takes g.S.StrSink.refuses c.args.sink.now c.put_all.new.sink c.put_inside.new.sink c.in-Err-put_inside.error (Enter (raw_of c.in-Some.kind) ∷ []) _ c.in-Ok.ensures.taken c.in-Err-put_inside.ensures.refused)
+    (refuses-after g.S.StrSink.takes g.S.StrSink.refuses c.args.sink.now c.put_all.new.sink c.put_inside.new.sink c.in-Err-put_inside.error (Enter (raw_of c.in-Some.kind) ∷ []) _ c.in-Ok.ensures.taken c.in-Err-put_inside.ensures.refused)
 
 pub returns-in-Ok-put_inside-clause-taken : goal.returns-in-Ok-put_inside-clause-taken
 returns-in-Ok-put_inside-clause-taken g c =

@@ -4,7 +4,7 @@ use Rattle.parser_input.specs.Kind.{raw_of}
 use Rattle.parser_events.specs.Sinks.{TakesAll, RefusesOne}
 use Rattle.parser_events.specs.TextSteps.{TextStep}
 use Rattle.parser_events.proofs.Putting.{token-steps, token-at}
-use Rattle.parser_events.proofs.Sinks.{takes-then, refuses-behind, refuses-in}
+use Rattle.parser_events.proofs.Sinks.{takes-then, refuses-after, refuses-in}
 use Rattle.parser_events.proofs.shortcuts.put_token.Goals as goal
 
 pub returns-in-Err-clause-refused : goal.returns-in-Err-clause-refused
@@ -19,7 +19,7 @@ returns-in-Err-put_all-clause-refused g c =
     let ls = c.args.lexed.now.leaves in
     let is = token-steps ls (raw_of c.args.kind) c.args.n c.args.start c.pending_end-first.result c.token_end-end.result _ c.pending_end-first.ensures.end c.token_end-end.ensures.end c.range_text-text.ensures in
     subst (λ (ss : List TextStep). RefusesOne g.S.StrSink.takes g.S.StrSink.refuses c.args.sink.now ss c.in-Err-put_all.error c.put_all.new.sink) is
-    (refuses-behind g.S.StrSink.takes g.S.StrSink.refuses c.args.sink.now c.put_leaves.new.sink c.put_all.new.sink c.in-Err-put_all.error _ _ c.in-Ok.ensures.taken c.in-Err-put_all.ensures.refused)
+    (refuses-after g.S.StrSink.takes g.S.StrSink.refuses c.args.sink.now c.put_leaves.new.sink c.put_all.new.sink c.in-Err-put_all.error _ _ c.in-Ok.ensures.taken c.in-Err-put_all.ensures.refused)
 
 pub returns-in-Ok-put_all-clause-taken : goal.returns-in-Ok-put_all-clause-taken
 returns-in-Ok-put_all-clause-taken g c =

@@ -51,7 +51,7 @@ returns-then-opens_unicode c =
     let n = run_len hex_or_underscore (drop 2 t) in
     let left : drop 1 (drop n (drop 2 t)) ≡ drop (3 + n) t = ap (λ (z : List ℕ). drop 1 z) (drop-drop n 2 t) ∙ drop-drop 1 (2 + n) t ∙ ap (λ (k : ℕ). drop k t) (let z : 2 + n + 1 ≡ 3 + n = omega arith in z) in
     unicode-passes r t c.eat_unicode.new.rest c.eat_unicode.result (escape-unicode r t simple x opens) (c.eat_unicode.ensures.told ∙ ap (λ (z : List ℕ). is_unicode r z) two)
-    (λ e. c.eat_unicode.ensures.behind e ∙ ap (λ (z : List ℕ). drop 1 (drop (run_len hex_or_underscore z) z)) two ∙ left)
+    (λ e. c.eat_unicode.ensures.after e ∙ ap (λ (z : List ℕ). drop 1 (drop (run_len hex_or_underscore z) z)) two ∙ left)
 
 pub returns : goal.returns
 returns c =

@@ -9,7 +9,7 @@ use Rattle.parser_input.specs.Lexed.{is_split}
 use Rattle.parser_input.specs.Stored.{Found, leaf_next}
 use Rattle.parser_input.specs.declared.lexed_str.StoredLeaf.{StoredLeaf}
 use Rattle.parser_input.proofs.LexedSteps.{found-long, found-more}
-use Rattle.parser_input.proofs.TokenSteps.{behind-token, found-end, held}
+use Rattle.parser_input.proofs.TokenSteps.{after-token, found-end, held}
 use Rattle.parser_input.proofs.lexed_str.push_tokens.Goals as goal
 
 abbrev empty_token : Token
@@ -48,7 +48,7 @@ loop-i-preserved c =
     let end = ap (λ (n : ℕ). place + n) (c.leaf_of-next.ensures.len ∙ ap (λ (x : List ℕ). size (leaf_next ed (chars x)).leaf.text) at) in
     let more = found-more ed text place c.loop-i.leaves.items p c.loop-i.invariant.0 z.some kind message end in
     let whole : is_split ed (lexer.first_lexeme (chars (drop place text))).kind ≡ false = ap (λ (k : Token). is_split ed k.kind) (sym z.is) ∙ c.requires.whole c.loop-i.i empty_token c.loop-i-test.true in
-    let left = behind-token ed text place c.loop-i.leaves.items (place + next.len) c.loop-i.invariant.0 whole end in (
+    let left = after-token ed text place c.loop-i.leaves.items (place + next.len) c.loop-i.invariant.0 whole end in (
       subst (λ (ps : List StoredLeaf). Found ed text (place + next.len) ps) (sym c.in_ok-push.ensures.items) more,
       z.rest ∙ ap (λ (x : List ℕ). lexer.token_list x) (sym left),
     )

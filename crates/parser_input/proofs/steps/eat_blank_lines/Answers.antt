@@ -3,11 +3,11 @@ use Rattle.rustc_lexer.specs.Characters.{is_whitespace}
 use Rattle.rustc_lexer.proofs.Runs.{run_shorter}
 use Rattle.rustc_lexer.proofs.Wide.{white_zero}
 use Rattle.parser_input.specs.Lines.{blank_len}
-use Rattle.parser_input.proofs.Lines.{behind, behind-start, blank-more, blank-end}
+use Rattle.parser_input.proofs.Lines.{after, after-start, blank-more, blank-end}
 use Rattle.parser_input.proofs.steps.eat_blank_lines.Goals as goal
 
 pub run-init : goal.run-init
-run-init c = ap (λ (a : List ℕ). behind (blank_len a) c.args.rest.now a) c.here-ahead.ensures ∙ behind-start (blank_len c.args.rest.now) c.args.rest.now
+run-init c = ap (λ (a : List ℕ). after (blank_len a) c.args.rest.now a) c.here-ahead.ensures ∙ after-start (blank_len c.args.rest.now) c.args.rest.now
 
 pub run-smaller : goal.run-smaller
 run-smaller c =

@@ -1,11 +1,11 @@
 use Rattle.std.proofs.Common.{◌≡◌, ◌∙◌, ℕ, List, refl, sym, ap, true, false}
 use Rattle.rustc_lexer.proofs.Alike.{none_left}
 use Rattle.parser_input.specs.Lines.{solid_len}
-use Rattle.parser_input.proofs.Lines.{behind, behind-start, solid-more, solid-end}
+use Rattle.parser_input.proofs.Lines.{after, after-start, solid-more, solid-end}
 use Rattle.parser_input.proofs.steps.eat_solid.Goals as goal
 
 pub run-init : goal.run-init
-run-init c = ap (λ (a : List ℕ). behind (solid_len a) c.args.rest.now a) c.here-ahead.ensures ∙ behind-start (solid_len c.args.rest.now) c.args.rest.now
+run-init c = ap (λ (a : List ℕ). after (solid_len a) c.args.rest.now a) c.here-ahead.ensures ∙ after-start (solid_len c.args.rest.now) c.args.rest.now
 
 pub run-preserved : goal.run-preserved
 run-preserved c =

@@ -1,6 +1,6 @@
 use Rattle.std.proofs.Common.{◌≡◌, ◌==◌, ◌∙◌, ap, get_or, true, false}
 use Rattle.rustc_lexer.proofs.Alike.{none_left}
-use Rattle.parser_input.specs.Lines.{behind_line}
+use Rattle.parser_input.specs.Lines.{after_line}
 use Rattle.parser_input.proofs.Lines.{line-more, line-feed, line-none}
 use Rattle.parser_input.proofs.steps.eat_whole_line.Goals as goal
 
@@ -12,7 +12,7 @@ returns-then-ends_line c =
 pub line-preserved : goal.line-preserved
 line-preserved c =
     let other : (get_or c.line.rest 0 0 == 10) ≡ false = cc in
-    ap behind_line c.bump.ensures ∙ line-more c.line.rest other ∙ c.line.invariant
+    ap after_line c.bump.ensures ∙ line-more c.line.rest other ∙ c.line.invariant
 
 pub returns : goal.returns
 returns c = line-none c.line.rest (none_left _ _ c.is_empty.ensures c.line-test.false) ∙ c.line.invariant

@@ -1,12 +1,12 @@
 -- The token is taken where it is there.
 use Rattle.rust_grammar.specs.Rule.{begins, there_at}
-use Rattle.ra_parser.proofs.ByHand.{reads-opt, reads-none, behind-look}
+use Rattle.ra_parser.proofs.ByHand.{reads-opt, reads-none, after-look}
 use Rattle.ra_parser.proofs.Facts.{saw-so}
 use Rattle.ra_parser.proofs.grammar.eat.Goals as goal
 
 pub returns-then-at-clause-reads : goal.returns-then-at-clause-reads
 unfolding begins there_at
-returns-then-at-clause-reads c cond = reads-opt cond (saw-so (c.at.ensures.sees cond) c.if-at.true) (behind-look cond c.at.ensures.same (c.take.ensures.reads cond))
+returns-then-at-clause-reads c cond = reads-opt cond (saw-so (c.at.ensures.sees cond) c.if-at.true) (after-look cond c.at.ensures.same (c.take.ensures.reads cond))
 
 pub returns-else-at-clause-reads : goal.returns-else-at-clause-reads
 unfolding begins there_at

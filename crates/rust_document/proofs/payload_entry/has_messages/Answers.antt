@@ -1,4 +1,4 @@
--- What the lexer says behind a `;`.
+-- What the lexer says after a `;`.
 use Rattle.std.proofs.Common.{◌≡◌, ℕ, ◌∷◌, ◌∙◌, ap, nat_lt, map, length, List}
 use Rattle.parser_input.specs.Faults.{faults}
 use Rattle.parser_input.specs.Lexed.{Lexed}

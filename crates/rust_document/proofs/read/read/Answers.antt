@@ -8,8 +8,8 @@ use Rattle.parser_input.specs.Stored.{Whole, whole_of}
 use Rattle.parser_events.specs.Dress.{joined}
 use Rattle.parser_events.specs.Steps.{steps}
 use Rattle.ra_parser.specs.Entries.{production_of}
-use Rattle.rust_document.specs.Reading.{behind_preface, forest_by, of_leaves}
-use Rattle.rust_document.specs.Seen.{in_bytes, told}
+use Rattle.rust_document.specs.Reading.{after_preface, forest_by, of_leaves}
+use Rattle.rust_document.specs.Seen.{in_bytes, message_of_error}
 use Rattle.rust_document.specs.Tokens.{spans_from}
 use Rattle.rust_document.specs.TreeBuilt.{IsBuilt}
 use Rattle.rust_document.proofs.Sizes.{bytes-all, count-all}
@@ -36,13 +36,13 @@ pub returns-clause-read : goal.returns-clause-read
 returns-clause-read c =
     whole c.args.entry c.args.edition (chars c.args.text.now) _ _ _ _
     (subst (λ (w : Whole). IsBuilt (steps (forest_by (production_of c.args.entry) w.edition (leaves_of w.leaves))) (leaves_of w.leaves) c.in_ok-built.field-0.built.root c.in_ok-built.field-0.built.errors.items) c.in_ok-lexed.ensures c.in_ok-built.ensures.built)
-    (c.in_ok-append_faults.ensures ∙ ap (λ (w : Whole). map told c.in_ok-built.field-0.built.errors.items ++ of_leaves 0 w.leaves) c.in_ok-lexed.ensures)
+    (c.in_ok-append_faults.ensures ∙ ap (λ (w : Whole). map message_of_error c.in_ok-built.field-0.built.errors.items ++ of_leaves 0 w.leaves) c.in_ok-lexed.ensures)
     (c.in_ok-tokens.ensures ∙ ap (λ (w : Whole). spans_from 0 (map in_bytes (leaves_of w.leaves))) c.in_ok-lexed.ensures)
 
-pub behind_preface-lexed-requires : goal.behind_preface-lexed-requires
-behind_preface-lexed-requires c =
+pub after_preface-lexed-requires : goal.after_preface-lexed-requires
+after_preface-lexed-requires c =
     subst (λ (w : Whole). w ≡ whole_of w.edition (chars c.args.text.now)) (sym c.in_ok-lexed.ensures) refl
 
 pub returns-clause-lexed : goal.returns-clause-lexed
 returns-clause-lexed c =
-    c.behind_preface-lexed.ensures ∙ ap (λ (w : Whole). length (behind_preface w.edition (chars c.args.text.now))) c.in_ok-lexed.ensures
+    c.after_preface-lexed.ensures ∙ ap (λ (w : Whole). length (after_preface w.edition (chars c.args.text.now))) c.in_ok-lexed.ensures

@@ -1,5 +1,5 @@
 use Rattle.std.proofs.Common.{ℕ, Option, is_some, chars, ap, sym, ◌∙◌}
-use Rattle.rust_document.proofs.Behind.{one_if, shebang-len}
+use Rattle.rust_document.proofs.After.{one_if, shebang-len}
 use Rattle.rust_document.proofs.read.shebang_len.Goals as goal
 
 pub returns-in-Some : goal.returns-in-Some

@@ -1,4 +1,4 @@
--- What is finished behind all steps is the dressed tree.
+-- What is finished after all steps is the dressed tree.
 use Rattle.std.proofs.Common.{◌≡◌, true, false}
 use Rattle.parser_input.specs.Lexed.{leaves_of}
 use Rattle.parser_events.specs.Dress.{dress_root}

@@ -16,9 +16,9 @@ pub returns-then-opens_attribute : goal.returns-then-opens_attribute
 returns-then-opens_attribute c =
     let text = chars c.args.text.now in
     let there : has_shebang text ≡ true = cc in
-    let behind : c.behind-2.result ≡ drop 2 text = two_ones text (c.behind.ensures ∙ ap (λ z. drop 1 z) c.new-line.ensures) c.behind-2.ensures in
+    let after : c.after-2.result ≡ drop 2 text = two_ones text (c.after.ensures ∙ ap (λ z. drop 1 z) c.new-line.ensures) c.after-2.ensures in
     let opens : opens_attribute (token_list (drop 2 text)) ≡ true =
-    ap (λ z. opens_attribute (token_list z)) (sym behind) ∙ ap opens_attribute (sym c.from_cursor.ensures) ∙ sym c.opens_attribute.ensures ∙ c.if-opens_attribute.true in
+    ap (λ z. opens_attribute (token_list z)) (sym after) ∙ ap opens_attribute (sym c.from_cursor.ensures) ∙ sym c.opens_attribute.ensures ∙ c.if-opens_attribute.true in
     sym (shebang-attribute text there opens)
 
 pub overflow_sub-result : goal.overflow_sub-result
@@ -30,9 +30,9 @@ pub returns : goal.returns
 returns c =
     let text = chars c.args.text.now in
     let there : has_shebang text ≡ true = cc in
-    let behind : c.behind-2.result ≡ drop 2 text = two_ones text (c.behind.ensures ∙ ap (λ z. drop 1 z) c.new-line.ensures) c.behind-2.ensures in
+    let after : c.after-2.result ≡ drop 2 text = two_ones text (c.after.ensures ∙ ap (λ z. drop 1 z) c.new-line.ensures) c.after-2.ensures in
     let opens : opens_attribute (token_list (drop 2 text)) ≡ false =
-    ap (λ z. opens_attribute (token_list z)) (sym behind) ∙ ap opens_attribute (sym c.from_cursor.ensures) ∙ sym c.opens_attribute.ensures ∙ c.if-opens_attribute.false in
+    ap (λ z. opens_attribute (token_list z)) (sym after) ∙ ap opens_attribute (sym c.from_cursor.ensures) ∙ sym c.opens_attribute.ensures ∙ c.if-opens_attribute.false in
     let left : c.eat_first_line.new.self ≡ drop (line_len text) text = c.eat_first_line.ensures ∙ ap (λ z. drop (line_len z) z) c.new-line.ensures in
     let whole : c.remaining-start.result ≡ size text = c.remaining-start.ensures ∙ ap size c.new-line.ensures in
     let rest : c.remaining.result ≡ size (drop (line_len text) text) = c.remaining.ensures ∙ ap size left in

@@ -9,8 +9,8 @@ use Rattle.lexed_text.specs.Inside.{left}
 use Rattle.lexed_text.proofs.Edits.{front-known, front-in, front-left, front-seam, edited-is, renewed-all, cut-start, cut-end, had-room, restored-is}
 use Rattle.lexed_text.proofs.lexed_text.LexedText.edit.Goals as goal
 
-pub overflow_sub-behind_front : goal.overflow_sub-behind_front
-overflow_sub-behind_front c =
+pub overflow_sub-after_front : goal.overflow_sub-after_front
+overflow_sub-after_front c =
     let text = c.args.self.now in
     let put = c.args.replacement.now in
     let start = c.args.range.start in

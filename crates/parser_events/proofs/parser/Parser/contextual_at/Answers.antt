@@ -1,4 +1,4 @@
--- The token so far behind the position.
+-- The token so far after the position.
 use Rattle.std.proofs.Common.{◌∙◌, ℕ, ◌+◌, ◌-◌, ap}
 use Rattle.parser_input.specs.Recorded.{token_at}
 use Rattle.parser_events.specs.View.{View}

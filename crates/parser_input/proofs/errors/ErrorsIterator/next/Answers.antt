@@ -1,4 +1,4 @@
--- One fault is given, and those behind it are left.
+-- One fault is given, and those after it are left.
 use Rattle.std.proofs.Common.{◌∙◌, ◌+◌, ℕ, List, ◌∷◌, sym, ap, length, arith}
 use Rattle.parser_input.specs.Faults.{faults_from}
 use Rattle.parser_input.proofs.errors.ErrorsIterator.next.Goals as goal

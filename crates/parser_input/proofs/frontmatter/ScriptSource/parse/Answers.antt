@@ -1,5 +1,5 @@
 use Rattle.std.proofs.Common.{◌≡◌, ◌∙◌, ◌-◌, ◌+◌, List, ℕ, ap, sym, arith, chars, true, Option, Result, Ok, Err, refl}
-use Rattle.parser_input.specs.Lines.{behind_line, dashes}
+use Rattle.parser_input.specs.Lines.{after_line, dashes}
 use Rattle.parser_input.specs.Preface.{Source, place, bare, fenced, opening_line, closing_line, enclosed}
 use Rattle.parser_input.specs.declared.frontmatter_error.FrontmatterError.{FrontmatterError}
 use Rattle.parser_input.specs.declared.frontmatter_error.FrontmatterError.TheVariants.{TooFewDashes, Unclosed}
@@ -36,7 +36,7 @@ returns-in-Some c =
     let n = c.eat_dashes-count.result in
     let opening = c.opening_line-opening.ensures.line ∙ ap (λ (t : List ℕ). opening_line t) c.new-text.ensures in
     let count = c.eat_dashes-count.ensures.count ∙ ap (λ (t : List ℕ). dashes t) (c.here.ensures ∙ opening) in
-    let inside = c.eat_whole_line.ensures ∙ ap (λ (t : List ℕ). behind_line t) (c.here-inside.ensures ∙ opening) in
+    let inside = c.eat_whole_line.ensures ∙ ap (λ (t : List ℕ). after_line t) (c.here-inside.ensures ∙ opening) in
     let found = c.in-Some.ensures.line ∙ ap (λ (t : List ℕ). closing_line n true t) inside in
     let K : List ℕ → List ℕ → Result Source FrontmatterError = λ t o. Ok (fenced t o c.in-Some.closing) in
     let E : Option (List ℕ) → Result Source FrontmatterError = λ o. enclosed text n o in
@@ -50,7 +50,7 @@ returns-in-None c =
     let n = c.eat_dashes-count.result in
     let opening = c.opening_line-opening.ensures.line ∙ ap (λ (t : List ℕ). opening_line t) c.new-text.ensures in
     let count = c.eat_dashes-count.ensures.count ∙ ap (λ (t : List ℕ). dashes t) (c.here.ensures ∙ opening) in
-    let inside = c.eat_whole_line.ensures ∙ ap (λ (t : List ℕ). behind_line t) (c.here-inside.ensures ∙ opening) in
+    let inside = c.eat_whole_line.ensures ∙ ap (λ (t : List ℕ). after_line t) (c.here-inside.ensures ∙ opening) in
     let found = c.in-None.ensures.line ∙ ap (λ (t : List ℕ). closing_line n true t) inside in
     let start : c.remaining.result - c.remaining-2.result ≡ place text (opening_line text) = rw (c.remaining.ensures, c.remaining-2.ensures, opening, c.new-text.ensures) refl in
     let K : ℕ → Result Source FrontmatterError = λ k. Err (Unclosed k (k + n)) in

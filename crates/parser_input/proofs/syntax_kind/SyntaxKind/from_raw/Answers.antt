@@ -1,6 +1,7 @@
 use Rattle.std.proofs.Common.{◌≡◌, slice_get, ◌∙◌, subst, sym, IfSome}
 use Rattle.parser_input.specs.Kind.{raw_of}
-use Rattle.parser_input.proofs.KindTable.{all_kinds, copied_item, raw_of-get, slice_get-kinds}
+use Rattle.parser_input.specs.KindTable.{all_kinds}
+use Rattle.parser_input.proofs.KindTable.{copied_item, raw_of-get, slice_get-kinds}
 use Rattle.parser_input.proofs.syntax_kind.SyntaxKind.from_raw.Goals as goal
 
 taken : (c : goal.After-copied) → c.copied.result ≡ slice_get all_kinds c.args.raw

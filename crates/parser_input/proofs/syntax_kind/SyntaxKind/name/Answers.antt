@@ -1,7 +1,8 @@
 use Rattle.std.proofs.Common.{◌≡◌, map, [], Bor, List, ℕ}
 use Rattle.std.proofs.Math.ListN.{get_or, get_or-map}
 use Rattle.parser_input.specs.Kind.{name_of}
-use Rattle.parser_input.proofs.KindTable.{all_kinds, name-at}
+use Rattle.parser_input.proofs.KindTable.{name-at}
+use Rattle.parser_input.specs.KindTable.{all_kinds}
 use Rattle.parser_input.proofs.syntax_kind.SyntaxKind.name.Goals as goal
 
 pub returns : goal.returns

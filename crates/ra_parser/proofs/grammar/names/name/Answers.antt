@@ -11,7 +11,7 @@ use Rattle.rust_grammar.specs.Statements.{statements}
 use Rattle.rust_grammar.specs.Types.{types}
 use Rattle.rust_grammar.specs.Whole.{rule, whole}
 use Rattle.ra_parser.proofs.ByHand.{reads-node}
-use Rattle.ra_parser.proofs.Choices.{anew-behind, gives-anew}
+use Rattle.ra_parser.proofs.Choices.{anew-after, gives-anew}
 use Rattle.ra_parser.proofs.grammar.names.name.Goals as goal
 
 pub complete-requires : goal.complete-requires
@@ -19,4 +19,4 @@ complete-requires c = (c.take.ensures.reads true).does.innermost _ (c.start-name
 
 pub returns-clause-gives : goal.returns-clause-gives
 unfolding look_of begins_below whole rule items statements expressions patterns types paths there_at shift passes is_silent begins in_mode anew row one_of any_of no_longer longest is_longer
-returns-clause-gives c cond = gives-anew (anew-behind refl (reads-node cond c.start-name.ensures.opens ((c.take.ensures.reads cond)) c.complete.ensures.closes))
+returns-clause-gives c cond = gives-anew (anew-after refl (reads-node cond c.start-name.ensures.opens ((c.take.ensures.reads cond)) c.complete.ensures.closes))

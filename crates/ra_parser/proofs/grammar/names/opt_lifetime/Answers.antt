@@ -9,14 +9,14 @@ use Rattle.rust_grammar.specs.Rule.{begins, in_mode, anew, is_silent, passes, sh
 use Rattle.rust_grammar.specs.Statements.{statements}
 use Rattle.rust_grammar.specs.Types.{types}
 use Rattle.rust_grammar.specs.Whole.{rule, whole}
-use Rattle.ra_parser.proofs.ByHand.{behind-look, reads-call, reads-nothing}
+use Rattle.ra_parser.proofs.ByHand.{after-look, reads-call, reads-nothing}
 use Rattle.ra_parser.proofs.Choices.{reads-here}
 use Rattle.ra_parser.proofs.Facts.{nothing, saw-so, ◌and◌}
 use Rattle.ra_parser.proofs.grammar.names.opt_lifetime.Goals as goal
 
 pub returns-then-at-clause-reads : goal.returns-then-at-clause-reads
 unfolding look_of begins_below whole rule items statements expressions patterns types paths there_at shift passes is_silent begins in_mode anew row one_of any_of no_longer longest is_longer
-returns-then-at-clause-reads c cond = reads-here (saw-so (c.at.ensures.sees cond) c.if-at.true and nothing) (behind-look cond c.at.ensures.same (reads-call cond (c.lifetime.ensures.gives cond)))
+returns-then-at-clause-reads c cond = reads-here (saw-so (c.at.ensures.sees cond) c.if-at.true and nothing) (after-look cond c.at.ensures.same (reads-call cond (c.lifetime.ensures.gives cond)))
 
 pub returns-else-at-clause-reads : goal.returns-else-at-clause-reads
 unfolding look_of begins_below whole rule items statements expressions patterns types paths there_at shift passes is_silent begins in_mode anew row one_of any_of no_longer longest is_longer

@@ -12,20 +12,20 @@ use Rattle.rust_grammar.specs.Types.{types}
 use Rattle.rust_grammar.specs.Whole.{rule, whole}
 use Rattle.rust_grammar.specs.Rule as rules
 use Rattle.ra_parser.proofs.Begins.{saw-expr-path, saw-type-path}
-use Rattle.ra_parser.proofs.ByHand.{behind-look, reads-call}
+use Rattle.ra_parser.proofs.ByHand.{after-look, reads-call}
 use Rattle.ra_parser.proofs.Choices.{reads-here}
 use Rattle.ra_parser.proofs.Facts.{begun, nothing, saw-so}
-use Rattle.ra_parser.proofs.Seen.{begins-here, saw-behind}
+use Rattle.ra_parser.proofs.Seen.{begins-here, saw-after}
 use Rattle.ra_parser.proofs.grammar.paths.expect_path.Goals as goal
 
 pub path-requires-clause-begins : goal.path-requires-clause-begins
 unfolding look_of begins_below whole rule items statements expressions patterns types paths there_at shift passes is_silent begins in_mode anew row one_of any_of no_longer longest is_longer
-path-requires-clause-begins c cond = saw-behind c.at_path.ensures.same (begins-here rules.path refl (begun rules.type_path (saw-type-path (saw-so (c.at_path.ensures.sees cond) c.if-at_path.true)) (begun rules.expr_path (saw-expr-path (saw-so (c.at_path.ensures.sees cond) c.if-at_path.true)) (begun rules.path (saw-so (c.at_path.ensures.sees cond) c.if-at_path.true) (nothing)))) refl)
+path-requires-clause-begins c cond = saw-after c.at_path.ensures.same (begins-here rules.path refl (begun rules.type_path (saw-type-path (saw-so (c.at_path.ensures.sees cond) c.if-at_path.true)) (begun rules.expr_path (saw-expr-path (saw-so (c.at_path.ensures.sees cond) c.if-at_path.true)) (begun rules.path (saw-so (c.at_path.ensures.sees cond) c.if-at_path.true) (nothing)))) refl)
 
 pub returns-then-at_path-clause-reads : goal.returns-then-at_path-clause-reads
 unfolding look_of begins_below whole rule items statements expressions patterns types paths there_at shift passes is_silent begins in_mode anew row one_of any_of no_longer longest is_longer
-returns-then-at_path-clause-reads c cond = reads-here (begun rules.type_path (saw-type-path (saw-so (c.at_path.ensures.sees cond) c.if-at_path.true)) (begun rules.expr_path (saw-expr-path (saw-so (c.at_path.ensures.sees cond) c.if-at_path.true)) (begun rules.path (saw-so (c.at_path.ensures.sees cond) c.if-at_path.true) (nothing)))) (behind-look cond c.at_path.ensures.same (reads-call cond (c.path.ensures.gives cond)))
+returns-then-at_path-clause-reads c cond = reads-here (begun rules.type_path (saw-type-path (saw-so (c.at_path.ensures.sees cond) c.if-at_path.true)) (begun rules.expr_path (saw-expr-path (saw-so (c.at_path.ensures.sees cond) c.if-at_path.true)) (begun rules.path (saw-so (c.at_path.ensures.sees cond) c.if-at_path.true) (nothing)))) (after-look cond c.at_path.ensures.same (reads-call cond (c.path.ensures.gives cond)))
 
 pub returns-clause-reads : goal.returns-clause-reads
 unfolding look_of begins_below whole rule items statements expressions patterns types paths there_at shift passes is_silent begins in_mode anew row one_of any_of no_longer longest is_longer
-returns-clause-reads c cond = reads-here (begun rules.type_path (saw-type-path (saw-so (c.at_path.ensures.sees cond) c.if-at_path.false)) (begun rules.expr_path (saw-expr-path (saw-so (c.at_path.ensures.sees cond) c.if-at_path.false)) (begun rules.path (saw-so (c.at_path.ensures.sees cond) c.if-at_path.false) (nothing)))) (behind-look cond c.at_path.ensures.same ((c.error.ensures.reads cond)))
+returns-clause-reads c cond = reads-here (begun rules.type_path (saw-type-path (saw-so (c.at_path.ensures.sees cond) c.if-at_path.false)) (begun rules.expr_path (saw-expr-path (saw-so (c.at_path.ensures.sees cond) c.if-at_path.false)) (begun rules.path (saw-so (c.at_path.ensures.sees cond) c.if-at_path.false) (nothing)))) (after-look cond c.at_path.ensures.same ((c.error.ensures.reads cond)))

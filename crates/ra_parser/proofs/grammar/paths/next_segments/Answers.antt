@@ -17,9 +17,9 @@ use Rattle.rust_grammar.specs.Rule.{begins, in_mode, anew, is_silent, passes, sh
 use Rattle.rust_grammar.specs.Statements.{statements}
 use Rattle.rust_grammar.specs.Types.{types}
 use Rattle.rust_grammar.specs.Whole.{rule, whole}
-use Rattle.ra_parser.proofs.ByHand.{behind-look, reads-unless}
+use Rattle.ra_parser.proofs.ByHand.{after-look, reads-unless}
 use Rattle.ra_parser.proofs.Facts.{saw-so}
-use Rattle.ra_parser.proofs.Seen.{saw-behind, ends-at-end}
+use Rattle.ra_parser.proofs.Seen.{saw-after, ends-at-end}
 use Rattle.ra_parser.proofs.Turns.{first-turn, next-turn, last-turn}
 use Rattle.ra_parser.proofs.grammar.paths.next_segments.Goals as goal
 
@@ -28,7 +28,7 @@ turns-init c = (λ cond. first-turn, omega arith, omega arith, c.requires)
 
 pub turns-preserved : goal.turns-preserved
 unfolding tokens look_of begins_below whole rule items statements expressions patterns types paths there_at shift passes is_silent begins in_mode anew row one_of any_of no_longer longest is_longer
-turns-preserved c = (λ cond. next-turn cond (Unless colons_before_more (PATH <⟨ One '::' ▸ (PATH_SEGMENT ⟨ Ref ▸ Nothing ⟩) ! ⟩)) (ends-at-end cond (Unless colons_before_more (PATH <⟨ One '::' ▸ (PATH_SEGMENT ⟨ Ref ▸ Nothing ⟩) ! ⟩)) refl) _ _ _ (c.turns.invariant.0 cond) (saw-so (c.at_next_segment.ensures.sees cond) c.turns-test.true) (behind-look cond c.at_next_segment.ensures.same (reads-unless cond ((c.next_segment-path.ensures.reads cond)))) (omega (arith, c.next_segment-path.ensures.left, c.at_next_segment.ensures.left)), omega (arith, c.turns.invariant.1), omega (arith, c.turns.invariant.2), c.next_segment-path.ensures.marker)
+turns-preserved c = (λ cond. next-turn cond (Unless colons_before_more (PATH <⟨ One '::' ▸ (PATH_SEGMENT ⟨ Ref ▸ Nothing ⟩) ! ⟩)) (ends-at-end cond (Unless colons_before_more (PATH <⟨ One '::' ▸ (PATH_SEGMENT ⟨ Ref ▸ Nothing ⟩) ! ⟩)) refl) _ _ _ (c.turns.invariant.0 cond) (saw-so (c.at_next_segment.ensures.sees cond) c.turns-test.true) (after-look cond c.at_next_segment.ensures.same (reads-unless cond ((c.next_segment-path.ensures.reads cond)))) (omega (arith, c.next_segment-path.ensures.left, c.at_next_segment.ensures.left)), omega (arith, c.turns.invariant.1), omega (arith, c.turns.invariant.2), c.next_segment-path.ensures.marker)
 
 pub returns-clause-reads : goal.returns-clause-reads
 unfolding tokens look_of begins_below whole rule items statements expressions patterns types paths there_at shift passes is_silent begins in_mode anew row one_of any_of no_longer longest is_longer
@@ -44,4 +44,4 @@ pub next_segment-path-requires-clause-some : goal.next_segment-path-requires-cla
 next_segment-path-requires-clause-some c = omega (arith, c.at_next_segment.ensures.some c.turns-test.true, c.at_next_segment.ensures.left)
 
 pub returns-clause-ends : goal.returns-clause-ends
-returns-clause-ends c cond = saw-behind c.at_next_segment.ensures.same (saw-so (c.at_next_segment.ensures.sees cond) c.turns-test.false)
+returns-clause-ends c cond = saw-after c.at_next_segment.ensures.same (saw-so (c.at_next_segment.ensures.sees cond) c.turns-test.false)

@@ -13,14 +13,14 @@ use Rattle.ra_parser.proofs.grammar.use_trees.+use_trees.Given as goal
 abbrev pub decreases-star_or_list : goal.decreases-star_or_list
 decreases-star_or_list l = 64 * tokens l.p.now + 2
 
-abbrev pub decreases-behind_path : goal.decreases-behind_path
-decreases-behind_path l = 64 * tokens l.p.now + 2
+abbrev pub decreases-after_path : goal.decreases-after_path
+decreases-after_path l = 64 * tokens l.p.now + 2
 
 abbrev pub decreases-path_tree : goal.decreases-path_tree
 decreases-path_tree l = 64 * tokens l.p.now + 2
 
-abbrev pub decreases-behind_colons : goal.decreases-behind_colons
-decreases-behind_colons l = 64 * tokens l.p.now + 2
+abbrev pub decreases-after_colons : goal.decreases-after_colons
+decreases-after_colons l = 64 * tokens l.p.now + 2
 
 abbrev pub decreases-inside : goal.decreases-inside
 decreases-inside l = 64 * tokens l.p.now + 3

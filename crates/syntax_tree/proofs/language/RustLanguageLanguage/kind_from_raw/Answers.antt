@@ -2,7 +2,7 @@ use Rattle.std.proofs.Common.{◌≡◌, ℕ, ◌<◌, ◌≤◌, ap, sym, ◌�
 use Rattle.std.proofs.lemmas.Bool.{false≢true}
 use Rattle.std.proofs.lemmas.Option.{slice_get_past}
 use Rattle.parser_input.specs.declared.syntax_kind.SyntaxKind.TheVariants.{ERROR}
-use Rattle.parser_input.proofs.KindTable.{all_kinds}
+use Rattle.parser_input.specs.KindTable.{all_kinds}
 use Rattle.syntax_tree.specs.Language.{kind_of_raw, kind_of_raw-raw_of}
 use Rattle.syntax_tree.proofs.language.RustLanguageLanguage.kind_from_raw.Goals as goal
 

@@ -1,6 +1,6 @@
--- The tokens behind what is pending.
+-- The tokens after what is pending.
 use Rattle.parser_events.proofs.Fittings.{token-leads, token-misfits}
-use Rattle.parser_events.proofs.fits.behind_token.Goals as goal
+use Rattle.parser_events.proofs.fits.after_token.Goals as goal
 
 pub returns-in-Some : goal.returns-in-Some
 returns-in-Some c kind =

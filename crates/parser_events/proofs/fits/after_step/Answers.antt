@@ -5,10 +5,10 @@ use Rattle.parser_events.specs.Fitting.{Leads, Misfits}
 use Rattle.parser_events.specs.Seen.{step_of}
 use Rattle.parser_events.specs.Steps as steps
 use Rattle.parser_events.proofs.Fittings.{either-way}
-use Rattle.parser_events.proofs.fits.behind_step.Goals as goal
+use Rattle.parser_events.proofs.fits.after_step.Goals as goal
 
 pub returns-in-Token : goal.returns-in-Token
 returns-in-Token c =
     let ls = c.args.lexed.now.leaves in
-    subst (λ (s : steps.Step). MatchOption c.behind_token.result (Misfits ls s c.args.start) (λ next. Leads ls s c.args.start next)) (sym (ap step_of c.in-Token.is))
-    (either-way ls (raw_of c.in-Token.kind) c.args.start c.in-Token.n_input_tokens c.behind_token.result c.behind_token.ensures)
+    subst (λ (s : steps.Step). MatchOption c.after_token.result (Misfits ls s c.args.start) (λ next. Leads ls s c.args.start next)) (sym (ap step_of c.in-Token.is))
+    (either-way ls (raw_of c.in-Token.kind) c.args.start c.in-Token.n_input_tokens c.after_token.result c.after_token.ensures)

@@ -1,6 +1,6 @@
 use Rattle.std.proofs.Common.{◌∙◌, sym, ap, drop, chars}
 use Rattle.std.proofs.lemmas.Str.{chars_past_char}
-use Rattle.rustc_lexer.proofs.cursor.Cursor.behind.Goals as goal
+use Rattle.rustc_lexer.proofs.cursor.Cursor.after.Goals as goal
 
 pub returns-in-Some : goal.returns-in-Some
 returns-in-Some c =

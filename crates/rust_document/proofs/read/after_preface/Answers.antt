@@ -1,7 +1,7 @@
 use Rattle.std.proofs.Common.{chars, length, ap, arith}
 use Rattle.parser_input.specs.Stored.{Whole}
-use Rattle.rust_document.proofs.Behind.{parts-len}
-use Rattle.rust_document.proofs.read.behind_preface.Goals as goal
+use Rattle.rust_document.proofs.After.{parts-len}
+use Rattle.rust_document.proofs.read.after_preface.Goals as goal
 
 pub overflow_sub-result : goal.overflow_sub-result
 overflow_sub-result c =

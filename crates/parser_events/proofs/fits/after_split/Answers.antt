@@ -1,7 +1,7 @@
--- The float behind what is pending.
+-- The float after what is pending.
 use Rattle.std.proofs.Common.{refl, sym, ◌∙◌, arith}
 use Rattle.parser_events.proofs.Fittings.{split-end, split-leads, split-misfits}
-use Rattle.parser_events.proofs.fits.behind_split.Goals as goal
+use Rattle.parser_events.proofs.fits.after_split.Goals as goal
 
 pub returns-then-first-len : goal.returns-then-first-len
 returns-then-first-len c =
