@@ -1,5 +1,5 @@
 -- The character at a byte of a text that is made of terms.
-use Rattle.std.proofs.Common.{◌≡◌, ℕ, ◌+◌, ◌-◌, ◌<◌, ◌≤◌, min, List, ◌∷◌, ◌++◌, length, take, drop, length-append, length-take, sym, ◌∙◌, ap, subst, arith, inl, inr, Option, Some, None, zero, suc, length-drop}
+use Rattle.std.proofs.Common.{◌≡◌, ℕ, ◌+◌, ◌-◌, ◌<◌, ◌≤◌, min, List, [], ◌∷◌, ◌++◌, length, take, drop, length-append, length-take, sym, ◌∙◌, ap, subst, arith, inl, inr, Option, Some, None, zero, suc, slice_get, length-drop}
 use Rattle.std.proofs.lemmas.List.{take_min, take-append-drop, drop-append-le}
 use Rattle.std.proofs.Math.Seq.{take-append-add, drop-append_seam}
 use Rattle.std.proofs.lemmas.Str.{IsCharBoundary-start}
@@ -7,11 +7,14 @@ use Rattle.std.specs.Char.{encode_utf8}
 use Rattle.std.specs.Str.{IsUtf8, IsCharBoundary}
 use Rattle.std.specs.Str.Pattern.{HasCharAt}
 use Rattle.std.specs.Prelude.{MatchOption}
-use Rattle.rowan_green.specs.Term.{Term, texts_of, text_of}
+use Rattle.rowan_green.specs.ChildAt.{IsChildAt}
+use Rattle.rowan_green.specs.Term.{Term, texts_of, text_of, texts_of-append}
+use Rattle.rowan.specs.Place.{text_in}
 use Rattle.rowan.specs.Text.{IsCut, IsPart, StandsAt, FirstAt, Lacks, IsCharAt}
 use Rattle.rowan.specs.Reading.{stands_after, stands_before}
 use Rattle.rowan.proofs.Texts.{lt_or_ge, cut_first, cut_rest, cut_of_part, take_over}
 use Rattle.rowan.proofs.Parts.{texts_are}
+use Rattle.rowan.proofs.Places.{len_next}
 
 -- a text may be cut where it may be sliced
 pub boundary_of_cut : (bs : List ℕ) (n : ℕ) → IsUtf8 bs → IsCut bs n → IsCharBoundary bs n
@@ -109,3 +112,50 @@ module _ (s t : List Term) (e : Term) (y : s ≡ e ∷ t) (size left : ℕ) (z :
   pub within_char : (offset : ℕ) (r : Option ℕ) → offset < size → offset < left → IsCharAt (take (min left size) (text_of e)) offset r → IsCharAt (take left (texts_of s)) offset r
   within_char offset r h k p =
       subst (λ v. IsCharAt v offset r) (sym split_here) (char_before (take (min left size) (text_of e)) (take (left - size) (texts_of t)) offset r (omega (arith, length-take (min left size) (text_of e))) p)
+
+-- ---- after the text before them
+
+module _ (a b : List ℕ) (n left : ℕ) (z : n ≡ length a) where
+  skip_cut : IsCut (a ++ b) left → n ≤ left → IsCut b (left - n)
+  skip_cut c h = let m : left ≡ length a + (left - n) = omega arith in cut_rest a b (left - n) (subst (λ k. IsCut (a ++ b) k) m c)
+
+  skip_char : (offset : ℕ) (r : Option ℕ) → n ≤ offset → offset < left → IsCharAt (take (left - n) b) (offset - n) r → IsCharAt (take left (a ++ b)) offset r
+  skip_char offset r h k p =
+      let m : length (take left a) + (offset - n) ≡ offset = omega (arith, length-take left a) in
+      let w : take left (a ++ b) ≡ take left a ++ take (left - n) b = take_over a b left ∙ ap (λ k. take left a ++ take (left - k) b) (sym z) in
+      subst (λ v. IsCharAt v offset r) (sym w) (subst (λ m. IsCharAt (take left a ++ take (left - n) b) m r) m (char_after (take left a) (take (left - n) b) (offset - n) r p))
+
+get_drop : (es : List Term) (i : ℕ) (e : Term) → Some e ≡ slice_get es i → drop i es ≡ e ∷ drop (suc i) es
+get_drop [] i e h = absurd (cc)
+get_drop (x ∷ es) zero e h = let k : e ≡ x = cc in ap (λ y. y ∷ es) (sym k)
+get_drop (x ∷ es) (suc i) e h = get_drop es i e h
+
+-- a byte of a child that a search by an offset found
+module _ (es : List Term) (i start byte size end : ℕ) (e : Term) (h : Some e ≡ slice_get es i) (c : IsChildAt es byte i start) (z : size ≡ length (text_of e)) (u : IsCut (texts_of es) end) (l : byte < end) where
+  parts : texts_of es ≡ texts_of (take i es) ++ texts_of (drop i es)
+  parts = ap texts_of (sym (take-append-drop i es)) ∙ texts_of-append (take i es) (drop i es)
+
+  cut_rest_of : IsCut (texts_of (drop i es)) (end - start)
+  cut_rest_of = skip_cut (texts_of (take i es)) (texts_of (drop i es)) start end c.begins (subst (λ v. IsCut v end) parts u) (omega (arith, c.from, l))
+
+  next_is : length (texts_of (take (i + 1) es)) ≡ start + size
+  next_is =
+      let k : i + 1 ≡ suc i = omega arith in
+      let s = len_next es i in
+      let v : length (text_in (slice_get es i)) ≡ length (text_of e) = ap (λ o. length (text_in o)) (sym h) in
+      let w = ap (λ m. length (texts_of (take m es))) k in
+      omega (arith, s, v, w, z, c.begins)
+
+  pub before_size : byte - start < size
+  before_size = omega (arith, next_is, c.before_end, c.from)
+
+  pub before_within : byte - start < min (end - start) size
+  before_within = omega (arith, before_size, l, c.from)
+
+  pub child_cut : IsCut (text_of e) (min (end - start) size)
+  child_cut = within_cut (drop i es) (drop (suc i) es) e (get_drop es i e h) size (end - start) z cut_rest_of
+
+  pub child_char : (r : Option ℕ) → IsCharAt (take (min (end - start) size) (text_of e)) (byte - start) r → IsCharAt (take end (texts_of es)) byte r
+  child_char r p =
+      let q = within_char (drop i es) (drop (suc i) es) e (get_drop es i e h) size (end - start) z cut_rest_of (byte - start) r before_size (omega (arith, l, c.from)) p in
+      subst (λ v. IsCharAt (take end v) byte r) (sym parts) (skip_char (texts_of (take i es)) (texts_of (drop i es)) start end c.begins byte r c.from l q)

@@ -1,5 +1,5 @@
 -- The texts of a list of terms, the first one's first.
-use Rattle.std.proofs.Common.{◌≡◌, ℕ, ◌+◌, ◌-◌, ◌<◌, ◌≤◌, min, List, ◌∷◌, ◌++◌, length, take, drop, length-take, length-drop, refl, sym, ◌∙◌, ap, subst, arith}
+use Rattle.std.proofs.Common.{◌≡◌, ℕ, zero, suc, [], Some, slice_get, ◌+◌, ◌-◌, ◌<◌, ◌≤◌, min, List, ◌∷◌, ◌++◌, length, take, drop, length-take, length-drop, refl, sym, ◌∙◌, ap, subst, arith}
 use Rattle.rowan_green.specs.Forest.{Tree, forest_text, tree_text, forest_count, tree_count}
 use Rattle.rowan_green.specs.Term.{Term, children_of, forest_of, texts_of, text_of, term_count, forest_of-terms}
 use Rattle.rowan_green.specs.declared.utility_types.NodeOrToken.TheVariants.{Node, Token}
@@ -19,6 +19,12 @@ text_cons (Token l) es = refl
 count_cons : (e : Term) (es : List Term) → forest_count (forest_of (e ∷ es)) ≡ term_count e + forest_count (forest_of es)
 count_cons (Node t) es = refl
 count_cons (Token l) es = refl
+
+-- a child of this number weighs no more than all
+pub child_count : (es : List Term) (i : ℕ) (e : Term) → Some e ≡ slice_get es i → term_count e ≤ forest_count (forest_of es)
+child_count [] i e h = absurd (cc)
+child_count (x ∷ es) zero e h = let k : e ≡ x = cc in omega (arith, ap term_count k, count_cons x es)
+child_count (x ∷ es) (suc i) e h = omega (arith, child_count es i e h, count_cons x es)
 
 module _ (s t : List Term) (e : Term) (y : s ≡ e ∷ t) where
   pub texts_are : texts_of s ≡ text_of e ++ texts_of t

@@ -6,7 +6,7 @@ use Rattle.rowan_green.specs.declared.utility_types.NodeOrToken.TheVariants.{Nod
 use Rattle.rowan.specs.Place.{Place, above, below, index_of, first_number, term_at, terms_below, children_in, text_in, start_of, end_of}
 use Rattle.rowan.specs.Sound.{Stands}
 
-len_next : (es : List Term) (i : ℕ) → length (texts_of (take (suc i) es)) ≡ length (texts_of (take i es)) + length (text_in (slice_get es i))
+pub len_next : (es : List Term) (i : ℕ) → length (texts_of (take (suc i) es)) ≡ length (texts_of (take i es)) + length (text_in (slice_get es i))
 len_next [] zero = omega arith
 len_next [] (suc i) = omega arith
 len_next (Node t ∷ es) zero = omega (arith, length-append (tree_text t) [])

@@ -1,48 +1,105 @@
 -- The search for a child by its range.
-use Rattle.std.proofs.Common.{◌≡◌, ℕ, suc, ◌+◌, ◌<◌, List, [], ◌∷◌, refl, ap, sym, ◌∙◌, arith, Option, Some, slice_get, Bool, true, false, ◌&&◌, nat_le, cond}
+use Rattle.std.proofs.Common.{◌≡◌, ℕ, zero, suc, ◌+◌, ◌-◌, ◌<◌, ◌≤◌, List, [], ◌∷◌, length, take, drop, refl, ap, sym, ◌∙◌, arith, Option, Some, None, slice_get, Bool, true, false, ◌&&◌, nat_le, cond}
+use Rattle.std.proofs.lemmas.Bool.{lt-leb, le-leb}
 use Rattle.std.specs.List.{filter, cons_option}
 use Rattle.rowan_green.specs.Forest.{Tree}
-use Rattle.rowan_green.specs.Term.{Term, children_of}
+use Rattle.rowan_green.specs.Term.{Term, children_of, texts_of}
+use Rattle.rowan_green.specs.ChildAt.{IsChildAt}
 use Rattle.rowan_green.specs.declared.utility_types.NodeOrToken.TheVariants.{Node, Token}
-use Rattle.rowan.specs.Place.{Place, below, term_at, terms_below, start_of, end_of}
+use Rattle.rowan.specs.Place.{Place, below, term_at, terms_below, children_in, start_of, end_of}
 use Rattle.rowan.specs.Around.{Cursor, place_in, cursor_of, cursor_in, cursor_at, numbered, children_from, first}
 use Rattle.rowan.specs.Ranges.{holds, child_at_range}
-use Rattle.rowan.proofs.Lists.{from_here}
-use Rattle.rowan.proofs.Places.{next_start}
-use Rattle.rowan.proofs.Steps.{child_term}
+use Rattle.rowan.proofs.Lists.{from_here, none_from}
+use Rattle.rowan.proofs.Places.{next_start, last_end}
+use Rattle.rowan.proofs.Steps.{get_past}
 use Rattle.rowan.proofs.Leaves.{child_falls, count_in}
+
+and_false : (x : Bool) → (x && false) ≡ false
+and_false true = refl
+and_false false = refl
 
 place_of_cursor : (q : Place) (e : Term) → place_in (cursor_of q e) ≡ q
 place_of_cursor q (Node t) = refl
 place_of_cursor q (Token l) = refl
 
-module _ (p : Place) (g : Tree) (i a b offset end : ℕ) (e : Term) (h : term_at p ≡ Some (Node g)) (k : Some e ≡ slice_get (children_of g) i) (o : offset ≡ start_of (below p i)) (n : end ≡ start_of (below p (i + 1))) where
-  here_is : cursor_at (below p i) ≡ Some (cursor_of (below p i) e)
-  here_is = ap (cursor_in (below p i)) (child_term p g i e h k)
+late : (a b s e : ℕ) → a < s → (nat_le s a && nat_le b e) ≡ false
+late a b s e h = ap (λ x. x && nat_le b e) (lt-leb s a h)
 
-  test_is : holds a b (cursor_of (below p i) e) ≡ (nat_le offset a && nat_le b end)
-  test_is =
-      ap (λ q. nat_le (start_of q) a && nat_le b (end_of q)) (place_of_cursor (below p i) e)
-      ∙ ap (λ m. nat_le (start_of (below p i)) a && nat_le b m) (sym (next_start p i))
-      ∙ ap (λ m. nat_le m a && nat_le b (start_of (below p (i + 1)))) (sym o) ∙ ap (λ m. nat_le offset a && nat_le b m) (sym n)
+early : (a b s e : ℕ) → e < b → (nat_le s a && nat_le b e) ≡ false
+early a b s e h = ap (λ x. nat_le s a && x) (lt-leb b e h) ∙ and_false (nat_le s a)
 
-  list_is : children_from p i ≡ cursor_of (below p i) e ∷ children_from p (i + 1)
-  list_is = from_here p i ∙ ap (λ x. cons_option x (children_from p (i + 1))) here_is
+both : (a b s e : ℕ) → s ≤ a → b ≤ e → (nat_le s a && nat_le b e) ≡ true
+both a b s e h k = ap (λ x. x && nat_le b e) (le-leb s a h) ∙ le-leb b e k
 
-  filter_is : filter (holds a b) (children_from p i) ≡ cond (nat_le offset a && nat_le b end) (cursor_of (below p i) e ∷ filter (holds a b) (children_from p (i + 1))) (filter (holds a b) (children_from p (i + 1)))
-  filter_is =
-      ap (filter (holds a b)) list_is
-      ∙ ap (λ t. cond t (cursor_of (below p i) e ∷ filter (holds a b) (children_from p (i + 1))) (filter (holds a b) (children_from p (i + 1)))) test_is
+place_of_found : (q : Place) (x : Option Term) (c : Cursor) → cursor_in q x ≡ Some c → place_in c ≡ q
+place_of_found q None c h = absurd (cc)
+place_of_found q (Some e) c h = let k : c ≡ cursor_of q e = cc in ap place_in k ∙ place_of_cursor q e
 
-  pub holds_here : (nat_le offset a && nat_le b end) ≡ true → first (filter (holds a b) (children_from p i)) ≡ cursor_at (below p i)
-  holds_here t =
-      ap first filter_is
-      ∙ ap (λ x. first (cond x (cursor_of (below p i) e ∷ filter (holds a b) (children_from p (i + 1))) (filter (holds a b) (children_from p (i + 1))))) t ∙ sym here_is
+-- the children from one on that begins too late
+none_late : (p : Place) (a b : ℕ) (es : List Term) (i : ℕ) → a < start_of (below p i) → first (filter (holds a b) (numbered p i es)) ≡ None
+none_late p a b [] i h = refl
+none_late p a b (e ∷ es) i h =
+    let t : holds a b (cursor_of (below p i) e) ≡ false =
+    ap (λ q. nat_le (start_of q) a && nat_le b (end_of q)) (place_of_cursor (below p i) e) ∙ late a b (start_of (below p i)) (end_of (below p i)) h in
+    let s : start_of (below p i) ≤ end_of (below p i) = omega arith in
+    ap (λ x. first (cond x (cursor_of (below p i) e ∷ filter (holds a b) (numbered p (i + 1) es)) (filter (holds a b) (numbered p (i + 1) es)))) t
+    ∙ none_late p a b es (i + 1) (omega (arith, next_start p i, h, s))
 
-  pub holds_later : (nat_le offset a && nat_le b end) ≡ false → first (filter (holds a b) (children_from p i)) ≡ first (filter (holds a b) (children_from p (i + 1)))
-  holds_later t =
-      ap first filter_is
-      ∙ ap (λ x. first (cond x (cursor_of (below p i) e ∷ filter (holds a b) (children_from p (i + 1))) (filter (holds a b) (children_from p (i + 1))))) t
+without : (t : Cursor → Bool) (x : Option Cursor) (cs : List Cursor) → ((c : Cursor) → x ≡ Some c → t c ≡ false) → filter t (cons_option x cs) ≡ filter t cs
+without t None cs h = refl
+without t (Some c) cs h = ap (λ b. cond b (c ∷ filter t cs) (filter t cs)) (h c refl)
+
+over_early : (p : Place) (a b i : ℕ) → end_of (below p i) < b → filter (holds a b) (children_from p i) ≡ filter (holds a b) (children_from p (i + 1))
+over_early p a b i h =
+    ap (filter (holds a b)) (from_here p i)
+    ∙ without (holds a b) (cursor_at (below p i)) (children_from p (i + 1)) (λ c k. ap (λ q. nat_le (start_of q) a && nat_le b (end_of q)) (place_of_found (below p i) (term_at (below p i)) c k) ∙ early a b (start_of (below p i)) (end_of (below p i)) h)
+
+-- the children before one that begins too early to hold the range alone
+pub from_child : (p : Place) (a b i : ℕ) → start_of (below p i) < b → child_at_range a b p ≡ first (filter (holds a b) (children_from p i))
+from_child p a b zero h = refl
+from_child p a b (suc i) h =
+    let n : suc i ≡ i + 1 = omega arith in
+    let s : start_of (below p (suc i)) ≡ end_of (below p i) = ap (λ m. start_of (below p m)) n ∙ next_start p i in
+    let o : start_of (below p i) ≤ end_of (below p i) = omega arith in
+    from_child p a b i (omega (arith, s, o, h))
+    ∙ ap first (over_early p a b i (omega (arith, s, h)))
+    ∙ ap (λ m. first (filter (holds a b) (children_from p m))) (sym n)
+
+found_in : (p : Place) (a b i : ℕ) (x : Option Term) → term_at (below p i) ≡ x → start_of (below p i) ≤ a → b ≤ end_of (below p i)
+    → first (filter (holds a b) (children_from p i)) ≡ cursor_in (below p i) x
+found_in p a b i None k s e = ap (λ cs. first (filter (holds a b) cs)) (none_from p (terms_below p) i i k)
+found_in p a b i (Some t) k s e =
+    let h : holds a b (cursor_of (below p i) t) ≡ true =
+    ap (λ q. nat_le (start_of q) a && nat_le b (end_of q)) (place_of_cursor (below p i) t) ∙ both a b (start_of (below p i)) (end_of (below p i)) s e in
+    ap (λ cs. first (filter (holds a b) cs)) (from_here p i ∙ ap (λ o. cons_option (cursor_in (below p i) o) (children_from p (i + 1))) k)
+    ∙ ap (λ y. first (cond y (cursor_of (below p i) t ∷ filter (holds a b) (children_from p (i + 1))) (filter (holds a b) (children_from p (i + 1))))) h
+
+pub found_here : (p : Place) (a b i : ℕ) → child_at_range a b p ≡ first (filter (holds a b) (children_from p i)) → start_of (below p i) ≤ a → b ≤ end_of (below p i) → child_at_range a b p ≡ cursor_at (below p i)
+found_here p a b i h s e = h ∙ found_in p a b i (term_at (below p i)) refl s e
+
+pub none_here : (p : Place) (a b i : ℕ) → child_at_range a b p ≡ first (filter (holds a b) (children_from p i)) → a < start_of (below p i) → child_at_range a b p ≡ None
+none_here p a b i h l = h ∙ none_late p a b (drop i (terms_below p)) i l
+
+-- a range that ends after its node
+pub none_after : (p : Place) (g : Tree) (a b : ℕ) → term_at p ≡ Some (Node g) → end_of p < b → child_at_range a b p ≡ None
+none_after p g a b h l =
+    let n = length (terms_below p) in
+    from_child p a b n (omega (arith, last_end p g h, l))
+    ∙ ap (λ cs. first (filter (holds a b) cs)) (none_from p (terms_below p) n n (get_past (terms_below p) n (omega arith)))
+
+-- a child of the green node where a search by an offset found it
+module _ (p : Place) (g : Tree) (from b i start : ℕ) (h : term_at p ≡ Some (Node g)) (f : from ≡ start_of p) (l : from < b) (c : IsChildAt (children_of g) (b - from - 1) i start) where
+  list_is : terms_below p ≡ children_of g
+  list_is = ap children_in h
+
+  pub start_found : from + start ≡ start_of (below p i)
+  start_found = let e = ap (λ es. length (texts_of (take i es))) list_is in omega (arith, e, f, c.begins)
+
+  pub found_early : start_of (below p i) < b
+  found_early = omega (arith, start_found, c.from, l)
+
+  pub found_reaches : b ≤ end_of (below p i)
+  found_reaches = let e = ap (λ es. length (texts_of (take (i + 1) es))) list_is in omega (arith, e, f, c.before_end, next_start p i, l)
 
 -- what is found among children is one of them
 renumbered : (p : Place) (j k : ℕ) (x : Option Term) (c : Cursor) → j ≡ k → Some c ≡ cursor_in (below p j) x → Some c ≡ cursor_in (below p k) x

@@ -1,9 +1,9 @@
 //! Elements by ranges of the text: one path down.
-ghost use Rattle.std.specs.Prelude.{◌≡◌, ◌&&◌, nat_le, IfOk};
+ghost use Rattle.std.specs.Prelude.{◌≡◌, IfOk};
 ghost use Rattle.rowan.specs.Ranges.{child_at_range, LeadsTo};
 
 use crate::cursor::{SyntaxElement, SyntaxNode};
-use rowan_green::NodeOrToken;
+use rowan_green::{NodeOrToken, TextSize};
 use std::alloc::{AllocError, Global};
 
 impl SyntaxNode {
@@ -16,23 +16,21 @@ impl SyntaxNode {
     ) -> Result<Option<SyntaxElement>, AllocError>
         ensures { IfOk result (λ r. r ≡ child_at_range start end self.now) }
     {
-        let green = self.green();
-        let count = green.children().len();
+        // No child before the first that reaches `end` holds the range, and none after it begins early enough.
         prove!(self.start() <= u32::MAX);
-        let mut offset = self.start();
-        let mut index = 0;
-        while index < count {
-            let Some(child) = green.child(index) else {
+        let from = self.start();
+        let (index, offset) = if end <= from {
+            (0, from)
+        } else {
+            let Some(found) = self.green().child_at_offset(TextSize(end - from - 1)) else {
                 return Ok(None);
             };
-            let child_end = offset + child.text_len().0;
-            if holds(offset, child_end, start, end) {
-                return self.child(alloc, index, offset);
-            }
-            offset = child_end;
-            index += 1;
+            (found.index, from + found.start.0)
+        };
+        if start < offset {
+            return Ok(None);
         }
-        Ok(None)
+        self.child(alloc, index, offset)
     }
 
     /// The element that one comes to by going down to the first child whose range contains the bytes
@@ -54,11 +52,4 @@ impl SyntaxNode {
             }
         }
     }
-}
-
-/// Whether the bytes from `from` to just before `to` contain those from `start` to just before `end`.
-fn holds(from: u32, to: u32, start: u32, end: u32) -> bool
-    ensures { result ≡ (nat_le from start && nat_le end to) }
-{
-    from <= start && end <= to
 }

@@ -17,7 +17,7 @@ impl SyntaxNode {
         self.child(alloc, 0, self.start())
     }
 
-    /// The child of this number, if there are so many. Adds up the lengths of those before it.
+    /// The child of this number, if there are so many.
     pub fn nth_child_or_token(
         &self,
         alloc: Global,
@@ -25,21 +25,11 @@ impl SyntaxNode {
     ) -> Result<Option<SyntaxElement>, AllocError>
         ensures { IfOk result (λ r. r ≡ cursor_at (below self.now number)) }
     {
-        let green = self.green();
-        if green.child(number).is_none() {
-            return Ok(None);
-        }
         prove!(self.start() <= u32::MAX);
-        let mut offset = self.start();
-        let mut index = 0;
-        while index < number {
-            let Some(child) = green.child(index) else {
-                unreachable!()
-            };
-            offset += child.text_len().0;
-            index += 1;
-        }
-        self.child(alloc, number, offset)
+        let Some(start) = self.green().child_start(number) else {
+            return Ok(None);
+        };
+        self.child(alloc, number, self.start() + start.0)
     }
 
     /// Its last child, a node or a token, if it has one.

@@ -81,21 +81,14 @@ fn char_in(node: &GreenNode, byte: u32, end: u32) -> Option<char>
     requires before { byte < end }
     ensures { IsCharAt (take end (tree_text node.now)) byte result }
 {
-    let mut offset = byte;
-    let mut left = end;
-    for child in node.children() {
-        let size = child.text_len().0;
-        if offset < size {
-            let within = left.min(size);
-            return match child {
-                NodeOrToken::Node(node) => char_in(node, offset, within),
-                NodeOrToken::Token(token) => char_of(&token.text()[..within as usize], offset),
-            };
-        }
-        offset -= size;
-        left -= size;
+    let found = node.child_at_offset(TextSize(byte))?;
+    let child = node.child(found.index)?;
+    let offset = byte - found.start.0;
+    let within = (end - found.start.0).min(child.text_len().0);
+    match child {
+        NodeOrToken::Node(node) => char_in(node, offset, within),
+        NodeOrToken::Token(token) => char_of(&token.text()[..within as usize], offset),
     }
-    None
 }
 
 /// The character that begins at this byte.

@@ -144,6 +144,24 @@ impl ElementList {
         }
     }
 
+    /// Where the text of the element of this number begins.
+    pub(crate) fn start_of(&self, index: usize) -> u32
+        requires { index < length self.now.0 }
+        ensures { result ≡ length (texts_of (take index self.now.0)) }
+    {
+        match &self.link {
+            Link::Block(elements) => text_sum(&elements[..index]),
+            Link::Fork(left, right, _, _) => {
+                let before = left.len();
+                if index < before {
+                    left.start_of(index)
+                } else {
+                    self.half + right.start_of(index - before)
+                }
+            }
+        }
+    }
+
     /// The element whose text has the byte at this offset.
     pub(crate) fn find(&self, offset: u32) -> Place
         requires { offset < length (texts_of self.now.0) }
@@ -156,9 +174,9 @@ impl ElementList {
             Link::Block(elements) => find_in_block(elements, self.half, offset),
             Link::Fork(left, right, _, _) => {
                 if offset < self.half {
-                    left.find(offset).behind(0, 0)
+                    left.find(offset).further(0, 0)
                 } else {
-                    right.find(offset - self.half).behind(left.len(), self.half)
+                    right.find(offset - self.half).further(left.len(), self.half)
                 }
             }
         }
@@ -312,7 +330,7 @@ fn clones(alloc: Global, elements: &[GreenElement]) -> Result<Vec<GreenElement>,
 
 impl Place {
     /// The same place, where so many elements and bytes lie before, and one more look was needed.
-    fn behind(self, count: usize, bytes: u32) -> Place
+    fn further(self, count: usize, bytes: u32) -> Place
         requires index { count + self.index < 2 ^ 64 }
         requires start { bytes + self.start < 2 ^ 32 }
         requires looks { self.looks + 1 < 2 ^ 32 }
@@ -341,9 +359,9 @@ fn find_in_block(elements: &[GreenElement], half: u32, offset: u32) -> Place
     }
     let (front, back) = elements.split_at(elements.len() / 2);
     if offset < half {
-        find_by_scan(front, offset).behind(0, 0)
+        find_by_scan(front, offset).further(0, 0)
     } else {
-        find_by_scan(back, offset - half).behind(front.len(), half)
+        find_by_scan(back, offset - half).further(front.len(), half)
     }
 }
 

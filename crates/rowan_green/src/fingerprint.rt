@@ -17,13 +17,18 @@ fn mixed(hash: u64, part: u64) -> u64 {
     (hash.rotate_left(5) ^ part).wrapping_mul(FACTOR)
 }
 
+/// The upper half, on which all that was mixed has a part.
+fn upper_half(hash: u64) -> u32 {
+    (hash >> 32) as u32
+}
+
 /// Whether a cache looks for tokens of this text.
 pub(crate) fn is_small_text(text: &str) -> bool {
     text.len() <= MOST_BYTES as usize
 }
 
 /// Of a small token; that of others is 0.
-pub(crate) fn of_token(kind: u16, text: &str) -> u64 {
+pub(crate) fn of_token(kind: u16, text: &str) -> u32 {
     if !is_small_text(text) {
         return 0;
     }
@@ -31,7 +36,7 @@ pub(crate) fn of_token(kind: u16, text: &str) -> u64 {
     for byte in text.as_bytes() {
         hash = mixed(hash, u64::from(*byte));
     }
-    hash
+    upper_half(hash)
 }
 
 /// How many elements these children and what lies below them are, where that is small.
@@ -56,7 +61,7 @@ pub(crate) fn small_size(children: &[GreenElement]) -> Option<u8> {
 }
 
 /// Of a node with few children; that of others is 0.
-pub(crate) fn of_node(kind: u16, children: &[GreenElement]) -> u64 {
+pub(crate) fn of_node(kind: u16, children: &[GreenElement]) -> u32 {
     if children.len() > MOST_CHILDREN {
         return 0;
     }
@@ -66,7 +71,7 @@ pub(crate) fn of_node(kind: u16, children: &[GreenElement]) -> u64 {
             NodeOrToken::Node(node) => node.fingerprint().rotate_left(17),
             NodeOrToken::Token(token) => token.fingerprint(),
         };
-        hash = mixed(hash, part);
+        hash = mixed(hash, u64::from(part));
     }
-    hash
+    upper_half(hash)
 }

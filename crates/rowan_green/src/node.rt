@@ -1,5 +1,5 @@
 //! Nodes: a kind and children, shared by all that hold the node.
-ghost use Rattle.std.specs.Prelude.{ℕ, ◌≡◌, ◌*◌, ◌↔◌, ◌+◌, ◌<◌, ◌≤◌, ◌^◌, length, IsSome, IfSome, IfOk, IfErr, OnOk, List, slice_get};
+ghost use Rattle.std.specs.Prelude.{ℕ, ◌≡◌, ◌*◌, ◌↔◌, ◌+◌, ◌<◌, ◌≤◌, ◌^◌, length, take, IsSome, IfSome, IfOk, IfErr, OnOk, MatchOption, List, slice_get};
 ghost use Rattle.std.specs.Option.{SomeIff, option_copied};
 ghost use Rattle.std.specs.Iterator.{IsFinite, Drains};
 ghost use Rattle.rowan_green.specs.Forest.{same_forest, same_tree, tree_text};
@@ -26,7 +26,7 @@ use std::rc::Rc;
 struct NodeData {
     kind: u16,
     small_size: Option<u8>,
-    fingerprint: u64,
+    fingerprint: u32,
     children: ElementList,
 }
 
@@ -193,7 +193,7 @@ impl GreenNode {
         self.shared.small_size
     }
 
-    pub(crate) fn fingerprint(&self) -> u64 {
+    pub(crate) fn fingerprint(&self) -> u32 {
         self.shared.fingerprint
     }
 }
@@ -227,6 +227,20 @@ impl GreenNode {
         ensures { option_copied result ≡ slice_get (children_of self.now) index }
     {
         self.elements().get(index)
+    }
+
+    /// Where the text of the child of this number begins in that of the node; none where there are
+    /// not so many. It takes no memory, and goes down one path.
+    pub fn child_start(&self, index: usize) -> Option<TextSize>
+        ensures { MatchOption result (length (children_of self.now) ≤ index)
+            (λ start. start.0 ≡ length (texts_of (take index (children_of self.now)))) }
+    {
+        let children = self.elements();
+        if index < children.len() {
+            Some(TextSize(children.start_of(index)))
+        } else {
+            None
+        }
     }
 
     /// The child whose text has the byte at this offset; none from the length of the text on. It

@@ -36,16 +36,16 @@ impl<T: Drop> Slots<T> {
         }
     }
 
-    fn index_of(&self, fingerprint: u64) -> usize {
-        (fingerprint >> 32) as usize & self.slots.len().wrapping_sub(1)
+    fn index_of(&self, fingerprint: u32) -> usize {
+        fingerprint as usize & self.slots.len().wrapping_sub(1)
     }
 
-    fn get(&self, fingerprint: u64) -> Option<&T> {
+    fn get(&self, fingerprint: u32) -> Option<&T> {
         self.slots.get(self.index_of(fingerprint))?.as_ref()
     }
 
     /// Puts the value into its slot. Where memory for the slots is refused, it is let go.
-    fn keep(&mut self, alloc: Global, fingerprint: u64, value: T) {
+    fn keep(&mut self, alloc: Global, fingerprint: u32, value: T) {
         let count = self.slots.len();
         if self.kept >= count && count < MOST_SLOTS {
             let _ = self.restart(alloc);

@@ -15,7 +15,7 @@ use std::rc::Rc;
 #[derive(Drop)]
 struct TokenData {
     kind: u16,
-    fingerprint: u64,
+    fingerprint: u32,
     text: String,
 }
 
@@ -76,7 +76,7 @@ impl GreenToken {
         TextSize(self.shared.text.len() as u32)
     }
 
-    pub(crate) fn fingerprint(&self) -> u64 {
+    pub(crate) fn fingerprint(&self) -> u32 {
         self.shared.fingerprint
     }
 }

@@ -1,5 +1,6 @@
 //! Builds a tree of a million tokens, counts its tokens, walks through it with cursors and drops it, once with few names that recur
-//! and once with a new name in each statement. The counts go to standard output, the times to standard error.
+//! and once with a new name in each statement; then edits and searches a node of a million children, and walks over the children of
+//! roots. The counts go to standard output, the times to standard error.
 #![tactic(auto)]
 
 use rowan::{SyntaxNode, WalkEvent};
@@ -9,7 +10,15 @@ use std::alloc::{AllocError, Global};
 use std::io;
 use std::time::Instant;
 
+mod lists;
 mod statements;
+
+/// How many children the node that is edited has, how often it is edited, and searched.
+const CHILDREN: u32 = 1_000_000;
+
+const ROUNDS: usize = 1000;
+
+const SEARCHES: u32 = 1_000_000;
 
 /// How many tokens lie below the node.
 fn tokens_below(node: &GreenNode) -> u64 {
@@ -77,7 +86,41 @@ fn measure(rt: &HostRuntime, names: u32) -> io::Result<()> {
     walk(rt, green)
 }
 
+/// Edits a node of many children, searches it, and walks over children of a root.
+fn measure_lists(rt: &HostRuntime) -> io::Result<()> {
+    let Ok(wide) = lists::node_of(rt.alloc(), CHILDREN) else {
+        return println!(rt; "out of memory");
+    };
+    let start = Instant::now(rt)?;
+    let Ok(edited) = lists::edited_often(rt.alloc(), wide, ROUNDS) else {
+        return println!(rt; "out of memory");
+    };
+    let made = start.elapsed(rt)?.as_micros();
+    let sum = lists::found(&edited, SEARCHES);
+    let searched = start.elapsed(rt)?.as_micros().saturating_sub(made);
+    eprintln!(rt;
+        "{CHILDREN} children: {ROUNDS} times three edits in {made}, {SEARCHES} searches in {searched} microseconds"
+    )?;
+    println!(rt; "{} {sum}", edited.text_len().0)?;
+    walk_children(rt, CHILDREN / 10)?;
+    walk_children(rt, CHILDREN)
+}
+
+/// Walks over so many children of a root.
+fn walk_children(rt: &HostRuntime, children: u32) -> io::Result<()> {
+    let Ok(green) = lists::node_of(rt.alloc(), children) else {
+        return println!(rt; "out of memory");
+    };
+    let root = SyntaxNode::new_root(rt.alloc(), green)?;
+    let start = Instant::now(rt)?;
+    let sum = lists::ends(rt.alloc(), &root)?;
+    let walked = start.elapsed(rt)?.as_micros();
+    eprintln!(rt; "ranges of {children} children in {walked} microseconds")?;
+    println!(rt; "{sum}")
+}
+
 fn main(rt: HostRuntime) -> io::Result<()> {
     measure(&rt, 100)?;
-    measure(&rt, 0)
+    measure(&rt, 0)?;
+    measure_lists(&rt)
 }

@@ -5,7 +5,7 @@ use rowan_green::{GreenError, GreenNode, GreenNodeBuilder, SyntaxKind};
 use std::alloc::{AllocError, Global};
 use std::fmt::Write;
 
-const ROOT: SyntaxKind = SyntaxKind(1);
+pub(crate) const ROOT: SyntaxKind = SyntaxKind(1);
 
 const BLOCK: SyntaxKind = SyntaxKind(2);
 
@@ -19,7 +19,7 @@ const KEYWORD: SyntaxKind = SyntaxKind(6);
 
 const SPACE: SyntaxKind = SyntaxKind(7);
 
-const IDENTIFIER: SyntaxKind = SyntaxKind(8);
+pub(crate) const IDENTIFIER: SyntaxKind = SyntaxKind(8);
 
 const SIGN: SyntaxKind = SyntaxKind(9);
 

@@ -18,4 +18,4 @@ returns-else-offset-half-clause-place c =
     let whole : c.split_at.result.0.now ++ c.split_at.result.1.now ≡ c.args.elements.now = rw (e.front, e.back) (take-append-drop _ _) in
     let h : c.args.half ≡ length (texts_of c.split_at.result.0.now) = rw e.front c.requires.half in
     let p = child_right _ _ _ _ _ _ h c.if-offset-half.false c.find_by_scan-else-offset-half.ensures.place in
-    rw (c.behind-else-offset-half.ensures, ← whole) p
+    rw (c.further-else-offset-half.ensures, ← whole) p

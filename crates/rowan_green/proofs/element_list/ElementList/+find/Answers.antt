@@ -12,8 +12,8 @@ find-requires t c =
     let f = at_fork c.self.view_is c.self.invariant c.in-Fork.is in
     rw c.deref-then-offset-self.ensures (omega (arith, f.height, f.above), omega (arith, f.before, c.if-offset-self.true))
 
-pub behind-requires-clause-looks : goal.behind-requires-clause-looks
-behind-requires-clause-looks t c =
+pub further-requires-clause-looks : goal.further-requires-clause-looks
+further-requires-clause-looks t c =
     let f = at_fork c.self.view_is c.self.invariant c.in-Fork.is in
     let k = rw c.deref-then-offset-self.ensures at c.find.ensures.looks in
     omega (arith, f.low, f.above, k)
@@ -23,8 +23,8 @@ find-requires-else-offset-self t c =
     let f = at_fork c.self.view_is c.self.invariant c.in-Fork.is in
     rw c.deref-else-offset-self.ensures (omega (arith, f.height, f.above), omega (arith, f.before, f.texts, c.if-offset-self.false, c.requires))
 
-pub behind-requires-else-offset-self-clause-looks : goal.behind-requires-else-offset-self-clause-looks
-behind-requires-else-offset-self-clause-looks t c =
+pub further-requires-else-offset-self-clause-looks : goal.further-requires-else-offset-self-clause-looks
+further-requires-else-offset-self-clause-looks t c =
     let f = at_fork c.self.view_is c.self.invariant c.in-Fork.is in
     let k = rw c.deref-else-offset-self.ensures at c.find-else-offset-self.ensures.looks in
     omega (arith, f.low, f.above, k)
@@ -34,4 +34,4 @@ returns-else-offset-self-clause-place t c =
     let f = at_fork c.self.view_is c.self.invariant c.in-Fork.is in
     let p = rw c.deref-else-offset-self.ensures at c.find-else-offset-self.ensures.place in
     let n : c.len.result ≡ length c.in-Fork.left.value.0 = rw c.deref-else-offset-self-2.ensures at c.len.ensures.count in
-    rw (c.behind-else-offset-self.ensures, f.terms, n) (child_right _ _ _ _ _ _ f.before c.if-offset-self.false p)
+    rw (c.further-else-offset-self.ensures, f.terms, n) (child_right _ _ _ _ _ _ f.before c.if-offset-self.false p)
