@@ -1,5 +1,5 @@
 -- The search for a child by its range.
-use Rattle.std.proofs.Common.{◌≡◌, ℕ, zero, suc, ◌+◌, ◌-◌, ◌<◌, ◌≤◌, List, [], ◌∷◌, length, take, drop, refl, ap, sym, ◌∙◌, arith, Option, Some, None, slice_get, Bool, true, false, ◌&&◌, nat_le, cond}
+use Rattle.std.proofs.Common.{◌≡◌, ℕ, zero, suc, ◌+◌, ◌-◌, ◌<◌, ◌≤◌, List, [], ◌∷◌, length, take, drop, refl, ap, sym, ◌∙◌, arith, Option, Some, None, slice_get, Bool, true, false, ◌&&◌, nat_le, cond, ◌⊎◌, inl, inr}
 use Rattle.std.proofs.lemmas.Bool.{lt-leb, le-leb}
 use Rattle.std.specs.List.{filter, cons_option}
 use Rattle.rowan_green.specs.Forest.{Tree}
@@ -7,11 +7,13 @@ use Rattle.rowan_green.specs.Term.{Term, children_of, texts_of}
 use Rattle.rowan_green.specs.ChildAt.{IsChildAt}
 use Rattle.rowan_green.specs.declared.utility_types.NodeOrToken.TheVariants.{Node, Token}
 use Rattle.rowan.specs.Place.{Place, below, term_at, terms_below, children_in, start_of, end_of}
-use Rattle.rowan.specs.Around.{Cursor, place_in, cursor_of, cursor_in, cursor_at, numbered, children_from, first}
+use Rattle.rowan.specs.Around.{Cursor, place_in, cursor_of, cursor_in, cursor_at, numbered, children_from, nodes, first}
+use Rattle.rowan.specs.Pointer.{spans}
 use Rattle.rowan.specs.Ranges.{holds, child_at_range}
 use Rattle.rowan.proofs.Lists.{from_here, none_from}
 use Rattle.rowan.proofs.Places.{next_start, last_end}
 use Rattle.rowan.proofs.Steps.{get_past}
+use Rattle.rowan.proofs.Texts.{lt_or_ge}
 use Rattle.rowan.proofs.Leaves.{child_falls, count_in}
 
 and_false : (x : Bool) → (x && false) ≡ false
@@ -125,3 +127,43 @@ range_falls p a b c h =
     let r = found_by (holds a b) p (terms_below p) 0 c h in
     let n : 0 + r.0 ≡ r.0 = omega arith in
     child_falls p r.0 c (renumbered p (0 + r.0) r.0 (slice_get (terms_below p) r.0) c n r.1)
+
+-- ---- the nodes among them
+
+nodes_without : (p : Place) (a b i : ℕ) (x : Option Term) → spans a b (below p i) ≡ false → (cs : List Cursor) → filter (spans a b) (nodes (cons_option (cursor_in (below p i) x) cs)) ≡ filter (spans a b) (nodes cs)
+nodes_without p a b i None h cs = refl
+nodes_without p a b i (Some (Node t)) h cs = ap (λ x. cond x (below p i ∷ filter (spans a b) (nodes cs)) (filter (spans a b) (nodes cs))) h
+nodes_without p a b i (Some (Token l)) h cs = refl
+
+-- no node spans a range that begins before all children that are left
+nodes_late : (p : Place) (a b : ℕ) (es : List Term) (i : ℕ) → a < start_of (below p i) → first (filter (spans a b) (nodes (numbered p i es))) ≡ None
+nodes_late p a b [] i h = refl
+nodes_late p a b (e ∷ es) i h =
+    let s : start_of (below p i) ≤ end_of (below p i) = omega arith in
+    ap first (nodes_without p a b i (Some e) (late a b (start_of (below p i)) (end_of (below p i)) h) (numbered p (i + 1) es))
+    ∙ nodes_late p a b es (i + 1) (omega (arith, next_start p i, h, s))
+
+pub no_node_late : (p : Place) (a b i : ℕ) → a < start_of (below p i) → first (filter (spans a b) (nodes (children_from p i))) ≡ None
+no_node_late p a b i h = nodes_late p a b (drop i (terms_below p)) i h
+
+nodes_from : (p : Place) (a b i d : ℕ) → start_of (below p (i + d)) < b ⊎ (d ≡ 0) → filter (spans a b) (nodes (children_from p i)) ≡ filter (spans a b) (nodes (children_from p (i + d)))
+nodes_from p a b i zero h = let n : i ≡ i + 0 = omega arith in ap (λ m. filter (spans a b) (nodes (children_from p m))) n
+nodes_from p a b i (suc d) (inr z) = absurd (omega arith)
+nodes_from p a b i (suc d) (inl h) =
+    let n : i + suc d ≡ i + d + 1 = omega arith in
+    let s : start_of (below p (i + suc d)) ≡ end_of (below p (i + d)) = ap (λ m. start_of (below p m)) n ∙ next_start p (i + d) in
+    let o : start_of (below p (i + d)) ≤ end_of (below p (i + d)) = omega arith in
+    nodes_from p a b i d (inl (omega (arith, s, o, h)))
+    ∙ ap (λ cs. filter (spans a b) (nodes cs)) (from_here p (i + d))
+    ∙ nodes_without p a b (i + d) (term_at (below p (i + d))) (early a b (start_of (below p (i + d))) (end_of (below p (i + d))) (omega (arith, s, h))) (children_from p (i + d + 1))
+    ∙ ap (λ m. filter (spans a b) (nodes (children_from p m))) (sym n)
+
+-- nor do children that end before the range does
+pub nodes_early : (p : Place) (a b i j : ℕ) → i ≤ j → (i < j → start_of (below p j) < b) → first (filter (spans a b) (nodes (children_from p i))) ≡ first (filter (spans a b) (nodes (children_from p j)))
+nodes_early p a b i j h k =
+    let n : i + (j - i) ≡ j = omega arith in
+    let m : start_of (below p (i + (j - i))) ≡ start_of (below p j) = ap (λ x. start_of (below p x)) n in
+    elim (lt_or_ge i j) [
+      | inl l ↦ ap first (nodes_from p a b i (j - i) (inl (omega (arith, m, k l)))) ∙ ap (λ x. first (filter (spans a b) (nodes (children_from p x)))) n
+      | inr g ↦ ap first (nodes_from p a b i (j - i) (inr (omega arith))) ∙ ap (λ x. first (filter (spans a b) (nodes (children_from p x)))) n
+    ]

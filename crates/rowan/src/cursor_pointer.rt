@@ -1,5 +1,5 @@
 //! The search for a node by its range: only below nodes whose ranges contain it.
-ghost use Rattle.std.specs.Prelude.{◌≡◌, ◌&&◌, ◌≤◌, nat_le, None, cond, IfOk, IfSome, Some};
+ghost use Rattle.std.specs.Prelude.{◌≡◌, ◌&&◌, ◌≤◌, ◌<◌, nat_le, None, cond, IfOk, IfSome, Some};
 ghost use Rattle.std.specs.List.{filter};
 ghost use Rattle.std.specs.Option.{option_copied};
 ghost use Rattle.rowan_green.specs.Either.{node_part};
@@ -9,10 +9,29 @@ ghost use Rattle.rowan.specs.Around.{children_from, cursor_at, nodes, first};
 ghost use Rattle.rowan.specs.Pointer.{spans};
 
 use crate::cursor::SyntaxNode;
-use rowan_green::{GreenElement, GreenNode, TextRange};
+use rowan_green::{GreenElement, GreenNode, TextRange, TextSize};
 use std::alloc::{AllocError, Global};
 
 impl SyntaxNode {
+    /// A child from a number on, which begins at this offset, before which all from that number on
+    /// end before `end`: its number and where it begins.
+    fn reaching(&self, from: usize, offset: u32, end: u32) -> (usize, u32)
+        requires { offset ≡ start_of (below self.now from) }
+        ensures start { result.1 ≡ start_of (below self.now result.0) }
+        ensures order { from ≤ result.0 }
+        ensures early { from < result.0 → start_of (below self.now result.0) < end }
+    {
+        prove!(self.start() <= u32::MAX);
+        let start = self.start();
+        if end <= start {
+            return (from, offset);
+        }
+        match self.green().child_at_offset(TextSize(end - start - 1)) {
+            Some(found) if found.index > from => (found.index, start + found.start.0),
+            _ => (from, offset),
+        }
+    }
+
     /// The first node among the children from a number on, which begin at this offset, whose range
     /// contains this one.
     pub fn node_spanning(
@@ -31,9 +50,13 @@ impl SyntaxNode {
         let green = self.green();
         let count = green.children().len();
         prove!(self.start() <= u32::MAX);
-        let mut offset = offset;
-        let mut index = from;
+        let (first, start) = self.reaching(from, offset, range.end.0);
+        let mut offset = start;
+        let mut index = first;
         while index < count {
+            if range.start.0 < offset {
+                return Ok(None);
+            }
             let Some(child) = green.child(index) else {
                 return Ok(None);
             };

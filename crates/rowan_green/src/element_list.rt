@@ -176,7 +176,9 @@ impl ElementList {
                 if offset < self.half {
                     left.find(offset).further(0, 0)
                 } else {
-                    right.find(offset - self.half).further(left.len(), self.half)
+                    right
+                        .find(offset - self.half)
+                        .further(left.len(), self.half)
                 }
             }
         }
