@@ -1,7 +1,7 @@
 //! Edits of a node of a million children, and a walk over the children of a root with many.
 
 use crate::statements::{IDENTIFIER, ROOT, Statements};
-use rowan::SyntaxNode;
+use rowan::{ElementExt, SyntaxNode};
 use rowan_green::{GreenError, GreenNode, GreenNodeBuilder, GreenToken, NodeOrToken, TextSize};
 use std::alloc::{AllocError, Global};
 
