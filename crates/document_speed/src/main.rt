@@ -1,5 +1,5 @@
 //! Opens the text on standard input as a document, and commits another name for its last one. Prints how many bytes the text
-//! then has, or why not; the times go to standard error, in microseconds.
+//! then has, or why not; then edits lists of tokens, and prints how many were replaced. The times go to standard error, in microseconds.
 #![tactic(auto)]
 
 use parser_input::edition::Edition;
@@ -10,6 +10,8 @@ use std::alloc::Global;
 use std::io;
 use std::time::Instant;
 use syntax_tree::{SyntaxElement, TreeIds};
+
+mod edits;
 
 /// Where the last name of the text stands.
 fn last_name(document: &Document) -> Option<TextRange> {
@@ -62,5 +64,7 @@ fn measured(rt: &HostRuntime, text: &str) -> io::Result<()> {
 
 fn main(rt: HostRuntime) -> io::Result<()> {
     let text = io::read_to_string(rt.alloc(), rt.reader())?;
-    measured(&rt, text.as_str())
+    measured(&rt, text.as_str())?;
+    edits::measure(&rt, 10_000)?;
+    edits::measure(&rt, 100_000)
 }

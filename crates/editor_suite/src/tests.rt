@@ -4,6 +4,7 @@ mod doing;
 mod handles;
 mod levels;
 mod merge;
+mod refused_memory;
 mod spaced;
 mod told;
 mod tree;
