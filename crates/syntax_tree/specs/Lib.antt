@@ -4,7 +4,7 @@ pub mod Handle
 pub mod Mapping
 pub mod Position
 pub mod Refusal
-pub mod Lent
+pub mod Referred
 pub mod Search
 pub mod Replacement
 pub mod Same

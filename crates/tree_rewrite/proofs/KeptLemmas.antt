@@ -12,22 +12,6 @@ use Rattle.tree_rewrite.specs.Change.{Change, insert, replace, covers, is_within
 use Rattle.tree_rewrite.specs.Rewrite.{Job, payload_of, payload_at, job_of, jobs_from, kept_of}
 use Rattle.tree_rewrite.proofs.JobLemmas.{some_same, held_above}
 
--- ---- the payload of what replaces an element
-pub payload_at-here : (c : Change) (cs : List Change) (w : Way) (e : Element) (es : List Element) → payload_of c ≡ e ∷ es → replaces c w ≡ true → payload_at (c ∷ cs) w ≡ Some e
-payload_at-here (insert p i new) cs w e es h r = absurd (false≢true r)
-payload_at-here (replace f n [] s) cs w e es h r = cc
-payload_at-here (replace f n (d ∷ ds) s) cs w e es h r = let same : d ≡ e = cc in ap (λ b. cond b (Some d) (payload_at cs w)) r ∙ ap Some same
-
-pub payload_at-empty : (c : Change) (cs : List Change) (w : Way) → payload_of c ≡ [] → payload_at (c ∷ cs) w ≡ payload_at cs w
-payload_at-empty (insert p i new) cs w h = refl
-payload_at-empty (replace f n [] s) cs w h = refl
-payload_at-empty (replace f n (d ∷ ds) s) cs w h = cc
-
-pub payload_at-other : (c : Change) (cs : List Change) (w : Way) → replaces c w ≡ false → payload_at (c ∷ cs) w ≡ payload_at cs w
-payload_at-other (insert p i new) cs w h = refl
-payload_at-other (replace f n [] s) cs w h = refl
-payload_at-other (replace f n (d ∷ ds) s) cs w h = ap (λ b. cond b (Some d) (payload_at cs w)) h
-
 -- ---- a kept change that has an owner lies in the payload of a node by a node
 within_above : (f : Way) (n : ℕ) (v u : Way) → covers f n u ≡ true → is_within f n (v ++ u) ≡ true
 within_above f n [] [] h = h

@@ -1,7 +1,7 @@
 //! Where a change is made that lies in a node which is replaced by a node: its place in that payload.
 ghost use Rattle.std.specs.Prelude.{◌≡◌, ◌+◌, [], ◌∷◌, option_map, IfOk};
 ghost use Rattle.std.specs.Option.{option_copied};
-ghost use Rattle.syntax_tree.specs.Lent.{lent};
+ghost use Rattle.syntax_tree.specs.Referred.{referred_term};
 ghost use Rattle.rowan_green.specs.Term.{children_of, kind_of};
 ghost use Rattle.rowan.specs.Place.{term_by, children_in, first_number};
 ghost use Rattle.tree_rewrite.specs.Moved.{carried, same_kind, same_kinds, has_gap, way_above, change_below, change_in};
@@ -30,7 +30,7 @@ fn carried(
 
 /// The kind of an element that is lent.
 fn kind_of(element: NodeOrToken<&GreenNode, &GreenToken>) -> SyntaxKind
-    ensures { result.0 ≡ kind_of (lent element.entry) }
+    ensures { result.0 ≡ kind_of (referred_term element.entry) }
 {
     match element {
         NodeOrToken::Node(node) => node.kind(),
@@ -44,7 +44,8 @@ fn has_gap(
     new: Option<NodeOrToken<&GreenNode, &GreenToken>>,
     index: usize,
 ) -> bool
-    ensures { result ≡ has_gap (option_map lent old.entry) (option_map lent new.entry) index }
+    ensures { result ≡ has_gap (option_map referred_term old.entry)
+        (option_map referred_term new.entry) index }
 {
     let Some(NodeOrToken::Node(node)) = new else {
         return false;
@@ -103,7 +104,8 @@ fn same_children(
     start: usize,
     more: usize,
 ) -> bool
-    ensures { result ≡ same_kinds (children_in (option_map lent old.entry)) (children_in (option_map lent new.entry)) start (more + 1) }
+    ensures { result ≡ same_kinds (children_in (option_map referred_term old.entry))
+        (children_in (option_map referred_term new.entry)) start (more + 1) }
 {
     match (old, new) {
         (Some(NodeOrToken::Node(old)), Some(NodeOrToken::Node(new))) => {

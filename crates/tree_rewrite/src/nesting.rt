@@ -2,7 +2,7 @@
 ghost use Rattle.std.specs.Prelude.{◌≡◌, ◌&&◌, false, not, option_map, IfOk};
 ghost use Rattle.std.specs.List.{list_any};
 ghost use Rattle.std.specs.Option.{option_copied};
-ghost use Rattle.syntax_tree.specs.Lent.{lent};
+ghost use Rattle.syntax_tree.specs.Referred.{referred_term};
 ghost use Rattle.rowan.specs.Place.{term_by};
 ghost use Rattle.tree_rewrite.specs.Change.{replaces, is_node_by_node, is_dropped, holder_of, owner_of, has_collision};
 ghost use Rattle.tree_rewrite.specs.Held.{Holds, replacing, leads_through, splits};
@@ -86,7 +86,7 @@ pub fn element_by<'a>(
     root: &'a GreenNode,
     way: &[usize],
 ) -> Option<NodeOrToken<&'a GreenNode, &'a GreenToken>>
-    ensures { option_map lent result ≡ term_by root.now way.now }
+    ensures { option_map referred_term result ≡ term_by root.now way.now }
 {
     let Some((index, up)) = way.split_first() else {
         return Some(NodeOrToken::Node(root));

@@ -1,14 +1,14 @@
 //! Builds a tree of a million tokens, counts its tokens, walks through it with cursors and drops it, once with few names that recur
-//! and once with a new name in each statement; then edits and searches a node of a million children, and walks over the children of
-//! roots. The counts go to standard output, the times to standard error.
+//! and once with a new name in each statement. With the argument `lists` it then edits and searches a node of a million children, and
+//! walks over the children of roots. The counts go to standard output, the times to standard error.
 #![tactic(auto)]
 
 use rowan::{SyntaxNode, WalkEvent};
 use rowan_green::{GreenNode, NodeOrToken};
 use statements::{Statements, tree};
 use std::alloc::{AllocError, Global};
-use std::io;
 use std::time::Instant;
+use std::{env, io};
 
 mod lists;
 mod statements;
@@ -119,8 +119,20 @@ fn walk_children(rt: &HostRuntime, children: u32) -> io::Result<()> {
     println!(rt; "{sum}")
 }
 
+/// Whether the program's last argument is `lists`.
+fn wants_lists(rt: &HostRuntime) -> io::Result<bool> {
+    let mut lists = false;
+    for word in env::args(rt)? {
+        lists = word.as_str() == "lists";
+    }
+    Ok(lists)
+}
+
 fn main(rt: HostRuntime) -> io::Result<()> {
     measure(&rt, 100)?;
     measure(&rt, 0)?;
-    measure_lists(&rt)
+    if wants_lists(&rt)? {
+        measure_lists(&rt)?;
+    }
+    Ok(())
 }

@@ -1,4 +1,4 @@
--- Elements that are lent.
+-- Elements by reference.
 use denote.Bor.{Bor}
 use Rattle.rowan_green.specs.Leaf.{Leaf}
 use Rattle.rowan_green.specs.Forest.{Tree}
@@ -6,7 +6,7 @@ use Rattle.rowan_green.specs.Term.{Term}
 use Rattle.rowan_green.specs.declared.utility_types.NodeOrToken.{NodeOrToken}
 use Rattle.rowan_green.specs.declared.utility_types.NodeOrToken.TheVariants.{Node, Token}
 
--- the element after the reference
-abbrev pub lent : NodeOrToken (Bor Tree) (Bor Leaf) → Term
-lent (Node n) = Node n.now
-lent (Token t) = Token t.now
+-- the element that a reference stands for
+abbrev pub referred_term : NodeOrToken (Bor Tree) (Bor Leaf) → Term
+referred_term (Node n) = Node n.now
+referred_term (Token t) = Token t.now
