@@ -34,7 +34,8 @@ fn found_of(
     root: &SyntaxNode,
     origins: &[SyntaxElement],
 ) -> Result<Vec<SyntaxElement>, AllocError>
-    ensures { (m : Marked) → AreOrigins m root.now (map element_of origins.now) → IfOk result (λ v. map element_of v.items
+    ensures { (m : Marked) → AreOrigins m root.now (map element_of origins.now)
+        → IfOk result (λ v. map element_of v.items
         ≡ map (element_at root.now.number root.now.place.root) (found_if m (followed mapping.now (element_of element.now)))) }
 {
     let Some(end) = followed(alloc, mapping, element)? else {
@@ -53,7 +54,8 @@ pub fn annotated<A: Copy>(
     root: &SyntaxNode,
     origins: &[SyntaxElement],
 ) -> Result<Vec<(SyntaxElement, A)>, AllocError>
-    ensures { (m : Marked) → AreOrigins m root.now (map element_of origins.now) → IfOk result (λ v. elements_of v.items
+    ensures { (m : Marked) → AreOrigins m root.now (map element_of origins.now)
+        → IfOk result (λ v. elements_of v.items
         ≡ elements_at root.now (annotated mapping.now (elements_of annotations.now) m)) }
 {
     let mut all = Vec::new(alloc);

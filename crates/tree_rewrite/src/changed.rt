@@ -89,7 +89,8 @@ impl Tracker {
         ensures offset { OnOk result (self.new.offset ≡ self.old.offset) }
         ensures told { OnOk result (self.new.told ≡ told) }
         ensures around { OnOk result ((g : Entered) × (self.new.around.items ≡ self.old.around.items ++ g ∷ [])
-            × (g.is_node ≡ is_node) × (g.start ≡ self.old.offset) × (g.told ≡ self.old.told) × (g.before.items ≡ self.old.ranges.items)) }
+            × (g.is_node ≡ is_node) × (g.start ≡ self.old.offset) × (g.told ≡ self.old.told)
+            × (g.before.items ≡ self.old.ranges.items)) }
     {
         let before = mem::replace(&mut self.ranges, Vec::new(alloc));
         let entered = Entered {

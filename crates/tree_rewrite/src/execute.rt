@@ -47,7 +47,8 @@ fn content_of(
     made: &[Put],
     job: &Job,
 ) -> Result<Vec<Piece>, AllocError>
-    ensures { (js : List Job) → HavePut jobs.now made.now js → IfOk result (λ v. Say v.items (terms_of (puts js) job.now)) }
+    ensures { (js : List Job) → HavePut jobs.now made.now js
+        → IfOk result (λ v. Say v.items (terms_of (puts js) job.now)) }
 {
     let mut pieces = Vec::new(alloc);
     pieces.push(Piece::Group(job.is_outer()))?;

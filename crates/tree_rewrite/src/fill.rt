@@ -36,7 +36,8 @@ pub fn push_standing(
     way: &[usize],
     pieces: &mut Vec<Piece>,
 ) -> Result<(), AllocError>
-    ensures { (gs : List Given) (e : Element) → HaveGiven jobs.now made.now numbers.now gs → element_of element ≡ (origin_at e way.now).origin → OnOk result
+    ensures { (gs : List Given) (e : Element) → HaveGiven jobs.now made.now numbers.now gs
+        → element_of element ≡ (origin_at e way.now).origin → OnOk result
         (Adds pieces.old.items pieces.new.items
         (standing (laid gs (way_of sheet.now)) e way.now (term_of (element_of element)))) }
 {
@@ -71,7 +72,8 @@ fn push_node(
     way: &[usize],
     pieces: &mut Vec<Piece>,
 ) -> Result<(), AllocError>
-    ensures { (gs : List Given) (e : Element) → HaveGiven jobs.now made.now numbers.now gs → node.now ≡ (origin_at e way.now).origin → OnOk result
+    ensures { (gs : List Given) (e : Element) → HaveGiven jobs.now made.now numbers.now gs
+        → node.now ≡ (origin_at e way.now).origin → OnOk result
         (Adds pieces.old.items pieces.new.items
         (node_in (laid gs (way_of sheet.now)) e way.now (term_of node.now))) }
 {
@@ -94,7 +96,8 @@ fn fill(
     way: &[usize],
     pieces: &mut Vec<Piece>,
 ) -> Result<(), AllocError>
-    ensures { (gs : List Given) (e : Element) → HaveGiven jobs.now made.now numbers.now gs → node.now ≡ (origin_at e way.now).origin → OnOk result
+    ensures { (gs : List Given) (e : Element) → HaveGiven jobs.now made.now numbers.now gs
+        → node.now ≡ (origin_at e way.now).origin → OnOk result
         (Adds pieces.old.items pieces.new.items
         (filled (laid gs (way_of sheet.now)) e way.now 0 (inside (term_of node.now)))) }
 {

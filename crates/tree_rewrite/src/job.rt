@@ -126,7 +126,8 @@ impl Job {
 
     /// The first child, and how many more, of a node so deep that it may concern, if it is made in that node.
     pub(crate) fn row_below(&self, depth: usize) -> Option<(usize, usize)>
-        ensures { (w : Way) (i : ℕ) → length w ≡ depth → IsBeyond result i → LeavesChild self.now.change w i }
+        ensures { (w : Way) (i : ℕ) → length w ≡ depth → IsBeyond result i
+            → LeavesChild self.now.change w i }
     {
         self.change.row_below(depth)
     }

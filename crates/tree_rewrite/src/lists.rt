@@ -49,7 +49,8 @@ fn push_row(
 
 /// The first child, and how many more, of a node so deep that what has this number may concern, if it lies in that node.
 fn row_of(jobs: &[Job], made: &[Put], number: usize, depth: usize) -> Option<(usize, usize)>
-    ensures { (g : Given) (w : Way) (i : ℕ) → IsGiven jobs.now (slice_get made.now number) g → length w ≡ depth
+    ensures { (g : Given) (w : Way) (i : ℕ) → IsGiven jobs.now (slice_get made.now number) g
+        → length w ≡ depth
         → IsBeyond result i → LeavesChild g.0.change w i }
 {
     let job = job_of(jobs, made, number)?;
@@ -64,7 +65,8 @@ fn push_number(
     depth: usize,
     lists: &mut Vec<Vec<usize>>,
 ) -> Result<(), AllocError>
-    ensures lists { (gs : List Given) (g : Given) (n : Option Way) (w : Way) → IsGiven jobs.now (slice_get made.now number) g
+    ensures lists { (gs : List Given) (g : Given) (n : Option Way) (w : Way)
+        → IsGiven jobs.now (slice_get made.now number) g
         → length w ≡ depth → AreLists jobs.now made.now (lists_of lists.old.items) n w gs
         → OnOk result (AreLists jobs.now made.now (lists_of lists.new.items) n w (g ∷ gs)) }
     ensures count { OnOk result (length lists.new.items ≡ length lists.old.items) }
@@ -86,7 +88,8 @@ pub fn lists_below(
     count: usize,
 ) -> Result<Vec<Vec<usize>>, AllocError>
     ensures count { IfOk result (λ v. length v.items ≡ count) }
-    ensures lists { (gs : List Given) (n : Option Way) (w : Way) → HaveGiven jobs.now made.now numbers.now gs → length w ≡ depth
+    ensures lists { (gs : List Given) (n : Option Way) (w : Way)
+        → HaveGiven jobs.now made.now numbers.now gs → length w ≡ depth
         → IfOk result (λ v. AreLists jobs.now made.now (lists_of v.items) n w gs) }
 {
     let mut lists = empty_lists(alloc, count)?;
@@ -106,7 +109,8 @@ pub fn list_at(lists: &[Vec<usize>], index: usize) -> &[usize]
 
 /// Whether the job that has put this in is made on a sheet.
 fn is_on(jobs: &[Job], made: &[Put], number: usize, sheet: &Option<Vec<usize>>) -> bool
-    ensures { (g : Given) → IsGiven jobs.now (slice_get made.now number) g → result ≡ same_sheet g.0.sheet (way_of sheet.now) }
+    ensures { (g : Given) → IsGiven jobs.now (slice_get made.now number) g
+        → result ≡ same_sheet g.0.sheet (way_of sheet.now) }
 {
     match job_of(jobs, made, number) {
         Some(job) => job.is_on(sheet),

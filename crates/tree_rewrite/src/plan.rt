@@ -64,7 +64,8 @@ impl Model for Plan {
 
     ghost view = { λ p. record { top = p.top; jobs = p.jobs.items } };
 
-    ghost invariant = { λ p. AreDeeper p.jobs.items × AreApart p.jobs.items × All KeepsTop p.jobs.items };
+    ghost invariant = { λ p. AreDeeper p.jobs.items × AreApart p.jobs.items
+        × All KeepsTop p.jobs.items };
 }
 
 impl Plan {

@@ -17,7 +17,8 @@ use std::alloc::AllocError;
 
 /// The job that has put in what has this number.
 pub(crate) fn job_of<'a>(jobs: &'a [Job], made: &[Put], number: usize) -> Option<&'a Job>
-    ensures { (g : Given) → IsGiven jobs.now (slice_get made.now number) g → option_copied result ≡ Some g.0 }
+    ensures { (g : Given) → IsGiven jobs.now (slice_get made.now number) g
+        → option_copied result ≡ Some g.0 }
 {
     let put = made.get(number)?;
     jobs.get(put.number)
@@ -60,7 +61,8 @@ fn sets_slot(
 
 /// Whether the first element that it replaces stands at a way.
 fn begins_at(jobs: &[Job], made: &[Put], number: usize, way: &[usize]) -> bool
-    ensures { (g : Given) → IsGiven jobs.now (slice_get made.now number) g → result ≡ same_way (first_way g.0.change) way.now }
+    ensures { (g : Given) → IsGiven jobs.now (slice_get made.now number) g
+        → result ≡ same_way (first_way g.0.change) way.now }
 {
     match job_of(jobs, made, number) {
         Some(job) => job.begins_at(way),

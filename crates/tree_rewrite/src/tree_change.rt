@@ -68,7 +68,8 @@ fn copies(alloc: Global, elements: &[SyntaxElement]) -> Result<Vec<SyntaxElement
 
 /// The child through which a way leads on below a node so deep, alone in its row.
 fn row_through(way: &[usize], depth: usize) -> Option<(usize, usize)>
-    ensures { (w : Way) (i : ℕ) → length w ≡ depth → IsBeyond result i → is_within (i ∷ w) 0 way.now ≡ false }
+    ensures { (w : Way) (i : ℕ) → length w ≡ depth → IsBeyond result i
+        → is_within (i ∷ w) 0 way.now ≡ false }
 {
     if depth >= way.len() {
         return None;
@@ -170,7 +171,8 @@ impl TreeChange {
 
     /// The first child, and how many more, of a node so deep that it may concern, if it is made in that node.
     pub(crate) fn row_below(&self, depth: usize) -> Option<(usize, usize)>
-        ensures { (w : Way) (i : ℕ) → length w ≡ depth → IsBeyond result i → LeavesChild self.now w i }
+        ensures { (w : Way) (i : ℕ) → length w ≡ depth → IsBeyond result i
+            → LeavesChild self.now w i }
     {
         match &self.target {
             Target::Gap { parent, index } => {
