@@ -11,3 +11,4 @@ pub mod Beginning
 pub mod Moves
 pub mod Standing
 pub mod Layering
+pub mod Passing

@@ -2,6 +2,8 @@
 use Rattle.std.specs.Prelude.{◌≡◌, ℕ, zero, suc, ◌/◌, ◌%◌, ◌^◌, ◌==◌, ◌||◌, ◌&&◌, Bool, true, false, not, List, Option, Some, None, if◌then◌else◌}
 use Rattle.parser_input.specs.Kinds.{EOF, IDENT}
 use Rattle.parser_input.specs.Input.{Token}
+use Rattle.parser_input.specs.Kind.{raw_of}
+use Rattle.parser_input.specs.declared.syntax_kind.SyntaxKind.{SyntaxKind}
 use Rattle.rust_grammar.specs.Rule.{Look, Always, Never, Kind, Contextual, Joint, Left, InCondition, Given, Both, Either, Not, Rule, Nothing, Or, Star, Then, begins}
 use Rattle.rust_grammar.specs.Meaning.{ahead, look_of}
 use Rattle.rust_grammar.specs.Whole.{whole}
@@ -91,3 +93,8 @@ ends_before k r = false
 unfoldable pub all_end_before : ℕ → (others : ℕ) → Rule → Bool
 all_end_before zero others r = true
 all_end_before (suc n) others r = (is_in others n || ends_before n r) && all_end_before n others r
+
+-- Before the next token, whose kind is known, a repetition after an operand has no turn.
+abbrev pub IsOver : (next : Option SyntaxKind) → Rule → Type 0
+IsOver None r = ⊥
+IsOver (Some kind) r = ends_before (raw_of kind) r ≡ true

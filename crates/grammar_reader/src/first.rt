@@ -1,6 +1,6 @@
 //! Where productions begin, as far as the kind of the next token alone tells.
 
-ghost use Rattle.std.specs.Prelude.{◌≡◌, ◌<◌, ◌≤◌, IfSome, IsTrue, Some, true};
+ghost use Rattle.std.specs.Prelude.{◌≡◌, ◌<◌, ◌≤◌, ◌+◌, ℕ, IfSome, IsTrue, Some, true};
 ghost use Rattle.parser_input.specs.Kind.{raw_of};
 ghost use Rattle.rust_grammar.specs.Meaning.{look_of};
 ghost use Rattle.rust_grammar.specs.Rule as rules;
@@ -8,7 +8,7 @@ ghost use Rattle.rust_grammar.specs.Rule.{Rule};
 ghost use Rattle.rust_grammar.specs.Whole.{rule, whole};
 ghost use Rattle.grammar_reader.specs.Data.{named};
 ghost use Rattle.grammar_reader.specs.Layers.{layer_at};
-ghost use Rattle.grammar_reader.specs.Told.{all_end_before, all_give_nothing, ends_before, are_right, gives_nothing, is_in, known_answer};
+ghost use Rattle.grammar_reader.specs.Told.{IsOver, all_end_before, all_give_nothing, ends_before, are_right, gives_nothing, is_in, known_answer};
 
 use crate::production::Production;
 use parser_input::syntax_kind::SyntaxKind;
@@ -366,7 +366,7 @@ const OPERATORS: [u128; 10] = [
 ];
 
 /// The kinds before which the layer of operators of this height may have another turn.
-pub(crate) fn operators_at(height: u8) -> u128
+fn operators_at(height: u8) -> u128
     requires low { 1 ≤ height }
     requires high { height ≤ 10 }
     ensures { all_end_before 128 result (rule (layer_at height)) ≡ true }
@@ -375,7 +375,7 @@ pub(crate) fn operators_at(height: u8) -> u128
 }
 
 /// Whether a layer with these operators ends before a token of this kind that is no contextual keyword.
-pub fn layer_ends_before(operators: u128, kind: SyntaxKind) -> bool
+fn layer_ends_before(operators: u128, kind: SyntaxKind) -> bool
     ensures { IsTrue result → (r : Rule) → all_end_before 128 operators r ≡ true → ends_before (raw_of kind) r ≡ true }
 {
     let kind = kind.to_raw();
@@ -383,4 +383,26 @@ pub fn layer_ends_before(operators: u128, kind: SyntaxKind) -> bool
         return false;
     }
     !has(operators, kind)
+}
+
+/// The lowest layer of operators above one, up to the top one, that may have a turn before the next token, whose kind is given where
+/// it is known and that is no contextual keyword; one above the top where none has.
+pub(crate) fn next_layer(next: Option<SyntaxKind>, height: u8, top: u8) -> u8
+    requires low { height < top }
+    requires high { top ≤ 10 }
+    ensures above { height < result }
+    ensures up { result ≤ top + 1 }
+    ensures over { (h : ℕ) → height < h → h < result → IsOver next (rule (layer_at h)) }
+{
+    let mut upper = height + 1;
+    let Some(kind) = next else {
+        return upper;
+    };
+    'layers: while upper <= top {
+        if !layer_ends_before(operators_at(upper), kind) {
+            return upper;
+        }
+        upper += 1;
+    }
+    upper
 }

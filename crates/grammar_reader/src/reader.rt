@@ -16,10 +16,9 @@ ghost use Rattle.grammar_reader.specs.Looks.{begin_looks, Costs};
 ghost use Rattle.grammar_reader.specs.Prices.{idle, idle_of, debt, debt_of, is_paid};
 ghost use Rattle.grammar_reader.specs.Size.{size};
 ghost use Rattle.grammar_reader.specs.Stands.{Stands, left};
-ghost use Rattle.grammar_reader.specs.Told.{all_end_before};
 
 use crate::begin::begins;
-use crate::first::{layer_ends_before, operation_ends_before, operators_at};
+use crate::first::{next_layer, operation_ends_before};
 use crate::layer::{height_of, layer_of};
 use crate::look::{Place, next_kind, tokens_left};
 use crate::open::{Open, close, leave_out, skip, split, start, take, take_any, tell, wrap};
@@ -145,21 +144,6 @@ pub fn production(
     read(p, node, rule_of(production), condition, caller)
 }
 
-/// Whether a layer with these operators ends here: nothing more is read of it.
-fn layer_ends(p: &mut Parser<'_>, operators: u128) -> bool
-    ensures ends { IsTrue result → (c : Bool) (s : Reading) (a b : rules.Rule) → left p.old ≡ s.rest
-        → all_end_before 128 operators (rules.Then a b) ≡ true → reads c b s ≡ s }
-    ensures idle { IsTrue result → (a b : rules.Rule) → all_end_before 128 operators (rules.Then a b) ≡ true
-        → Costs (idle b) (debt b) p.new p.new }
-    ensures same { p.new ≡ record p.old { looks = p.new.looks } }
-    ensures looks { p.new.looks ≤ p.old.looks + 1 }
-{
-    let Some(kind) = next_kind(p) else {
-        return false;
-    };
-    layer_ends_before(operators, kind)
-}
-
 /// Reads an operand and the operators after it, up to the layer of this height, where the present production gave nothing yet.
 #[cycle(reader)]
 fn layers(
@@ -200,8 +184,8 @@ fn layers(
     climb(p, node, 0, height, condition, caller)
 }
 
-/// Reads on from a layer that was read, up to another: the turns of each layer between, which are not asked for where the next
-/// token is none of its operators.
+/// Reads on from a layer that was read, up to another: the turns of each layer between. The layers that have no turn before the
+/// next token are passed by at once.
 #[cycle(reader)]
 fn climb(
     p: &mut Parser<'_>,
@@ -232,9 +216,10 @@ fn climb(
     if height >= top {
         return node;
     }
-    let upper = height + 1;
-    if layer_ends(p, operators_at(upper)) {
-        return climb(p, node, upper, top, condition, caller);
+    let next = next_kind(p);
+    let upper = next_layer(next, height, top);
+    if upper > top {
+        return node;
     }
     let node = read(p, node, turns_in(layer_of(upper)), condition, caller);
     climb(p, node, upper, top, condition, caller)

@@ -1,9 +1,9 @@
 -- Form by form.
-use Rattle.std.proofs.Common.{◌≡◌, Some, ℕ, ◌+◌, ◌*◌, ◌<◌, ◌≤◌, max, Bool, true, false, List, Option, None, refl, sym, ap, subst, ◌∙◌, arith, length, if◌then◌else◌}
+use Rattle.std.proofs.Common.{◌≡◌, Some, ℕ, ◌+◌, ◌-◌, ◌*◌, ◌<◌, ◌≤◌, max, Bool, true, false, List, Option, None, refl, sym, ap, subst, ◌∙◌, arith, length, if◌then◌else◌}
 use Rattle.parser_events.specs.Marked.{marked}
 use Rattle.parser_events.specs.View.{View}
 use Rattle.parser_input.specs.Input.{Token}
-use Rattle.rust_grammar.specs.Rule.{Production, Rule, Call}
+use Rattle.rust_grammar.specs.Rule.{Production, Rule}
 use Rattle.rust_grammar.specs.Meaning.{Reading, read, fresh, after, leaf, say, skip, split, wrapped, meaning}
 use Rattle.rust_grammar.specs.Whole.{rank, rule, whole}
 use Rattle.rust_grammar.specs.Begun.{IsBegun}
@@ -21,9 +21,10 @@ use Rattle.grammar_reader.proofs.Standing.{inside, stands-still, stands-opened, 
 use Rattle.rust_grammar.proofs.Plain.{and_l, and_r}
 use Rattle.grammar_reader.specs.Looks.{begin_looks, Costs}
 use Rattle.grammar_reader.specs.Prices.{in_turn, idle, debt, is_paid, either, idle_of, debt_of}
-use Rattle.grammar_reader.specs.Told.{all_end_before}
 use Rattle.grammar_reader.proofs.Spending.{no-token, some-tokens, after-each-other, first-of, second-of, same-length, same-left, fewer-left, tested, tested-read, tested-alone, within, as-priced, rule-paid, turn-taken, turn-idle, turn-refused, turns-over, tail-passed-by, turn-is-paid, turns-are-paid, first-paid, second-paid, second-few}
-use Rattle.grammar_reader.proofs.Layering.{rank-at, begun-under, operands, operands-rank, upper-row, upper-few, upper-means, upper-read, upper-costs, turns-paid}
+use Rattle.grammar_reader.proofs.Layering.{rank-at, begun-under, operands, operands-rank, upper-few, upper-means, upper-read, upper-costs, turns-paid}
+use Rattle.grammar_reader.proofs.Passing.{passed-means, passed-idle, passed-looked}
+use Rattle.grammar_reader.proofs.Telling.{next-there}
 use Rattle.grammar_reader.proofs.Turning.{no-turn, last-turn, next-turn, zero-turns}
 use Rattle.grammar_reader.proofs.reader.+reader.Goals as goal
 use Rattle.grammar_reader.proofs.reader.+reader.Goals.{call-then-given, call-else-given}
@@ -100,11 +101,13 @@ production-returns-clause-looks t c = λ s below low h b.
 
 pub climb-read-node-requires : goal.climb-read-node-requires
 climb-read-node-requires t c =
-    let low : c.args.height < 10 = omega (arith, c.if-height-top.false, c.requires.high) in
+    let u = c.next_layer-upper.result in
+    let above = c.next_layer-upper.ensures.above in
+    let high : u ≤ 10 = omega (arith, c.if-upper-top.false, c.requires.high) in
     let turned = c.turns_in.ensures ∙ ap (λ (n : ℕ). turns_of (rule (layer_at n))) c.layer_of.ensures in
-    let few = subst (λ (r : Rule). size r < 2048) (sym turned) (upper-few c.args.height (c.args.height + 1) refl low) in
-    let input = ap (λ (v : View). v.input) c.layer_ends.ensures.same in
-    (below-measure c.decreases (falls-climb c.turns_in.result.now (32 * c.args.caller.began + c.args.caller.ranks) c.args.height few (omega (arith, low))), (total-still _ _ _ input c.requires.total, (short-still _ _ input c.requires.short, (c.requires.few, still-innermost _ c.args.p.now c.layer_ends.new.p c.layer_ends.ensures.same c.requires.marker))))
+    let few = subst (λ (r : Rule). size r < 2048) (sym turned) (upper-few (u - 1) u (omega (arith, above)) (omega (arith, above, high))) in
+    let input = ap (λ (v : View). v.input) c.next_kind-next.ensures.same in
+    (below-measure c.decreases (falls-climb c.turns_in.result.now (32 * c.args.caller.began + c.args.caller.ranks) c.args.height few (omega (arith, above, high))), (total-still _ _ _ input c.requires.total, (short-still _ _ input c.requires.short, (c.requires.few, still-innermost _ c.args.p.now c.next_kind-next.new.p c.next_kind-next.ensures.same c.requires.marker))))
 
 pub layers-returns-then-ranks-eq0-clause-reads : goal.layers-returns-then-ranks-eq0-clause-reads
 layers-returns-then-ranks-eq0-clause-reads t c = λ s below low h b. absurd (omega (arith, low, rank-at c.args.height c.requires.high, c.if-ranks-eq0.true))
@@ -138,59 +141,67 @@ pub climb-returns-then-height-top-clause-looks : goal.climb-returns-then-height-
 climb-returns-then-height-top-clause-looks t c = λ entry s below can h spent.
     subst (λ (n : ℕ). Costs (idle_of (layer_at n)) (debt_of (layer_at n)) entry c.args.p.now) (omega (arith, c.if-height-top.true, c.requires.below)) spent
 
-pub climb-returns-then-layer_ends-clause-reads : goal.climb-returns-then-layer_ends-clause-reads
-climb-returns-then-layer_ends-clause-reads t c = λ s below can h.
-    let h0 = c.args.height in
-    let u = c.args.height + 1 in
-    let low : h0 < 10 = omega (arith, c.if-height-top.false, c.requires.high) in
-    let all = subst (λ (r : Rule). all_end_before 128 c.operators_at.result r ≡ true) (upper-row h0 u refl low) c.operators_at.ensures in
-    let ends = c.layer_ends.ensures.ends c.if-layer_ends.true c.args.condition (meaning whole (layer_at h0) c.args.condition s) (Call (layer_at h0)) (turns_of (rule (layer_at u))) h.at.rest all in
-    c.climb.ensures.reads s below can
-    (subst (λ (r : Reading). Stands c.args.node.given c.layer_ends.new.p r below) (sym (upper-means h0 u refl low c.args.condition s can.anew ∙ ends)) (stands-still c.layer_ends.ensures.same h))
+pub climb-returns-then-upper-top-clause-reads : goal.climb-returns-then-upper-top-clause-reads
+climb-returns-then-upper-top-clause-reads t c = λ s below can h.
+    let stood = stands-still c.next_kind-next.ensures.same h in
+    let next = next-there c.next_kind-next.result stood.at.rest c.next_kind-next.ensures.next in
+    let over = λ (j : ℕ) (p : c.args.height < j) (q : j < c.args.top + 1). c.next_layer-upper.ensures.over j p (omega (arith, q, c.if-upper-top.true)) in
+    subst (λ (r : Reading). Stands c.args.node.given c.next_kind-next.new.p r below)
+    (sym (passed-means c.args.condition s can.anew c.args.height c.args.top (omega (arith, c.if-height-top.false)) c.requires.high c.next_kind-next.result next over)) stood
 
-pub climb-returns-then-layer_ends-clause-looks : goal.climb-returns-then-layer_ends-clause-looks
-climb-returns-then-layer_ends-clause-looks t c = λ entry s below can h spent.
-    let h0 = c.args.height in
-    let u = c.args.height + 1 in
-    let low : h0 < 10 = omega (arith, c.if-height-top.false, c.requires.high) in
-    let all = subst (λ (r : Rule). all_end_before 128 c.operators_at.result r ≡ true) (upper-row h0 u refl low) c.operators_at.ensures in
-    let ends = c.layer_ends.ensures.ends c.if-layer_ends.true c.args.condition (meaning whole (layer_at h0) c.args.condition s) (Call (layer_at h0)) (turns_of (rule (layer_at u))) h.at.rest all in
-    c.climb.ensures.looks entry s below can
-    (subst (λ (r : Reading). Stands c.args.node.given c.layer_ends.new.p r below) (sym (upper-means h0 u refl low c.args.condition s can.anew ∙ ends)) (stands-still c.layer_ends.ensures.same h))
-    (upper-costs h0 u refl low spent (same-length (ap left c.layer_ends.ensures.same)) c.layer_ends.ensures.looks (c.layer_ends.ensures.idle c.if-layer_ends.true (Call (layer_at h0)) (turns_of (rule (layer_at u))) all))
+pub climb-returns-then-upper-top-clause-looks : goal.climb-returns-then-upper-top-clause-looks
+climb-returns-then-upper-top-clause-looks t c = λ entry s below can h spent.
+    let over = λ (j : ℕ) (p : c.args.height < j) (q : j < c.args.top + 1). c.next_layer-upper.ensures.over j p (omega (arith, q, c.if-upper-top.true)) in
+    passed-looked c.args.height c.args.top (omega (arith, c.if-height-top.false)) c.requires.high c.next_kind-next.result over spent (same-length (ap left c.next_kind-next.ensures.same)) c.next_kind-next.ensures.looks
 
 pub climb-returns-clause-reads : goal.climb-returns-clause-reads
 climb-returns-clause-reads t c = λ s below can h.
-    let h0 = c.args.height in
-    let u = c.args.height + 1 in
-    let low : h0 < 10 = omega (arith, c.if-height-top.false, c.requires.high) in
-    let begun = begun-under u c.args.top (omega (arith, c.if-height-top.false)) c.requires.high c.args.condition s can.anew can.begun in
-    let readable = subst (λ (n : ℕ). CanRead (layer_at u) n c.args.condition (turns_of (rule (layer_at u))) (meaning whole (layer_at h0) c.args.condition s)) (sym can.here) (upper-read h0 u refl low c.args.condition s can.anew begun) in
-    let few : rank (layer_at u) ≤ c.args.caller.ranks = omega (arith, can.few, rank-at c.args.top c.requires.high, rank-at u (omega (arith, low)), c.if-height-top.false) in
-    let turned = c.read-node.ensures.reads (layer_at u) (meaning whole (layer_at h0) c.args.condition s) below few (stands-still c.layer_ends.ensures.same h)
-    (subst (λ (r : Rule). CanRead (layer_at u) c.args.caller.began c.args.condition r (meaning whole (layer_at h0) c.args.condition s)) (sym (c.turns_in.ensures ∙ ap (λ (n : ℕ). turns_of (rule (layer_at n))) c.layer_of.ensures)) readable) in
-    c.climb-2.ensures.reads s below can
+    let u = c.next_layer-upper.result in
+    let above = c.next_layer-upper.ensures.above in
+    let high : u ≤ 10 = omega (arith, c.if-upper-top.false, c.requires.high) in
+    let one : u ≡ (u - 1) + 1 = omega (arith, above) in
+    let low : u - 1 < 10 = omega (arith, above, high) in
+    let stood = stands-still c.next_kind-next.ensures.same h in
+    let next = next-there c.next_kind-next.result stood.at.rest c.next_kind-next.ensures.next in
+    let over = λ (j : ℕ) (p : c.args.height < j) (q : j < (u - 1) + 1). c.next_layer-upper.ensures.over j p (omega (arith, q, above)) in
+    let passed = passed-means c.args.condition s can.anew c.args.height (u - 1) (omega (arith, above)) (omega (arith, high)) c.next_kind-next.result next over in
+    let m = meaning whole (layer_at (u - 1)) c.args.condition s in
+    let begun = begun-under u c.args.top (omega (arith, c.if-upper-top.false)) c.requires.high c.args.condition s can.anew can.begun in
+    let readable = subst (λ (n : ℕ). CanRead (layer_at u) n c.args.condition (turns_of (rule (layer_at u))) m) (sym can.here) (upper-read (u - 1) u one low c.args.condition s can.anew begun) in
+    let few : rank (layer_at u) ≤ c.args.caller.ranks = omega (arith, can.few, rank-at c.args.top c.requires.high, rank-at u high, c.if-upper-top.false) in
+    let turned = c.turns_in.ensures ∙ ap (λ (n : ℕ). turns_of (rule (layer_at n))) c.layer_of.ensures in
+    let read = c.read-node.ensures.reads (layer_at u) m below few (subst (λ (r : Reading). Stands c.args.node.given c.next_kind-next.new.p r below) (sym passed) stood)
+    (subst (λ (r : Rule). CanRead (layer_at u) c.args.caller.began c.args.condition r m) (sym turned) readable) in
+    c.climb.ensures.reads s below can
     (subst (λ (r : Reading). Stands c.read-node.result.given c.read-node.new.p r below)
-    (ap (λ (r : Rule). reads c.args.condition r (meaning whole (layer_at h0) c.args.condition s)) (c.turns_in.ensures ∙ ap (λ (n : ℕ). turns_of (rule (layer_at n))) c.layer_of.ensures) ∙ sym (upper-means h0 u refl low c.args.condition s can.anew)) turned)
+    (ap (λ (r : Rule). reads c.args.condition r m) turned ∙ sym (upper-means (u - 1) u one low c.args.condition s can.anew)) read)
 
 pub climb-returns-clause-looks : goal.climb-returns-clause-looks
 climb-returns-clause-looks t c = λ entry s below can h spent.
-    let h0 = c.args.height in
-    let u = c.args.height + 1 in
-    let low : h0 < 10 = omega (arith, c.if-height-top.false, c.requires.high) in
-    let begun = begun-under u c.args.top (omega (arith, c.if-height-top.false)) c.requires.high c.args.condition s can.anew can.begun in
-    let readable = subst (λ (n : ℕ). CanRead (layer_at u) n c.args.condition (turns_of (rule (layer_at u))) (meaning whole (layer_at h0) c.args.condition s)) (sym can.here) (upper-read h0 u refl low c.args.condition s can.anew begun) in
-    let few : rank (layer_at u) ≤ c.args.caller.ranks = omega (arith, can.few, rank-at c.args.top c.requires.high, rank-at u (omega (arith, low)), c.if-height-top.false) in
-    let stood = stands-still c.layer_ends.ensures.same h in
-    let can_turn = subst (λ (r : Rule). CanRead (layer_at u) c.args.caller.began c.args.condition r (meaning whole (layer_at h0) c.args.condition s)) (sym (c.turns_in.ensures ∙ ap (λ (n : ℕ). turns_of (rule (layer_at n))) c.layer_of.ensures)) readable in
-    let turned = c.read-node.ensures.reads (layer_at u) (meaning whole (layer_at h0) c.args.condition s) below few stood can_turn in
-    let paid = ap is_paid (c.turns_in.ensures ∙ ap (λ (n : ℕ). turns_of (rule (layer_at n))) c.layer_of.ensures) ∙ turns-paid h0 u refl low in
-    let looked = c.read-node.ensures.looks (layer_at u) (meaning whole (layer_at h0) c.args.condition s) below few stood can_turn paid in
-    c.climb-2.ensures.looks entry s below can
+    let u = c.next_layer-upper.result in
+    let above = c.next_layer-upper.ensures.above in
+    let high : u ≤ 10 = omega (arith, c.if-upper-top.false, c.requires.high) in
+    let one : u ≡ (u - 1) + 1 = omega (arith, above) in
+    let low : u - 1 < 10 = omega (arith, above, high) in
+    let stood = stands-still c.next_kind-next.ensures.same h in
+    let next = next-there c.next_kind-next.result stood.at.rest c.next_kind-next.ensures.next in
+    let over = λ (j : ℕ) (p : c.args.height < j) (q : j < (u - 1) + 1). c.next_layer-upper.ensures.over j p (omega (arith, q, above)) in
+    let passed = passed-means c.args.condition s can.anew c.args.height (u - 1) (omega (arith, above)) (omega (arith, high)) c.next_kind-next.result next over in
+    let m = meaning whole (layer_at (u - 1)) c.args.condition s in
+    let begun = begun-under u c.args.top (omega (arith, c.if-upper-top.false)) c.requires.high c.args.condition s can.anew can.begun in
+    let readable = subst (λ (n : ℕ). CanRead (layer_at u) n c.args.condition (turns_of (rule (layer_at u))) m) (sym can.here) (upper-read (u - 1) u one low c.args.condition s can.anew begun) in
+    let few : rank (layer_at u) ≤ c.args.caller.ranks = omega (arith, can.few, rank-at c.args.top c.requires.high, rank-at u high, c.if-upper-top.false) in
+    let turned = c.turns_in.ensures ∙ ap (λ (n : ℕ). turns_of (rule (layer_at n))) c.layer_of.ensures in
+    let there = subst (λ (r : Reading). Stands c.args.node.given c.next_kind-next.new.p r below) (sym passed) stood in
+    let can_turn = subst (λ (r : Rule). CanRead (layer_at u) c.args.caller.began c.args.condition r m) (sym turned) readable in
+    let read = c.read-node.ensures.reads (layer_at u) m below few there can_turn in
+    let looked = c.read-node.ensures.looks (layer_at u) m below few there can_turn (ap is_paid turned ∙ turns-paid (u - 1) u one low) in
+    let idled = passed-idle c.args.height (u - 1) (omega (arith, above)) (omega (arith, high)) c.next_kind-next.result over spent in
+    c.climb.ensures.looks entry s below can
     (subst (λ (r : Reading). Stands c.read-node.result.given c.read-node.new.p r below)
-    (ap (λ (r : Rule). reads c.args.condition r (meaning whole (layer_at h0) c.args.condition s)) (c.turns_in.ensures ∙ ap (λ (n : ℕ). turns_of (rule (layer_at n))) c.layer_of.ensures) ∙ sym (upper-means h0 u refl low c.args.condition s can.anew)) turned)
-    (upper-costs h0 u refl low spent (same-length (ap left c.layer_ends.ensures.same)) c.layer_ends.ensures.looks
-    (subst (λ (r : Rule). Costs (idle r) (debt r) c.layer_ends.new.p c.read-node.new.p) (c.turns_in.ensures ∙ ap (λ (n : ℕ). turns_of (rule (layer_at n))) c.layer_of.ensures) looked))
+    (ap (λ (r : Rule). reads c.args.condition r m) turned ∙ sym (upper-means (u - 1) u one low c.args.condition s can.anew)) read)
+    (upper-costs (u - 1) u one low idled (same-length (ap left c.next_kind-next.ensures.same)) c.next_kind-next.ensures.looks
+    (subst (λ (r : Rule). Costs (idle r) (debt r) c.next_kind-next.new.p c.read-node.new.p) turned looked))
 
 pub read-read-node-requires : goal.read-read-node-requires
 unfolding size
