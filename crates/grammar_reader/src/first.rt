@@ -366,7 +366,7 @@ const OPERATORS: [u128; 10] = [
 ];
 
 /// The kinds before which the layer of operators of this height may have another turn.
-fn operators_at(height: u8) -> u128
+pub(crate) fn operators_at(height: u8) -> u128
     requires low { 1 ≤ height }
     requires high { height ≤ 10 }
     ensures { all_end_before 128 result (rule (layer_at height)) ≡ true }
@@ -375,7 +375,7 @@ fn operators_at(height: u8) -> u128
 }
 
 /// Whether a layer with these operators ends before a token of this kind that is no contextual keyword.
-fn layer_ends_before(operators: u128, kind: SyntaxKind) -> bool
+pub fn layer_ends_before(operators: u128, kind: SyntaxKind) -> bool
     ensures { IsTrue result → (r : Rule) → all_end_before 128 operators r ≡ true → ends_before (raw_of kind) r ≡ true }
 {
     let kind = kind.to_raw();

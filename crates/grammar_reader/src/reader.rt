@@ -65,13 +65,13 @@ pub fn at(
 
 /// The rank at most of a production that is called now: any where tokens were taken since the caller began, a lower one
 /// where none were.
-fn ranks_below(p: &Parser<'_>, caller: Caller) -> Option<u8>
-    requires total { caller.total ≡ length p.now.input }
-    requires few { caller.ranks ≤ 20 }
+fn ranks_below(p: &Parser<'_>, caller: &Caller) -> Option<u8>
+    requires total { caller.now.total ≡ length p.now.input }
+    requires few { caller.now.ranks ≤ 20 }
     ensures few { IfSome result (λ ranks. ranks ≤ 20) }
-    ensures falls { IfSome result (λ ranks. 32 * length (left p.now) + ranks < 32 * caller.began + caller.ranks) }
-    ensures some { (x y : rules.Production) (s : Reading) → left p.now ≡ s.rest → rank x ≤ caller.ranks
-        → IsBelow x caller.began y s → HasRank (rank y) result }
+    ensures falls { IfSome result (λ ranks. 32 * length (left p.now) + ranks < 32 * caller.now.began + caller.now.ranks) }
+    ensures some { (x y : rules.Production) (s : Reading) → left p.now ≡ s.rest → rank x ≤ caller.now.ranks
+        → IsBelow x caller.now.began y s → HasRank (rank y) result }
 {
     let left = tokens_left(p, caller.total);
     if left < caller.began {
@@ -141,7 +141,7 @@ pub fn production(
         ranks,
         total,
     };
-    read(p, node, rule_of(production), condition, caller)
+    read(p, node, rule_of(production), condition, &caller)
 }
 
 /// Reads an operand and the operators after it, up to the layer of this height, where the present production gave nothing yet.
@@ -181,7 +181,7 @@ fn layers(
         total,
     };
     let node = production(p, node, Production::Prefixed, condition, ranks - 1, total);
-    climb(p, node, 0, height, condition, caller)
+    climb(p, node, 0, height, condition, &caller)
 }
 
 /// Reads on from a layer that was read, up to another: the turns of each layer between. The layers that have no turn before the
@@ -193,22 +193,22 @@ fn climb(
     height: u8,
     top: u8,
     condition: bool,
-    caller: Caller,
+    caller: &Caller,
 ) -> Open
-    requires total { caller.total ≡ length p.old.input }
+    requires total { caller.now.total ≡ length p.old.input }
     requires short { length p.old.input < 2 ^ 64 }
-    requires few { caller.ranks ≤ 20 }
+    requires few { caller.now.ranks ≤ 20 }
     requires marker { IsInnermost node.marker p.old.nodes }
     requires below { height ≤ top }
     requires high { top ≤ 10 }
     ensures input { p.new.input ≡ p.old.input }
     ensures marker { IsInnermost result.marker p.new.nodes }
     ensures innermost { (n : ℕ) → IsInnermost n p.old.nodes → IsInnermost n p.new.nodes }
-    ensures reads { (s : Reading) (below : Option (List Marked)) → CanClimb caller.began caller.ranks top condition s
+    ensures reads { (s : Reading) (below : Option (List Marked)) → CanClimb caller.now.began caller.now.ranks top condition s
         → Stands node.given p.old (meaning whole (layer_at height) condition s) below
         → Stands result.given p.new (meaning whole (layer_at top) condition s) below }
     ensures looks { (entry : View) (s : Reading) (below : Option (List Marked))
-        → CanClimb caller.began caller.ranks top condition s
+        → CanClimb caller.now.began caller.now.ranks top condition s
         → Stands node.given p.old (meaning whole (layer_at height) condition s) below
         → Costs (idle_of (layer_at height)) (debt_of (layer_at height)) entry p.old
         → Costs (idle_of (layer_at top)) (debt_of (layer_at top)) entry p.new }
@@ -227,20 +227,26 @@ fn climb(
 
 /// Reads a production in a node that is left out in the end; in the present one, where that has nothing yet.
 #[cycle(reader)]
-fn call(p: &mut Parser<'_>, node: Open, called: Production, condition: bool, caller: Caller) -> Open
-    requires total { caller.total ≡ length p.old.input }
+fn call(
+    p: &mut Parser<'_>,
+    node: Open,
+    called: Production,
+    condition: bool,
+    caller: &Caller,
+) -> Open
+    requires total { caller.now.total ≡ length p.old.input }
     requires short { length p.old.input < 2 ^ 64 }
-    requires few { caller.ranks ≤ 20 }
+    requires few { caller.now.ranks ≤ 20 }
     requires marker { IsInnermost node.marker p.old.nodes }
     ensures input { p.new.input ≡ p.old.input }
     ensures marker { IsInnermost result.marker p.new.nodes }
     ensures innermost { (n : ℕ) → IsInnermost n p.old.nodes → IsInnermost n p.new.nodes }
-    ensures reads { (x : rules.Production) (s : Reading) (below : Option (List Marked)) → rank x ≤ caller.ranks
-        → Stands node.given p.old s below → IsBelow x caller.began (named called) s
+    ensures reads { (x : rules.Production) (s : Reading) (below : Option (List Marked)) → rank x ≤ caller.now.ranks
+        → Stands node.given p.old s below → IsBelow x caller.now.began (named called) s
         → IsBegun (named called) condition (fresh s)
         → Stands result.given p.new (after s (meaning whole (named called) condition (fresh s))) below }
-    ensures looks { (x : rules.Production) (s : Reading) (below : Option (List Marked)) → rank x ≤ caller.ranks
-        → Stands node.given p.old s below → IsBelow x caller.began (named called) s
+    ensures looks { (x : rules.Production) (s : Reading) (below : Option (List Marked)) → rank x ≤ caller.now.ranks
+        → Stands node.given p.old s below → IsBelow x caller.now.began (named called) s
         → IsBegun (named called) condition (fresh s)
         → Costs (idle_of (named called)) (debt_of (named called)) p.old p.new }
 {
@@ -274,21 +280,21 @@ fn go_on(
     node: Open,
     called: Production,
     condition: bool,
-    caller: Caller,
+    caller: &Caller,
 ) -> Open
-    requires total { caller.total ≡ length p.old.input }
+    requires total { caller.now.total ≡ length p.old.input }
     requires short { length p.old.input < 2 ^ 64 }
-    requires few { caller.ranks ≤ 20 }
+    requires few { caller.now.ranks ≤ 20 }
     requires marker { IsInnermost node.marker p.old.nodes }
     ensures input { p.new.input ≡ p.old.input }
     ensures marker { IsInnermost result.marker p.new.nodes }
     ensures innermost { (n : ℕ) → IsInnermost n p.old.nodes → IsInnermost n p.new.nodes }
-    ensures reads { (x : rules.Production) (s : Reading) (below : Option (List Marked)) → rank x ≤ caller.ranks
-        → Stands node.given p.old s below → IsBelow x caller.began (named called) s
+    ensures reads { (x : rules.Production) (s : Reading) (below : Option (List Marked)) → rank x ≤ caller.now.ranks
+        → Stands node.given p.old s below → IsBelow x caller.now.began (named called) s
         → IsBegun (named called) condition s
         → Stands result.given p.new (meaning whole (named called) condition s) below }
-    ensures looks { (x : rules.Production) (s : Reading) (below : Option (List Marked)) → rank x ≤ caller.ranks
-        → Stands node.given p.old s below → IsBelow x caller.began (named called) s
+    ensures looks { (x : rules.Production) (s : Reading) (below : Option (List Marked)) → rank x ≤ caller.now.ranks
+        → Stands node.given p.old s below → IsBelow x caller.now.began (named called) s
         → IsBegun (named called) condition s
         → Costs (idle_of (named called)) (debt_of (named called)) p.old p.new }
 {
@@ -305,20 +311,20 @@ fn turns(
     node: Open,
     rule: &'static Rule,
     condition: bool,
-    caller: Caller,
+    caller: &Caller,
 ) -> Open
-    requires total { caller.total ≡ length p.old.input }
+    requires total { caller.now.total ≡ length p.old.input }
     requires short { length p.old.input < 2 ^ 64 }
-    requires few { caller.ranks ≤ 20 }
+    requires few { caller.now.ranks ≤ 20 }
     requires marker { IsInnermost node.marker p.old.nodes }
     ensures input { p.new.input ≡ p.old.input }
     ensures marker { IsInnermost result.marker p.new.nodes }
     ensures innermost { (n : ℕ) → IsInnermost n p.old.nodes → IsInnermost n p.new.nodes }
-    ensures reads { (x : rules.Production) (s : Reading) (below : Option (List Marked)) → rank x ≤ caller.ranks
-        → Stands node.given p.old s below → CanRead x caller.began condition (rules.Star (plain rule.now)) s
+    ensures reads { (x : rules.Production) (s : Reading) (below : Option (List Marked)) → rank x ≤ caller.now.ranks
+        → Stands node.given p.old s below → CanRead x caller.now.began condition (rules.Star (plain rule.now)) s
         → Stands result.given p.new (reads condition (rules.Star (plain rule.now)) s) below }
-    ensures looks { (x : rules.Production) (s : Reading) (below : Option (List Marked)) → rank x ≤ caller.ranks
-        → Stands node.given p.old s below → CanRead x caller.began condition (rules.Star (plain rule.now)) s
+    ensures looks { (x : rules.Production) (s : Reading) (below : Option (List Marked)) → rank x ≤ caller.now.ranks
+        → Stands node.given p.old s below → CanRead x caller.now.began condition (rules.Star (plain rule.now)) s
         → is_paid (rules.Star (plain rule.now)) ≡ true
         → Costs (idle (rules.Star (plain rule.now))) (debt (rules.Star (plain rule.now))) p.old p.new }
 {
@@ -345,20 +351,20 @@ fn read(
     node: Open,
     rule: &'static Rule,
     condition: bool,
-    caller: Caller,
+    caller: &Caller,
 ) -> Open
-    requires total { caller.total ≡ length p.old.input }
+    requires total { caller.now.total ≡ length p.old.input }
     requires short { length p.old.input < 2 ^ 64 }
-    requires few { caller.ranks ≤ 20 }
+    requires few { caller.now.ranks ≤ 20 }
     requires marker { IsInnermost node.marker p.old.nodes }
     ensures input { p.new.input ≡ p.old.input }
     ensures marker { IsInnermost result.marker p.new.nodes }
     ensures innermost { (n : ℕ) → IsInnermost n p.old.nodes → IsInnermost n p.new.nodes }
-    ensures reads { (x : rules.Production) (s : Reading) (below : Option (List Marked)) → rank x ≤ caller.ranks
-        → Stands node.given p.old s below → CanRead x caller.began condition (plain rule.now) s
+    ensures reads { (x : rules.Production) (s : Reading) (below : Option (List Marked)) → rank x ≤ caller.now.ranks
+        → Stands node.given p.old s below → CanRead x caller.now.began condition (plain rule.now) s
         → Stands result.given p.new (reads condition (plain rule.now) s) below }
-    ensures looks { (x : rules.Production) (s : Reading) (below : Option (List Marked)) → rank x ≤ caller.ranks
-        → Stands node.given p.old s below → CanRead x caller.began condition (plain rule.now) s
+    ensures looks { (x : rules.Production) (s : Reading) (below : Option (List Marked)) → rank x ≤ caller.now.ranks
+        → Stands node.given p.old s below → CanRead x caller.now.began condition (plain rule.now) s
         → is_paid (plain rule.now) ≡ true
         → Costs (idle (plain rule.now)) (debt (plain rule.now)) p.old p.new }
 {

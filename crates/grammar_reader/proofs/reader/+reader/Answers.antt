@@ -107,7 +107,7 @@ climb-read-node-requires t c =
     let turned = c.turns_in.ensures ∙ ap (λ (n : ℕ). turns_of (rule (layer_at n))) c.layer_of.ensures in
     let few = subst (λ (r : Rule). size r < 2048) (sym turned) (upper-few (u - 1) u (omega (arith, above)) (omega (arith, above, high))) in
     let input = ap (λ (v : View). v.input) c.next_kind-next.ensures.same in
-    (below-measure c.decreases (falls-climb c.turns_in.result.now (32 * c.args.caller.began + c.args.caller.ranks) c.args.height few (omega (arith, above, high))), (total-still _ _ _ input c.requires.total, (short-still _ _ input c.requires.short, (c.requires.few, still-innermost _ c.args.p.now c.next_kind-next.new.p c.next_kind-next.ensures.same c.requires.marker))))
+    (below-measure c.decreases (falls-climb c.turns_in.result.now (32 * c.args.caller.now.began + c.args.caller.now.ranks) c.args.height few (omega (arith, above, high))), (total-still _ _ _ input c.requires.total, (short-still _ _ input c.requires.short, (c.requires.few, still-innermost _ c.args.p.now c.next_kind-next.new.p c.next_kind-next.ensures.same c.requires.marker))))
 
 pub layers-returns-then-ranks-eq0-clause-reads : goal.layers-returns-then-ranks-eq0-clause-reads
 layers-returns-then-ranks-eq0-clause-reads t c = λ s below low h b. absurd (omega (arith, low, rank-at c.args.height c.requires.high, c.if-ranks-eq0.true))
@@ -168,10 +168,10 @@ climb-returns-clause-reads t c = λ s below can h.
     let m = meaning whole (layer_at (u - 1)) c.args.condition s in
     let begun = begun-under u c.args.top (omega (arith, c.if-upper-top.false)) c.requires.high c.args.condition s can.anew can.begun in
     let readable = subst (λ (n : ℕ). CanRead (layer_at u) n c.args.condition (turns_of (rule (layer_at u))) m) (sym can.here) (upper-read (u - 1) u one low c.args.condition s can.anew begun) in
-    let few : rank (layer_at u) ≤ c.args.caller.ranks = omega (arith, can.few, rank-at c.args.top c.requires.high, rank-at u high, c.if-upper-top.false) in
+    let few : rank (layer_at u) ≤ c.args.caller.now.ranks = omega (arith, can.few, rank-at c.args.top c.requires.high, rank-at u high, c.if-upper-top.false) in
     let turned = c.turns_in.ensures ∙ ap (λ (n : ℕ). turns_of (rule (layer_at n))) c.layer_of.ensures in
     let read = c.read-node.ensures.reads (layer_at u) m below few (subst (λ (r : Reading). Stands c.args.node.given c.next_kind-next.new.p r below) (sym passed) stood)
-    (subst (λ (r : Rule). CanRead (layer_at u) c.args.caller.began c.args.condition r m) (sym turned) readable) in
+    (subst (λ (r : Rule). CanRead (layer_at u) c.args.caller.now.began c.args.condition r m) (sym turned) readable) in
     c.climb.ensures.reads s below can
     (subst (λ (r : Reading). Stands c.read-node.result.given c.read-node.new.p r below)
     (ap (λ (r : Rule). reads c.args.condition r m) turned ∙ sym (upper-means (u - 1) u one low c.args.condition s can.anew)) read)
@@ -190,10 +190,10 @@ climb-returns-clause-looks t c = λ entry s below can h spent.
     let m = meaning whole (layer_at (u - 1)) c.args.condition s in
     let begun = begun-under u c.args.top (omega (arith, c.if-upper-top.false)) c.requires.high c.args.condition s can.anew can.begun in
     let readable = subst (λ (n : ℕ). CanRead (layer_at u) n c.args.condition (turns_of (rule (layer_at u))) m) (sym can.here) (upper-read (u - 1) u one low c.args.condition s can.anew begun) in
-    let few : rank (layer_at u) ≤ c.args.caller.ranks = omega (arith, can.few, rank-at c.args.top c.requires.high, rank-at u high, c.if-upper-top.false) in
+    let few : rank (layer_at u) ≤ c.args.caller.now.ranks = omega (arith, can.few, rank-at c.args.top c.requires.high, rank-at u high, c.if-upper-top.false) in
     let turned = c.turns_in.ensures ∙ ap (λ (n : ℕ). turns_of (rule (layer_at n))) c.layer_of.ensures in
     let there = subst (λ (r : Reading). Stands c.args.node.given c.next_kind-next.new.p r below) (sym passed) stood in
-    let can_turn = subst (λ (r : Rule). CanRead (layer_at u) c.args.caller.began c.args.condition r m) (sym turned) readable in
+    let can_turn = subst (λ (r : Rule). CanRead (layer_at u) c.args.caller.now.began c.args.condition r m) (sym turned) readable in
     let read = c.read-node.ensures.reads (layer_at u) m below few there can_turn in
     let looked = c.read-node.ensures.looks (layer_at u) m below few there can_turn (ap is_paid turned ∙ turns-paid (u - 1) u one low) in
     let idled = passed-idle c.args.height (u - 1) (omega (arith, above)) (omega (arith, high)) c.next_kind-next.result over spent in
@@ -206,82 +206,82 @@ climb-returns-clause-looks t c = λ entry s below can h spent.
 pub read-read-node-requires : goal.read-read-node-requires
 unfolding size
 read-read-node-requires t c =
-    (below-measure c.decreases (falls-read c.in-Then.first.now c.args.rule.now (32 * c.args.caller.began + c.args.caller.ranks) (omega (arith, ap (λ (d : rows.Rule). size (plain d)) c.in-Then.is))), (c.requires.total, (c.requires.short, (c.requires.few, c.requires.marker))))
+    (below-measure c.decreases (falls-read c.in-Then.first.now c.args.rule.now (32 * c.args.caller.now.began + c.args.caller.now.ranks) (omega (arith, ap (λ (d : rows.Rule). size (plain d)) c.in-Then.is))), (c.requires.total, (c.requires.short, (c.requires.few, c.requires.marker))))
 
 pub read-read-requires : goal.read-read-requires
 unfolding size
 read-read-requires t c =
-    (below-measure c.decreases (falls-read c.in-Then.second.now c.args.rule.now (32 * c.args.caller.began + c.args.caller.ranks) (omega (arith, ap (λ (d : rows.Rule). size (plain d)) c.in-Then.is))), (total-still _ _ _ c.read-node.ensures.input c.requires.total, (short-still _ _ c.read-node.ensures.input c.requires.short, (c.requires.few, c.read-node.ensures.marker))))
+    (below-measure c.decreases (falls-read c.in-Then.second.now c.args.rule.now (32 * c.args.caller.now.began + c.args.caller.now.ranks) (omega (arith, ap (λ (d : rows.Rule). size (plain d)) c.in-Then.is))), (total-still _ _ _ c.read-node.ensures.input c.requires.total, (short-still _ _ c.read-node.ensures.input c.requires.short, (c.requires.few, c.read-node.ensures.marker))))
 
 pub read-read-node-requires-in-Near : goal.read-read-node-requires-in-Near
 unfolding size
 read-read-node-requires-in-Near t c =
-    (below-measure c.decreases (falls-read c.in-Near.first.now c.args.rule.now (32 * c.args.caller.began + c.args.caller.ranks) (omega (arith, ap (λ (d : rows.Rule). size (plain d)) c.in-Near.is))), (c.requires.total, (c.requires.short, (c.requires.few, c.requires.marker))))
+    (below-measure c.decreases (falls-read c.in-Near.first.now c.args.rule.now (32 * c.args.caller.now.began + c.args.caller.now.ranks) (omega (arith, ap (λ (d : rows.Rule). size (plain d)) c.in-Near.is))), (c.requires.total, (c.requires.short, (c.requires.few, c.requires.marker))))
 
 pub read-read-requires-in-Near : goal.read-read-requires-in-Near
 unfolding size
 read-read-requires-in-Near t c =
-    (below-measure c.decreases (falls-read c.in-Near.second.now c.args.rule.now (32 * c.args.caller.began + c.args.caller.ranks) (omega (arith, ap (λ (d : rows.Rule). size (plain d)) c.in-Near.is))), (total-still _ _ _ c.read-node-in-Near.ensures.input c.requires.total, (short-still _ _ c.read-node-in-Near.ensures.input c.requires.short, (c.requires.few, c.read-node-in-Near.ensures.marker))))
+    (below-measure c.decreases (falls-read c.in-Near.second.now c.args.rule.now (32 * c.args.caller.now.began + c.args.caller.now.ranks) (omega (arith, ap (λ (d : rows.Rule). size (plain d)) c.in-Near.is))), (total-still _ _ _ c.read-node-in-Near.ensures.input c.requires.total, (short-still _ _ c.read-node-in-Near.ensures.input c.requires.short, (c.requires.few, c.read-node-in-Near.ensures.marker))))
 
 pub read-read-requires-then-at : goal.read-read-requires-then-at
 unfolding size
 read-read-requires-then-at t c =
-    (below-measure c.decreases (falls-read c.in-Or.first.now c.args.rule.now (32 * c.args.caller.began + c.args.caller.ranks) (omega (arith, ap (λ (d : rows.Rule). size (plain d)) c.in-Or.is))), (total-still _ _ _ (ap (λ (v : View). v.input) c.at.ensures.same) c.requires.total, (short-still _ _ (ap (λ (v : View). v.input) c.at.ensures.same) c.requires.short, (c.requires.few, still-innermost _ c.args.p.now c.at.new.p c.at.ensures.same c.requires.marker))))
+    (below-measure c.decreases (falls-read c.in-Or.first.now c.args.rule.now (32 * c.args.caller.now.began + c.args.caller.now.ranks) (omega (arith, ap (λ (d : rows.Rule). size (plain d)) c.in-Or.is))), (total-still _ _ _ (ap (λ (v : View). v.input) c.at.ensures.same) c.requires.total, (short-still _ _ (ap (λ (v : View). v.input) c.at.ensures.same) c.requires.short, (c.requires.few, still-innermost _ c.args.p.now c.at.new.p c.at.ensures.same c.requires.marker))))
 
 pub read-read-requires-in-Or : goal.read-read-requires-in-Or
 unfolding size
 read-read-requires-in-Or t c =
-    (below-measure c.decreases (falls-read c.in-Or.second.now c.args.rule.now (32 * c.args.caller.began + c.args.caller.ranks) (omega (arith, ap (λ (d : rows.Rule). size (plain d)) c.in-Or.is))), (total-still _ _ _ (ap (λ (v : View). v.input) c.at.ensures.same) c.requires.total, (short-still _ _ (ap (λ (v : View). v.input) c.at.ensures.same) c.requires.short, (c.requires.few, still-innermost _ c.args.p.now c.at.new.p c.at.ensures.same c.requires.marker))))
+    (below-measure c.decreases (falls-read c.in-Or.second.now c.args.rule.now (32 * c.args.caller.now.began + c.args.caller.now.ranks) (omega (arith, ap (λ (d : rows.Rule). size (plain d)) c.in-Or.is))), (total-still _ _ _ (ap (λ (v : View). v.input) c.at.ensures.same) c.requires.total, (short-still _ _ (ap (λ (v : View). v.input) c.at.ensures.same) c.requires.short, (c.requires.few, still-innermost _ c.args.p.now c.at.new.p c.at.ensures.same c.requires.marker))))
 
 pub read-read-requires-in-When : goal.read-read-requires-in-When
 unfolding size
 read-read-requires-in-When t c =
-    (below-measure c.decreases (falls-read c.in-When.inner.now c.args.rule.now (32 * c.args.caller.began + c.args.caller.ranks) (omega (arith, ap (λ (d : rows.Rule). size (plain d)) c.in-When.is))), (c.requires.total, (c.requires.short, (c.requires.few, c.requires.marker))))
+    (below-measure c.decreases (falls-read c.in-When.inner.now c.args.rule.now (32 * c.args.caller.now.began + c.args.caller.now.ranks) (omega (arith, ap (λ (d : rows.Rule). size (plain d)) c.in-When.is))), (c.requires.total, (c.requires.short, (c.requires.few, c.requires.marker))))
 
 pub read-read-requires-in-Unless : goal.read-read-requires-in-Unless
 unfolding size
 read-read-requires-in-Unless t c =
-    (below-measure c.decreases (falls-read c.in-Unless.inner.now c.args.rule.now (32 * c.args.caller.began + c.args.caller.ranks) (omega (arith, ap (λ (d : rows.Rule). size (plain d)) c.in-Unless.is))), (c.requires.total, (c.requires.short, (c.requires.few, c.requires.marker))))
+    (below-measure c.decreases (falls-read c.in-Unless.inner.now c.args.rule.now (32 * c.args.caller.now.began + c.args.caller.now.ranks) (omega (arith, ap (λ (d : rows.Rule). size (plain d)) c.in-Unless.is))), (c.requires.total, (c.requires.short, (c.requires.few, c.requires.marker))))
 
 pub read-read-requires-then-at-2 : goal.read-read-requires-then-at-2
 unfolding size
 read-read-requires-then-at-2 t c =
-    (below-measure c.decreases (falls-read c.in-Opt.inner.now c.args.rule.now (32 * c.args.caller.began + c.args.caller.ranks) (omega (arith, ap (λ (d : rows.Rule). size (plain d)) c.in-Opt.is))), (total-still _ _ _ (ap (λ (v : View). v.input) c.at-in-Opt.ensures.same) c.requires.total, (short-still _ _ (ap (λ (v : View). v.input) c.at-in-Opt.ensures.same) c.requires.short, (c.requires.few, still-innermost _ c.args.p.now c.at-in-Opt.new.p c.at-in-Opt.ensures.same c.requires.marker))))
+    (below-measure c.decreases (falls-read c.in-Opt.inner.now c.args.rule.now (32 * c.args.caller.now.began + c.args.caller.now.ranks) (omega (arith, ap (λ (d : rows.Rule). size (plain d)) c.in-Opt.is))), (total-still _ _ _ (ap (λ (v : View). v.input) c.at-in-Opt.ensures.same) c.requires.total, (short-still _ _ (ap (λ (v : View). v.input) c.at-in-Opt.ensures.same) c.requires.short, (c.requires.few, still-innermost _ c.args.p.now c.at-in-Opt.new.p c.at-in-Opt.ensures.same c.requires.marker))))
 
 pub read-turns-requires : goal.read-turns-requires
 unfolding size
 read-turns-requires t c =
-    (below-measure c.decreases (falls-turns c.in-Star.inner.now c.args.rule.now (32 * c.args.caller.began + c.args.caller.ranks) (omega (arith, ap (λ (d : rows.Rule). size (plain d)) c.in-Star.is))), (c.requires.total, (c.requires.short, (c.requires.few, c.requires.marker))))
+    (below-measure c.decreases (falls-turns c.in-Star.inner.now c.args.rule.now (32 * c.args.caller.now.began + c.args.caller.now.ranks) (omega (arith, ap (λ (d : rows.Rule). size (plain d)) c.in-Star.is))), (c.requires.total, (c.requires.short, (c.requires.few, c.requires.marker))))
 
 pub read-read-child-requires : goal.read-read-child-requires
 unfolding size
 read-read-child-requires t c =
-    (below-measure c.decreases (falls-read c.in-Node.inner.now c.args.rule.now (32 * c.args.caller.began + c.args.caller.ranks) (omega (arith, ap (λ (d : rows.Rule). size (plain d)) c.in-Node.is))), (total-still _ _ _ c.start-child.ensures.input c.requires.total, (short-still _ _ c.start-child.ensures.input c.requires.short, (c.requires.few, c.start-child.ensures.marker))))
+    (below-measure c.decreases (falls-read c.in-Node.inner.now c.args.rule.now (32 * c.args.caller.now.began + c.args.caller.now.ranks) (omega (arith, ap (λ (d : rows.Rule). size (plain d)) c.in-Node.is))), (total-still _ _ _ c.start-child.ensures.input c.requires.total, (short-still _ _ c.start-child.ensures.input c.requires.short, (c.requires.few, c.start-child.ensures.marker))))
 
 pub read-read-node-requires-in-Wrap : goal.read-read-node-requires-in-Wrap
 unfolding size
 read-read-node-requires-in-Wrap t c =
-    (below-measure c.decreases (falls-read c.in-Wrap.inner.now c.args.rule.now (32 * c.args.caller.began + c.args.caller.ranks) (omega (arith, ap (λ (d : rows.Rule). size (plain d)) c.in-Wrap.is))), (c.requires.total, (c.requires.short, (c.requires.few, c.requires.marker))))
+    (below-measure c.decreases (falls-read c.in-Wrap.inner.now c.args.rule.now (32 * c.args.caller.now.began + c.args.caller.now.ranks) (omega (arith, ap (λ (d : rows.Rule). size (plain d)) c.in-Wrap.is))), (c.requires.total, (c.requires.short, (c.requires.few, c.requires.marker))))
 
 pub read-read-requires-then-at-3 : goal.read-read-requires-then-at-3
 unfolding size
 read-read-requires-then-at-3 t c =
-    (below-measure c.decreases (falls-read c.in-Want.inner.now c.args.rule.now (32 * c.args.caller.began + c.args.caller.ranks) (omega (arith, ap (λ (d : rows.Rule). size (plain d)) c.in-Want.is))), (total-still _ _ _ (ap (λ (v : View). v.input) c.at-in-Want.ensures.same) c.requires.total, (short-still _ _ (ap (λ (v : View). v.input) c.at-in-Want.ensures.same) c.requires.short, (c.requires.few, still-innermost _ c.args.p.now c.at-in-Want.new.p c.at-in-Want.ensures.same c.requires.marker))))
+    (below-measure c.decreases (falls-read c.in-Want.inner.now c.args.rule.now (32 * c.args.caller.now.began + c.args.caller.now.ranks) (omega (arith, ap (λ (d : rows.Rule). size (plain d)) c.in-Want.is))), (total-still _ _ _ (ap (λ (v : View). v.input) c.at-in-Want.ensures.same) c.requires.total, (short-still _ _ (ap (λ (v : View). v.input) c.at-in-Want.ensures.same) c.requires.short, (c.requires.few, still-innermost _ c.args.p.now c.at-in-Want.new.p c.at-in-Want.ensures.same c.requires.marker))))
 
 pub read-call-requires : goal.read-call-requires
 unfolding size
 read-call-requires t c =
-    (below-measure c.decreases (falls-call c.args.rule.now (32 * c.args.caller.began + c.args.caller.ranks) (omega (arith, ap (λ (d : rows.Rule). size (plain d)) c.in-Call.is))), (c.requires.total, (c.requires.short, (c.requires.few, c.requires.marker))))
+    (below-measure c.decreases (falls-call c.args.rule.now (32 * c.args.caller.now.began + c.args.caller.now.ranks) (omega (arith, ap (λ (d : rows.Rule). size (plain d)) c.in-Call.is))), (c.requires.total, (c.requires.short, (c.requires.few, c.requires.marker))))
 
 pub read-go_on-requires : goal.read-go_on-requires
 unfolding size
 read-go_on-requires t c =
-    (below-measure c.decreases (falls-call c.args.rule.now (32 * c.args.caller.began + c.args.caller.ranks) (omega (arith, ap (λ (d : rows.Rule). size (plain d)) c.in-Continue.is))), (c.requires.total, (c.requires.short, (c.requires.few, c.requires.marker))))
+    (below-measure c.decreases (falls-call c.args.rule.now (32 * c.args.caller.now.began + c.args.caller.now.ranks) (omega (arith, ap (λ (d : rows.Rule). size (plain d)) c.in-Continue.is))), (c.requires.total, (c.requires.short, (c.requires.few, c.requires.marker))))
 
 pub read-read-requires-in-Mode : goal.read-read-requires-in-Mode
 unfolding size
 read-read-requires-in-Mode t c =
-    (below-measure c.decreases (falls-read c.in-Mode.inner.now c.args.rule.now (32 * c.args.caller.began + c.args.caller.ranks) (omega (arith, ap (λ (d : rows.Rule). size (plain d)) c.in-Mode.is))), (c.requires.total, (c.requires.short, (c.requires.few, c.requires.marker))))
+    (below-measure c.decreases (falls-read c.in-Mode.inner.now c.args.rule.now (32 * c.args.caller.now.began + c.args.caller.now.ranks) (omega (arith, ap (λ (d : rows.Rule). size (plain d)) c.in-Mode.is))), (c.requires.total, (c.requires.short, (c.requires.few, c.requires.marker))))
 
 pub read-returns-in-Nothing-clause-reads : goal.read-returns-in-Nothing-clause-reads
 unfolding read

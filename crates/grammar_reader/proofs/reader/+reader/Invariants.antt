@@ -15,19 +15,19 @@ abbrev pub decreases-layers : goal.decreases-layers
 decreases-layers l = 16384 * (32 * length (left l.p.now) + l.ranks) + 16382
 
 abbrev pub decreases-climb : goal.decreases-climb
-decreases-climb l = 16384 * (32 * l.caller.began + l.caller.ranks) + (16381 - l.height)
+decreases-climb l = 16384 * (32 * l.caller.now.began + l.caller.now.ranks) + (16381 - l.height)
 
 abbrev pub decreases-call : goal.decreases-call
-decreases-call l = 16384 * (32 * l.caller.began + l.caller.ranks) + 1
+decreases-call l = 16384 * (32 * l.caller.now.began + l.caller.now.ranks) + 1
 
 abbrev pub decreases-go_on : goal.decreases-go_on
-decreases-go_on l = 16384 * (32 * l.caller.began + l.caller.ranks) + 1
+decreases-go_on l = 16384 * (32 * l.caller.now.began + l.caller.now.ranks) + 1
 
 abbrev pub decreases-turns : goal.decreases-turns
-decreases-turns l = 16384 * (32 * l.caller.began + l.caller.ranks) + (2 * weight l.rule.now + 1)
+decreases-turns l = 16384 * (32 * l.caller.now.began + l.caller.now.ranks) + (2 * weight l.rule.now + 1)
 
 abbrev pub decreases-read : goal.decreases-read
-decreases-read l = 16384 * (32 * l.caller.began + l.caller.ranks) + 2 * weight l.rule.now
+decreases-read l = 16384 * (32 * l.caller.now.began + l.caller.now.ranks) + 2 * weight l.rule.now
 
 abbrev pub invariant-turns-turns : goal.invariant-turns-turns
 invariant-turns-turns l = record {
