@@ -12,3 +12,4 @@ pub mod Moves
 pub mod Standing
 pub mod Layering
 pub mod Passing
+pub mod Alternatives

@@ -150,7 +150,7 @@ right-at (suc n) k sure unsure l h e = elim (cases_lt k n) [
   | inr p ↦ subst (λ (i : ℕ). is_right_at sure unsure i l ≡ true) (omega (arith, h, p)) (and_l (is_right_at sure unsure n l) (are_right n sure unsure l) e)
 ]
 
-told-so : (o : Option Bool) (b : Bool) → is_told o b ≡ true → o ≡ Some b
+pub told-so : (o : Option Bool) (b : Bool) → is_told o b ≡ true → o ≡ Some b
 unfolding is_told
 told-so None b e = absurd (true≢false (sym e))
 told-so (Some true) true e = refl

@@ -4,6 +4,7 @@ pub mod Layers
 pub mod Looks
 pub mod Told
 pub mod Prices
+pub mod Rows
 pub mod Size
 pub mod Stands
 pub mod Moves

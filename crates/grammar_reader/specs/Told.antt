@@ -98,3 +98,14 @@ all_end_before (suc n) others r = (is_in others n || ends_before n r) && all_end
 abbrev pub IsOver : (next : Option SyntaxKind) → Rule → Type 0
 IsOver None r = ⊥
 IsOver (Some kind) r = ends_before (raw_of kind) r ≡ true
+
+-- whether the first alternatives of a row, so many, do not begin before a token of this kind
+unfoldable pub are_passed : (count kind : ℕ) → Rule → Bool
+are_passed zero k r = true
+are_passed (suc n) k (Or a b) = is_told (known_answer k (begins (look_of whole) a)) false && are_passed n k b
+are_passed (suc n) k r = false
+
+-- so it is at each kind below this one that is in the set
+unfoldable pub all_passed : ℕ → (set count : ℕ) → Rule → Bool
+all_passed zero set count r = true
+all_passed (suc n) set count r = (not (is_in set n) || are_passed count n r) && all_passed n set count r

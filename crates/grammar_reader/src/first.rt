@@ -52,6 +52,14 @@ macro_rules! operands {
     () => { atoms!() + kinds!(BANG MINUS AMP STAR) };
 }
 
+pub(crate) use atoms;
+pub(crate) use block_likes;
+pub(crate) use kinds;
+pub(crate) use literals;
+pub(crate) use operands;
+pub(crate) use refs;
+pub(crate) use single_patterns;
+
 /// Before which kinds of the next token a production surely begins, and before which more tokens tell; before others it does not.
 pub struct First {
     sure: u128,
@@ -305,7 +313,7 @@ fn first_of(production: Production) -> &'static First
 }
 
 /// Whether a kind is in a set.
-fn has(set: u128, kind: u16) -> bool
+pub(crate) fn has(set: u128, kind: u16) -> bool
     requires { kind < 128 }
     ensures { result ≡ is_in set kind }
 {

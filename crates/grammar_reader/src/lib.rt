@@ -10,6 +10,7 @@ pub mod layer;
 pub mod look;
 mod notation;
 pub mod open;
+pub mod passed;
 pub mod production;
 pub mod reader;
 pub mod rule;

@@ -22,12 +22,14 @@ use crate::first::{next_layer, operation_ends_before};
 use crate::layer::{height_of, layer_of};
 use crate::look::{Place, next_kind, tokens_left};
 use crate::open::{Open, close, leave_out, skip, split, start, take, take_any, tell, wrap};
+use crate::passed::row_before;
 use crate::production::Production;
 use crate::rule::Rule;
-use crate::table::{later_atoms, later_bodies, rule_of, turns_in};
+use crate::table::{later_atoms, later_bodies, turns_in};
 use parser_events::parser::Parser;
 
-/// On whose behalf a rule is read.
+/// On whose behalf a rule is read. It is passed by reference: no function that hands it on keeps it in its frame, so what is read last
+/// needs none of its own.
 #[derive(Clone, Copy)]
 pub(crate) struct Caller {
     /// How many tokens were left where the production began.
@@ -135,13 +137,14 @@ pub fn production(
     if passes_by(p, production) {
         return node;
     }
+    let row = row_before(p, production);
     let began = tokens_left(p, total);
     let caller = Caller {
         began,
         ranks,
         total,
     };
-    read(p, node, rule_of(production), condition, &caller)
+    read(p, node, row, condition, &caller)
 }
 
 /// Reads an operand and the operators after it, up to the layer of this height, where the present production gave nothing yet.

@@ -82,10 +82,12 @@ pub production-returns-2-clause-reads : goal.production-returns-2-clause-reads
 production-returns-2-clause-reads t c = λ s below low h b.
     let x = named c.args.production in
     let still = stands-still c.passes_by.ensures.same h in
-    let can = row-can-read x c.args.condition s (c.tokens_left-began.ensures ∙ same-length still.at.rest) c.rule_of.ensures.rule b in
+    let stood = stands-still c.row_before-row.ensures.same still in
+    let part = c.row_before-row.ensures.part in
+    let can = part.can x c.tokens_left-began.result c.args.condition s still.at.rest (row-can-read x c.args.condition s (c.tokens_left-began.ensures ∙ same-length stood.at.rest) refl b) in
     subst (λ (u : Reading). Stands c.read.result.given c.read.new.p u below)
-    (ap (λ (r : Rule). reads c.args.condition r s) c.rule_of.ensures.rule ∙ sym (whole-means x c.args.condition s))
-    (c.read.ensures.reads x s below low still can)
+    (sym (part.means c.args.condition s still.at.rest) ∙ sym (whole-means x c.args.condition s))
+    (c.read.ensures.reads x s below low stood can)
 
 pub production-returns-clause-reads : goal.production-returns-clause-reads
 production-returns-clause-reads t c = λ s below low h b.
@@ -478,10 +480,13 @@ pub production-returns-2-clause-looks : goal.production-returns-2-clause-looks
 production-returns-2-clause-looks t c = λ s below low h b.
     let x = named c.args.production in
     let still = stands-still c.passes_by.ensures.same h in
-    let can = row-can-read x c.args.condition s (c.tokens_left-began.ensures ∙ same-length still.at.rest) c.rule_of.ensures.rule b in
-    as-priced x _ c.rule_of.ensures.rule
-    (tested 1 (in_turn (Some 1) (idle _)) (1 + debt _) (same-length (ap left c.passes_by.ensures.same)) c.passes_by.ensures.looks
-    (tested 1 (idle _) (debt _) {old = c.passes_by.new.p} {mid = c.passes_by.new.p} refl (omega arith) (c.read.ensures.looks x s below low still can (rule-paid x _ c.rule_of.ensures.rule))))
+    let stood = stands-still c.row_before-row.ensures.same still in
+    let part = c.row_before-row.ensures.part in
+    let can = part.can x c.tokens_left-began.result c.args.condition s still.at.rest (row-can-read x c.args.condition s (c.tokens_left-began.ensures ∙ same-length stood.at.rest) refl b) in
+    as-priced x (rule x) refl
+    (tested 1 (in_turn (Some 1) (idle (rule x))) (1 + debt (rule x)) {old = c.args.p.now} {mid = c.passes_by.new.p} (same-length (ap left c.passes_by.ensures.same)) c.passes_by.ensures.looks
+    (tested 1 (idle (rule x)) (debt (rule x)) {old = c.passes_by.new.p} {mid = c.row_before-row.new.p} (same-length (ap left c.row_before-row.ensures.same)) c.row_before-row.ensures.looks
+    (part.costs c.row_before-row.new.p c.read.new.p (c.read.ensures.looks x s below low stood can (part.paid (rule-paid x (rule x) refl))))))
 
 pub read-returns-in-Nothing-clause-looks : goal.read-returns-in-Nothing-clause-looks
 unfolding idle debt

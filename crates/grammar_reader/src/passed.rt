@@ -1,0 +1,167 @@
+//! Alternatives of a row that are passed by, as far as the kind of the next token alone tells.
+
+ghost use Rattle.std.specs.Prelude.{◌≡◌, ◌<◌, ◌≤◌, ◌+◌, ℕ, IfSome, List, true};
+ghost use Rattle.parser_input.specs.Input.{Token};
+ghost use Rattle.parser_input.specs.Kind.{raw_of};
+ghost use Rattle.rust_grammar.specs.Rule as rules;
+ghost use Rattle.rust_grammar.specs.Whole.{rule};
+ghost use Rattle.grammar_reader.specs.Data.{named, plain};
+ghost use Rattle.grammar_reader.specs.Rows.{StandsFor};
+ghost use Rattle.grammar_reader.specs.Size.{size};
+ghost use Rattle.grammar_reader.specs.Stands.{left};
+ghost use Rattle.grammar_reader.specs.Told.{IsNext, are_passed, all_passed};
+
+use crate::first::{atoms, block_likes, has, kinds, literals, operands, refs, single_patterns};
+use crate::look::next_kind;
+use crate::production::Production;
+use crate::rule::Rule;
+use crate::table::rule_of;
+use parser_events::parser::Parser;
+use parser_input::syntax_kind::SyntaxKind;
+
+/// Before each kind of a set so many alternatives of a row are passed by, and before each kind of another so many.
+pub struct Passed {
+    many_before: u128,
+    many: u8,
+    few_before: u128,
+    few: u8,
+}
+
+static BODY: Passed = Passed {
+    many_before: kinds!(STATIC_KW TYPE_KW IMPL_KW TRAIT_KW),
+    many: 5,
+    few_before: kinds!(FN_KW),
+    few: 4,
+};
+
+static ANY_TYPE: Passed = Passed {
+    many_before: refs!(),
+    many: 9,
+    few_before: kinds!(AMP),
+    few: 4,
+};
+
+static PATTERN: Passed = Passed {
+    many_before: single_patterns!(),
+    many: 1,
+    few_before: kinds!(),
+    few: 0,
+};
+
+static SINGLE_PATTERN: Passed = Passed {
+    many_before: refs!() + kinds!(MUT_KW REF_KW),
+    many: 7,
+    few_before: kinds!(L_PAREN),
+    few: 3,
+};
+
+static STATEMENT: Passed = Passed {
+    many_before: operands!() - kinds!(UNSAFE_KW),
+    many: 4,
+    few_before: kinds!(LET_KW),
+    few: 2,
+};
+
+static OPERATION: Passed = Passed {
+    many_before: operands!(),
+    many: 3,
+    few_before: kinds!(),
+    few: 0,
+};
+
+static PREFIXED: Passed = Passed {
+    many_before: atoms!(),
+    many: 2,
+    few_before: kinds!(AMP),
+    few: 1,
+};
+
+static POSTFIX: Passed = Passed {
+    many_before: kinds!(DOT),
+    many: 3,
+    few_before: kinds!(L_BRACK QUESTION),
+    few: 1,
+};
+
+static ATOM: Passed = Passed {
+    many_before: kinds!(L_PAREN L_BRACK PIPE BREAK_KW CONTINUE_KW MOVE_KW RETURN_KW),
+    many: 3,
+    few_before: refs!() + block_likes!(),
+    few: 1,
+};
+
+static BLOCK_LIKE: Passed = Passed {
+    many_before: kinds!(IDENT),
+    many: 7,
+    few_before: kinds!(IF_KW WHILE_KW LOOP_KW FOR_KW MATCH_KW),
+    few: 2,
+};
+
+/// What is passed by of the rows that are read most.
+fn passed_of(production: Production) -> Option<&'static Passed>
+    ensures many { IfSome result (λ x. all_passed 128 x.now.many_before x.now.many (rule (named production)) ≡ true) }
+    ensures few { IfSome result (λ x. all_passed 128 x.now.few_before x.now.few (rule (named production)) ≡ true) }
+{
+    match production {
+        Production::Body => Some(&BODY),
+        Production::AnyType => Some(&ANY_TYPE),
+        Production::Pattern => Some(&PATTERN),
+        Production::SinglePattern => Some(&SINGLE_PATTERN),
+        Production::Statement => Some(&STATEMENT),
+        Production::Operation => Some(&OPERATION),
+        Production::Prefixed => Some(&PREFIXED),
+        Production::Postfix => Some(&POSTFIX),
+        Production::Atom => Some(&ATOM),
+        Production::BlockLike => Some(&BLOCK_LIKE),
+        _ => None,
+    }
+}
+
+/// How many alternatives are passed by before a token of this kind that is no contextual keyword.
+fn passed_before(passed: &Passed, kind: SyntaxKind) -> u8
+    ensures { (r : rules.Rule) → all_passed 128 passed.now.many_before passed.now.many r ≡ true
+        → all_passed 128 passed.now.few_before passed.now.few r ≡ true → are_passed result (raw_of kind) r ≡ true }
+{
+    let kind = kind.to_raw();
+    if kind >= 128 {
+        return 0;
+    }
+    if has(passed.many_before, kind) {
+        return passed.many;
+    }
+    if has(passed.few_before, kind) {
+        return passed.few;
+    }
+    0
+}
+
+/// The rest of a row after so many alternatives, or after fewer, where the row is kept as two.
+fn after(row: &'static Rule, count: u8) -> &'static Rule
+    ensures { (k : ℕ) (tokens : List Token) → IsNext k tokens → are_passed count k (plain row.now) ≡ true
+        → StandsFor tokens (plain result.now) (plain row.now) }
+{
+    if count == 0 {
+        return row;
+    }
+    match row {
+        Rule::Or(_, second) => after(second, count - 1),
+        _ => row,
+    }
+}
+
+/// The part of a production's row that is read before the next token, as far as its kind alone tells.
+pub(crate) fn row_before(p: &mut Parser<'_>, production: Production) -> &'static Rule
+    ensures part { StandsFor (left p.old) (plain result.now) (rule (named production)) }
+    ensures few { size (plain result.now) < 2048 }
+    ensures same { p.new ≡ record p.old { looks = p.new.looks } }
+    ensures looks { p.new.looks ≤ p.old.looks + 1 }
+{
+    let row = rule_of(production);
+    let Some(passed) = passed_of(production) else {
+        return row;
+    };
+    let Some(kind) = next_kind(p) else {
+        return row;
+    };
+    after(row, passed_before(passed, kind))
+}
