@@ -16,15 +16,15 @@ use Rattle.syntax_editor.specs.declared.error.RecordError.{RecordError}
 use Rattle.syntax_editor.specs.declared.error.RecordError.TheVariants as records
 
 -- ---- one child more
-pub going-next : (done more left rest all : List SyntaxElement) (e : SyntaxElement) (behind own it : Bool)
-    → left ≡ e ∷ rest → own ≡ is_attr_or_doc (kind_of e) → it ≡ goes behind (kind_of e) → more ≡ cond it (done ++ e ∷ []) done
-    → done ++ going behind left ≡ all → more ++ going own rest ≡ all
-going-next done more left rest all e behind own it first is_own is_it pushed so_far =
+pub going-next : (done more left rest all : List SyntaxElement) (e : SyntaxElement) (after own it : Bool)
+    → left ≡ e ∷ rest → own ≡ is_attr_or_doc (kind_of e) → it ≡ goes after (kind_of e) → more ≡ cond it (done ++ e ∷ []) done
+    → done ++ going after left ≡ all → more ++ going own rest ≡ all
+going-next done more left rest all e after own it first is_own is_it pushed so_far =
     ap (λ l. l ++ going own rest) pushed
     ∙ ap (λ b. cond b (done ++ e ∷ []) done ++ going own rest) is_it
-    ∙ ap (λ b. cond (goes behind (kind_of e)) (done ++ e ∷ []) done ++ going b rest) is_own
-    ∙ by_test (goes behind (kind_of e))
-    ∙ ap (λ l. done ++ going behind l) (sym first)
+    ∙ ap (λ b. cond (goes after (kind_of e)) (done ++ e ∷ []) done ++ going b rest) is_own
+    ∙ by_test (goes after (kind_of e))
+    ∙ ap (λ l. done ++ going after l) (sym first)
     ∙ so_far
   where
     by_test : (b : Bool) → cond b (done ++ e ∷ []) done ++ going (is_attr_or_doc (kind_of e)) rest
@@ -40,9 +40,9 @@ sound-again top c d same ordered own h = record {
   keeps = subst seen.KeepsRoot (sym same) h.keeps;
 }
 
-pub behind-next : (e f g : Editing) (cs ds : List seen.Change) (c : seen.Change) → f ≡ with_changes e (cs ++ ds) → g ≡ with_changes f (f.changes ++ c ∷ [])
+pub pushed-next : (e f g : Editing) (cs ds : List seen.Change) (c : seen.Change) → f ≡ with_changes e (cs ++ ds) → g ≡ with_changes f (f.changes ++ c ∷ [])
     → g ≡ with_changes e (cs ++ (ds ++ c ∷ []))
-behind-next e f g cs ds c h k =
+pushed-next e f g cs ds c h k =
     k ∙ ap (λ (x : Editing). with_changes x (x.changes ++ c ∷ [])) h ∙ ap (with_changes e) (append_assoc cs ds (c ∷ []))
 
 -- ---- one deletion more

@@ -3,11 +3,11 @@ use Rattle.std.proofs.Common.{◌≡◌, ◌≢◌, ℕ, suc, ◌+◌, ◌<◌, 
 use Rattle.std.specs.Option.{option_or}
 use Rattle.std.proofs.lemmas.Bool.Decides.{nat_tests}
 use Rattle.std.proofs.lemmas.List.{at_drop_more, at_drop_all}
-use Rattle.syntax_editor.specs.Indent.{behind_line_feed}
+use Rattle.syntax_editor.specs.Indent.{after_line_feed}
 
 -- what stands after the last line feed, where before these characters one was found, or none, and so many after it
 abbrev pub since : Bool → ℕ → List ℕ → Option ℕ
-since found k cs = option_or (behind_line_feed cs) (cond found (Some (k + length cs)) None)
+since found k cs = option_or (after_line_feed cs) (cond found (Some (k + length cs)) None)
 
 feed_by : (o : Option ℕ) (found : Bool) (k n : ℕ) → option_or (option_or o (Some n)) (cond found (Some (k + suc n)) None) ≡ option_or o (Some (0 + n))
 feed_by None found k n = ap Some (omega arith)
@@ -26,15 +26,15 @@ since_feed found k cs n c h is =
     let rest = drop (n + 1) cs in
     here found k cs n c h
     ∙ ap (λ x. since found k (x ∷ rest)) is
-    ∙ feed_by (behind_line_feed rest) found k (length rest)
+    ∙ feed_by (after_line_feed rest) found k (length rest)
 
 pub since_other : (found : Bool) (k : ℕ) (cs : List ℕ) (n c : ℕ) → (n < length cs) × (c ≡ get_or cs n c) → c ≢ 10 → since found k (drop n cs) ≡ since found (k + 1) (drop (n + 1) cs)
 since_other found k cs n c h is =
     let rest = drop (n + 1) cs in
     let no : eqb c 10 ≡ false = grind (arith, nat_tests) in
     here found k cs n c h
-    ∙ ap (λ b. option_or (option_or (behind_line_feed rest) (cond b (Some (length rest)) None)) (cond found (Some (k + suc (length rest))) None)) no
-    ∙ other_by (behind_line_feed rest) found k (length rest)
+    ∙ ap (λ b. option_or (option_or (after_line_feed rest) (cond b (Some (length rest)) None)) (cond found (Some (k + suc (length rest))) None)) no
+    ∙ other_by (after_line_feed rest) found k (length rest)
 
 -- at the end of the text
 pub since_end : (found : Bool) (k : ℕ) (cs : List ℕ) (n : ℕ) → length cs ≤ n → since found k (drop n cs) ≡ cond found (Some k) None

@@ -167,9 +167,9 @@ start-within m n cs w noted = by_option (number_at m w) refl
         omega (arith, there.0, length-take n cs, noted.within)
 
 -- a deletion among the changes from there on is all that there is
-pub deleted-behind : {Z S : Type 0} (m : HashMap (Vec ℕ Z) ℕ S) (n : ℕ) (xs ys : List declared.Change) (w : Way) (s : ℕ) → ys ≡ drop s xs → s ≡ unwrap_or (number_at m w) n → AreNoted m n (map recorded xs)
+pub deleted-after : {Z S : Type 0} (m : HashMap (Vec ℕ Z) ℕ S) (n : ℕ) (xs ys : List declared.Change) (w : Way) (s : ℕ) → ys ≡ drop s xs → s ≡ unwrap_or (number_at m w) n → AreNoted m n (map recorded xs)
     → list_any (is_deletion_at w) (map recorded ys) ≡ list_any (is_deletion_at w) (map recorded xs)
-deleted-behind m n xs ys w s rest at noted =
+deleted-after m n xs ys w s rest at noted =
     let any = λ (l : List Change). list_any (is_deletion_at w) l in
     ap (λ l. any (map recorded l)) rest
     ∙ ap any (map-drop s xs)

@@ -59,10 +59,10 @@ alone-is : (old last : SyntaxElement) (new : List Element) → last ≡ old → 
 alone-is old last new same =
     ap (λ n. replace (element_of old).place.up n new true) (omega (arith, ap (λ e. index_of (element_of e).place) same))
 
-pub put_behind :
+pub put_after :
     (e : Editing) (old last : SyntaxElement) (new : List Element) (w : Way) → last ≡ old → w ≡ (element_of old).place.up → first_single w e.changes ≡ None
     → with_changes e (e.changes ++ alone old last new ∷ []) ≡ with_changes e (with_single e.changes (element_of old).place.up new)
-put_behind e old last new w same way none =
+put_after e old last new w same way none =
     ap (with_changes e)
     (ap (λ c. e.changes ++ c ∷ []) (alone-is old last new same)
     ∙ sym (with_single-none e.changes (element_of old).place.up new (ap (λ v. first_single v e.changes) (sym way) ∙ none)))

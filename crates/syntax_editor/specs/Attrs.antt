@@ -14,15 +14,15 @@ use Rattle.syntax_editor.specs.Recording.{Recording, Foreign, BadRange, BadTarge
 abbrev pub is_attr_or_doc : ℕ → Bool
 is_attr_or_doc kind = kind == ATTR || kind == COMMENT
 
--- an element of a kind goes: an attribute, a comment, or white space `behind` one of those
+-- an element of a kind goes: an attribute, a comment, or white space `after` one of those
 abbrev pub goes : Bool → ℕ → Bool
-goes behind kind = is_attr_or_doc kind || (behind && kind == WHITESPACE)
+goes after kind = is_attr_or_doc kind || (after && kind == WHITESPACE)
 
--- those of some neighbours that go; `behind`: an attribute or a comment stands right before the first of them
+-- those of some neighbours that go; `after`: an attribute or a comment stands right before the first of them
 abbrev pub going : Bool → List SyntaxElement → List SyntaxElement
-going behind [] = []
-going behind (e ∷ es) =
-    if goes behind (kind_of e) then e ∷ going (is_attr_or_doc (kind_of e)) es else going (is_attr_or_doc (kind_of e)) es
+going after [] = []
+going after (e ∷ es) =
+    if goes after (kind_of e) then e ∷ going (is_attr_or_doc (kind_of e)) es else going (is_attr_or_doc (kind_of e)) es
 
 -- the children of a node that go
 abbrev pub attrs_and_docs : Element → List SyntaxElement

@@ -20,9 +20,9 @@ abbrev pub line_feed : ℕ
 line_feed = 10
 
 -- how many characters stand after the last line feed, if there is one
-abbrev pub behind_line_feed : List ℕ → Option ℕ
-behind_line_feed [] = None
-behind_line_feed (c ∷ cs) = option_or (behind_line_feed cs) (if c == line_feed then Some (length cs) else None)
+abbrev pub after_line_feed : List ℕ → Option ℕ
+after_line_feed [] = None
+after_line_feed (c ∷ cs) = option_or (after_line_feed cs) (if c == line_feed then Some (length cs) else None)
 
 -- a step for every four characters, 255 at most
 abbrev pub steps_of : ℕ → ℕ
@@ -30,7 +30,7 @@ steps_of n = min (n / 4) 255
 
 -- white space with a line feed has the level of the characters after the last
 abbrev pub own_level : Place → Option ℕ
-own_level p = if kind_at p == WHITESPACE then option_map steps_of (behind_line_feed (chars (text_at p))) else None
+own_level p = if kind_at p == WHITESPACE then option_map steps_of (after_line_feed (chars (text_at p))) else None
 
 -- the level of the first of these tokens that has one; else 0
 abbrev pub first_level : List Place → ℕ

@@ -44,14 +44,14 @@ abbrev pub inner_line : Element → Space
 inner_line p = Line (min (level_of (Node p) + 1) 255)
 
 -- what comes between a child and an element that is put after it
-abbrev pub space_behind : Element → SyntaxElement → SyntaxElement → Space
-space_behind p previous e =
+abbrev pub space_between : Element → SyntaxElement → SyntaxElement → Space
+space_between p previous e =
     if begins_line (kind_at p.place) (kind_of previous) (kind_of e) then inner_line p else between previous e
 
 -- what comes before an element in a gap: nothing before all children
 abbrev pub space_before : Element → ℕ → SyntaxElement → Space
 space_before p zero e = Nothing
-space_before p (suc i) e = option_map_or (λ previous. space_behind p previous e) (child p i) Nothing
+space_before p (suc i) e = option_map_or (λ previous. space_between p previous e) (child p i) Nothing
 
 -- what comes after it: nothing after all children
 abbrev pub space_after : Element → ℕ → SyntaxElement → Space

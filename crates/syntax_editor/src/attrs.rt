@@ -28,11 +28,11 @@ fn is_attr_or_doc(kind: u16) -> bool
     is(kind, SyntaxKind::ATTR) || is(kind, SyntaxKind::COMMENT)
 }
 
-/// Whether an element of a raw kind goes; `behind`: right after an attribute or a comment.
-fn goes(behind: bool, kind: u16) -> bool
-    ensures { result ≡ goes behind kind }
+/// Whether an element of a raw kind goes; `after`: right after an attribute or a comment.
+fn goes(after: bool, kind: u16) -> bool
+    ensures { result ≡ goes after kind }
 {
-    is_attr_or_doc(kind) || (behind && is(kind, SyntaxKind::WHITESPACE))
+    is_attr_or_doc(kind) || (after && is(kind, SyntaxKind::WHITESPACE))
 }
 
 /// Adds an element last of all, if it goes.
@@ -54,12 +54,12 @@ fn attrs_and_docs(alloc: Global, node: &SyntaxNode) -> Result<Vec<SyntaxElement>
     ensures { IfOk result (λ v. v.items ≡ attrs_and_docs node.now) }
 {
     let mut gone = Vec::new(alloc);
-    let mut behind = false;
+    let mut after = false;
     for child in node.children_with_tokens(alloc)? {
         let child = child?;
         let kind = raw_kind(&child);
-        push_if(goes(behind, kind), &mut gone, child)?;
-        behind = is_attr_or_doc(kind);
+        push_if(goes(after, kind), &mut gone, child)?;
+        after = is_attr_or_doc(kind);
     }
     Ok(gone)
 }

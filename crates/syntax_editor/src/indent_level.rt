@@ -1,7 +1,7 @@
 //! How far lines are set in.
 ghost use Rattle.std.specs.Prelude.{◌≡◌, ◌==◌, chars, option_map, IfOk};
 ghost use Rattle.syntax_tree.specs.declared.element.SyntaxElement.TheVariants.{Node};
-ghost use Rattle.syntax_editor.specs.Indent.{behind_line_feed, own_level, level_at, level_of};
+ghost use Rattle.syntax_editor.specs.Indent.{after_line_feed, own_level, level_at, level_of};
 
 use parser_input::SyntaxKind;
 use std::alloc::{AllocError, Global};
@@ -58,8 +58,8 @@ impl IndentLevel {
 }
 
 /// How many characters stand after the last line feed of a text, if it has one.
-fn behind_line_feed(text: &str) -> Option<usize>
-    ensures { result ≡ behind_line_feed (chars text.now) }
+fn after_line_feed(text: &str) -> Option<usize>
+    ensures { result ≡ after_line_feed (chars text.now) }
 {
     let _size = text.len();
     let mut found = false;
@@ -82,7 +82,7 @@ fn own_level(token: &rowan::SyntaxToken<RustLanguage>) -> Option<IndentLevel>
     if token.green().kind().0 != SyntaxKind::WHITESPACE.to_raw() {
         return None;
     }
-    let steps = behind_line_feed(token.text())? / 4;
+    let steps = after_line_feed(token.text())? / 4;
     if steps < 255 {
         Some(IndentLevel(steps as u8))
     } else {

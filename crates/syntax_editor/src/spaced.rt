@@ -139,7 +139,7 @@ fn token_of(
     ensures ok { IfOk result (λ v. map element_of v.items ≡ token_of ids.old (text_of space)) }
     ensures number { OnOk result (ids.new ≡ ids.old + token_count (text_of space)) }
     ensures refused { IfErr result (RefusesSpaced true (ids.old + token_count (text_of space))) }
-    ensures behind { IfErr result (λ _. ids.old ≤ ids.new) }
+    ensures forward { IfErr result (λ _. ids.old ≤ ids.new) }
     ensures within { IfErr result (λ _. ids.new ≤ ids.old + token_count (text_of space)) }
 {
     let text = format!(in alloc; "{space}")?;
@@ -162,7 +162,7 @@ fn spaced(
     ensures ok { IfOk result (λ v. map element_of v.items ≡ spaced parent.now index ids.old elements.items) }
     ensures number { OnOk result (ids.new ≡ ids.old + spaced_count parent.now index elements.items) }
     ensures refused { IfErr result (RefusesSpaced true (ids.old + spaced_count parent.now index elements.items)) }
-    ensures behind { IfErr result (λ _. ids.old ≤ ids.new) }
+    ensures forward { IfErr result (λ _. ids.old ≤ ids.new) }
     ensures within { IfErr result (λ _. ids.new ≤ ids.old + spaced_count parent.now index elements.items) }
 {
     let before = space_before_all(alloc, parent, index, &elements)?;
@@ -170,8 +170,8 @@ fn spaced(
     let mut all = token_of(alloc, before, ids)?;
     let mut rest = elements;
     all.append(&mut rest)?;
-    let mut behind = token_of(alloc, after, ids)?;
-    all.append(&mut behind)?;
+    let mut last = token_of(alloc, after, ids)?;
+    all.append(&mut last)?;
     Ok(all)
 }
 
@@ -191,7 +191,7 @@ impl SyntaxEditor {
         ensures refused { IfErr result (RefusesSpaced (is_gap self.old.top position.parent position.index)
             (number_after self.old position.parent position.index ids.old (new.now ∷ []))) }
         ensures kept { IfErr result (λ _. self.new ≡ self.old) }
-        ensures behind { IfErr result (λ _. ids.old ≤ ids.new) }
+        ensures forward { IfErr result (λ _. ids.old ≤ ids.new) }
         ensures within { IfErr result (λ _. ids.new ≤
             number_after self.old position.parent position.index ids.old (new.now ∷ [])) }
     {
@@ -217,7 +217,7 @@ impl SyntaxEditor {
         ensures refused { IfErr result (RefusesSpaced (is_gap self.old.top position.parent position.index)
             (number_after self.old position.parent position.index ids.old new.items)) }
         ensures kept { IfErr result (λ _. self.new ≡ self.old) }
-        ensures behind { IfErr result (λ _. ids.old ≤ ids.new) }
+        ensures forward { IfErr result (λ _. ids.old ≤ ids.new) }
         ensures within { IfErr result (λ _. ids.new ≤
             number_after self.old position.parent position.index ids.old new.items) }
     {

@@ -12,10 +12,10 @@ loop-child-preserved c =
     record {
       can = search rules;
       finite = search rules;
-      same = going-next _ _ _ _ _ _ _ _ _ first (c.is_attr_or_doc-behind.ensures ∙ ap is_attr_or_doc c.raw_kind-kind.ensures.kind) (c.goes.ensures ∙ ap (goes c.loop-child.behind) c.raw_kind-kind.ensures.kind) c.in_ok-push_if.ensures c.loop-child.invariant.same;
+      same = going-next _ _ _ _ _ _ _ _ _ first (c.is_attr_or_doc-after.ensures ∙ ap is_attr_or_doc c.raw_kind-kind.ensures.kind) (c.goes.ensures ∙ ap (goes c.loop-child.after) c.raw_kind-kind.ensures.kind) c.in_ok-push_if.ensures c.loop-child.invariant.same;
     }
 
 pub returns : goal.returns
 returns c =
     let gone = c.loop-child.gone.items in
-    sym (ap (λ l. gone ++ going c.loop-child.behind l) c.in-None.ensures.steps.0 ∙ append-nil gone) ∙ c.loop-child.invariant.same
+    sym (ap (λ l. gone ++ going c.loop-child.after l) c.in-None.ensures.steps.0 ∙ append-nil gone) ∙ c.loop-child.invariant.same

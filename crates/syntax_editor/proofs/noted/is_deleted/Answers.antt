@@ -4,7 +4,7 @@ use Rattle.std.proofs.lemmas.Result.{IfOk-weaker}
 use Rattle.std.specs.Option.{unwrap_or}
 use Rattle.tree_rewrite.specs.Recorded.{recorded}
 use Rattle.tree_rewrite.specs.WayMap.{number_at}
-use Rattle.syntax_editor.proofs.NotedLemmas.{start-within, deleted-behind}
+use Rattle.syntax_editor.proofs.NotedLemmas.{start-within, deleted-after}
 use Rattle.syntax_editor.proofs.noted.is_deleted.Goals as goal
 
 pub split_at-requires : goal.split_at-requires
@@ -18,5 +18,5 @@ pub returns : goal.returns
 returns c =
     let at : c.unwrap_or-start.result ≡ unwrap_or (number_at c.args.singles.now c.args.way.now) c.args.noted = c.unwrap_or-start.ensures ∙ ap (λ o. unwrap_or o c.args.noted) c.number_at.ensures in
     IfOk-weaker c.has_deletion_at.result _ _
-    (λ b h. h ∙ deleted-behind c.args.singles.now c.args.noted c.args.changes.now c.split_at.result.1.now c.args.way.now c.unwrap_or-start.result c.split_at.ensures.back at c.requires)
+    (λ b h. h ∙ deleted-after c.args.singles.now c.args.noted c.args.changes.now c.split_at.result.1.now c.args.way.now c.unwrap_or-start.result c.split_at.ensures.back at c.requires)
     c.has_deletion_at.ensures

@@ -7,7 +7,7 @@ use Rattle.syntax_editor.specs.Editing.{Editing, with_changes}
 use Rattle.syntax_editor.specs.Noted.{first_single}
 use Rattle.syntax_editor.specs.Recording.{is_single_at, over}
 use Rattle.syntax_editor.proofs.NotedLemmas.{first-there}
-use Rattle.syntax_editor.proofs.Singles.{alone, put_behind, put_before, put-single}
+use Rattle.syntax_editor.proofs.Singles.{alone, put_after, put_before, put-single}
 use Rattle.syntax_editor.proofs.editor.SyntaxEditor.put_alone.Goals as goal
 
 pub returns-in-None-clause-ok : goal.returns-in-None-clause-ok
@@ -21,7 +21,7 @@ returns-in-None-clause-ok c =
     let none : first_single w e.changes ≡ None = sym c.in_ok-first_single.ensures.number ∙ c.in-None.is in
     on_ok_weaker c.push.result (λ h. h
     ∙ ap (λ (d : Editing). with_changes d (d.changes ++ change ∷ [])) c.in_ok-first_single.ensures.same
-    ∙ put_behind e c.args.old c.in_ok-last.last new w same way none) c.push.ensures.ok
+    ∙ put_after e c.args.old c.in_ok-last.last new w same way none) c.push.ensures.ok
 
 pub put_over-requires-clause-within : goal.put_over-requires-clause-within
 put_over-requires-clause-within c =

@@ -5,7 +5,7 @@ use Rattle.tree_rewrite.specs.Change as seen
 use Rattle.tree_rewrite.specs.Recorded.{recorded}
 use Rattle.syntax_editor.specs.Editing.{Editing, with_changes}
 use Rattle.syntax_editor.specs.Inside.{IsSound}
-use Rattle.syntax_editor.proofs.Deletions.{sound-again, behind-next}
+use Rattle.syntax_editor.proofs.Deletions.{sound-again, pushed-next}
 use Rattle.syntax_editor.proofs.editor.SyntaxEditor.record_again.Goals as goal
 
 pub loop-change-init : goal.loop-change-init
@@ -28,6 +28,6 @@ loop-change-preserved c =
     let new = c.in_ok-change.change in
     let e = c.args.self.now in
     let split : take (i + 1) xs ≡ take i xs ++ old ∷ [] = take_more xs i old c.loop-change-test.true ∙ ap (λ d. take i xs ++ d ∷ []) (sym c.change-item.is) in
-    behind-next e c.loop-change.self c.push.new.self e.changes (map recorded (take i xs)) (recorded new) c.loop-change.invariant c.in_ok-push.ensures.ok
+    pushed-next e c.loop-change.self c.push.new.self e.changes (map recorded (take i xs)) (recorded new) c.loop-change.invariant c.in_ok-push.ensures.ok
     ∙ ap (λ (d : seen.Change). with_changes e (e.changes ++ (map recorded (take i xs) ++ d ∷ []))) c.in_ok-change.ensures.same
     ∙ ap (λ (l : List seen.Change). with_changes e (e.changes ++ l)) (sym (map-append recorded (take i xs) (old ∷ [])) ∙ ap (map recorded) (sym split))

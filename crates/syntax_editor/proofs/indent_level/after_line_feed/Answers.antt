@@ -3,7 +3,7 @@ use Rattle.std.proofs.lemmas.Iterator.{YieldsList-from_chars}
 use Rattle.std.proofs.lemmas.Iterator.Consumers.{YieldsList-turn, YieldsList-end}
 use Rattle.std.proofs.lemmas.List.{length_push}
 use Rattle.syntax_editor.proofs.LineFeeds.{since, since_feed, since_other, since_end}
-use Rattle.syntax_editor.proofs.indent_level.behind_line_feed.Goals as goal
+use Rattle.syntax_editor.proofs.indent_level.after_line_feed.Goals as goal
 
 pub loop-c-preserved-then-c-eq10 : goal.loop-c-preserved-then-c-eq10
 loop-c-preserved-then-c-eq10 c =
