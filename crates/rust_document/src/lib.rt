@@ -19,6 +19,10 @@ mod tree_sink;
 pub use document::{Committed, Document, Edited, MAX_TEXT};
 pub use error::{CommitError, EditError, OpenError, PayloadError};
 pub use payload_entry::{PayloadEntry, payload};
-pub use syntax_editor::{Annotations, RecordError, SyntaxAnnotation, SyntaxEditor};
+pub use syntax_editor::{
+    Annotations, AttrsOwnerEdit, Fn, HasAttrs, IndentLevel, ItemList, MakeError, MergeError,
+    RecordError, SourceFile, Space, StmtList, Struct, SyntaxAnnotation, SyntaxEditor,
+    SyntaxFactory, Unmerged, Use, WhitespaceError,
+};
 pub use syntax_error::{SyntaxError, SyntaxMessage};
 pub use tokens::{LexedToken, Tokens};
