@@ -8,3 +8,6 @@ pub mod Spaces
 pub mod FoundAgain
 pub mod GroupLemmas
 pub mod Deletions
+pub mod Swaps
+pub mod Asked
+pub mod CallLemmas

@@ -15,3 +15,5 @@ pub mod Edit
 pub mod Groups
 pub mod Finished
 pub mod Attrs
+pub mod Calls
+pub mod Laws

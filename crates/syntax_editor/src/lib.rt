@@ -13,6 +13,7 @@ pub mod factory;
 pub mod find;
 mod groups;
 pub mod indent_level;
+pub mod laws;
 pub mod make_error;
 pub mod merging;
 pub mod nodes;
