@@ -1,73 +1,90 @@
-//! Edits that are made again where memory was refused: a refused call leaves the editor as it was, and the second attempt gives what
-//! ample memory gives. `bench/refused.py` runs these with each request for memory refused in turn.
-use super::{DELETIONS, GAPS, NESTED, ROWS, Row, TWICE};
-use crate::tests::doing::{answer, show};
-use crate::tests::tree::{Tree, payload, root};
+//! Calls that are made again where memory was refused: a refused call leaves the editor as it was. `bench/refused.py` runs this with
+//! each request for memory refused in turn.
+ghost use Rattle.std.specs.Prelude.{◌≡◌, [], IfSome};
+
+use parser_input::SyntaxKind;
+use rowan_green::{GreenNode, GreenNodeBuilder, GreenToken};
 use std::alloc::Global;
 use std::test::Fail;
 use syntax_editor::SyntaxEditor;
-use syntax_tree::{SyntaxElement, TreeIds};
+use syntax_tree::{Position, SyntaxElement, SyntaxNode, SyntaxToken, TreeIds};
 
-/// Whether the answer is the expected one, asked for once more where memory was refused.
-fn is_answered(alloc: Global, (tree, doings, expected): &Row) -> bool {
-    for _ in 0..2 {
-        if let Ok(answer) = answer(alloc, *tree, doings) {
-            return answer.as_str() == *expected;
-        }
+const TOKENS: &[(SyntaxKind, &str)] = &[
+    (SyntaxKind::L_PAREN, "("),
+    (SyntaxKind::INT_NUMBER, "1"),
+    (SyntaxKind::COMMA, ","),
+    (SyntaxKind::WHITESPACE, " "),
+    (SyntaxKind::INT_NUMBER, "2"),
+    (SyntaxKind::R_PAREN, ")"),
+];
+
+fn raw(kind: SyntaxKind) -> rowan_green::SyntaxKind {
+    rowan_green::SyntaxKind(kind.to_raw())
+}
+
+fn green(alloc: Global) -> Option<GreenNode> {
+    let mut builder = GreenNodeBuilder::new(alloc);
+    builder.start_node(raw(SyntaxKind::ARG_LIST)).ok()?;
+    for (kind, text) in TOKENS {
+        builder.token(raw(*kind), text).ok()?;
     }
-    false
+    builder.finish_node().ok()?;
+    builder.finish().ok()
 }
 
-fn are_answered(alloc: Global, rows: &[Row]) -> bool {
-    for row in rows {
-        if !is_answered(alloc, row) {
-            return false;
-        }
-    }
-    true
+/// `(1, 2)`, in one node.
+fn root(alloc: Global, ids: &mut TreeIds) -> Option<SyntaxNode>
+    ensures { IfSome result (λ r. r.place.up ≡ []) }
+{
+    SyntaxNode::new_root(alloc, green(alloc)?, ids).ok()
 }
 
-#[test]
-fn answers_are_the_same_again(rt: HostRuntime) -> Result<(), Fail> {
-    let alloc = rt.alloc();
-    assert!(rt; are_answered(alloc, TWICE) & are_answered(alloc, GAPS));
-    assert!(rt; are_answered(alloc, DELETIONS) & are_answered(alloc, ROWS));
-    assert!(rt; are_answered(alloc, NESTED));
-    Ok(())
+/// The token that is put in.
+fn token(alloc: Global, ids: &mut TreeIds) -> Option<SyntaxElement> {
+    let green = GreenToken::new(alloc, raw(SyntaxKind::INT_NUMBER), "3").ok()?;
+    let token = SyntaxToken::detached(alloc, green, ids).ok()?;
+    Some(SyntaxElement::Token(token))
 }
 
-/// Whether the first argument is deleted and the second replaced, each by a call that is made once more where it was refused. None
-/// where memory was refused elsewhere.
+/// The gap after the last token.
+fn end(editor: &SyntaxEditor) -> Option<Position> {
+    let parent = editor.root().clone().ok()?;
+    Some(Position { parent, index: 6 })
+}
+
+/// Whether the first number is deleted, the second replaced, and a third put in at the end, each by a call that is made once more where
+/// it was refused. None where memory was refused elsewhere.
 fn recorded(alloc: Global, editor: &mut SyntaxEditor, new: &SyntaxElement) -> Option<bool> {
     let first = editor.root().element_at(alloc, &[1]).ok()??;
     let second = editor.root().element_at(alloc, &[4]).ok()??;
     let deleted = editor.delete(alloc, &first).is_ok() || editor.delete(alloc, &first).is_ok();
     let replaced = editor.replace(alloc, &second, new).is_ok()
         || editor.replace(alloc, &second, new).is_ok();
-    Some(deleted & replaced)
+    let (place, again) = (end(editor)?, end(editor)?);
+    let inserted = editor.insert(alloc, place, new).is_ok()
+        || editor.insert(alloc, again, new).is_ok();
+    Some(deleted & replaced & inserted)
 }
 
-/// Whether `(1, 2)` becomes `(, 3)`. None where memory was refused elsewhere than in a call that records.
+/// Whether `(1, 2)` becomes `(, 3)3`. None where memory was refused elsewhere than in a call that records.
 fn is_edited(alloc: Global) -> Option<bool> {
     let mut ids = TreeIds::new();
-    let root = root(alloc, Tree::Args, &mut ids).ok()?;
-    let new = payload(alloc, "LITERAL 3", &mut ids).ok()?;
-    let (mut editor, _root) = SyntaxEditor::new(alloc, root, &mut ids).ok()?;
+    let root = root(alloc, &mut ids)?;
+    let new = token(alloc, &mut ids)?;
+    let mut editor = SyntaxEditor::of_root(alloc, root);
     if !recorded(alloc, &mut editor, &new)? {
         return Some(false);
     }
     let edit = editor.finish(alloc, &mut ids).ok()?;
-    let mut text = String::new(alloc);
-    show(alloc, &mut text, &edit).ok()?;
-    Some(text.as_str() == "(, 3) 3..4")
+    let text = edit.new_root().cursor().text().ok()?;
+    Some(text.eq_str("(, 3)3"))
 }
 
 #[test]
 fn refused_calls_leave_the_editor(rt: HostRuntime) -> Result<(), Fail> {
-    let alloc = rt.alloc();
-    let is_edited = match is_edited(alloc) {
+    let is_edited = match is_edited(rt.alloc()) {
         Some(answer) => answer,
-        None => is_edited(alloc) == Some(true),
+        None => is_edited(rt.alloc()) == Some(true),
     };
     assert!(rt; is_edited);
     Ok(())
