@@ -10,9 +10,9 @@ use Rattle.rowan_green.specs.ChildAt.{IsChildAt}
 use Rattle.std.specs.declared.rc.Rc.{Rc}
 use Rattle.std.specs.declared.alloc.Global.{Global}
 use Rattle.std.proofs.Common.{get_or, Vec}
-use Rattle.rowan_green.specs.Balanced.{fewest, IsFork, IsBalanced, IsSummed, terms_in, height_of, middle_of}
+use Rattle.rowan_green.specs.Balanced.{fewest, IsFork, IsBalanced, IsSummed, terms_in, height_of, middle_of, half_of}
 use Rattle.rowan_green.specs.Term.{text_of, term_len}
-use Rattle.rowan_green.specs.declared.element_list.ElementList.{ElementList}
+use Rattle.rowan_green.specs.declared.element_list.Part.{Part}
 use Rattle.rowan_green.specs.declared.element_list.Link.{Link}
 use Rattle.rowan_green.specs.declared.element_list.Link.TheVariants.{Block, Fork}
 use Rattle.rowan_green.proofs.Lengths.{length-texts_of, texts_more}
@@ -138,8 +138,8 @@ pub record AtFork (d : List Term × ℕ) (xs : List Term) (a : ℕ) (ys : List T
   pub low : h + 10 ≤ 66
   pub above : (a < h) × (b < h)
 
-pub at_fork : {link : Link} {t half : ℕ} {d : List Term × ℕ} {l r : Rc ElementList Global} {n k : ℕ} → (terms_in link, height_of link) ≡ d → IsSummed link t half → link ≡ Fork l r n k → AtFork d l.value.0 l.value.1 r.value.0 r.value.1 n k half
-at_fork {link} {t} {half} {d} {l} {r} {n} {k} v p e =
+pub at_fork : {link : Link} {half : ℕ} {d : List Term × ℕ} {l r : Rc Part Global} {n k : ℕ} → (terms_in link, height_of link) ≡ d → IsSummed link → link ≡ Fork half l r n k → AtFork d l.value.0 l.value.1 r.value.0 r.value.1 n k half
+at_fork {link} {half} {d} {l} {r} {n} {k} v p e =
     let terms : d.0 ≡ l.value.0 ++ r.value.0 = sym (ap (λ x. x.0) v) ∙ ap terms_in e in
     let fork : IsFork l.value.0 l.value.1 r.value.0 r.value.1 n k = subst IsBalanced e p.balanced in
     let fits : FitsNode d.0 = subst FitsNode (ap (λ x. x.0) v) p.fits in
@@ -151,7 +151,7 @@ at_fork {link} {t} {half} {d} {l} {r} {n} {k} v p e =
       terms = terms;
       height = sym (ap (λ x. x.1) v) ∙ ap height_of e;
       fork = fork;
-      before = p.before_middle ∙ seam;
+      before = sym (ap half_of e) ∙ p.before_middle ∙ seam;
       texts = ap (λ xs. length (texts_of xs)) terms ∙ texts_append l.value.0 r.value.0;
       counts = counts;
       fits = fits;
@@ -166,12 +166,12 @@ pub record AtBlock (d : List Term × ℕ) (xs : List Term) (half : ℕ) : Type 0
   pub before : half ≡ length (texts_of (take (length xs / 2) xs))
   pub fits : FitsNode xs
 
-pub at_block : {link : Link} {t half : ℕ} {d : List Term × ℕ} {v : Vec Term Global} → (terms_in link, height_of link) ≡ d → IsSummed link t half → link ≡ Block v → AtBlock d v.items half
-at_block {link} {t} {half} {d} {v} w p e = record {
+pub at_block : {link : Link} {half : ℕ} {d : List Term × ℕ} {v : Vec Term Global} → (terms_in link, height_of link) ≡ d → IsSummed link → link ≡ Block half v → AtBlock d v.items half
+at_block {link} {half} {d} {v} w p e = record {
   terms = sym (ap (λ x. x.0) w) ∙ ap terms_in e;
   height = sym (ap (λ x. x.1) w) ∙ ap height_of e;
   few = subst IsBalanced e p.balanced;
-  before = p.before_middle ∙ ap (λ x. length (texts_of (take (middle_of x) (terms_in x)))) e;
+  before = sym (ap half_of e) ∙ p.before_middle ∙ ap (λ x. length (texts_of (take (middle_of x) (terms_in x)))) e;
   fits = subst (λ x. FitsNode (terms_in x)) e p.fits;
 }
 

@@ -6,18 +6,23 @@ use Rattle.rowan_green.specs.declared.element_list.Link.TheVariants.{Block, Fork
 
 -- the terms in order
 abbrev pub terms_in : Link → List Term
-terms_in (Block v) = v.items
-terms_in (Fork l r n h) = l.value.0 ++ r.value.0
+terms_in (Block half v) = v.items
+terms_in (Fork half l r n h) = l.value.0 ++ r.value.0
 
 -- how many forks lie above the deepest block
 abbrev pub height_of : Link → ℕ
-height_of (Block v) = 0
-height_of (Fork l r n h) = h
+height_of (Block half v) = 0
+height_of (Fork half l r n h) = h
 
 -- how many terms come before the middle
 abbrev pub middle_of : Link → ℕ
-middle_of (Block v) = length v.items / 2
-middle_of (Fork l r n h) = length l.value.0
+middle_of (Block half v) = length v.items / 2
+middle_of (Fork half l r n h) = length l.value.0
+
+-- what is kept as the length of the text before the middle
+abbrev pub half_of : Link → ℕ
+half_of (Block half v) = half
+half_of (Fork half l r n h) = half
 
 -- a fork of this height has at least so many terms, and so has a block that lies below one
 abbrev pub fewest : ℕ → ℕ
@@ -37,15 +42,14 @@ pub record IsFork (xs : List Term) (a : ℕ) (ys : List Term) (b : ℕ) (n : ℕ
 
 -- a block has at most 16 terms; the sides of a fork have at least 8, and heights that differ by at most one
 abbrev pub IsBalanced : Link → Type 0
-IsBalanced (Block v) = length v.items ≤ 16
-IsBalanced (Fork l r n h) = IsFork l.value.0 l.value.1 r.value.0 r.value.1 n h
+IsBalanced (Block half v) = length v.items ≤ 16
+IsBalanced (Fork half l r n h) = IsFork l.value.0 l.value.1 r.value.0 r.value.1 n h
 
--- the list of this link keeps the length of its text, and of the text before its middle
-pub record IsSummed (link : Link) (text_len : ℕ) (half : ℕ) : Type 0 where
+-- the list of this link keeps the length of the text before its middle
+pub record IsSummed (link : Link) : Type 0 where
   pub balanced : IsBalanced link
   pub fits : FitsNode (terms_in link)
-  pub all : text_len ≡ length (texts_of (terms_in link))
-  pub before_middle : half ≡ length (texts_of (take (middle_of link) (terms_in link)))
+  pub before_middle : half_of link ≡ length (texts_of (take (middle_of link) (terms_in link)))
 
 -- a list d of the lists l and r, below one fork
 pub record IsJoined (d : List Term × ℕ) (l : List Term × ℕ) (r : List Term × ℕ) : Type 0 where

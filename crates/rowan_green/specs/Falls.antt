@@ -29,9 +29,9 @@ most_le w p q (Token l ∷ es) = omega (arith, most_le w p q es, q l)
 block_falls : (w : Term → ℕ) → ((t : Tree) → w (Node t) ≤ 2 * tree_count t + 1) → ((l : Leaf) → w (Token l) ≤ 1) → (es : List Term) → max (max (most w es) 0) 0 ≤ 2 * forest_count (forest_of es) + 1
 block_falls w p q es = omega (arith, most_le w p q es)
 
-fork_falls : (xs ys : List Term) → 8 ≤ length xs → 8 ≤ length ys → max (max (2 * forest_count (forest_of xs) + 1 + 1) (max (2 * forest_count (forest_of ys) + 1 + 1) 0)) 0 ≤ 2 * forest_count (forest_of (xs ++ ys)) + 1
+fork_falls : (xs ys : List Term) → 8 ≤ length xs → 8 ≤ length ys → max (max (2 * forest_count (forest_of xs) + 2 + 1) (max (2 * forest_count (forest_of ys) + 2 + 1) 0)) 0 ≤ 2 * forest_count (forest_of (xs ++ ys)) + 1
 fork_falls xs ys p q = omega (arith, count-append xs ys, length-le-count xs, length-le-count ys)
 
 pub falls : (l : Link) → IsBalanced l → max (deep-Link l) 0 ≤ 2 * forest_count (forest_of (terms_in l)) + 1
-falls (Block v) p = block_falls _ (λ t. omega arith) (λ l. omega arith) v.items
-falls (Fork l r n h) p = fork_falls l.value.0 r.value.0 p.left p.right
+falls (Block half v) p = block_falls _ (λ t. omega arith) (λ l. omega arith) v.items
+falls (Fork half l r n h) p = fork_falls l.value.0 r.value.0 p.left p.right

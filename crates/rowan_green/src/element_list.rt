@@ -20,17 +20,24 @@ pub(crate) const FEWEST: usize = 8;
 #[cycle(green)]
 #[derive(Drop)]
 pub(crate) struct ElementList {
-    text_len: u32,
-    half: u32,
     link: Link,
 }
 
-/// A block, or two lists with the count of their elements and their height.
+/// A block, or two lists with the count of their elements and their height; first the length of the
+/// text before the middle, which takes no room of its own beside the mark of the variant.
 #[cycle(green)]
 #[derive(Drop)]
 enum Link {
-    Block(Vec<GreenElement>),
-    Fork(Rc<ElementList>, Rc<ElementList>, u32, u8),
+    Block(u32, Vec<GreenElement>),
+    Fork(u32, Rc<Part>, Rc<Part>, u32, u8),
+}
+
+/// A list with the length of its text, as other lists share it.
+#[cycle(green)]
+#[derive(Drop)]
+pub(crate) struct Part {
+    text_len: u32,
+    list: ElementList,
 }
 
 impl Model for ElementList {
@@ -47,13 +54,34 @@ impl Model for ElementList {
 
     ghost view = { λ a. (terms_in a.link, height_of a.link) };
 
-    ghost invariant = { λ a. IsSummed a.link a.text_len a.half };
+    ghost invariant = { λ a. IsSummed a.link };
 
     ghost size = { λ d. 2 * forest_count (forest_of d.0) + 1 };
 
     ghost use Rattle.rowan_green.specs.Falls.{falls};
 
     ghost size_decreases = { λ a h. falls a.link h.balanced };
+}
+
+impl Model for Part {
+    ghost use Rattle.std.specs.Prelude.{ℕ, List, ◌≡◌, ◌*◌, ◌+◌, length};
+    ghost use Rattle.std.specs.Coded.{codes};
+    ghost use Rattle.rowan_green.specs.Forest.{tree_code, forest_count};
+    ghost use Rattle.rowan_green.specs.Term.{Term, forest_of, texts_of};
+
+    ghost Value = { List Term × ℕ };
+
+    ghost coded = { Prim.hlevel (codes, tree_code) };
+
+    ghost view = { λ a. a.list };
+
+    ghost invariant = { λ a. a.text_len ≡ length (texts_of a.list.0) };
+
+    ghost size = { λ d. 2 * forest_count (forest_of d.0) + 2 };
+
+    ghost use Rattle.std.proofs.Common.{arith};
+
+    ghost size_decreases = { λ a h. Prim.omega arith };
 }
 
 /// The element at an offset: its number, where it starts, and how many lengths were looked at.
@@ -71,15 +99,9 @@ impl ElementList {
         ensures bound { result < 2 ^ 32 }
     {
         match &self.link {
-            Link::Block(elements) => elements.len(),
-            Link::Fork(_, _, count, _) => *count as usize,
+            Link::Block(_, elements) => elements.len(),
+            Link::Fork(_, _, _, count, _) => *count as usize,
         }
-    }
-
-    pub(crate) fn text_len(&self) -> u32
-        ensures { result ≡ length (texts_of self.now.0) }
-    {
-        self.text_len
     }
 
     pub(crate) fn height(&self) -> u8
@@ -90,19 +112,19 @@ impl ElementList {
         ensures low { result ≤ 56 }
     {
         match &self.link {
-            Link::Block(_) => 0,
-            Link::Fork(_, _, _, height) => *height,
+            Link::Block(_, _) => 0,
+            Link::Fork(_, _, _, _, height) => *height,
         }
     }
 
     /// The two sides of a list that is no block.
-    pub(crate) fn sides(&self) -> Option<(&Rc<ElementList>, &Rc<ElementList>)>
+    pub(crate) fn sides(&self) -> Option<(&Rc<Part>, &Rc<Part>)>
         ensures { MatchOption result ((self.now.1 ≡ 0) × (length self.now.0 ≤ 16))
             (λ s. IsJoined self.now s.0.now.value s.1.now.value) }
     {
         match &self.link {
-            Link::Block(_) => None,
-            Link::Fork(left, right, _, _) => Some((left, right)),
+            Link::Block(_, _) => None,
+            Link::Fork(_, left, right, _, _) => Some((left, right)),
         }
     }
 
@@ -111,8 +133,8 @@ impl ElementList {
         ensures { IfSome result (λ s. s.now ≡ self.now.0) }
     {
         match &self.link {
-            Link::Block(elements) => Some(elements),
-            Link::Fork(_, _, _, _) => None,
+            Link::Block(_, elements) => Some(elements),
+            Link::Fork(_, _, _, _, _) => None,
         }
     }
 
@@ -122,13 +144,13 @@ impl ElementList {
         ensures { result.now ≡ slice_index_or self.now.0 index result.now }
     {
         match &self.link {
-            Link::Block(elements) => &elements[index],
-            Link::Fork(left, right, _, _) => {
+            Link::Block(_, elements) => &elements[index],
+            Link::Fork(_, left, right, _, _) => {
                 let before = left.len();
                 if index < before {
-                    left.at(index)
+                    left.list().at(index)
                 } else {
-                    right.at(index - before)
+                    right.list().at(index - before)
                 }
             }
         }
@@ -150,13 +172,13 @@ impl ElementList {
         ensures { result ≡ length (texts_of (take index self.now.0)) }
     {
         match &self.link {
-            Link::Block(elements) => text_sum(&elements[..index]),
-            Link::Fork(left, right, _, _) => {
+            Link::Block(_, elements) => text_sum(&elements[..index]),
+            Link::Fork(half, left, right, _, _) => {
                 let before = left.len();
                 if index < before {
-                    left.start_of(index)
+                    left.list().start_of(index)
                 } else {
-                    self.half + right.start_of(index - before)
+                    half + right.list().start_of(index - before)
                 }
             }
         }
@@ -171,14 +193,15 @@ impl ElementList {
         ensures many { 8 ≤ length self.now.0 → fewest self.now.1 ≤ length self.now.0 }
     {
         match &self.link {
-            Link::Block(elements) => find_in_block(elements, self.half, offset),
-            Link::Fork(left, right, _, _) => {
-                if offset < self.half {
-                    left.find(offset).further(0, 0)
+            Link::Block(half, elements) => find_in_block(elements, *half, offset),
+            Link::Fork(half, left, right, _, _) => {
+                if offset < *half {
+                    left.list().find(offset).further(0, 0)
                 } else {
                     right
-                        .find(offset - self.half)
-                        .further(left.len(), self.half)
+                        .list()
+                        .find(offset - half)
+                        .further(left.len(), *half)
                 }
             }
         }
@@ -186,34 +209,97 @@ impl ElementList {
 }
 
 impl ElementList {
-    /// The list of a few elements.
-    pub(crate) fn block(elements: Vec<GreenElement>) -> ElementList
-        requires few { length elements.items ≤ 16 }
-        requires fits { length (texts_of elements.items) < 2 ^ 32 }
-        ensures { result ≡ (elements.items, 0) }
-    {
-        let (front, back) = elements.split_at(elements.len() / 2);
-        let half = text_sum(front);
-        ElementList {
-            text_len: half + text_sum(back),
-            half,
-            link: Link::Block(elements),
-        }
-    }
-
     /// The elements of a list that has only a few.
     pub(crate) fn into_block(self) -> Vec<GreenElement>
         requires { self.1 ≡ 0 }
         ensures { result.items ≡ self.0 }
     {
         match self.link {
-            Link::Block(elements) => elements,
-            Link::Fork(_, _, _, _) => unreachable!(),
+            Link::Block(_, elements) => elements,
+            Link::Fork(_, _, _, _, _) => unreachable!(),
         }
     }
 
+    /// A list of the same elements, which shares the sides of this one.
+    pub(crate) fn copy(&self, alloc: Global) -> Result<Part, AllocError>
+        ensures { IfOk result (λ l. l ≡ self.now) }
+    {
+        match self.sides() {
+            Some((left, right)) => Ok(Part::fork(left.clone()?, right.clone()?)),
+            None => {
+                let mut elements = Vec::with_capacity(alloc, self.len())?;
+                push_clones(&mut elements, self, 0, self.len())?;
+                Ok(Part::block(elements))
+            }
+        }
+    }
+}
+
+impl Part {
+    pub(crate) fn list(&self) -> &ElementList
+        ensures { result.now ≡ self.now }
+    {
+        &self.list
+    }
+
+    pub(crate) fn text_len(&self) -> u32
+        ensures { result ≡ length (texts_of self.now.0) }
+    {
+        self.text_len
+    }
+
+    pub(crate) fn len(&self) -> usize
+        ensures count { result ≡ length self.now.0 }
+        ensures fits { FitsNode self.now.0 }
+        ensures bound { result < 2 ^ 32 }
+    {
+        self.list.len()
+    }
+
+    pub(crate) fn height(&self) -> u8
+        ensures height { result ≡ self.now.1 }
+        ensures many { 8 ≤ length self.now.0 → fewest result ≤ length self.now.0 }
+        ensures few { length self.now.0 < 16 → result ≡ 0 }
+        ensures block { result ≡ 0 → length self.now.0 ≤ 16 }
+        ensures low { result ≤ 56 }
+    {
+        self.list.height()
+    }
+
+    /// The two sides of a list that is no block.
+    pub(crate) fn sides(&self) -> Option<(&Rc<Part>, &Rc<Part>)>
+        ensures { MatchOption result ((self.now.1 ≡ 0) × (length self.now.0 ≤ 16))
+            (λ s. IsJoined self.now s.0.now.value s.1.now.value) }
+    {
+        self.list.sides()
+    }
+
+    /// The length of its text, and the list alone.
+    pub(crate) fn into_list(self) -> (u32, ElementList)
+        ensures text { result.0 ≡ length (texts_of self.0) }
+        ensures list { result.1 ≡ self }
+        ensures fits { FitsNode self.0 }
+    {
+        (self.text_len, self.list)
+    }
+
+    /// The list of a few elements.
+    pub(crate) fn block(elements: Vec<GreenElement>) -> Part
+        requires few { length elements.items ≤ 16 }
+        requires fits { length (texts_of elements.items) < 2 ^ 32 }
+        ensures { result ≡ (elements.items, 0) }
+    {
+        let (front, back) = elements.split_at(elements.len() / 2);
+        let half = text_sum(front);
+        let text_len = half + text_sum(back);
+        let list = ElementList {
+            link: Link::Block(half, elements),
+        };
+        Part { text_len, list }
+    }
+
     /// The elements of two lists that are about as high.
-    pub(crate) fn fork(left: Rc<ElementList>, right: Rc<ElementList>) -> ElementList
+    pub(crate) fn fork(left: Rc<Part>, right: Rc<Part>) -> Part
         requires left { 8 ≤ length left.value.0 }
         requires right { 8 ≤ length right.value.0 }
         requires left_low { left.value.1 ≤ right.value.1 + 1 }
@@ -222,71 +308,50 @@ impl ElementList {
         ensures { result ≡ (left.value.0 ++ right.value.0, max left.value.1 right.value.1 + 1) }
     {
         let half = left.text_len();
+        let text_len = half + right.text_len();
         let count = left.len() + right.len();
         let height = left.height().max(right.height()) + 1;
-        ElementList {
-            text_len: half + right.text_len(),
-            half,
-            link: Link::Fork(left, right, count as u32, height),
-        }
+        let list = ElementList {
+            link: Link::Fork(half, left, right, count as u32, height),
+        };
+        Part { text_len, list }
     }
 
     /// The list of clones of these elements, with so many levels of forks.
-    fn built(
-        alloc: Global,
-        elements: &[GreenElement],
-        height: u8,
-    ) -> Result<ElementList, AllocError>
+    fn built(alloc: Global, elements: &[GreenElement], height: u8) -> Result<Part, AllocError>
         requires many { 8 * 2 ^ height ≤ length elements.now }
         requires few { length elements.now ≤ 16 * 2 ^ height }
         requires fits { FitsNode elements.now }
         ensures { IfOk result (λ l. l ≡ (elements.now, height)) }
     {
         if height == 0 {
-            return Ok(ElementList::block(clones(alloc, elements)?));
+            return Ok(Part::block(clones(alloc, elements)?));
         }
         let (front, back) = elements.split_at(elements.len() / 2);
-        let left = Rc::new(alloc, ElementList::built(alloc, front, height - 1)?)?;
-        let right = Rc::new(alloc, ElementList::built(alloc, back, height - 1)?)?;
-        Ok(ElementList::fork(left, right))
-    }
-
-    /// A list of the same elements, which shares the sides of this one.
-    pub(crate) fn copy(&self, alloc: Global) -> Result<ElementList, AllocError>
-        ensures { IfOk result (λ l. l ≡ self.now) }
-    {
-        match self.sides() {
-            Some((left, right)) => Ok(ElementList::fork(left.clone()?, right.clone()?)),
-            None => {
-                let mut elements = Vec::with_capacity(alloc, self.len())?;
-                push_clones(&mut elements, self, 0, self.len())?;
-                Ok(ElementList::block(elements))
-            }
-        }
+        let left = Rc::new(alloc, Part::built(alloc, front, height - 1)?)?;
+        let right = Rc::new(alloc, Part::built(alloc, back, height - 1)?)?;
+        Ok(Part::fork(left, right))
     }
 
     /// The list of clones of these elements.
-    pub(crate) fn of(alloc: Global, elements: &[GreenElement]) -> Result<ElementList, AllocError>
+    pub(crate) fn of(alloc: Global, elements: &[GreenElement]) -> Result<Part, AllocError>
         requires { FitsNode elements.now }
         ensures { IfOk result (λ l. l.0 ≡ elements.now) }
     {
         if elements.len() <= MOST {
-            Ok(ElementList::block(clones(alloc, elements)?))
+            Ok(Part::block(clones(alloc, elements)?))
         } else {
-            ElementList::of_many(alloc, elements)
+            Part::of_many(alloc, elements)
         }
     }
 
     /// The list of clones of many elements.
-    pub(crate) fn of_many(
-        alloc: Global,
-        elements: &[GreenElement],
-    ) -> Result<ElementList, AllocError>
+    pub(crate) fn of_many(alloc: Global, elements: &[GreenElement]) -> Result<Part, AllocError>
         requires many { 8 ≤ length elements.now }
         requires fits { FitsNode elements.now }
         ensures { IfOk result (λ l. l.0 ≡ elements.now) }
     {
-        ElementList::built(alloc, elements, height_for(elements.len()))
+        Part::built(alloc, elements, height_for(elements.len()))
     }
 }
 

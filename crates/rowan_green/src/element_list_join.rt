@@ -6,7 +6,7 @@ ghost use Rattle.rowan_green.specs.Refusal.{RefusesUnless};
 ghost use Rattle.rowan_green.specs.Balanced.{CanJoin, join, IsJoinHeight};
 
 use crate::element::GreenElement;
-use crate::element_list::{ElementList, FEWEST, MOST, push_clones};
+use crate::element_list::{ElementList, FEWEST, MOST, Part, push_clones};
 use crate::error::GreenError;
 use std::alloc::{AllocError, Global};
 use std::rc::Rc;
@@ -14,22 +14,22 @@ use std::rc::Rc;
 /// The list above these two, which may lie below one fork.
 fn forked(
     alloc: Global,
-    left: &Rc<ElementList>,
-    right: &Rc<ElementList>,
-) -> Result<Rc<ElementList>, AllocError>
+    left: &Rc<Part>,
+    right: &Rc<Part>,
+) -> Result<Rc<Part>, AllocError>
     requires { CanJoin 1 left.now.value right.now.value }
     ensures { IfOk result (λ l. l.value ≡ join left.now.value right.now.value) }
 {
-    let list = ElementList::fork(left.clone()?, right.clone()?);
+    let list = Part::fork(left.clone()?, right.clone()?);
     Ok(Rc::new(alloc, list)?)
 }
 
 /// The list of both, of which the left one is higher by two.
 fn lean_left(
     alloc: Global,
-    left: &Rc<ElementList>,
-    right: &Rc<ElementList>,
-) -> Result<Rc<ElementList>, AllocError>
+    left: &Rc<Part>,
+    right: &Rc<Part>,
+) -> Result<Rc<Part>, AllocError>
     requires higher { left.now.value.1 ≡ right.now.value.1 + 2 }
     requires count { 8 ≤ length right.now.value.0 }
     requires fits { FitsNode (left.now.value.0 ++ right.now.value.0) }
@@ -55,9 +55,9 @@ fn lean_left(
 /// The list of both, of which the right one is higher by two.
 fn lean_right(
     alloc: Global,
-    left: &Rc<ElementList>,
-    right: &Rc<ElementList>,
-) -> Result<Rc<ElementList>, AllocError>
+    left: &Rc<Part>,
+    right: &Rc<Part>,
+) -> Result<Rc<Part>, AllocError>
     requires higher { right.now.value.1 ≡ left.now.value.1 + 2 }
     requires count { 8 ≤ length left.now.value.0 }
     requires fits { FitsNode (left.now.value.0 ++ right.now.value.0) }
@@ -83,9 +83,9 @@ fn lean_right(
 /// The list of both, whose heights differ by at most two.
 fn balanced(
     alloc: Global,
-    left: &Rc<ElementList>,
-    right: &Rc<ElementList>,
-) -> Result<Rc<ElementList>, AllocError>
+    left: &Rc<Part>,
+    right: &Rc<Part>,
+) -> Result<Rc<Part>, AllocError>
     requires { CanJoin 2 left.now.value right.now.value }
     ensures terms { IfOk result (λ l. l.value.0 ≡ left.now.value.0 ++ right.now.value.0) }
     ensures height { IfOk result (λ l. IsJoinHeight left.now.value.1 right.now.value.1 l.value.1) }
@@ -101,27 +101,27 @@ fn balanced(
 }
 
 /// The list of these elements, in one block, or in two.
-fn in_blocks(alloc: Global, mut elements: Vec<GreenElement>) -> Result<Rc<ElementList>, AllocError>
+fn in_blocks(alloc: Global, mut elements: Vec<GreenElement>) -> Result<Rc<Part>, AllocError>
     requires few { length elements.items ≤ 32 }
     requires fits { FitsNode elements.items }
     ensures terms { IfOk result (λ l. l.value.0 ≡ elements.items) }
     ensures low { IfOk result (λ l. l.value.1 ≤ 1) }
 {
     if elements.len() <= MOST {
-        return Ok(Rc::new(alloc, ElementList::block(elements))?);
+        return Ok(Rc::new(alloc, Part::block(elements))?);
     }
     let back = elements.split_off(elements.len() / 2)?;
-    let left = Rc::new(alloc, ElementList::block(elements))?;
-    let right = Rc::new(alloc, ElementList::block(back))?;
+    let left = Rc::new(alloc, Part::block(elements))?;
+    let right = Rc::new(alloc, Part::block(back))?;
     forked(alloc, &left, &right)
 }
 
 /// The list of both, each of which is a block.
 fn merged(
     alloc: Global,
-    left: &ElementList,
-    right: &ElementList,
-) -> Result<Rc<ElementList>, AllocError>
+    left: &Part,
+    right: &Part,
+) -> Result<Rc<Part>, AllocError>
     requires left { length left.now.0 ≤ 16 }
     requires right { length right.now.0 ≤ 16 }
     requires fits { FitsNode (left.now.0 ++ right.now.0) }
@@ -129,17 +129,17 @@ fn merged(
     ensures low { IfOk result (λ l. l.value.1 ≤ 1) }
 {
     let mut elements = Vec::with_capacity(alloc, left.len() + right.len())?;
-    push_clones(&mut elements, left, 0, left.len())?;
-    push_clones(&mut elements, right, 0, right.len())?;
+    push_clones(&mut elements, left.list(), 0, left.len())?;
+    push_clones(&mut elements, right.list(), 0, right.len())?;
     in_blocks(alloc, elements)
 }
 
 /// The list of both, which shares all but the parts along the seam.
 pub(crate) fn joined(
     alloc: Global,
-    left: &Rc<ElementList>,
-    right: &Rc<ElementList>,
-) -> Result<Rc<ElementList>, AllocError>
+    left: &Rc<Part>,
+    right: &Rc<Part>,
+) -> Result<Rc<Part>, AllocError>
     requires { FitsNode (left.now.value.0 ++ right.now.value.0) }
     ensures terms { IfOk result (λ l. l.value.0 ≡ left.now.value.0 ++ right.now.value.0) }
     ensures not_lower { IfOk result (λ l. max left.now.value.1 right.now.value.1 ≤ l.value.1) }
@@ -169,10 +169,10 @@ pub(crate) fn joined(
 /// The elements of a block from `start` to before `end`.
 fn part_of_block(
     alloc: Global,
-    list: &ElementList,
+    list: &Part,
     start: usize,
     end: usize,
-) -> Result<Rc<ElementList>, AllocError>
+) -> Result<Rc<Part>, AllocError>
     requires few { length list.now.0 ≤ 16 }
     requires fits { FitsNode list.now.0 }
     requires ordered { start ≤ end }
@@ -180,16 +180,16 @@ fn part_of_block(
     ensures { IfOk result (λ l. l.value ≡ (drop start (take end list.now.0), 0)) }
 {
     let mut elements = Vec::with_capacity(alloc, end - start)?;
-    push_clones(&mut elements, list, start, end)?;
-    Ok(Rc::new(alloc, ElementList::block(elements))?)
+    push_clones(&mut elements, list.list(), start, end)?;
+    Ok(Rc::new(alloc, Part::block(elements))?)
 }
 
 /// The first elements of a list, so many.
 pub(crate) fn first(
     alloc: Global,
-    list: &Rc<ElementList>,
+    list: &Rc<Part>,
     count: usize,
-) -> Result<Rc<ElementList>, AllocError>
+) -> Result<Rc<Part>, AllocError>
     requires { count ≤ length list.now.value.0 }
     ensures { IfOk result (λ l. l.value.0 ≡ take count list.now.value.0) }
 {
@@ -210,9 +210,9 @@ pub(crate) fn first(
 /// The elements of a list from this number on.
 pub(crate) fn last(
     alloc: Global,
-    list: &Rc<ElementList>,
+    list: &Rc<Part>,
     start: usize,
-) -> Result<Rc<ElementList>, AllocError>
+) -> Result<Rc<Part>, AllocError>
     requires { start ≤ length list.now.value.0 }
     ensures { IfOk result (λ l. l.value.0 ≡ drop start list.now.value.0) }
 {
@@ -236,8 +236,8 @@ pub(crate) fn splice(
     list: &ElementList,
     start: usize,
     end: usize,
-    middle: &Rc<ElementList>,
-) -> Result<ElementList, GreenError>
+    middle: &Rc<Part>,
+) -> Result<Part, GreenError>
     requires ordered { start ≤ end }
     requires in_bounds { end ≤ length list.now.0 }
     ensures ok { IfOk result (λ l. l.0 ≡ spliced list.now.0 start end middle.now.value.0) }
@@ -252,12 +252,12 @@ pub(crate) fn splice(
     }
     let front = joined(alloc, &front, middle)?;
     let all = joined(alloc, &front, &back)?;
-    Ok(all.copy(alloc)?)
+    Ok(all.list().copy(alloc)?)
 }
 
 /// Whether a node may have the elements of all three lists.
 #[tactic(auto, using(crate::proofs::Joining::thirds))]
-fn fit_together(front: &ElementList, middle: &ElementList, back: &ElementList) -> bool
+fn fit_together(front: &Part, middle: &Part, back: &Part) -> bool
     ensures fit { OnTrue result (FitsNode (front.now.0 ++ middle.now.0 ++ back.now.0)) }
     ensures too_long { result ≡ false → FitsNode (front.now.0 ++ middle.now.0 ++ back.now.0) → ⊥ }
 {

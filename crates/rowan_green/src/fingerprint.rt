@@ -5,9 +5,14 @@ use crate::utility_types::NodeOrToken;
 /// The most children, elements below it and bytes of text that a small node has.
 const MOST_CHILDREN: usize = 3;
 
-const MOST_ELEMENTS: u32 = 15;
+const MOST_ELEMENTS: u16 = 14;
 
 const MOST_BYTES: u32 = 63;
+
+/// The bits of a fingerprint that hold a count of elements, and the count that stands for many.
+const SIZE_BITS: u32 = 4;
+
+const MANY: u16 = 15;
 
 const SEED: u64 = 0x9E37_79B9_7F4A_7C15;
 
@@ -39,39 +44,66 @@ pub(crate) fn of_token(kind: u16, text: &str) -> u32 {
     upper_half(hash)
 }
 
+/// Of a node: how many elements lie below it, where these are few, and above that a hash of as many
+/// bits as a cache has use for.
+#[derive(Clone, Copy)]
+pub(crate) struct Fingerprint(u16);
+
+/// Of each node that is not small.
+pub(crate) const LARGE: Fingerprint = Fingerprint(MANY);
+
+impl Fingerprint {
+    /// Of the node of this kind with these children.
+    pub(crate) fn of_node(kind: u16, children: &[GreenElement]) -> Fingerprint {
+        match small_size(children) {
+            Some(size) => Fingerprint(hash_of(kind, children) << SIZE_BITS | size),
+            None => LARGE,
+        }
+    }
+
+    /// How many elements lie below the node, where that is small.
+    fn size(self) -> Option<u16> {
+        let size = self.0 & MANY;
+        if size == MANY { None } else { Some(size) }
+    }
+
+    /// The hash, if the node is small.
+    pub(crate) fn hash(self) -> Option<u32> {
+        self.size()?;
+        Some(u32::from(self.0 >> SIZE_BITS))
+    }
+}
+
 /// How many elements these children and what lies below them are, where that is small.
-pub(crate) fn small_size(children: &[GreenElement]) -> Option<u8> {
+fn small_size(children: &[GreenElement]) -> Option<u16> {
     if children.len() > MOST_CHILDREN {
         return None;
     }
-    let mut elements: u32 = 0;
+    let mut elements: u16 = 0;
     let mut bytes: u32 = 0;
     for child in children {
         let below = match child {
-            NodeOrToken::Node(node) => node.small_size()?,
+            NodeOrToken::Node(node) => node.fingerprint().size()?,
             NodeOrToken::Token(_) => 0,
         };
-        elements = elements.checked_add(1 + u32::from(below))?;
+        elements = elements.checked_add(below)?.checked_add(1)?;
         bytes = bytes.checked_add(child.text_len().0)?;
     }
     if elements > MOST_ELEMENTS || bytes > MOST_BYTES {
         return None;
     }
-    u8::try_from(elements).ok()
+    Some(elements)
 }
 
-/// Of a node with few children; that of others is 0.
-pub(crate) fn of_node(kind: u16, children: &[GreenElement]) -> u32 {
-    if children.len() > MOST_CHILDREN {
-        return 0;
-    }
+/// A hash of a kind and a few children.
+fn hash_of(kind: u16, children: &[GreenElement]) -> u16 {
     let mut hash = mixed(SEED, u64::from(kind));
     for child in children {
         let part = match child {
-            NodeOrToken::Node(node) => node.fingerprint().rotate_left(17),
+            NodeOrToken::Node(node) => u32::from(node.fingerprint().0).rotate_left(17),
             NodeOrToken::Token(token) => token.fingerprint(),
         };
         hash = mixed(hash, u64::from(part));
     }
-    upper_half(hash)
+    (hash >> 48) as u16
 }

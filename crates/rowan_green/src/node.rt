@@ -9,9 +9,9 @@ ghost use Rattle.rowan_green.specs.Refusal.{RefusesUnless};
 
 use crate::child_at::ChildAt;
 use crate::element::GreenElement;
-use crate::element_list::{ElementList, MOST};
+use crate::element_list::{ElementList, MOST, Part};
 use crate::error::GreenError;
-use crate::fingerprint;
+use crate::fingerprint::{self, Fingerprint};
 use crate::node_children::Children;
 use crate::syntax_kind::SyntaxKind;
 use crate::text_size::TextSize;
@@ -25,10 +25,13 @@ use std::rc::Rc;
 #[derive(Drop)]
 struct NodeData {
     kind: u16,
-    small_size: Option<u8>,
-    fingerprint: u32,
+    fingerprint: Fingerprint,
+    text_len: u32,
     children: ElementList,
 }
+
+// (with the two counts of an `Rc` 56 bytes, which is what the allocator has in one of its sizes)
+const _: () = prove!(size_of::<NodeData>() == 40);
 
 /// A node of a green tree. A clone shares the kind and the children, and takes no memory.
 #[cycle(green)]
@@ -45,11 +48,13 @@ impl Model for GreenNode {
 
     ghost coded = { tree_code };
 
-    ghost use Rattle.rowan_green.specs.Term.{tree_of, FitsNode};
+    ghost use Rattle.std.specs.Prelude.{length};
+    ghost use Rattle.rowan_green.specs.Term.{tree_of, texts_of, FitsNode};
 
     ghost view = { λ a. tree_of a.shared.value.kind a.shared.value.children.0 };
 
-    ghost invariant = { λ a. FitsNode a.shared.value.children.0 };
+    ghost invariant = { λ a. FitsNode a.shared.value.children.0
+        × (a.shared.value.text_len ≡ length (texts_of a.shared.value.children.0)) };
 
     ghost size = { λ t. 2 * tree_count t };
 
@@ -127,11 +132,13 @@ impl GreenNode {
         ensures refused { IfErr result (λ r. r.error ≡ GreenError.NoMemory) }
         ensures returned { IfErr result (λ r. r.children.items ≡ children.items) }
     {
+        let fingerprint = Fingerprint::of_node(kind.0, &children);
+        let (text_len, children) = Part::block(children).into_list();
         let data = NodeData {
             kind: kind.0,
-            small_size: fingerprint::small_size(&children),
-            fingerprint: fingerprint::of_node(kind.0, &children),
-            children: ElementList::block(children),
+            fingerprint,
+            text_len,
+            children,
         };
         match Rc::new(alloc, data) {
             Ok(shared) => Ok(GreenNode { shared }),
@@ -146,15 +153,15 @@ impl GreenNode {
     pub(crate) fn of_list(
         alloc: Global,
         kind: SyntaxKind,
-        children: ElementList,
+        children: Part,
     ) -> Result<GreenNode, AllocError>
-        requires { FitsNode children.0 }
         ensures { IfOk result (λ n. n ≡ tree_of kind.0 children.0) }
     {
+        let (text_len, children) = children.into_list();
         let data = NodeData {
             kind: kind.0,
-            small_size: None,
-            fingerprint: 0,
+            fingerprint: fingerprint::LARGE,
+            text_len,
             children,
         };
         let shared = Rc::new(alloc, data)?;
@@ -171,7 +178,7 @@ impl GreenNode {
         requires fits { FitsNode children.now }
         ensures { IfOk result (λ n. n ≡ tree_of kind.0 children.now) }
     {
-        GreenNode::of_list(alloc, kind, ElementList::of_many(alloc, children)?)
+        GreenNode::of_list(alloc, kind, Part::of_many(alloc, children)?)
     }
 
     /// Its kind.
@@ -185,15 +192,10 @@ impl GreenNode {
     pub fn text_len(&self) -> TextSize
         ensures { result.0 ≡ length (tree_text self.now) }
     {
-        TextSize(self.shared.children.text_len())
+        TextSize(self.shared.text_len)
     }
 
-    /// How many elements lie below the node, where that is small.
-    pub(crate) fn small_size(&self) -> Option<u8> {
-        self.shared.small_size
-    }
-
-    pub(crate) fn fingerprint(&self) -> u32 {
+    pub(crate) fn fingerprint(&self) -> Fingerprint {
         self.shared.fingerprint
     }
 }
@@ -253,7 +255,7 @@ impl GreenNode {
             IfSome result (λ c. c.looks ≤ 2 * digits + 2) }
     {
         let children = self.elements();
-        if offset.0 >= children.text_len() {
+        if offset.0 >= self.text_len().0 {
             return None;
         }
         let place = children.find(offset.0);

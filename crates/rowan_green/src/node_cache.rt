@@ -9,7 +9,7 @@ ghost use Rattle.rowan_green.specs.Refusal.{RefusesUnless};
 
 use crate::element::GreenElement;
 use crate::error::GreenError;
-use crate::fingerprint;
+use crate::fingerprint::{self, Fingerprint};
 use crate::node::{GreenNode, same_elements};
 use crate::syntax_kind::SyntaxKind;
 use crate::token::GreenToken;
@@ -117,18 +117,17 @@ impl NodeCache {
         ensures found { IfSome result (λ n. n ≡ tree_of kind.0 children.now) }
         ensures fits { OnSome result (FitsNode children.now) }
     {
-        fingerprint::small_size(children)?;
-        let fingerprint = fingerprint::of_node(kind.0, children);
-        found_node(self.nodes.get(fingerprint), kind, children)
+        let hash = Fingerprint::of_node(kind.0, children).hash()?;
+        found_node(self.nodes.get(hash), kind, children)
     }
 
     /// Keeps a clone of the node, if it is small.
     pub(crate) fn keep_node(&mut self, node: &GreenNode) {
-        if node.small_size().is_none() {
+        let Some(hash) = node.fingerprint().hash() else {
             return;
-        }
+        };
         if let Ok(copy) = node.clone() {
-            self.nodes.keep(self.alloc, node.fingerprint(), copy);
+            self.nodes.keep(self.alloc, hash, copy);
         }
     }
 }

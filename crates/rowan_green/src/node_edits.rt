@@ -5,7 +5,7 @@ ghost use Rattle.rowan_green.specs.Term.{Term, tree_of, children_of, spliced, Fi
 ghost use Rattle.rowan_green.specs.Refusal.{RefusesUnless};
 
 use crate::element::GreenElement;
-use crate::element_list::{ElementList, MOST, push_clones};
+use crate::element_list::{MOST, Part, push_clones};
 use crate::element_list_join;
 use crate::error::GreenError;
 use crate::node::{GreenNode, collected, fitting_len};
@@ -133,7 +133,7 @@ impl GreenNode {
         if fitting_len(new_children).is_none() {
             return Err(GreenError::TooLong);
         }
-        let middle = Rc::new(alloc, ElementList::of(alloc, new_children)?)?;
+        let middle = Rc::new(alloc, Part::of(alloc, new_children)?)?;
         let children = element_list_join::splice(alloc, self.elements(), start, end, &middle)?;
         Ok(GreenNode::of_list(alloc, self.kind(), children)?)
     }

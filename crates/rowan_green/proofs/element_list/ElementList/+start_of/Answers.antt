@@ -11,13 +11,13 @@ text_sum-requires t c =
 pub overflow_add-result : goal.overflow_add-result
 overflow_add-result t c =
     let f = at_fork c.self.view_is c.self.invariant c.in-Fork.is in
-    let s = rw c.deref-else-index-before.ensures at c.start_of-else-index-before.ensures in
+    let s = rw (c.list-else-index-before.ensures, c.deref-else-index-before.ensures) at c.start_of-else-index-before.ensures in
     omega (arith, f.before, f.texts, f.fits.text, s, texts_split (c.args.index - c.len-before.result) c.in-Fork.right.value.0)
 
 pub returns-else-index-before : goal.returns-else-index-before
 returns-else-index-before t c =
     let f = at_fork c.self.view_is c.self.invariant c.in-Fork.is in
-    let s = rw c.deref-else-index-before.ensures at c.start_of-else-index-before.ensures in
+    let s = rw (c.list-else-index-before.ensures, c.deref-else-index-before.ensures) at c.start_of-else-index-before.ensures in
     let n : c.len-before.result ≡ length c.in-Fork.left.value.0 = rw c.deref-in-Fork.ensures at c.len-before.ensures.count in
     let r = c.in-Fork.right.value.0 in
     let k : length c.in-Fork.left.value.0 + (c.args.index - c.len-before.result) ≡ c.args.index = omega (arith, n, c.if-index-before.false) in

@@ -5,10 +5,10 @@ use Rattle.rowan_green.proofs.Lengths.{children_texts}
 use Rattle.rowan_green.proofs.Summing.{looks_bound}
 use Rattle.rowan_green.proofs.node.GreenNode.child_at_offset.Goals as goal
 
-pub returns-then-offset-text_len-clause-found : goal.returns-then-offset-text_len-clause-found
-returns-then-offset-text_len-clause-found c =
-    let e : c.text_len.result ≡ length (tree_text c.args.self.now) = c.text_len.ensures ∙ ap (λ xs. length (texts_of xs)) c.elements-children.ensures.children ∙ children_texts c.args.self.now in
-    (λ p. cc, λ h. absurd (omega (arith, e, h, c.if-offset-text_len.true)))
+pub find-place-requires : goal.find-place-requires
+find-place-requires c =
+    let e : length (texts_of c.elements-children.result.now.0) ≡ length (tree_text c.args.self.now) = ap (λ xs. length (texts_of xs)) c.elements-children.ensures.children ∙ children_texts c.args.self.now in
+    omega (arith, e, c.text_len.ensures, c.if-offset-text_len.false)
 
 pub overflow_add-result : goal.overflow_add-result
 overflow_add-result c =
@@ -19,8 +19,7 @@ overflow_add-result c =
 
 pub returns-clause-found : goal.returns-clause-found
 returns-clause-found c =
-    let e : c.text_len.result ≡ length (tree_text c.args.self.now) = c.text_len.ensures ∙ ap (λ xs. length (texts_of xs)) c.elements-children.ensures.children ∙ children_texts c.args.self.now in
-    (λ p. omega (arith, e, c.if-offset-text_len.false), λ h. refl)
+    (λ p. omega (arith, c.text_len.ensures, c.if-offset-text_len.false), λ h. refl)
 
 pub returns-clause-looks : goal.returns-clause-looks
 returns-clause-looks c =

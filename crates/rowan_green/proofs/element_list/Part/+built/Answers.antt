@@ -1,7 +1,7 @@
 use Rattle.std.proofs.Common.{◌-◌, arith}
 use Rattle.std.proofs.lemmas.Nat.{pow_pos}
 use Rattle.rowan_green.proofs.Summing.{power_halves, fits_take, fits_drop}
-use Rattle.rowan_green.proofs.element_list.ElementList.+built.Goals as goal
+use Rattle.rowan_green.proofs.element_list.Part.+built.Goals as goal
 
 pub built-requires : goal.built-requires
 built-requires t c =

@@ -1,4 +1,4 @@
-use Rattle.rowan_green.proofs.element_list.ElementList.+built.Given as goal
+use Rattle.rowan_green.proofs.element_list.Part.+built.Given as goal
 
 abbrev pub decreases-built : goal.decreases-built
 decreases-built l = l.height
