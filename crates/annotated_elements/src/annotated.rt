@@ -26,7 +26,8 @@ fn push_all<A: Copy>(
     Ok(())
 }
 
-/// The elements of a rewritten tree that came from the end to which a mapping leads this one, in preorder.
+/// The elements of a rewritten tree that came from the end to which a mapping leads this one, in
+/// preorder.
 fn found_of(
     alloc: Global,
     mapping: &SyntaxMapping,
@@ -45,8 +46,9 @@ fn found_of(
     Ok(found)
 }
 
-/// The annotated elements that stand in a rewritten tree, each with its annotation: each one followed by the mapping to its end, and
-/// there all elements that came from that end; in the order of the annotations, then of the tree.
+/// The annotated elements that stand in a rewritten tree, each with its annotation: each one
+/// followed by the mapping to its end, and there all elements that came from that end; in the order
+/// of the annotations, then of the tree.
 pub fn annotated<A: Copy>(
     alloc: Global,
     mapping: &SyntaxMapping,

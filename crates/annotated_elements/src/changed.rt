@@ -12,7 +12,8 @@ use crate::found::push_if;
 use std::alloc::{AllocError, Global};
 use syntax_tree::{SyntaxElement, SyntaxNode};
 
-/// The elements beside which a mark says so, those at and below a root and these marks taken side by side, in preorder.
+/// The elements beside which a mark says so, those at and below a root and these marks taken side
+/// by side, in preorder.
 fn marked(
     alloc: Global,
     root: &SyntaxNode,
@@ -34,8 +35,8 @@ fn marked(
     Ok(marked)
 }
 
-/// The elements of a tree that were put in by changes that lie in no other, in preorder. The tree is that of a root, and for each of
-/// its elements in preorder a mark says whether it was put in.
+/// The elements of a tree that were put in by changes that lie in no other, in preorder. The tree
+/// is that of a root, and for each of its elements in preorder a mark says whether it was put in.
 pub fn changed(
     alloc: Global,
     root: &SyntaxNode,

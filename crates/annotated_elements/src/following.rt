@@ -8,8 +8,8 @@ ghost use Rattle.annotated_elements.specs.Nearest.{lead_by};
 use std::alloc::{AllocError, Global};
 use syntax_tree::{SyntaxElement, SyntaxMapping, SyntaxNode};
 
-/// What the nearest mapped node at or above a way in the tree of this number is mapped to, and the numbers of the way below that node;
-/// none where none is mapped.
+/// What the nearest mapped node at or above a way in the tree of this number is mapped to, and the
+/// numbers of the way below that node; none where none is mapped.
 fn nearest<'m, 'w>(
     mapping: &'m SyntaxMapping,
     tree: u32,
@@ -43,9 +43,11 @@ fn element_below(
     node.element_at(alloc, &whole)
 }
 
-/// The end to which a mapping leads an element: from the nearest mapped element at or above it to what that is mapped to, and the same
-/// way down from there, again and again, until nothing at or above it is mapped; none where nothing stands there. It follows at most as
-/// many steps as the mapping has entries: there are no more where each entry's output is of a tree of a greater number.
+/// The end to which a mapping leads an element: from the nearest mapped element at or above it to
+/// what that is mapped to, and the same way down from there, again and again, until nothing at or
+/// above it is mapped; none where nothing stands there. It follows at most as many steps as the
+/// mapping has entries: there are no more where each entry's output is of a tree of a greater
+/// number.
 pub fn followed(
     alloc: Global,
     mapping: &SyntaxMapping,

@@ -54,7 +54,8 @@ pub(crate) fn push_if(
     Ok(())
 }
 
-/// The elements beside which this one stands, those at and below a root and these taken side by side, in preorder.
+/// The elements beside which this one stands, those at and below a root and these taken side by
+/// side, in preorder.
 fn beside(
     alloc: Global,
     root: &SyntaxNode,
@@ -80,8 +81,8 @@ fn beside(
     Ok(found)
 }
 
-/// The elements of a tree that came from this one, in preorder. The tree is that of a root, and its elements have these origins, in
-/// preorder.
+/// The elements of a tree that came from this one, in preorder. The tree is that of a root, and its
+/// elements have these origins, in preorder.
 pub fn found(
     alloc: Global,
     root: &SyntaxNode,

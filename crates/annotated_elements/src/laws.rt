@@ -1,7 +1,8 @@
 //! Laws of the definitions. Each is the contract of a function that makes no call.
 ghost use Rattle.annotated_elements.specs.Laws.{EndsAreOne, OriginsAgree, ChangedAgree};
 
-/// By a mapping whose outputs are in trees of greater numbers each element leads to one end, in no more steps than there are entries.
+/// By a mapping whose outputs are in trees of greater numbers each element leads to one end, in no
+/// more steps than there are entries.
 pub fn ends_are_one()
     ensures { EndsAreOne }
 {}

@@ -17,8 +17,8 @@ use rust_document::{Document, PayloadEntry, SyntaxEditor, payload};
 use std::alloc::{AllocError, Global};
 use syntax_tree::{Position, SyntaxElement, SyntaxNode, TreeIds};
 
-/// The element of the present tree that a target names. None where the target's start is not before its end, or its end lies
-/// after the text.
+/// The element of the present tree that a target names. None where the target's start is not before
+/// its end, or its end lies after the text.
 fn find(
     alloc: Global,
     document: &Document,
@@ -282,8 +282,8 @@ fn answer(
     }
 }
 
-/// Does commands in order, and appends a reply for each. Where memory is refused, the document is after the commands whose
-/// replies stand.
+/// Does commands in order, and appends a reply for each. Where memory is refused, the document is
+/// after the commands whose replies stand.
 pub fn apply(
     alloc: Global,
     document: &mut Document,

@@ -6,8 +6,8 @@ ghost use Rattle.serde_json.specs.Written.{has_float, items_have_float, members_
 
 use serde_json::{Map, Value};
 
-/// Whether a value holds a number that is read as a float: one that is written with a point or an exponent, `-0`, or a whole number
-/// past 64 bits.
+/// Whether a value holds a number that is read as a float: one that is written with a point or an
+/// exponent, `-0`, or a whole number past 64 bits.
 #[cycle(has_float)]
 pub fn has_float(value: &Value) -> bool
     ensures { result ≡ has_float (view value.now) }

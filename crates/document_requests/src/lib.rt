@@ -1,4 +1,5 @@
-//! Requests: a Rust text is read, changes to it are made where the new text reads as the changed tree, and each is answered.
+//! Requests: a Rust text is read, changes to it are made where the new text reads as the changed
+//! tree, and each is answered.
 //!
 //! `run` reads a request as JSON from any reader, and writes its answer to any writer.
 #![tactic(auto)]

@@ -9,7 +9,8 @@ pub enum Reply {
     Edit,
     /// A commit was accepted; these bytes of the new text were put in.
     Commit { changed: Vec<TextRange> },
-    /// The tree: a line for each element, a node before what it holds, with two spaces for each node around it.
+    /// The tree: a line for each element, a node before what it holds, with two spaces for each
+    /// node around it.
     Tree { lines: Vec<String> },
     /// The messages, the parser's before the lexer's.
     Errors { list: Vec<SyntaxError> },

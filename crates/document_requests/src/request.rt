@@ -73,8 +73,8 @@ pub enum Entry {
     Stmt,
 }
 
-/// An element of the present tree: the first in preorder that is of this kind and has the bytes from `start` to just before
-/// `stop`.
+/// An element of the present tree: the first in preorder that is of this kind and has the bytes
+/// from `start` to just before `stop`.
 #[derive(Clone, Copy, Debug, PartialEq, Eq)]
 pub struct Target {
     pub kind: SyntaxKind,

@@ -6,8 +6,9 @@ ghost use Rattle.std.specs.Io.KnownBytes.{Keeps, ReadConsumes, WriteAppends};
 use std::io;
 use std::io::{Read, Write};
 
-/// A reader or a writer that counts its calls and those of them that failed, and notes which call met the end of the input first. A
-/// read fails by an error, a write by an error or by taking no byte. A count stays at 18,446,744,073,709,551,615.
+/// A reader or a writer that counts its calls and those of them that failed, and notes which call
+/// met the end of the input first. A read fails by an error, a write by an error or by taking no
+/// byte. A count stays at 18,446,744,073,709,551,615.
 #[derive(Drop)]
 pub struct Watched<D> {
     device: D,

@@ -149,7 +149,8 @@ impl<L: Language> SyntaxNode<L> {
         Ok(element_of(self.cursor.first_child_or_token(alloc)?))
     }
 
-    /// The child of this number, counted from 0, nodes and tokens alike. No cursor is made for those before it.
+    /// The child of this number, counted from 0, nodes and tokens alike. No cursor is made for
+    /// those before it.
     pub fn nth_child_or_token(
         &self,
         alloc: Global,

@@ -148,8 +148,8 @@ fn beside(
     }
 }
 
-/// A node and its siblings on one side that are nodes, the nearest first. A contract sees those that
-/// are left.
+/// A node and its siblings on one side that are nodes, the nearest first. A contract sees those
+/// that are left.
 #[derive(Drop)]
 pub struct Siblings<L> {
     alloc: Global,

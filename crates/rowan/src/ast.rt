@@ -48,7 +48,8 @@ pub trait AstNode: Sized {
     }
 }
 
-/// The children of a node that can be cast, in order. A contract sees the child nodes that are left.
+/// The children of a node that can be cast, in order. A contract sees the child nodes that are
+/// left.
 #[derive(Drop)]
 pub struct AstChildren<N: AstNode> {
     inner: SyntaxNodeChildren<N::Language>,

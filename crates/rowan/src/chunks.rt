@@ -5,7 +5,8 @@ ghost use Rattle.rowan.specs.Text.{IsPart};
 
 use rowan_green::{GreenNode, NodeOrToken};
 
-/// What reads a text in pieces, in order. A piece has text, and is told the byte at which it begins.
+/// What reads a text in pieces, in order. A piece has text, and is told the byte at which it
+/// begins.
 pub(crate) trait ChunkReader: Sized {
     /// What a reader has when it stops before the end.
     type Found;
@@ -27,16 +28,19 @@ pub(crate) trait ChunkReader: Sized {
     ghost begins: { (r : Self) (a b : List ℕ) → can_read r (a ++ b) → can_read r a };
 
     /// And, once the first is read, the second.
-    ghost goes_on: { (r s : Self) (at : ℕ) (a b : List ℕ) → can_read r (a ++ b) → reads r at a (Ok s) → can_read s b };
+    ghost goes_on: { (r s : Self) (at : ℕ) (a b : List ℕ) → can_read r (a ++ b)
+        → reads r at a (Ok s) → can_read s b };
 
     /// No text changes nothing.
     ghost nothing: { (r : Self) (at : ℕ) → reads r at [] (Ok r) };
 
     /// What is read in two texts is read in both together.
-    ghost further: { (r s : Self) (at : ℕ) (a b : List ℕ) (x : Result Self Self.Found) → reads r at a (Ok s) → reads s (at + length a) b x → reads r at (a ++ b) x };
+    ghost further: { (r s : Self) (at : ℕ) (a b : List ℕ) (x : Result Self Self.Found)
+        → reads r at a (Ok s) → reads s (at + length a) b x → reads r at (a ++ b) x };
 
     /// Where a reader stops, what follows does not matter.
-    ghost stopped: { (r : Self) (e : Self.Found) (at : ℕ) (a b : List ℕ) → reads r at a (Err e) → reads r at (a ++ b) (Err e) };
+    ghost stopped: { (r : Self) (e : Self.Found) (at : ℕ) (a b : List ℕ) → reads r at a (Err e)
+        → reads r at (a ++ b) (Err e) };
 }
 
 /// Where a text stands: `len` bytes of a node's text, after the first `start`.

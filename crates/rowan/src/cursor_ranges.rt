@@ -16,7 +16,8 @@ impl SyntaxNode {
     ) -> Result<Option<SyntaxElement>, AllocError>
         ensures { IfOk result (λ r. r ≡ child_at_range start end self.now) }
     {
-        // No child before the first that reaches `end` holds the range, and none after it begins early enough.
+        // No child before the first that reaches `end` holds the range, and none after it begins
+        // early enough.
         prove!(self.start() <= u32::MAX);
         let from = self.start();
         let (index, offset) = if end <= from {
@@ -33,8 +34,8 @@ impl SyntaxNode {
         self.child(alloc, index, offset)
     }
 
-    /// The element that one comes to by going down to the first child whose range contains the bytes
-    /// from `start` to just before `end`, as long as there is one.
+    /// The element that one comes to by going down to the first child whose range contains the
+    /// bytes from `start` to just before `end`, as long as there is one.
     pub fn covering_element(
         &self,
         alloc: Global,

@@ -1,5 +1,5 @@
-//! Steps from a cursor to the cursors next to it. Each reads one or two children of one node, but for
-//! the search for the next child that is a node.
+//! Steps from a cursor to the cursors next to it. Each reads one or two children of one node, but
+//! for the search for the next child that is a node.
 ghost use Rattle.std.specs.Prelude.{◌≡◌, ◌+◌, ◌<◌, ◌≤◌, ◌^◌, length, IfOk, OnErr, IsSome};
 ghost use Rattle.std.specs.Option.{option_copied};
 ghost use Rattle.rowan.specs.Place.{above, below, terms_below, start_of, end_of, index_of, top_of};

@@ -68,8 +68,8 @@ fn push_text(alloc: Global, text: &str, to: &mut String) -> Result<(), AllocErro
     Ok(())
 }
 
-/// Puts an element's line after what is printed. Where its indentation has room, the level below has
-/// a number.
+/// Puts an element's line after what is printed. Where its indentation has room, the level below
+/// has a number.
 fn push_line<L: Language>(
     alloc: Global,
     element: &SyntaxElement<L>,
@@ -91,9 +91,9 @@ fn push_line<L: Language>(
 }
 
 impl<L: Language> SyntaxNode<L> {
-    /// The node and all below it, in preorder, a line each: two spaces a level, the name of the kind,
-    /// the range, and after a token's its text, quoted. A text of 25 bytes or more is cut at its
-    /// first character boundary from byte 21 on, and ` ...` stands after it.
+    /// The node and all below it, in preorder, a line each: two spaces a level, the name of the
+    /// kind, the range, and after a token's its text, quoted. A text of 25 bytes or more is cut at
+    /// its first character boundary from byte 21 on, and ` ...` stands after it.
     pub fn debug_tree(&self, alloc: Global) -> Result<String, AllocError>
         ensures { IfOk result (λ s. IfSome
             (lines_of (λ raw. L.name_of (L.from_raw raw)) 0 (walk (Node self.now)))

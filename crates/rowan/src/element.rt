@@ -10,7 +10,8 @@ use crate::language::Language;
 use rowan_green::{NodeOrToken, TextRange};
 use std::alloc::{AllocError, Global};
 
-/// The calls of a `SyntaxElement`. `NodeOrToken` is a type of another crate, so they come as a trait.
+/// The calls of a `SyntaxElement`. `NodeOrToken` is a type of another crate, so they come as a
+/// trait.
 pub trait ElementExt<L: Language> {
     /// The element where it stands.
     ghost cursor: { Self → Cursor };

@@ -1,12 +1,14 @@
 //! Laws of the definitions. Each is the contract of a function that makes no call.
 ghost use Rattle.rowan.specs.Laws.{TextsAreSlices, WalksAreWords, TokensStandInOrder};
 
-/// The text at a place is the slice of the root's text, in bytes, from where it starts to where it ends.
+/// The text at a place is the slice of the root's text, in bytes, from where it starts to where it
+/// ends.
 pub fn texts_are_slices()
     ensures { TextsAreSlices }
 {}
 
-/// The walk through an element, without its places, is the word of calls that builds what stands there.
+/// The walk through an element, without its places, is the word of calls that builds what stands
+/// there.
 pub fn walks_are_words()
     ensures { WalksAreWords }
 {}

@@ -2,12 +2,13 @@
 //!
 //! A contract sees a cursor as a place: a root term, and the way up to the root, child numbers with
 //! the innermost first. The path from the root is that way read backwards. Everything else follows
-//! from the two: the green value is the term there, an offset is the length of all text before it, a
-//! walk is a stretch of the word of the tree.
+//! from the two: the green value is the term there, an offset is the length of all text before it,
+//! a walk is a stretch of the word of the tree.
 //!
 //! A node keeps its parent and its offset, so a step to parent, child or neighbouring sibling takes
-//! constant time and at most one small block of memory; a token takes none. A clone takes none. Steps
-//! to a sibling that is a node pass over the tokens between. Comparing two cursors reads both roots.
+//! constant time and at most one small block of memory; a token takes none. A clone takes none.
+//! Steps to a sibling that is a node pass over the tokens between. Comparing two cursors reads both
+//! roots.
 //!
 //! What makes cursors wants memory, so it answers a `Result`. An iterator gives one `Err`, and then
 //! ends.

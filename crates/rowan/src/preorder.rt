@@ -198,7 +198,8 @@ impl<L: Language> Iterator for Preorder<L> {
     }
 }
 
-/// A node and all nodes below it, each before those below it. A contract sees all events that are left.
+/// A node and all nodes below it, each before those below it. A contract sees all events that are
+/// left.
 #[derive(Drop)]
 pub struct Descendants<L> {
     walk: PreorderWithTokens<L>,
@@ -234,7 +235,8 @@ impl<L: Language> Iterator for Descendants<L> {
     }
 }
 
-/// A node and all elements below it, each before those below it. A contract sees all events that are left.
+/// A node and all elements below it, each before those below it. A contract sees all events that
+/// are left.
 #[derive(Drop)]
 pub struct DescendantsWithTokens<L> {
     walk: PreorderWithTokens<L>,

@@ -45,8 +45,8 @@ impl<L: Language> SyntaxNodePtr<L> {
         self.range
     }
 
-    /// The first node in preorder of this kind and range, in the tree of this root. `NotFound` where
-    /// there is none, and where the node given is not a root.
+    /// The first node in preorder of this kind and range, in the tree of this root. `NotFound`
+    /// where there is none, and where the node given is not a root.
     pub fn to_node(&self, alloc: Global, root: &SyntaxNode<L>) -> Result<SyntaxNode<L>, CursorError>
         ensures { FindsOrRefuses (λ p. p)
             (pointed_at L.Kind.eq L.from_raw self.now.kind self.now.range.start.0 self.now.range.end.0 root.now)
@@ -55,8 +55,8 @@ impl<L: Language> SyntaxNodePtr<L> {
         self.try_to_node(alloc, root)?.ok_or(CursorError::NotFound)
     }
 
-    /// The first node in preorder of this kind and range, in the tree of this root; `None` where there
-    /// is none, and where the node given is not a root.
+    /// The first node in preorder of this kind and range, in the tree of this root; `None` where
+    /// there is none, and where the node given is not a root.
     pub fn try_to_node(
         &self,
         alloc: Global,

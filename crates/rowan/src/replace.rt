@@ -34,7 +34,8 @@ fn replaced(
 }
 
 impl<L: Language> SyntaxNode<L> {
-    /// The root of the tree with this node replaced by another of its kind. The cursor stays as it is.
+    /// The root of the tree with this node replaced by another of its kind. The cursor stays as it
+    /// is.
     pub fn replace_with(
         &self,
         alloc: Global,
@@ -69,7 +70,8 @@ fn token_replaced(
 }
 
 impl<L: Language> SyntaxToken<L> {
-    /// The root of the tree with this token replaced by another of its kind. The cursor stays as it is.
+    /// The root of the tree with this token replaced by another of its kind. The cursor stays as it
+    /// is.
     pub fn replace_with(
         &self,
         alloc: Global,

@@ -43,8 +43,8 @@ fn has_bytes(node: &GreenNode, skip: usize, bytes: &[u8]) -> bool
     left.is_empty()
 }
 
-/// A stretch of a node's text, read from its front: `left` bytes that begin `before` bytes after the
-/// begin of the child of number `index`.
+/// A stretch of a node's text, read from its front: `left` bytes that begin `before` bytes after
+/// the begin of the child of number `index`.
 #[derive(Drop)]
 struct Stretch<'a> {
     node: &'a GreenNode,
@@ -70,8 +70,8 @@ impl<'a> Stretch<'a> {
         }
     }
 
-    /// The element that the first byte left is in, once those before it are passed over; none where no
-    /// byte is left.
+    /// The element that the first byte left is in, once those before it are passed over; none where
+    /// no byte is left.
     fn head(&mut self) -> Option<&'a GreenElement>
         requires { IsStretch self.old }
         ensures passes { Passes 0 self.old self.new }
@@ -101,8 +101,8 @@ impl<'a> Stretch<'a> {
     }
 }
 
-/// Compares two tokens in which stretches begin, as far as both have bytes there, and passes what is
-/// the same.
+/// Compares two tokens in which stretches begin, as far as both have bytes there, and passes what
+/// is the same.
 fn same_tokens(
     a: &mut Stretch<'_>,
     here: &GreenToken,
@@ -169,9 +169,9 @@ fn same_front(a: &mut Stretch<'_>, b: &mut Stretch<'_>) -> bool
     }
 }
 
-/// Compares two elements in which stretches begin, as far as both have bytes there, and passes what is
-/// the same. Goes down in the longer node: the other stretch goes on from where it is, so that what
-/// lies within that node is not looked up again.
+/// Compares two elements in which stretches begin, as far as both have bytes there, and passes what
+/// is the same. Goes down in the longer node: the other stretch goes on from where it is, so that
+/// what lies within that node is not looked up again.
 #[cycle(same)]
 fn same_heads(
     a: &mut Stretch<'_>,
@@ -228,9 +228,9 @@ impl PartialEq for SyntaxText {
 
     ghost laws = { partial_equiv_from_equiv nat_list_eq_equiv };
 
-    /// Whether the two are the same text, however their trees cut it. Both are read side by side, each
-    /// byte once. A node that reaches past the end of one in the other tree is entered again there, and
-    /// its children before that are passed over by their lengths.
+    /// Whether the two are the same text, however their trees cut it. Both are read side by side,
+    /// each byte once. A node that reaches past the end of one in the other tree is entered again
+    /// there, and its children before that are passed over by their lengths.
     fn eq(&self, other: &SyntaxText) -> bool {
         let part = self.part();
         let there = other.part();

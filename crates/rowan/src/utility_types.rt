@@ -34,8 +34,8 @@ pub enum Direction {
     Prev,
 }
 
-/// The tokens at an offset: none, one, or two between which the offset lies. As an iterator it gives
-/// them in order.
+/// The tokens at an offset: none, one, or two between which the offset lies. As an iterator it
+/// gives them in order.
 #[derive(Clone, Debug, Drop)]
 pub enum TokenAtOffset<T> {
     None,
@@ -109,7 +109,8 @@ impl<T: Drop> Iterator for TokenAtOffset<T> {
     fn size_hint(&self) -> (usize, Option<usize>)
         ensures lower { IsWithinCount result.0 (at_most (length (listed self.now))) }
         ensures upper { IfSome result.1 (UpTo (at_most (length (listed self.now)))) }
-        ensures exact { (result.0 ≡ length (listed self.now)) × (result.1 ≡ Some (length (listed self.now))) }
+        ensures exact { (result.0 ≡ length (listed self.now))
+            × (result.1 ≡ Some (length (listed self.now))) }
     {
         let len = self.len();
         (len, Some(len))

@@ -9,7 +9,8 @@ use crate::cursor_step::{next_sibling_of, parent_of};
 use rowan_green::NodeOrToken;
 use std::alloc::{AllocError, Global};
 
-/// An element that is entered or left next, and how many levels it stands below the start of the walk.
+/// An element that is entered or left next, and how many levels it stands below the start of the
+/// walk.
 #[derive(Drop)]
 pub struct Step {
     pub element: SyntaxElement,
@@ -95,8 +96,8 @@ fn step_after_leaving(
     }
 }
 
-/// In place of the step that would enter this element: the step that leaves its parent, or none at the
-/// start of the walk.
+/// In place of the step that would enter this element: the step that leaves its parent, or none at
+/// the start of the walk.
 pub fn step_past(element: &SyntaxElement, depth: u64) -> Result<Option<Step>, AllocError>
     ensures { IfOk result (λ s. left_by s ≡ skipped 0 (left_at false element.now depth)) }
 {

@@ -9,7 +9,8 @@ use crate::language::Language;
 use std::hash::{Hash, Hasher};
 
 impl<L: Language> SyntaxNode<L> {
-    /// Whether the numbers among siblings, from the node up to its root, are those of another node, in whatever trees both stand.
+    /// Whether the numbers among siblings, from the node up to its root, are those of another node,
+    /// in whatever trees both stand.
     pub fn has_way_of(&self, other: &SyntaxNode<L>) -> bool
         ensures { result ≡ pointwise nat_eq self.now.up other.now.up }
     {
@@ -25,7 +26,8 @@ impl<L: Language> SyntaxNode<L> {
 }
 
 impl<L: Language> SyntaxToken<L> {
-    /// Whether the numbers among siblings, from the token up to its root, are those of another token, in whatever trees both stand.
+    /// Whether the numbers among siblings, from the token up to its root, are those of another
+    /// token, in whatever trees both stand.
     pub fn has_way_of(&self, other: &SyntaxToken<L>) -> bool
         ensures { result ≡ pointwise nat_eq self.now.up other.now.up }
     {

@@ -198,10 +198,7 @@ impl ElementList {
                 if offset < *half {
                     left.list().find(offset).further(0, 0)
                 } else {
-                    right
-                        .list()
-                        .find(offset - half)
-                        .further(left.len(), *half)
+                    right.list().find(offset - half).further(left.len(), *half)
                 }
             }
         }

@@ -12,11 +12,7 @@ use std::alloc::{AllocError, Global};
 use std::rc::Rc;
 
 /// The list above these two, which may lie below one fork.
-fn forked(
-    alloc: Global,
-    left: &Rc<Part>,
-    right: &Rc<Part>,
-) -> Result<Rc<Part>, AllocError>
+fn forked(alloc: Global, left: &Rc<Part>, right: &Rc<Part>) -> Result<Rc<Part>, AllocError>
     requires { CanJoin 1 left.now.value right.now.value }
     ensures { IfOk result (λ l. l.value ≡ join left.now.value right.now.value) }
 {
@@ -25,11 +21,7 @@ fn forked(
 }
 
 /// The list of both, of which the left one is higher by two.
-fn lean_left(
-    alloc: Global,
-    left: &Rc<Part>,
-    right: &Rc<Part>,
-) -> Result<Rc<Part>, AllocError>
+fn lean_left(alloc: Global, left: &Rc<Part>, right: &Rc<Part>) -> Result<Rc<Part>, AllocError>
     requires higher { left.now.value.1 ≡ right.now.value.1 + 2 }
     requires count { 8 ≤ length right.now.value.0 }
     requires fits { FitsNode (left.now.value.0 ++ right.now.value.0) }
@@ -53,11 +45,7 @@ fn lean_left(
 }
 
 /// The list of both, of which the right one is higher by two.
-fn lean_right(
-    alloc: Global,
-    left: &Rc<Part>,
-    right: &Rc<Part>,
-) -> Result<Rc<Part>, AllocError>
+fn lean_right(alloc: Global, left: &Rc<Part>, right: &Rc<Part>) -> Result<Rc<Part>, AllocError>
     requires higher { right.now.value.1 ≡ left.now.value.1 + 2 }
     requires count { 8 ≤ length left.now.value.0 }
     requires fits { FitsNode (left.now.value.0 ++ right.now.value.0) }
@@ -81,11 +69,7 @@ fn lean_right(
 }
 
 /// The list of both, whose heights differ by at most two.
-fn balanced(
-    alloc: Global,
-    left: &Rc<Part>,
-    right: &Rc<Part>,
-) -> Result<Rc<Part>, AllocError>
+fn balanced(alloc: Global, left: &Rc<Part>, right: &Rc<Part>) -> Result<Rc<Part>, AllocError>
     requires { CanJoin 2 left.now.value right.now.value }
     ensures terms { IfOk result (λ l. l.value.0 ≡ left.now.value.0 ++ right.now.value.0) }
     ensures height { IfOk result (λ l. IsJoinHeight left.now.value.1 right.now.value.1 l.value.1) }
@@ -117,11 +101,7 @@ fn in_blocks(alloc: Global, mut elements: Vec<GreenElement>) -> Result<Rc<Part>,
 }
 
 /// The list of both, each of which is a block.
-fn merged(
-    alloc: Global,
-    left: &Part,
-    right: &Part,
-) -> Result<Rc<Part>, AllocError>
+fn merged(alloc: Global, left: &Part, right: &Part) -> Result<Rc<Part>, AllocError>
     requires left { length left.now.0 ≤ 16 }
     requires right { length right.now.0 ≤ 16 }
     requires fits { FitsNode (left.now.0 ++ right.now.0) }
@@ -185,11 +165,7 @@ fn part_of_block(
 }
 
 /// The first elements of a list, so many.
-pub(crate) fn first(
-    alloc: Global,
-    list: &Rc<Part>,
-    count: usize,
-) -> Result<Rc<Part>, AllocError>
+pub(crate) fn first(alloc: Global, list: &Rc<Part>, count: usize) -> Result<Rc<Part>, AllocError>
     requires { count ≤ length list.now.value.0 }
     ensures { IfOk result (λ l. l.value.0 ≡ take count list.now.value.0) }
 {
@@ -208,11 +184,7 @@ pub(crate) fn first(
 }
 
 /// The elements of a list from this number on.
-pub(crate) fn last(
-    alloc: Global,
-    list: &Rc<Part>,
-    start: usize,
-) -> Result<Rc<Part>, AllocError>
+pub(crate) fn last(alloc: Global, list: &Rc<Part>, start: usize) -> Result<Rc<Part>, AllocError>
     requires { start ≤ length list.now.value.0 }
     ensures { IfOk result (λ l. l.value.0 ≡ drop start list.now.value.0) }
 {

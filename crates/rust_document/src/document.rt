@@ -41,8 +41,8 @@ pub const MAX_TEXT: usize = 16_777_216;
 pub struct Committed {
     /// The bytes of the new text that were put in, from front to end.
     pub changed: Vec<TextRange>,
-    /// The bytes of the new text of each annotated element that stands in the rewritten tree, with its annotation: by order of
-    /// annotation, then of the tree.
+    /// The bytes of the new text of each annotated element that stands in the rewritten tree, with
+    /// its annotation: by order of annotation, then of the tree.
     pub annotated: Vec<(TextRange, SyntaxAnnotation)>,
     /// How many looks at the tokens of the new text the parser made.
     pub steps: u64,
@@ -61,8 +61,8 @@ pub struct Edited {
     pub steps: u64,
 }
 
-/// A text with its edition, its tokens, its messages and its tree. A contract sees the edition, the text and the tree's number;
-/// tokens, messages and tree are the reading of that text.
+/// A text with its edition, its tokens, its messages and its tree. A contract sees the edition, the
+/// text and the tree's number; tokens, messages and tree are the reading of that text.
 #[derive(Drop)]
 pub struct Document {
     edition: Edition,
@@ -89,7 +89,8 @@ impl Model for Document {
 impl Document {
     /// Reads a text, and gives its tree the next number of `ids`.
     ///
-    /// Refuses a text of more than 16,777,216 bytes as too long, then for want of a tree number. A refusal takes no number.
+    /// Refuses a text of more than 16,777,216 bytes as too long, then for want of a tree number. A
+    /// refusal takes no number.
     pub fn open(
         alloc: Global,
         edition: Edition,
@@ -154,7 +155,8 @@ impl Document {
         Tokens::of(&self.tokens)
     }
 
-    /// The messages: the parser's in the order of its steps, then the lexer's in the order of the tokens.
+    /// The messages: the parser's in the order of its steps, then the lexer's in the order of the
+    /// tokens.
     pub fn errors(&self) -> &[SyntaxError]
         ensures { map message_of_error result.now ≡ messages self.now.edition (chars self.now.text) }
     {
@@ -170,9 +172,11 @@ impl Document {
             && text.is_char_boundary(usize::from(range.end()))
     }
 
-    /// Puts a text in the place of a range, reads the new text, and gives its tree the next number of `ids`.
+    /// Puts a text in the place of a range, reads the new text, and gives its tree the next number
+    /// of `ids`.
     ///
-    /// Refuses a new text of more than 16,777,216 bytes as too long, then for want of a tree number. A refusal changes nothing.
+    /// Refuses a new text of more than 16,777,216 bytes as too long, then for want of a tree
+    /// number. A refusal changes nothing.
     pub fn edit(
         &mut self,
         alloc: Global,
@@ -213,7 +217,8 @@ impl Document {
         })
     }
 
-    /// The first element in preorder that is of a kind and has a range: of several that have the range, the outermost.
+    /// The first element in preorder that is of a kind and has a range: of several that have the
+    /// range, the outermost.
     pub fn find(
         &self,
         alloc: Global,
@@ -241,13 +246,14 @@ impl Document {
             && *editor.root().cursor().green() == *self.root.cursor().green()
     }
 
-    /// Makes all changes of an editor at once, where the new text reads as the rewritten tree; the text is the rewritten tree's, and
-    /// its tree gets the next number of `ids`.
+    /// Makes all changes of an editor at once, where the new text reads as the rewritten tree; the
+    /// text is the rewritten tree's, and its tree gets the next number of `ids`.
     ///
-    /// Refuses, in this order, an editor of another tree, two changes that replace one element, a change in a replaced node that has
-    /// no place in what replaces it, a new text of more than 16,777,216 bytes (or a node of 2^32 children), and a text that does not
-    /// read as the rewritten tree, white space and comments aside; and for want of a tree number. A refusal changes nothing. The
-    /// editor is spent.
+    /// Refuses, in this order, an editor of another tree, two changes that replace one element, a
+    /// change in a replaced node that has no place in what replaces it, a new text of more than
+    /// 16,777,216 bytes (or a node of 2^32 children), and a text that does not read as the
+    /// rewritten tree, white space and comments aside; and for want of a tree number. A refusal
+    /// changes nothing. The editor is spent.
     pub fn commit(
         &mut self,
         alloc: Global,
@@ -288,7 +294,8 @@ impl Document {
         })
     }
 
-    /// Takes a text with its reading in the place of the present ones, and gives its tree the next number of `ids`.
+    /// Takes a text with its reading in the place of the present ones, and gives its tree the next
+    /// number of `ids`.
     fn renew(
         &mut self,
         alloc: Global,

@@ -120,7 +120,8 @@ pub enum CommitError {
     Intersecting = 2,
     /// A change in a replaced node has no place in what replaces it.
     MissingMapping = 3,
-    /// The new text has more than 16,777,216 bytes, or a node of the new tree 2^32 children or more.
+    /// The new text has more than 16,777,216 bytes, or a node of the new tree 2^32 children or
+    /// more.
     TooLong = 4,
     /// The new text does not read as the rewritten tree.
     Unfaithful = 5,

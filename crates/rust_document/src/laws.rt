@@ -14,42 +14,47 @@ pub fn leaves_are_slices()
     ensures { LeavesAreSlices }
 {}
 
-/// Documents of equal edition and text agree in tokens, messages and tree, whatever commands made them.
+/// Documents of equal edition and text agree in tokens, messages and tree, whatever commands made
+/// them.
 pub fn texts_decide()
     ensures { TextsDecide }
 {}
 
-/// In documents of equal edition and text a pointer leads to the same node. So it does after a refused command, which leaves both.
+/// In documents of equal edition and text a pointer leads to the same node. So it does after a
+/// refused command, which leaves both.
 pub fn pointers_follow_texts()
     ensures { PointersFollowTexts }
 {}
 
-/// An editor of the present tree with nothing recorded is accepted, and the text stays: so tokens, messages and tree do.
+/// An editor of the present tree with nothing recorded is accepted, and the text stays: so tokens,
+/// messages and tree do.
 pub fn untouched_is_kept()
     ensures { UntouchedIsKept }
 {}
 
-/// Two texts with equal input, of whose floats those at equal places both hold a dot or both do not, have trees of equal kinds and
-/// nesting, white space and comments aside.
+/// Two texts with equal input, of whose floats those at equal places both hold a dot or both do
+/// not, have trees of equal kinds and nesting, white space and comments aside.
 pub fn kinds_follow_inputs()
     ensures { KindsFollowInputs }
 {}
 
-/// In a document without messages each token tree begins with an opening bracket and ends with its partner.
+/// In a document without messages each token tree begins with an opening bracket and ends with its
+/// partner.
 pub fn token_trees_are_closed()
     ensures { TokenTreesAreClosed }
 {}
 
-/// In a document without messages a right operand that is a binary expression binds more tightly than the operator before it,
-/// unless that is an assignment; a left one binds no less tightly than the operator after it, and is no assignment. Some trees
-/// where that is so are told from some where it is not.
+/// In a document without messages a right operand that is a binary expression binds more tightly
+/// than the operator before it, unless that is an assignment; a left one binds no less tightly than
+/// the operator after it, and is no assignment. Some trees where that is so are told from some
+/// where it is not.
 pub fn operators_bind_by_power()
     ensures documents { OperatorsBindByPower }
     ensures told { PlacedOperatorsAreTold }
 {}
 
-/// After an edit, the one that puts the old bytes back can be made, and gives the old text: so tokens, messages and tree are the
-/// old ones.
+/// After an edit, the one that puts the old bytes back can be made, and gives the old text: so
+/// tokens, messages and tree are the old ones.
 pub fn edits_are_undone()
     ensures { EditsAreUndone }
 {}

@@ -26,11 +26,12 @@ pub enum PayloadEntry {
     Token,
 }
 
-/// Reads a text to be put in the place of an element: the tree of an entry, or a token in a tree of its own, with the next
-/// number of `ids`.
+/// Reads a text to be put in the place of an element: the tree of an entry, or a token in a tree of
+/// its own, with the next number of `ids`.
 ///
-/// Refuses a text of more than 16,777,216 bytes as too long, then a text about which there is a message, then as a token a text
-/// that is not one, then for want of a tree number. In a token no shebang and no frontmatter is read. A refusal takes no number.
+/// Refuses a text of more than 16,777,216 bytes as too long, then a text about which there is a
+/// message, then as a token a text that is not one, then for want of a tree number. In a token no
+/// shebang and no frontmatter is read. A refusal takes no number.
 pub fn payload(
     alloc: Global,
     entry: PayloadEntry,

@@ -24,8 +24,8 @@ use rowan_green::GreenNode;
 use rustc_lexer::strip_shebang;
 use std::alloc::{AllocError, Global};
 
-/// The tokens, the tree and the messages of a text, how many of the tokens stand after its preface, and how many looks at them the
-/// parser made.
+/// The tokens, the tree and the messages of a text, how many of the tokens stand after its preface,
+/// and how many looks at them the parser made.
 #[derive(Drop)]
 pub struct Reading {
     pub tokens: Vec<LexedToken>,

@@ -19,7 +19,8 @@ use std::alloc::{AllocError, Global};
 use syntax_editor::{SyntaxAnnotation, SyntaxEditor};
 use syntax_tree::{SyntaxElement, SyntaxNode, TreeIds};
 
-/// The text of a rewritten tree, with its reading, the bytes of it that were put in, and those of annotated elements.
+/// The text of a rewritten tree, with its reading, the bytes of it that were put in, and those of
+/// annotated elements.
 #[derive(Drop)]
 pub struct Rewritten {
     pub text: String,
@@ -66,7 +67,8 @@ fn ranges_of(
     Ok(ranges)
 }
 
-/// The bytes of the annotated elements that stand in the rewritten tree of an editor, whose elements have these origins in preorder.
+/// The bytes of the annotated elements that stand in the rewritten tree of an editor, whose
+/// elements have these origins in preorder.
 fn annotated_ranges(
     alloc: Global,
     editor: &SyntaxEditor,

@@ -114,8 +114,8 @@ pub(crate) struct Built {
     pub errors: Vec<SyntaxError>,
 }
 
-/// Builds the tree of a text from the parser's steps over its tokens. White space and comments go where the steps and the
-/// leaves say.
+/// Builds the tree of a text from the parser's steps over its tokens. White space and comments go
+/// where the steps and the leaves say.
 ///
 /// # Errors
 ///

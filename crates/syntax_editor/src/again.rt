@@ -13,9 +13,11 @@ use std::alloc::{AllocError, Global};
 use syntax_tree::{SyntaxElement, SyntaxNode};
 
 impl SyntaxEditor {
-    /// The annotated elements that stand in the rewritten tree, each with its annotation: an element is followed by the mapping to its
-    /// end, and found at each element that was copied from there; by order of annotation, then of the tree. The root is that of the
-    /// edited tree with all recorded changes made, and these are the origins of its elements in preorder, as `rewritten` gives both.
+    /// The annotated elements that stand in the rewritten tree, each with its annotation: an
+    /// element is followed by the mapping to its end, and found at each element that was copied
+    /// from there; by order of annotation, then of the tree. The root is that of the edited tree
+    /// with all recorded changes made, and these are the origins of its elements in preorder, as
+    /// `rewritten` gives both.
     pub fn annotated_in(
         &self,
         alloc: Global,

@@ -14,8 +14,8 @@ pub struct SyntaxAnnotation {
     pub(crate) number: u32,
 }
 
-/// A source of marks, which gives each number once, from 1 to 4,294,967,295. A contract sees the number that is next, 2^32 where
-/// none is left.
+/// A source of marks, which gives each number once, from 1 to 4,294,967,295. A contract sees the
+/// number that is next, 2^32 where none is left.
 #[derive(Debug, Drop)]
 pub struct Annotations {
     next: u64,
@@ -39,7 +39,8 @@ impl Annotations {
         Annotations { next: 1 }
     }
 
-    /// The next mark, which is never given again. Refuses where none is left, and changes nothing then.
+    /// The next mark, which is never given again. Refuses where none is left, and changes nothing
+    /// then.
     pub fn next(&mut self) -> Result<SyntaxAnnotation, Spent>
         ensures given { IfOk result (λ a. (a.number ≡ self.old) × (self.new ≡ self.old + 1)) }
         ensures spent { IfErr result (λ _. (self.old ≡ 2 ^ 32) × (self.new ≡ self.old)) }

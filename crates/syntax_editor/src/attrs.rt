@@ -98,7 +98,8 @@ impl SyntaxEditor {
         mem::swap(self, &mut other);
     }
 
-    /// Records that each of these is deleted, in their order. After a refusal some deletions are recorded.
+    /// Records that each of these is deleted, in their order. After a refusal some deletions are
+    /// recorded.
     fn delete_each(&mut self, alloc: Global, elements: &[SyntaxElement]) -> Result<(), RecordError>
         ensures recorded { OnOk result (deleting_each self.old (map element_of elements.now) ≡ Recorded self.new.changes) }
         ensures rest { OnOk result (self.new ≡ with_changes self.old self.new.changes) }
@@ -110,7 +111,8 @@ impl SyntaxEditor {
         Ok(())
     }
 
-    /// The same changes in an editor of their own, in which each of these is deleted, in their order.
+    /// The same changes in an editor of their own, in which each of these is deleted, in their
+    /// order.
     fn draft_without(
         &self,
         alloc: Global,
@@ -133,7 +135,8 @@ impl SyntaxEditor {
         Ok(target(alloc, &self.root, &element)?.is_some())
     }
 
-    /// Records that the attributes and comments among the children of a node are deleted, and the white space right after them.
+    /// Records that the attributes and comments among the children of a node are deleted, and the
+    /// white space right after them.
     fn remove_attrs(&mut self, alloc: Global, node: &SyntaxNode) -> Result<(), RecordError>
         ensures recorded { OnOk result (removing_attrs self.old node.now ≡ Recorded self.new.changes) }
         ensures rest { OnOk result (self.new ≡ with_changes self.old self.new.changes) }
@@ -152,8 +155,9 @@ impl SyntaxEditor {
 
 /// Typed nodes lose their attributes and their documentation.
 pub trait AttrsOwnerEdit: HasAttrs {
-    /// Records on an editor that each attribute and each comment among the children of the node is deleted, and white space right after
-    /// one of those, each as `SyntaxEditor::delete` does. Refuses a node of another tree as `Foreign`. A refusal records nothing.
+    /// Records on an editor that each attribute and each comment among the children of the node is
+    /// deleted, and white space right after one of those, each as `SyntaxEditor::delete` does.
+    /// Refuses a node of another tree as `Foreign`. A refusal records nothing.
     fn remove_attrs_and_docs(
         &self,
         alloc: Global,

@@ -81,7 +81,8 @@ impl SyntaxEdit {
         &self.new_root
     }
 
-    /// The bytes of the new text that were put in by changes that lie in no other, in the order of the tree.
+    /// The bytes of the new text that were put in by changes that lie in no other, in the order of
+    /// the tree.
     pub fn changed(&self) -> &[TextRange]
         ensures { map bounds result.now ≡ self.now.changed }
     {
@@ -95,14 +96,16 @@ impl SyntaxEdit {
         &self.origins
     }
 
-    /// The elements of the new tree that were put in by changes that lie in no other, in the order of the tree. A deletion has none.
+    /// The elements of the new tree that were put in by changes that lie in no other, in the order
+    /// of the tree. A deletion has none.
     pub fn changed_elements(&self) -> &[SyntaxElement]
         ensures { map element_of result.now ≡ self.now.changed_elements }
     {
         &self.changed_elements
     }
 
-    /// The elements of the new tree that come from annotated ones, each with its annotation: by order of annotation, then of the tree.
+    /// The elements of the new tree that come from annotated ones, each with its annotation: by
+    /// order of annotation, then of the tree.
     pub fn annotated(&self) -> &[(SyntaxElement, SyntaxAnnotation)]
         ensures { map inside.annotated result.now ≡ self.now.annotated }
     {
@@ -126,7 +129,8 @@ pub(crate) struct Told {
 }
 
 impl Told {
-    /// What is told of the elements of the tree of a root, of which these are the origins, and which were put in as told, in preorder.
+    /// What is told of the elements of the tree of a root, of which these are the origins, and
+    /// which were put in as told, in preorder.
     pub(crate) fn of(
         alloc: Global,
         mapping: &SyntaxMapping,
@@ -137,7 +141,8 @@ impl Told {
     ) -> Result<Told, AllocError>
         ensures changed { (m : Marked) → ArePutMarks m root.now put.now → IfOk result
             (λ t. map element_of t.changed_elements.items ≡ map (element_at root.now.number root.now.place.root) (changed m)) }
-        ensures annotated { (m : Marked) → AreOrigins m root.now (map element_of origins.now) → IfOk result
+        ensures annotated { (m : Marked) → AreOrigins m root.now (map element_of origins.now)
+            → IfOk result
             (λ t. elements_of t.annotated.items ≡ elements_at root.now (annotated mapping.now (elements_of annotations.now) m)) }
         ensures groups { IfOk result (λ t. (n : ℕ) →
             map element_of (group_of t.groups n) ≡ of_annotation n (map inside.annotated t.annotated.items)) }
@@ -154,10 +159,12 @@ impl Told {
 }
 
 impl SyntaxEditor {
-    /// The edit, whose new tree gets the next number of `ids`: with all recorded changes made at once.
+    /// The edit, whose new tree gets the next number of `ids`: with all recorded changes made at
+    /// once.
     ///
-    /// Refuses, in this order, as `Intersecting` where two changes replace one element, as `MissingMapping` where a change in a node that is
-    /// replaced by a node has no place in that, and as `TooLong`; and for want of a tree number. A refusal takes no number.
+    /// Refuses, in this order, as `Intersecting` where two changes replace one element, as
+    /// `MissingMapping` where a change in a node that is replaced by a node has no place in that,
+    /// and as `TooLong`; and for want of a tree number. A refusal takes no number.
     pub fn finish(self, alloc: Global, ids: &mut TreeIds) -> Result<SyntaxEdit, FinishError>
         ensures placeable { OnOk result (IsPlaceable self) }
         ensures finished { IfOk result (λ r. IsFinished self ids.old r) }

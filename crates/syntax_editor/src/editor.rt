@@ -25,15 +25,16 @@ use syntax_tree::{SyntaxElement, SyntaxMapping, SyntaxNode, TreeError, TreeIds};
 use tree_rewrite::change::Change;
 use tree_rewrite::way_map::{WayMap, number_at};
 
-/// What is recorded on a tree. A contract sees the root of the tree; and the changes, the mapped nodes and the annotated elements in
-/// the order in which they were recorded.
+/// What is recorded on a tree. A contract sees the root of the tree; and the changes, the mapped
+/// nodes and the annotated elements in the order in which they were recorded.
 #[derive(Drop)]
 pub struct SyntaxEditor {
     pub(crate) root: SyntaxNode,
     pub(crate) changes: Vec<Change>,
     pub(crate) mapping: SyntaxMapping,
     pub(crate) annotations: Vec<(SyntaxElement, SyntaxAnnotation)>,
-    /// The numbers of the first changes of elements that were named alone, by the ways of these: of the first `noted` changes.
+    /// The numbers of the first changes of elements that were named alone, by the ways of these: of
+    /// the first `noted` changes.
     pub(crate) singles: WayMap,
     pub(crate) noted: usize,
 }
@@ -81,8 +82,9 @@ impl SyntaxEditor {
         }
     }
 
-    /// An editor of the tree of a node, with nothing recorded, and the root of that. A root is edited in its own tree; an inner node is
-    /// cloned into a tree of its own, which gets the next number of `ids`. A refusal may have taken that number.
+    /// An editor of the tree of a node, with nothing recorded, and the root of that. A root is
+    /// edited in its own tree; an inner node is cloned into a tree of its own, which gets the next
+    /// number of `ids`. A refusal may have taken that number.
     pub fn new(
         alloc: Global,
         node: SyntaxNode,
@@ -188,7 +190,8 @@ impl SyntaxEditor {
         Ok(number_at(&self.singles, way))
     }
 
-    /// An element of the tree, named alone, becomes these: in the place of what was recorded for it alone, unless that is a deletion.
+    /// An element of the tree, named alone, becomes these: in the place of what was recorded for it
+    /// alone, unless that is a deletion.
     pub(crate) fn put_alone(
         &mut self,
         alloc: Global,

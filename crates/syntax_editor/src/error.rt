@@ -8,7 +8,8 @@ use tree_rewrite::error::PlanError;
 /// Why a change was not recorded. The editor is as it was.
 #[derive(Clone, Copy, Debug, PartialEq, Eq)]
 pub enum RecordError {
-    /// An element or a position is not one of the edited tree: another tree number, or no element of that kind stands there.
+    /// An element or a position is not one of the edited tree: another tree number, or no element
+    /// of that kind stands there.
     Foreign = 1,
     /// The ends are no children of one parent, in order.
     BadRange = 2,

@@ -21,8 +21,8 @@ pub struct SyntaxFactory;
 pub(crate) static FACTORY: SyntaxFactory = SyntaxFactory;
 
 impl SyntaxFactory {
-    /// White space in a tree of its own, whose number is the next of `ids`. Refuses a text of 2^32 bytes or more as too long, then for
-    /// want of a number. A refusal takes no number.
+    /// White space in a tree of its own, whose number is the next of `ids`. Refuses a text of 2^32
+    /// bytes or more as too long, then for want of a number. A refusal takes no number.
     pub fn whitespace(
         &self,
         alloc: Global,
@@ -38,8 +38,8 @@ impl SyntaxFactory {
         self.token(alloc, SyntaxKind::WHITESPACE, text, ids)
     }
 
-    /// A token in a tree of its own, whose number is the next of `ids`. Refuses a text of 2^32 bytes or more as too long, then for want of
-    /// a number. A refusal takes no number.
+    /// A token in a tree of its own, whose number is the next of `ids`. Refuses a text of 2^32
+    /// bytes or more as too long, then for want of a number. A refusal takes no number.
     pub fn token(
         &self,
         alloc: Global,

@@ -18,7 +18,8 @@ fn is_like(node: &SyntaxNode, old: &SyntaxNode) -> bool
 }
 
 impl SyntaxEdit {
-    /// The first node of the new tree in preorder that has an old node's kind and begins where that does.
+    /// The first node of the new tree in preorder that has an old node's kind and begins where that
+    /// does.
     pub fn find_element(
         &self,
         alloc: Global,

@@ -28,8 +28,9 @@ impl IndentLevel {
         self.0 == 0
     }
 
-    /// How far the line is set in on which a token stands: the first white space with a line feed, from the token itself backwards through
-    /// the tree, has a step for every four characters after its last line feed. Without such white space no step.
+    /// How far the line is set in on which a token stands: the first white space with a line feed,
+    /// from the token itself backwards through the tree, has a step for every four characters after
+    /// its last line feed. Without such white space no step.
     pub fn from_token(alloc: Global, token: &SyntaxToken) -> Result<IndentLevel, AllocError>
         ensures { IfOk result (λ level. level.0 ≡ level_at token.now.place) }
     {

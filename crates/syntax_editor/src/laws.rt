@@ -3,8 +3,8 @@ ghost use Rattle.syntax_editor.specs.Laws.{SwapsAgree, VerdictsStay, CallsAgree}
 
 use tree_rewrite::laws;
 
-/// Two neighbouring changes that do not both put into one gap may be recorded in either order: neither why there is no tree nor the tree
-/// depends on it.
+/// Two neighbouring changes that do not both put into one gap may be recorded in either order:
+/// neither why there is no tree nor the tree depends on it.
 pub fn swaps_agree()
     ensures { SwapsAgree }
 {
@@ -16,8 +16,9 @@ pub fn verdicts_stay()
     ensures { VerdictsStay }
 {}
 
-/// Two calls that record, one after another, may be made in either order, whichever calls follow and whatever is merged after that,
-/// unless both put into one gap or both name one element alone: neither why there is no tree nor the tree depends on it.
+/// Two calls that record, one after another, may be made in either order, whichever calls follow
+/// and whatever is merged after that, unless both put into one gap or both name one element alone:
+/// neither why there is no tree nor the tree depends on it.
 pub fn calls_agree()
     ensures { CallsAgree }
 {

@@ -1,6 +1,7 @@
 //! Changes recorded on a numbered tree, and the tree with all of them made at once.
 //!
-//! An editor only records: its tree stays as it is. What is put in may be of any tree, and is taken as it stands there.
+//! An editor only records: its tree stays as it is. What is put in may be of any tree, and is taken
+//! as it stands there.
 #![tactic(auto)]
 
 pub mod again;

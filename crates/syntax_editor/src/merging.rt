@@ -42,8 +42,9 @@ impl SyntaxEditor {
         Ok(())
     }
 
-    /// Takes over what another editor of the same tree has recorded, after all that this one has. Refuses one of another tree, by its
-    /// number or by what stands in it, as `Foreign`. A refusal changes nothing, and hands the other editor back.
+    /// Takes over what another editor of the same tree has recorded, after all that this one has.
+    /// Refuses one of another tree, by its number or by what stands in it, as `Foreign`. A refusal
+    /// changes nothing, and hands the other editor back.
     pub fn merge(&mut self, other: SyntaxEditor) -> Result<(), Unmerged>
         ensures ok { OnOk result (self.new ≡ merged self.old other) }
         ensures same { OnOk result (IsOf self.old.top other.top) }

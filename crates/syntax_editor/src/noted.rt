@@ -13,7 +13,8 @@ use std::alloc::{AllocError, Global};
 use tree_rewrite::change::Change;
 use tree_rewrite::way_map::{WayMap, number_at, put};
 
-/// Whether a deletion of the element at a way, named alone, is among changes of which so many are noted.
+/// Whether a deletion of the element at a way, named alone, is among changes of which so many are
+/// noted.
 pub(crate) fn is_deleted(
     alloc: Global,
     way: &[usize],
@@ -37,7 +38,8 @@ fn note(
     number: usize,
     singles: &mut WayMap,
 ) -> Result<(), AllocError>
-    ensures ok { OnOk result ((cs : List specs.Change) → length cs ≡ number → HasSingles singles.old cs →
+    ensures ok { OnOk result ((cs : List specs.Change) → length cs ≡ number
+        → HasSingles singles.old cs →
         HasSingles singles.new (cs ++ recorded change.now ∷ [])) }
     ensures err { OnErr result ((w : Way) → number_at singles.new w ≡ number_at singles.old w) }
 {

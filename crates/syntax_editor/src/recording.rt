@@ -22,8 +22,8 @@ struct Row {
 }
 
 impl SyntaxEditor {
-    /// Records that an element comes into a gap, before what was put there earlier. Refuses a position that is none of the edited tree
-    /// as `Foreign`, and records nothing then.
+    /// Records that an element comes into a gap, before what was put there earlier. Refuses a
+    /// position that is none of the edited tree as `Foreign`, and records nothing then.
     pub fn insert(
         &mut self,
         alloc: Global,
@@ -41,8 +41,8 @@ impl SyntaxEditor {
         self.insert_all(alloc, position, new)
     }
 
-    /// Records that elements come into a gap, in this order, before what was put there earlier. Refuses a position that is none of the
-    /// edited tree as `Foreign`, and records nothing then.
+    /// Records that elements come into a gap, in this order, before what was put there earlier.
+    /// Refuses a position that is none of the edited tree as `Foreign`, and records nothing then.
     pub fn insert_all(
         &mut self,
         alloc: Global,
@@ -67,8 +67,9 @@ impl SyntaxEditor {
         Ok(())
     }
 
-    /// Records that an element is deleted, in the place of its replacement by one element, if one is recorded. Refuses an element of
-    /// another tree as `Foreign`, then the root as `BadTarget`. A refusal records nothing.
+    /// Records that an element is deleted, in the place of its replacement by one element, if one
+    /// is recorded. Refuses an element of another tree as `Foreign`, then the root as `BadTarget`.
+    /// A refusal records nothing.
     pub fn delete(&mut self, alloc: Global, element: &SyntaxElement) -> Result<(), RecordError>
         ensures recorded { OnOk result (replacing self.old (element_of element.now) [] ≡ Recorded self.new.changes) }
         ensures rest { OnOk result (self.new ≡ with_changes self.old self.new.changes) }
@@ -78,9 +79,9 @@ impl SyntaxEditor {
         self.put_for(alloc, element, Vec::new(alloc))
     }
 
-    /// Records that an element is replaced by another one, in the place of its earlier replacement by one element, if one is recorded; a
-    /// recorded deletion stays. Refuses an element of another tree as `Foreign`, then a token for the root as `BadTarget`. A refusal
-    /// records nothing.
+    /// Records that an element is replaced by another one, in the place of its earlier replacement
+    /// by one element, if one is recorded; a recorded deletion stays. Refuses an element of another
+    /// tree as `Foreign`, then a token for the root as `BadTarget`. A refusal records nothing.
     pub fn replace(
         &mut self,
         alloc: Global,
@@ -121,8 +122,8 @@ impl SyntaxEditor {
         Ok(())
     }
 
-    /// Records that an element is replaced by elements, or by none. Refuses an element of another tree as `Foreign`, then the root as
-    /// `BadTarget`. A refusal records nothing.
+    /// Records that an element is replaced by elements, or by none. Refuses an element of another
+    /// tree as `Foreign`, then the root as `BadTarget`. A refusal records nothing.
     pub fn replace_with_many(
         &mut self,
         alloc: Global,
@@ -153,8 +154,8 @@ impl SyntaxEditor {
         Ok(())
     }
 
-    /// The row of siblings of the edited tree from one to another, none where both are one. Refuses an element of another tree as
-    /// `Foreign`, then what is no row as `BadRange`.
+    /// The row of siblings of the edited tree from one to another, none where both are one. Refuses
+    /// an element of another tree as `Foreign`, then what is no row as `BadRange`.
     fn row(
         &self,
         alloc: Global,
@@ -203,8 +204,9 @@ impl SyntaxEditor {
         })
     }
 
-    /// Records that a row of siblings is replaced by elements, or by none; where both ends are one, as `replace_with_many` does. Refuses an
-    /// element of another tree as `Foreign`, then what is no row as `BadRange`. A refusal records nothing.
+    /// Records that a row of siblings is replaced by elements, or by none; where both ends are one,
+    /// as `replace_with_many` does. Refuses an element of another tree as `Foreign`, then what is
+    /// no row as `BadRange`. A refusal records nothing.
     pub fn replace_all(
         &mut self,
         alloc: Global,
@@ -225,8 +227,9 @@ impl SyntaxEditor {
         }
     }
 
-    /// Records that a row of siblings is deleted; where both ends are one, as `delete` does. Refuses an element of another tree as
-    /// `Foreign`, then what is no row as `BadRange`. A refusal records nothing.
+    /// Records that a row of siblings is deleted; where both ends are one, as `delete` does.
+    /// Refuses an element of another tree as `Foreign`, then what is no row as `BadRange`. A
+    /// refusal records nothing.
     pub fn delete_all(
         &mut self,
         alloc: Global,

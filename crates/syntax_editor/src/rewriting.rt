@@ -19,11 +19,12 @@ use tree_rewrite::error::ExecuteError;
 use tree_rewrite::plan::{Plan, Rewritten};
 
 impl SyntaxEditor {
-    /// The tree with all recorded changes made at once, what changed in it, where each of its elements came from, and which were put
-    /// in.
+    /// The tree with all recorded changes made at once, what changed in it, where each of its
+    /// elements came from, and which were put in.
     ///
-    /// Refuses, in this order, as `Intersecting` where two changes replace one element, as `MissingMapping` where a change in a node that is
-    /// replaced by a node has no place in that, and as `TooLong`.
+    /// Refuses, in this order, as `Intersecting` where two changes replace one element, as
+    /// `MissingMapping` where a change in a node that is replaced by a node has no place in that,
+    /// and as `TooLong`.
     pub fn rewritten(&self, alloc: Global) -> Result<Rewritten, RewriteError>
         ensures placeable { OnOk result (IsPlaceable self.now) }
         ensures green { IfOk result (λ r. IsNode (rewriting self.now) r.green) }
@@ -38,7 +39,8 @@ impl SyntaxEditor {
     }
 }
 
-/// The tree of a root with changes made at once, what changed in it, and where each of its elements came from.
+/// The tree of a root with changes made at once, what changed in it, and where each of its elements
+/// came from.
 pub(crate) fn made(
     alloc: Global,
     root: &SyntaxNode,

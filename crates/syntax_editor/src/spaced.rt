@@ -130,7 +130,8 @@ fn space_after_all(
     }
 }
 
-/// The token of white space, in a tree of its own under the next number; no token of nothing. Refuses for want of a number.
+/// The token of white space, in a tree of its own under the next number; no token of nothing.
+/// Refuses for want of a number.
 fn token_of(
     alloc: Global,
     space: Space,
@@ -151,7 +152,8 @@ fn token_of(
     Ok(vec![in alloc; SyntaxElement::Token(token)]?)
 }
 
-/// Elements with the white space around them that belongs there in a gap of this number. Refuses for want of a number.
+/// Elements with the white space around them that belongs there in a gap of this number. Refuses
+/// for want of a number.
 fn spaced(
     alloc: Global,
     parent: &SyntaxNode,
@@ -199,10 +201,11 @@ impl SyntaxEditor {
         self.insert_all_with_whitespace(alloc, position, new, ids)
     }
 
-    /// Records that elements come into a gap, in this order, with the white space that belongs between them and their neighbours there: a
-    /// token before the first of them and one after the last, where any belongs there, in trees of their own under the next numbers
-    /// of `ids`. Refuses a position that is none of the edited tree as `Foreign`, then for want of a tree number. A refusal records nothing,
-    /// but may have taken a number.
+    /// Records that elements come into a gap, in this order, with the white space that belongs
+    /// between them and their neighbours there: a token before the first of them and one after the
+    /// last, where any belongs there, in trees of their own under the next numbers of `ids`.
+    /// Refuses a position that is none of the edited tree as `Foreign`, then for want of a tree
+    /// number. A refusal records nothing, but may have taken a number.
     pub fn insert_all_with_whitespace(
         &mut self,
         alloc: Global,

@@ -30,7 +30,8 @@ fn same_kind(one: &SyntaxElement, other: &SyntaxElement) -> bool
     raw_kind(one) == raw_kind(other)
 }
 
-/// The element of a root's tree that a handle names: it has that tree's number, and its way leads to an element of its kind there.
+/// The element of a root's tree that a handle names: it has that tree's number, and its way leads
+/// to an element of its kind there.
 pub(crate) fn target(
     alloc: Global,
     root: &SyntaxNode,
@@ -74,7 +75,8 @@ pub(crate) fn are_in_order(first: &[usize], last: &[usize]) -> bool
     }
 }
 
-/// The element that a position stands after, the parent where it stands before all children; none where the parent has no such child.
+/// The element that a position stands after, the parent where it stands before all children; none
+/// where the parent has no such child.
 fn anchor(alloc: Global, position: &Position) -> Result<Option<SyntaxElement>, AllocError>
     ensures { IfOk result (λ r. option_map element_of r ≡ standing (anchor position.now.parent position.now.index)) }
 {

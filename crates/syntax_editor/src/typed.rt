@@ -8,9 +8,9 @@ use std::alloc::Global;
 use syntax_tree::{AstNode, TreeError, TreeIds};
 
 impl SyntaxEditor {
-    /// An editor of the tree of a typed node, with nothing recorded, and the root of that, of the same type. A root is edited in its
-    /// own tree; an inner node is cloned into a tree of its own, which gets the next number of `ids`. A refusal may have taken that
-    /// number.
+    /// An editor of the tree of a typed node, with nothing recorded, and the root of that, of the
+    /// same type. A root is edited in its own tree; an inner node is cloned into a tree of its own,
+    /// which gets the next number of `ids`. A refusal may have taken that number.
     pub fn with_ast_node<T: AstNode>(
         alloc: Global,
         node: &T,

@@ -12,7 +12,8 @@ use parser_input::SyntaxKind;
 use rowan_green::{GreenElement, NodeOrToken, TextRange};
 use std::alloc::{AllocError, Global};
 
-/// A node or a token of a numbered tree. Two are equal where both are nodes, or both tokens, of one tree number and one way.
+/// A node or a token of a numbered tree. Two are equal where both are nodes, or both tokens, of one
+/// tree number and one way.
 #[derive(PartialEq, Eq, Hash, Drop)]
 pub enum SyntaxElement {
     Node(SyntaxNode),
@@ -228,7 +229,8 @@ pub trait Element: Sized {
     /// The element.
     ghost element: { Self → SyntaxElement };
 
-    /// The element. A reference is cloned, which is refused only where as many clones stand as a `usize` can count.
+    /// The element. A reference is cloned, which is refused only where as many clones stand as a
+    /// `usize` can count.
     fn syntax_element(self) -> Result<SyntaxElement, AllocError>
         ensures { IfOk result (λ e. e ≡ element self) };
 }

@@ -42,8 +42,9 @@ impl SyntaxElement {
 }
 
 impl SyntaxNode {
-    /// The first element in preorder that is of a kind and has a range, at and below this node: of several that have the range,
-    /// the outermost. Elements whose range does not contain this one are not gone into.
+    /// The first element in preorder that is of a kind and has a range, at and below this node: of
+    /// several that have the range, the outermost. Elements whose range does not contain this one
+    /// are not gone into.
     pub fn find(
         &self,
         alloc: Global,

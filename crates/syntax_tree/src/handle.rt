@@ -82,7 +82,8 @@ impl SyntaxNode {
         })
     }
 
-    /// The same node as the root of a tree of its own, which gets the next number of `ids`. A refusal takes no number.
+    /// The same node as the root of a tree of its own, which gets the next number of `ids`. A
+    /// refusal takes no number.
     pub fn clone_subtree(&self, alloc: Global, ids: &mut TreeIds) -> Result<SyntaxNode, TreeError>
         ensures ok { IfOk result (λ n. (g : Tree) × (term_of self.now ≡ Some (terms.Node g))
             × (n ≡ element_at ids.old g [])) }
@@ -192,8 +193,8 @@ impl SyntaxToken {
         SyntaxToken { tree, cursor }
     }
 
-    /// A token in a tree of its own, whose number is the next of `ids`: the only child of a root of kind `TOMBSTONE`. A refusal
-    /// takes no number.
+    /// A token in a tree of its own, whose number is the next of `ids`: the only child of a root of
+    /// kind `TOMBSTONE`. A refusal takes no number.
     pub fn detached(
         alloc: Global,
         green: GreenToken,

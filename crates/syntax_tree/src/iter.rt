@@ -142,7 +142,8 @@ impl Iterator for SyntaxElementChildren {
     }
 }
 
-/// A node and all elements below it, each before those below it. A contract sees the events of the walk that are left.
+/// A node and all elements below it, each before those below it. A contract sees the events of the
+/// walk that are left.
 #[derive(Drop)]
 pub struct DescendantsWithTokens {
     tree: u32,

@@ -1,7 +1,7 @@
 //! Nodes and tokens of numbered trees, over `rowan`'s cursors.
 //!
-//! A contract sees one as the number of its tree and the place at which it stands: a root term, and the way up to the root. A
-//! cursor is lent for all other reading.
+//! A contract sees one as the number of its tree and the place at which it stands: a root term, and
+//! the way up to the root. A cursor is lent for all other reading.
 #![tactic(auto)]
 
 pub mod ast;

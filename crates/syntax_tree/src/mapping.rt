@@ -11,8 +11,9 @@ use crate::handle::SyntaxNode;
 use std::alloc::{AllocError, Global};
 use std::marker::Model;
 
-/// Nodes and those that stand for them in trees of greater numbers. Where a node has several, the one that was recorded last counts.
-/// A contract sees the entries in the order in which they were recorded.
+/// Nodes and those that stand for them in trees of greater numbers. Where a node has several, the
+/// one that was recorded last counts. A contract sees the entries in the order in which they were
+/// recorded.
 #[derive(Drop)]
 pub struct SyntaxMapping {
     entries: Vec<(SyntaxNode, SyntaxNode)>,
@@ -72,7 +73,8 @@ impl SyntaxMapping {
         self.entries.append(&mut entries)
     }
 
-    /// Takes the entries of another mapping, as if recorded after this one's, and leaves none there. A refusal changes neither.
+    /// Takes the entries of another mapping, as if recorded after this one's, and leaves none
+    /// there. A refusal changes neither.
     pub fn append(&mut self, other: &mut SyntaxMapping) -> Result<(), AllocError>
         ensures ok { OnOk result (self.new ≡ self.old ++ other.old) }
         ensures emptied { OnOk result (other.new ≡ []) }
@@ -128,8 +130,9 @@ impl SyntaxMappingBuilder {
         })
     }
 
-    /// The output stands for the input. Refuses as `NotChild` where the output is no child of the parent, else as `Order` where the
-    /// number of its tree is not greater than that of the input's. A refusal changes nothing.
+    /// The output stands for the input. Refuses as `NotChild` where the output is no child of the
+    /// parent, else as `Order` where the number of its tree is not greater than that of the
+    /// input's. A refusal changes nothing.
     pub fn map_node(
         &mut self,
         alloc: Global,
@@ -151,8 +154,9 @@ impl SyntaxMappingBuilder {
         Ok(())
     }
 
-    /// Each output stands for the input of its number; outputs past the inputs are not looked at. Refuses as `NotChild` where an output
-    /// is no child of the parent, else as `MoreInputs`, else as `Order` as for one. A refusal records nothing.
+    /// Each output stands for the input of its number; outputs past the inputs are not looked at.
+    /// Refuses as `NotChild` where an output is no child of the parent, else as `MoreInputs`, else
+    /// as `Order` as for one. A refusal records nothing.
     pub fn map_children(
         &mut self,
         alloc: Global,

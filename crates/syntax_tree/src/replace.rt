@@ -10,8 +10,9 @@ use rowan_green::{GreenElement, GreenError, NodeOrToken};
 use std::alloc::Global;
 
 impl SyntaxElement {
-    /// The whole tree with this element replaced by another one, which stands alone where this is the root. What is not above
-    /// this element is shared with the old tree. Refuses as too long only where the new text is.
+    /// The whole tree with this element replaced by another one, which stands alone where this is
+    /// the root. What is not above this element is shared with the old tree. Refuses as too long
+    /// only where the new text is.
     pub fn replaced_by(&self, alloc: Global, new: &GreenElement) -> Result<GreenElement, GreenError>
         ensures ok { IfOk result (λ e. e ≡
             replaced (element_of self.now).place.root (element_of self.now).place.up new.now) }

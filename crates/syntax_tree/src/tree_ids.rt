@@ -38,7 +38,8 @@ impl TreeIds {
         }
     }
 
-    /// The next number, which is never given again. Refuses where none is left, and changes nothing then.
+    /// The next number, which is never given again. Refuses where none is left, and changes nothing
+    /// then.
     pub fn next(&mut self) -> Result<u32, Spent>
         ensures given { IfOk result (λ n. (n ≡ self.old) × (self.new ≡ self.old + 1)) }
         ensures spent { IfErr result (λ _. (self.old ≡ 2 ^ 32) × (self.new ≡ self.old)) }

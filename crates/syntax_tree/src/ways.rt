@@ -37,7 +37,8 @@ impl SyntaxElement {
 }
 
 impl SyntaxNode {
-    /// The element of the same tree that stands at a way, the innermost number first; none where no element does.
+    /// The element of the same tree that stands at a way, the innermost number first; none where no
+    /// element does.
     pub fn element_at(
         &self,
         alloc: Global,

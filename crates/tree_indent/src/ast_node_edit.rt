@@ -10,7 +10,8 @@ use std::alloc::{AllocError, Global};
 use syntax_editor::{IndentLevel, MakeError};
 use syntax_tree::{AstNode, SyntaxMapping, TreeIds};
 
-/// Typed nodes are set in and out as their nodes are. Each call gives the root of a tree of its own, of the same type.
+/// Typed nodes are set in and out as their nodes are. Each call gives the root of a tree of its
+/// own, of the same type.
 pub trait AstNodeEdit: AstNode {
     /// The level of the node's first token.
     fn indent_level(&self, alloc: Global) -> Result<IndentLevel, AllocError>

@@ -13,8 +13,9 @@ use std::alloc::Global;
 use syntax_editor::{IndentLevel, MakeError};
 use syntax_tree::{SyntaxNode, TreeIds};
 
-/// The node in a tree of its own, whose number is the next of `ids`, with the spaces of a level after each token of white space that has
-/// a line feed. Refuses as too long where a text or a list of children would be, then for want of a number. A refusal takes no number.
+/// The node in a tree of its own, whose number is the next of `ids`, with the spaces of a level
+/// after each token of white space that has a line feed. Refuses as too long where a text or a list
+/// of children would be, then for want of a number. A refusal takes no number.
 pub fn indent(
     alloc: Global,
     node: &SyntaxNode,
@@ -29,8 +30,8 @@ pub fn indent(
     shifted(alloc, node, Shift::In(level), ids)
 }
 
-/// The node in a tree of its own, whose number is the next of `ids`. In its white space the spaces of a level are dropped after each line
-/// feed that has them after it. Refuses as `indent` does.
+/// The node in a tree of its own, whose number is the next of `ids`. In its white space the spaces
+/// of a level are dropped after each line feed that has them after it. Refuses as `indent` does.
 pub fn dedent(
     alloc: Global,
     node: &SyntaxNode,

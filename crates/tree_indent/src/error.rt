@@ -6,7 +6,8 @@ use syntax_editor::MakeError;
 /// Why a node was not set in with a mapping. It took no tree number, and the mapping is as it was.
 #[derive(Clone, Copy, Debug, PartialEq, Eq)]
 pub enum IndentError {
-    /// The new tree's number is not greater than that of the node's tree, so child nodes may not be mapped.
+    /// The new tree's number is not greater than that of the node's tree, so child nodes may not be
+    /// mapped.
     Order = 3,
     /// Memory was refused.
     NoMemory = 4,

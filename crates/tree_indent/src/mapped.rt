@@ -43,9 +43,10 @@ fn map_below(
     Ok(())
 }
 
-/// As `indent`. Each child node of the node is mapped to the child node of the same number of the new root. Refuses as `indent` does, and
-/// as `Order` where there are child nodes and the new tree's number is not greater than that of the node's tree. A refusal takes no
-/// number and maps nothing.
+/// As `indent`. Each child node of the node is mapped to the child node of the same number of the
+/// new root. Refuses as `indent` does, and as `Order` where there are child nodes and the new
+/// tree's number is not greater than that of the node's tree. A refusal takes no number and maps
+/// nothing.
 pub fn indent_with_mapping(
     alloc: Global,
     node: &SyntaxNode,

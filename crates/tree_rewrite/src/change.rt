@@ -15,8 +15,8 @@ pub enum Change {
         place: Position,
         new: Vec<SyntaxElement>,
     },
-    /// These come in the place of the elements from `first` to `last`, children of one parent in that order, or both the root.
-    /// `single` where one element was named alone.
+    /// These come in the place of the elements from `first` to `last`, children of one parent in
+    /// that order, or both the root. `single` where one element was named alone.
     Replace {
         first: SyntaxElement,
         last: SyntaxElement,

@@ -21,8 +21,8 @@ pub struct Entered {
     before: Vec<TextRange>,
 }
 
-/// The ranges of a list up to an offset, and what it stands in. `told`: whether the elements of the list were put in, where it is what
-/// a job puts in.
+/// The ranges of a list up to an offset, and what it stands in. `told`: whether the elements of the
+/// list were put in, where it is what a job puts in.
 #[derive(Drop)]
 pub struct Tracker {
     ranges: Vec<TextRange>,

@@ -28,7 +28,8 @@ fn is_at(node: &SyntaxNode, tree: u32, way: &[usize]) -> Result<bool, AllocError
     node.stands_at(way)
 }
 
-/// Goes up from an element until the payload, a mapped node or the root is met, and adds the numbers of the elements passed.
+/// Goes up from an element until the payload, a mapped node or the root is met, and adds the
+/// numbers of the elements passed.
 fn climb<'m>(
     mapping: &'m SyntaxMapping,
     payload: &SyntaxNode,
@@ -64,8 +65,9 @@ fn is_same(alloc: Global, node: &SyntaxNode, other: &SyntaxNode) -> Result<bool,
     is_at(node, other.tree(), &way)
 }
 
-/// The numbers of the elements from one up to the payload, its own first, where a mapped node goes on at what it is mapped to; none
-/// where the payload is not met. The first element stands at a way in the tree of this number.
+/// The numbers of the elements from one up to the payload, its own first, where a mapped node goes
+/// on at what it is mapped to; none where the payload is not met. The first element stands at a way
+/// in the tree of this number.
 pub fn way_to(
     alloc: Global,
     mapping: &SyntaxMapping,

@@ -16,7 +16,8 @@ use crate::piece::{Piece, Put};
 use std::alloc::{AllocError, Global};
 use syntax_tree::SyntaxElement;
 
-/// Adds an element of a payload, as it stands on the payload's sheet after these jobs, if it has one.
+/// Adds an element of a payload, as it stands on the payload's sheet after these jobs, if it has
+/// one.
 fn push_payload(
     alloc: Global,
     jobs: &[Job],

@@ -21,7 +21,8 @@ fn put_free(held: &mut WayMap, way: Vec<usize>, number: usize) -> Result<bool, A
     Ok(true)
 }
 
-/// Gives the children of a node, from one on and so many after it, a number, if none of them has one.
+/// Gives the children of a node, from one on and so many after it, a number, if none of them has
+/// one.
 fn put_children(
     alloc: Global,
     start: usize,
@@ -80,7 +81,8 @@ fn put_change(
     }
 }
 
-/// The number of the change that replaces an element, by the way of that; none where two of the changes replace one.
+/// The number of the change that replaces an element, by the way of that; none where two of the
+/// changes replace one.
 pub fn held_ways(alloc: Global, changes: &[TreeChange]) -> Result<Option<WayMap>, AllocError>
     requires { All FitsRow changes.now }
     ensures collision { IfOk result (λ held. is_none held ≡ has_collision changes.now) }

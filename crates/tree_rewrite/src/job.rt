@@ -50,8 +50,8 @@ fn same_sheet(a: &Option<Vec<usize>>, b: &Option<Vec<usize>>) -> bool
 }
 
 impl Job {
-    /// A change made on the sheet of a payload, or of the tree; `own` is the node that it replaces by a node. Both name a payload by
-    /// the way of the node that it replaces.
+    /// A change made on the sheet of a payload, or of the tree; `own` is the node that it replaces
+    /// by a node. Both name a payload by the way of the node that it replaces.
     pub fn new(sheet: Option<Vec<usize>>, change: TreeChange, own: Option<Vec<usize>>) -> Job
         ensures { result ≡ record { sheet = way_of sheet; change = change; own = way_of own } }
     {
@@ -110,7 +110,8 @@ impl Job {
         same_sheet(&self.sheet, sheet) && self.change.reaches(way)
     }
 
-    /// Whether the first element that it replaces stands at a way; the root, where it replaces none.
+    /// Whether the first element that it replaces stands at a way; the root, where it replaces
+    /// none.
     pub(crate) fn begins_at(&self, way: &[usize]) -> bool
         ensures { result ≡ same_way (first_way self.now.change) way.now }
     {
@@ -124,7 +125,8 @@ impl Job {
         same_sheet(&self.sheet, sheet)
     }
 
-    /// The first child, and how many more, of a node so deep that it may concern, if it is made in that node.
+    /// The first child, and how many more, of a node so deep that it may concern, if it is made in
+    /// that node.
     pub(crate) fn row_below(&self, depth: usize) -> Option<(usize, usize)>
         ensures { (w : Way) (i : ℕ) → length w ≡ depth → IsBeyond result i
             → LeavesChild self.now.change w i }

@@ -82,8 +82,8 @@ fn job_of(
     }
 }
 
-/// The jobs of the changes that are not dropped, in recorded order; none where one of them has no place. No two of the changes
-/// replace one element.
+/// The jobs of the changes that are not dropped, in recorded order; none where one of them has no
+/// place. No two of the changes replace one element.
 pub fn jobs_of(
     alloc: Global,
     root: &SyntaxNode,

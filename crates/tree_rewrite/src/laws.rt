@@ -1,13 +1,14 @@
 //! Laws of the definitions. Each is the contract of a function that makes no call.
 ghost use Rattle.tree_rewrite.specs.Laws.{OrdersAgree, SwapsAgree, RootStays, RangesAgree};
 
-/// Changes that are made one by one, in any order of their jobs, end in the tree with all of them made at once.
+/// Changes that are made one by one, in any order of their jobs, end in the tree with all of them
+/// made at once.
 pub fn orders_agree()
     ensures { OrdersAgree }
 {}
 
-/// Two neighbouring changes that do not both put into one gap may be recorded in either order: neither why there is no tree nor the tree
-/// depends on it.
+/// Two neighbouring changes that do not both put into one gap may be recorded in either order:
+/// neither why there is no tree nor the tree depends on it.
 pub fn swaps_agree()
     ensures { SwapsAgree }
 {}

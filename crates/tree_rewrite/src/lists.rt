@@ -1,4 +1,5 @@
-//! What was put in, by the children of a node that it concerns: each child is handed its own, so that no other is looked at there.
+//! What was put in, by the children of a node that it concerns: each child is handed its own, so
+//! that no other is looked at there.
 ghost use Rattle.std.specs.Prelude.{◌≡◌, ◌∷◌, ◌<◌, ℕ, List, [], Some, Option, length, slice_get, IfOk, OnOk};
 ghost use Rattle.std.specs.List.{All};
 ghost use Rattle.std.specs.Global.{Vec};
@@ -47,7 +48,8 @@ fn push_row(
     Ok(())
 }
 
-/// The first child, and how many more, of a node so deep that what has this number may concern, if it lies in that node.
+/// The first child, and how many more, of a node so deep that what has this number may concern, if
+/// it lies in that node.
 fn row_of(jobs: &[Job], made: &[Put], number: usize, depth: usize) -> Option<(usize, usize)>
     ensures { (g : Given) (w : Way) (i : ℕ) → IsGiven jobs.now (slice_get made.now number) g
         → length w ≡ depth
@@ -77,8 +79,8 @@ fn push_number(
     }
 }
 
-/// The numbers among these by the children, so many, of a node so deep: in each list those that concern the gap before the child, its
-/// place or what stands below it.
+/// The numbers among these by the children, so many, of a node so deep: in each list those that
+/// concern the gap before the child, its place or what stands below it.
 pub fn lists_below(
     alloc: Global,
     jobs: &[Job],

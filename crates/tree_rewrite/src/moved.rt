@@ -1,4 +1,5 @@
-//! Where a change is made that lies in a node which is replaced by a node: its place in that payload.
+//! Where a change is made that lies in a node which is replaced by a node: its place in that
+//! payload.
 ghost use Rattle.std.specs.Prelude.{◌≡◌, ◌+◌, [], ◌∷◌, option_map, IfOk};
 ghost use Rattle.std.specs.Option.{option_copied};
 ghost use Rattle.syntax_tree.specs.Referred.{referred_term};
@@ -66,7 +67,8 @@ fn same_kind(old: Option<&GreenElement>, new: Option<&GreenElement>) -> bool
     }
 }
 
-/// Whether the child of a number and so many more after it are there in both nodes, with the same kinds.
+/// Whether the child of a number and so many more after it are there in both nodes, with the same
+/// kinds.
 fn same_kinds(old: &GreenNode, new: &GreenNode, start: usize, more: usize) -> bool
     ensures { result ≡ same_kinds (children_of old.now) (children_of new.now) start (more + 1) }
 {
@@ -86,7 +88,8 @@ fn same_kinds(old: &GreenNode, new: &GreenNode, start: usize, more: usize) -> bo
     false
 }
 
-/// The number of an element among its siblings, and the way of its parent; 0 and the root for the root.
+/// The number of an element among its siblings, and the way of its parent; 0 and the root for the
+/// root.
 fn number_and_parent(way: &[usize]) -> (usize, &[usize])
     ensures number { result.0 ≡ first_number way.now }
     ensures parent { result.1.now ≡ way_above way.now }
@@ -115,8 +118,8 @@ fn same_children(
     }
 }
 
-/// A change of the tree in the node at `replaced`, made in the payload, where that node has become the one at `to` below it; none
-/// where that has no such gap or elements.
+/// A change of the tree in the node at `replaced`, made in the payload, where that node has become
+/// the one at `to` below it; none where that has no such gap or elements.
 fn change_below(
     alloc: Global,
     root: &GreenNode,

@@ -150,7 +150,8 @@ fn closes(root: &GreenNode, change: &TreeChange, parent: &[usize], index: usize)
     change.splits(parent, index) && !is_node_by_node(root, change)
 }
 
-/// Whether a gap of the node at a way lies between two elements that are replaced as one, and not as a node by a node.
+/// Whether a gap of the node at a way lies between two elements that are replaced as one, and not
+/// as a node by a node.
 fn is_closed(
     alloc: Global,
     root: &GreenNode,

@@ -1,4 +1,5 @@
-//! What jobs put in, piece by piece. No node is made yet, so that only nodes of the whole can be too long.
+//! What jobs put in, piece by piece. No node is made yet, so that only nodes of the whole can be
+//! too long.
 ghost use Rattle.std.specs.Prelude.{◌≡◌, ◌++◌, IfOk, OnOk};
 
 use std::alloc::AllocError;

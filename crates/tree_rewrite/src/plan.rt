@@ -33,7 +33,8 @@ use std::alloc::{AllocError, Global};
 use std::marker::Model;
 use syntax_tree::{SyntaxElement, SyntaxMapping, SyntaxNode};
 
-/// The changes of a tree that are not dropped, where they are made. A contract sees the tree, and the jobs in recorded order.
+/// The changes of a tree that are not dropped, where they are made. A contract sees the tree, and
+/// the jobs in recorded order.
 #[derive(Drop)]
 pub struct Plan {
     top: SyntaxNode,
@@ -44,7 +45,8 @@ pub struct Plan {
 #[derive(Drop)]
 pub struct Rewritten {
     pub green: GreenNode,
-    /// The bytes of what was put in by changes that lie in no other, in the order of the tree. A deletion has none.
+    /// The bytes of what was put in by changes that lie in no other, in the order of the tree. A
+    /// deletion has none.
     pub changed: Vec<TextRange>,
     /// Where each of its elements came from, in preorder.
     pub origins: Vec<SyntaxElement>,
@@ -69,9 +71,9 @@ impl Model for Plan {
 }
 
 impl Plan {
-    /// The plan of changes recorded on the tree of a root. Refuses as `Intersecting` where two of them replace one element, be they
-    /// dropped or not, else as `MissingMapping` where one that is not dropped has no place. A change that replaces the root puts one
-    /// node alone in its place.
+    /// The plan of changes recorded on the tree of a root. Refuses as `Intersecting` where two of
+    /// them replace one element, be they dropped or not, else as `MissingMapping` where one that is
+    /// not dropped has no place. A change that replaces the root puts one node alone in its place.
     pub fn build(
         alloc: Global,
         root: &SyntaxNode,
@@ -119,8 +121,9 @@ impl Plan {
         is_order(&self.jobs, order)
     }
 
-    /// The tree with all changes made at once: they are made one by one, in any order in which they may. Refuses as `TooLong` where a
-    /// node of the tree would have a text of 2^32 bytes or more, or so many children.
+    /// The tree with all changes made at once: they are made one by one, in any order in which they
+    /// may. Refuses as `TooLong` where a node of the tree would have a text of 2^32 bytes or more,
+    /// or so many children.
     pub fn execute(&self, alloc: Global, order: &[usize]) -> Result<Rewritten, ExecuteError>
         requires { is_order self.now.jobs order.now ≡ true }
         ensures green { IfOk result (λ r. IsNode (rewritten self.now.top (reverse self.now.jobs)) r.green) }
@@ -147,7 +150,8 @@ impl Plan {
         })
     }
 
-    /// The tree with all changes made at once, piece by piece: they are made one by one, in any order in which they may.
+    /// The tree with all changes made at once, piece by piece: they are made one by one, in any
+    /// order in which they may.
     fn pieces(&self, alloc: Global, order: &[usize]) -> Result<Vec<Piece>, AllocError>
         requires { is_order self.now.jobs order.now ≡ true }
         ensures says { IfOk result (λ v. Say v.items (rewritten self.now.top (reverse self.now.jobs))) }

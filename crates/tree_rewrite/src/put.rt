@@ -12,8 +12,8 @@ use crate::piece::Piece;
 use std::alloc::{AllocError, Global};
 use syntax_tree::SyntaxElement;
 
-/// Which elements up to some piece were put in, and what they stand in. `told`: whether the elements of the list were put in, where it
-/// is what a job puts in.
+/// Which elements up to some piece were put in, and what they stand in. `told`: whether the
+/// elements of the list were put in, where it is what a job puts in.
 #[derive(Drop)]
 pub(crate) struct Puts {
     pub(crate) marks: Vec<bool>,

@@ -1,5 +1,5 @@
-//! Sheets: what stands at a gap, or in the place of an element, after some jobs. Of all that was put in, only what these numbers name
-//! is looked at.
+//! Sheets: what stands at a gap, or in the place of an element, after some jobs. Of all that was
+//! put in, only what these numbers name is looked at.
 ghost use Rattle.std.specs.Prelude.{◌≡◌, List, Some, ℕ, ◌&&◌, slice_get, is_some, if◌then◌else◌, IfOk, OnOk};
 ghost use Rattle.std.specs.Bool.{OnFalse};
 ghost use Rattle.std.specs.Option.{option_copied};

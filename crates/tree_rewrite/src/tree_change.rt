@@ -159,7 +159,8 @@ impl TreeChange {
         }
     }
 
-    /// Whether the first element that it replaces stands at a way; the root, where it replaces none.
+    /// Whether the first element that it replaces stands at a way; the root, where it replaces
+    /// none.
     pub(crate) fn begins_at(&self, way: &[usize]) -> bool
         ensures { result ≡ same_way (first_way self.now) way.now }
     {
@@ -169,7 +170,8 @@ impl TreeChange {
         }
     }
 
-    /// The first child, and how many more, of a node so deep that it may concern, if it is made in that node.
+    /// The first child, and how many more, of a node so deep that it may concern, if it is made in
+    /// that node.
     pub(crate) fn row_below(&self, depth: usize) -> Option<(usize, usize)>
         ensures { (w : Way) (i : ℕ) → length w ≡ depth → IsBeyond result i
             → LeavesChild self.now w i }

@@ -1,4 +1,5 @@
-//! Ways that lead up from an element to the root, the innermost number first, and rows of siblings on them.
+//! Ways that lead up from an element to the root, the innermost number first, and rows of siblings
+//! on them.
 ghost use Rattle.std.specs.Prelude.{◌≡◌};
 ghost use Rattle.tree_rewrite.specs.Change.{covers, is_within, is_between};
 

@@ -49,8 +49,8 @@ impl<N: AstNode> AstPtr<N> {
         self.raw.range
     }
 
-    /// The first node in preorder of the pointer's kind and range, in the tree of this root, where it
-    /// can be cast; `NotFound` otherwise, and where the node given is not a root.
+    /// The first node in preorder of the pointer's kind and range, in the tree of this root, where
+    /// it can be cast; `NotFound` otherwise, and where the node given is not a root.
     pub fn to_node(&self, alloc: Global, root: &SyntaxNode<N::Language>) -> Result<N, CursorError>
     where
         N: Drop,
