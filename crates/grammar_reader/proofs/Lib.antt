@@ -6,6 +6,7 @@ pub mod Asking
 pub mod Sizes
 pub mod Begun
 pub mod Below
+pub mod Choices
 pub mod Turning
 pub mod Beginning
 pub mod Moves
