@@ -1,12 +1,13 @@
 -- What jobs put in, as the code has it.
-use Rattle.std.specs.Prelude.{◌≡◌, ℕ, List, [], ◌∷◌, reverse, Option, Some, None, true, slice_get}
+use Rattle.std.specs.Prelude.{◌≡◌, ℕ, List, [], ◌∷◌, reverse, Option, Some, None, Bool, true, ◌&&◌, slice_get}
 use Rattle.rowan_green.specs.Forest.{Forest, empty}
 use Rattle.rowan_green.specs.Term.{Term}
 use Rattle.rowan_green.specs.declared.utility_types.NodeOrToken.TheVariants.{Node, Token}
 use Rattle.syntax_tree.specs.Element.{Way, Element}
 use Rattle.tree_rewrite.specs.Change.{is_within}
 use Rattle.tree_rewrite.specs.Marked.{Marked, nothing, inner, token, gap, slot, Sheet, or_own, origin_at, filled}
-use Rattle.tree_rewrite.specs.Rewrite.{Job, Sheets, blank_sheets, write, puts, terms_of}
+use Rattle.tree_rewrite.specs.Reach.{reaches}
+use Rattle.tree_rewrite.specs.Rewrite.{Job, Sheets, same_sheet, blank_sheets, write, puts, terms_of}
 use Rattle.tree_rewrite.specs.Pieces.{Say}
 use Rattle.tree_rewrite.specs.declared.piece.Put.{Put}
 
@@ -55,6 +56,10 @@ at_gap gs n w i = or_own (laid gs n (gap w i)) nothing
 -- what stands in the place of an element that was replaced
 abbrev pub at_slot : List Given → Option Way → Way → Marked
 at_slot gs n w = or_own (laid gs n (slot w)) nothing
+
+-- it says what stands below the element at `v` of a sheet
+abbrev pub touches : Option Way → Way → Given → Bool
+touches n v g = same_sheet g.0.sheet n && reaches v g.0.change
 
 -- these say nothing of what stands below the element at `v` of a sheet
 abbrev pub IsBlankBelow : List Given → Option Way → Way → Type 0

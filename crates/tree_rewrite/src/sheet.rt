@@ -2,12 +2,13 @@
 //! put in, only what these numbers name is looked at.
 ghost use Rattle.std.specs.Prelude.{◌≡◌, List, Some, ℕ, ◌&&◌, slice_get, is_some, if◌then◌else◌, IfOk, OnOk};
 ghost use Rattle.std.specs.Bool.{OnFalse};
+ghost use Rattle.std.specs.List.{list_any};
 ghost use Rattle.std.specs.Option.{option_copied};
 ghost use Rattle.syntax_tree.specs.Element.{same_way};
 ghost use Rattle.tree_rewrite.specs.Marked.{Marked, nothing, gap, slot};
 ghost use Rattle.tree_rewrite.specs.Rewrite.{Job, same_sheet, sets, first_way};
 ghost use Rattle.tree_rewrite.specs.Recorded.{way_of};
-ghost use Rattle.tree_rewrite.specs.Fill.{Given, laid, IsGiven, HaveGiven, IsBlankBelow, at_gap, at_slot};
+ghost use Rattle.tree_rewrite.specs.Fill.{Given, laid, IsGiven, HaveGiven, touches, IsBlankBelow, at_gap, at_slot};
 ghost use Rattle.tree_rewrite.specs.Pieces.{Adds};
 ghost use Rattle.tree_rewrite.specs.Reach.{reaches};
 
@@ -168,7 +169,8 @@ fn reaches(
     }
 }
 
-/// Whether jobs say what stands below an element of a sheet. Where not, it stands there as it was.
+/// Whether one of these jobs says what stands below an element of a sheet. Where none does, it
+/// stands there as it was.
 pub fn is_touched(
     jobs: &[Job],
     made: &[Put],
@@ -176,7 +178,9 @@ pub fn is_touched(
     sheet: &Option<Vec<usize>>,
     way: &[usize],
 ) -> bool
-    ensures { (gs : List Given) → HaveGiven jobs.now made.now numbers.now gs → OnFalse result
+    ensures touched { (gs : List Given) → HaveGiven jobs.now made.now numbers.now gs
+        → result ≡ list_any (touches (way_of sheet.now) way.now) gs }
+    ensures blank { (gs : List Given) → HaveGiven jobs.now made.now numbers.now gs → OnFalse result
         (IsBlankBelow gs (way_of sheet.now) way.now) }
 {
     let mut rest = numbers;

@@ -101,7 +101,7 @@ push_standing-returns-else-is_touched t c = λ gs e h o.
     let s = way_of c.args.sheet.now in
     let w = c.args.way.now in
     let none = none_of (laid gs s (slot w)) (sym (c.in_ok-push_slot.ensures.replaced gs h) ∙ c.if-branch.false) in
-    let whole = standing-whole gs s e w (term_of x) (ap term_of (sym o)) none (c.if-is_touched.ensures gs h) in
+    let whole = standing-whole gs s e w (term_of x) (ap term_of (sym o)) none (c.if-is_touched.ensures.blank gs h) in
     let own = standing (laid gs s) e w (term_of x) in
     let read = ap (λ y. reading_of blank (element_of y)) (sym c.in-Node.is) ∙ ap (reading_of blank) o ∙ whole in
     on_ok c.push_whole-else-is_touched.result _ _
