@@ -110,20 +110,26 @@ fn an_empty_node_beside_an_abandoned_one(rt: HostRuntime) -> Result<(), AllocErr
     Ok(())
 }
 
+/// Whether the looks at a word and a float are answered, and those after the word; and how many steps there were.
+fn looked(alloc: Global, input: &Input) -> Result<(bool, bool, u64), AllocError>
+    requires { length input.now ≡ 2 }
+{
+    let mut parser = Parser::new(alloc, input);
+    let ahead = (parser.kind_at(1) == SyntaxKind::FLOAT_NUMBER)
+        & (parser.kind_at(2) == SyntaxKind::EOF)
+        & (parser.contextual_at(0) == SyntaxKind::IDENT)
+        & !parser.joint_at(0);
+    parser.token(SyntaxKind::IDENT, 1);
+    let after = (parser.kind_at(0) == SyntaxKind::FLOAT_NUMBER)
+        & (parser.kind_at(usize::MAX) == SyntaxKind::EOF)
+        & (parser.position() == 1);
+    Ok((ahead, after, parser.finish()?.steps()))
+}
+
 #[test]
 fn looks_are_counted(rt: HostRuntime) -> Result<(), AllocError> {
     let input = word_and_float(rt.alloc())?;
-    let mut parser = Parser::new(rt.alloc(), &input);
-    assert_eq!(rt; parser.kind_at(1), SyntaxKind::FLOAT_NUMBER);
-    assert_eq!(rt; parser.kind_at(2), SyntaxKind::EOF);
-    assert_eq!(rt; parser.contextual_at(0), SyntaxKind::IDENT);
-    assert!(rt; !parser.joint_at(0));
-    parser.token(SyntaxKind::IDENT, 1);
-    assert_eq!(rt; parser.kind_at(0), SyntaxKind::FLOAT_NUMBER);
-    assert_eq!(rt; parser.kind_at(usize::MAX), SyntaxKind::EOF);
-    assert_eq!(rt; parser.position(), 1);
-    let output = parser.finish()?;
-    assert_eq!(rt; output.steps(), 4);
+    assert!(rt; looked(rt.alloc(), &input)? == (true, true, 4));
     Ok(())
 }
 

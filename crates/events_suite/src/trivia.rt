@@ -327,38 +327,50 @@ fn each_step_refused_in_turn(rt: HostRuntime) -> Result<(), AllocError> {
     Ok(())
 }
 
+const FILE: Step = Step::Enter {
+    kind: SyntaxKind::SOURCE_FILE,
+};
+
+const FIELD: Step = Step::Enter {
+    kind: SyntaxKind::FIELD_EXPR,
+};
+
+const SAID: Step = Step::Error {
+    msg: Message::ExpectedItem,
+};
+
+const WITH_DOT: Step = Step::FloatSplit { ends_in_dot: true };
+
+const WITHOUT_DOT: Step = Step::FloatSplit { ends_in_dot: false };
+
+const SHIFT: Step = Step::Token {
+    kind: SyntaxKind::SHL,
+    n_input_tokens: 2,
+};
+
+/// A text, steps, and whether those fit it.
+const FITTING: &[(&str, [Step; 4], bool)] = &[
+    (" << ", [FILE, SHIFT, SAID, Step::Exit], true),
+    ("< <", [FILE, SHIFT, SAID, Step::Exit], false),
+    ("<", [FILE, SHIFT, SAID, Step::Exit], false),
+    ("<<<", [FILE, SHIFT, SAID, Step::Exit], false),
+    (" 0.", [FILE, FIELD, WITH_DOT, Step::Exit], true),
+    ("0.", [FILE, FIELD, WITHOUT_DOT, Step::Exit], false),
+    ("0.1", [FILE, FIELD, WITH_DOT, Step::Exit], false),
+    ("0.1", [FILE, FIELD, WITHOUT_DOT, Step::Exit], true),
+    ("0", [FILE, FIELD, WITHOUT_DOT, Step::Exit], false),
+    ("0.", [FILE, SAID, SAID, WITH_DOT], false),
+    (" ", [FILE, FIELD, Step::Exit, Step::Exit], true),
+    ("", [FILE, FIELD, FIELD, Step::Exit], false),
+    ("", [FILE, Step::Exit, FILE, Step::Exit], false),
+    ("", [FILE, Step::Exit, SAID, SAID], false),
+    ("", [SAID, FILE, Step::Exit, SAID], false),
+];
+
 #[test]
 fn steps_that_fit(rt: HostRuntime) -> Result<(), AllocError> {
-    let file = enter(SyntaxKind::SOURCE_FILE);
-    let field = enter(SyntaxKind::FIELD_EXPR);
-    let said = Step::Error {
-        msg: Message::ExpectedItem,
-    };
-    let with_dot = Step::FloatSplit { ends_in_dot: true };
-    let without_dot = Step::FloatSplit { ends_in_dot: false };
-    let shift = Step::Token {
-        kind: SyntaxKind::SHL,
-        n_input_tokens: 2,
-    };
-    for (text, steps, want) in [
-        (" << ", [file, shift, said, Step::Exit], true),
-        ("< <", [file, shift, said, Step::Exit], false),
-        ("<", [file, shift, said, Step::Exit], false),
-        ("<<<", [file, shift, said, Step::Exit], false),
-        (" 0.", [file, field, with_dot, Step::Exit], true),
-        ("0.", [file, field, without_dot, Step::Exit], false),
-        ("0.1", [file, field, with_dot, Step::Exit], false),
-        ("0.1", [file, field, without_dot, Step::Exit], true),
-        ("0", [file, field, without_dot, Step::Exit], false),
-        ("0.", [file, said, said, with_dot], false),
-        (" ", [file, field, Step::Exit, Step::Exit], true),
-        ("", [file, field, field, Step::Exit], false),
-        ("", [file, Step::Exit, file, Step::Exit], false),
-        ("", [file, Step::Exit, said, said], false),
-        ("", [said, file, Step::Exit, said], false),
-    ] {
-        let got = do_fit(rt.alloc(), text, &steps)?;
-        assert_eq!(rt; got, want, "{text}");
+    for (text, steps, fit) in FITTING {
+        assert!(rt; do_fit(rt.alloc(), text, steps)? == *fit, "{text}");
     }
     Ok(())
 }

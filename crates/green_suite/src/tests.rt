@@ -4,7 +4,7 @@ use rowan_green::{
     GreenElement, GreenError, GreenNode, GreenNodeBuilder, GreenToken, NodeCache, NodeOrToken,
     SyntaxKind, TextRange, TextSize,
 };
-use std::alloc::Global;
+use std::alloc::{AllocError, Global};
 use std::hash::{DefaultHasher, Hash, Hasher};
 use std::iter::{DoubleEndedIterator, ExactSizeIterator};
 use std::test::Fail;
@@ -51,39 +51,53 @@ fn range(start: u32, end: u32) -> TextRange {
     TextRange::new(start, TextSize::from(end.max(u32::from(start))))
 }
 
+/// Start, end and length of 2 to 5, and of the least range over it and 9.
+fn ends(five: TextRange) -> [u32; 5] {
+    let cover = five.cover(TextRange::empty(TextSize(9)));
+    [
+        five.start().0,
+        five.end().0,
+        five.len().0,
+        cover.start().0,
+        cover.end().0,
+    ]
+}
+
+/// The length of what 2 to 5 and another range have in common, or 99.
+fn common_length(five: TextRange, start: u32, end: u32) -> u32 {
+    match five.intersect(range(start, end)) {
+        Some(common) => common.len().0,
+        None => 99,
+    }
+}
+
+/// Whether 2 to 5 contains 2, 5, the empty range at 5, and 4 to 6.
+fn contains(five: TextRange) -> [bool; 4] {
+    [
+        five.contains(TextSize(2)),
+        five.contains(TextSize(5)),
+        five.contains_range(TextRange::empty(TextSize(5))),
+        five.contains_range(range(4, 6)),
+    ]
+}
+
 #[test]
 fn ranges(rt: HostRuntime) {
     let five = range(2, 5);
+    assert!(rt; ends(five) == [2, 5, 3, 2, 9]);
+    assert!(rt; common_length(five, 4, 9) == 1);
+    assert!(rt; common_length(five, 5, 9) == 0);
+    assert!(rt; common_length(five, 6, 9) == 99);
+    assert!(rt; contains(five) == [true, false, true, false]);
+    assert!(rt; !five.is_empty());
+}
+
+#[test]
+fn ranges_are_values(rt: HostRuntime) {
+    let five = range(2, 5);
     let at = TextRange::at(TextSize(2), TextSize(3));
-    let cover = five.cover(TextRange::empty(TextSize(9)));
-    let length = |r: Option<TextRange>| r.map_or(99, |r| r.len().0);
-    for (got, want) in [
-        (five.start().0, 2),
-        (five.end().0, 5),
-        (five.len().0, 3),
-        (cover.start().0, 2),
-        (cover.end().0, 9),
-        (length(five.intersect(range(4, 9))), 1),
-        (length(five.intersect(range(5, 9))), 0),
-        (length(five.intersect(range(6, 9))), 99),
-    ] {
-        assert_eq!(rt; got, want);
-    }
-    for (got, want) in [
-        (five == at, true),
-        (hash_of(&five) == hash_of(&at), true),
-        (five.is_empty(), false),
-        (five.contains(TextSize(2)), true),
-        (five.contains(TextSize(5)), false),
-        (five.contains_range(TextRange::empty(TextSize(5))), true),
-        (five.contains_range(range(4, 6)), false),
-        (
-            usize::from(TextSize(7)) == 7 && TextSize(1) < TextSize(2),
-            true,
-        ),
-    ] {
-        assert_eq!(rt; got, want);
-    }
+    assert!(rt; (five == at) & (hash_of(&five) == hash_of(&at)));
+    assert!(rt; (usize::from(TextSize(7)) == 7) & (TextSize(1) < TextSize(2)));
 }
 
 /// Whether a node and a token read as what they are.
@@ -175,13 +189,21 @@ fn edited(alloc: Global, node: &GreenNode, edit: u8) -> Result<GreenNode, GreenE
     }
 }
 
+/// Whether a node prints as this text.
+fn prints(alloc: Global, node: &GreenNode, text: &str) -> Result<bool, AllocError> {
+    Ok(format!(in alloc; "{node}")?.as_str() == text)
+}
+
+fn is_edited(alloc: Global, node: &GreenNode, edit: u8, text: &str) -> Result<bool, Fail> {
+    let edited = edited(alloc, node, edit)?;
+    Ok(prints(alloc, &edited, text)?)
+}
+
 #[test]
 fn edits(rt: HostRuntime) -> Result<(), Fail> {
-    let alloc = rt.alloc();
-    let node = pair_node(alloc)?;
-    for (edit, want) in [(0, "cb"), (1, "abc"), (2, "b"), (3, "acc")] {
-        let edited = edited(alloc, &node, edit)?;
-        assert!(rt; format!(in alloc; "{edited}")?.as_str() == want);
+    let node = pair_node(rt.alloc())?;
+    for (edit, text) in [(0, "cb"), (1, "abc"), (2, "b"), (3, "acc")] {
+        assert!(rt; is_edited(rt.alloc(), &node, edit, text)?, "{text}");
     }
     Ok(())
 }
@@ -200,32 +222,59 @@ fn edited_row(alloc: Global, row: &GreenNode, edit: u8) -> Result<GreenNode, Gre
     }
 }
 
+/// An edit of that node, by its number; how many children and bytes there are then; and what stands at byte 500.
+type RowEdit = (u8, usize, u32, (usize, u32));
+
+const ROW_EDITS: &[RowEdit] = &[
+    (0, 1000, 1001, (499, 499)),
+    (1, 1001, 1002, (499, 499)),
+    (2, 999, 999, (500, 500)),
+    (3, 502, 504, (499, 499)),
+];
+
+/// The length of what a node prints.
+fn printed_length(alloc: Global, node: &GreenNode) -> Result<usize, AllocError> {
+    Ok(format!(in alloc; "{node}")?.len())
+}
+
+fn is_edited_row(
+    alloc: Global,
+    row: &GreenNode,
+    (edit, count, len, place): &RowEdit,
+) -> Result<bool, Fail> {
+    let edited = edited_row(alloc, row, *edit)?;
+    let has_size = (edited.children().len() == *count) & (edited.text_len() == TextSize(*len));
+    let is_placed = place_at(&edited, 500) == Some(*place);
+    Ok(has_size & is_placed & (printed_length(alloc, &edited)? == *len as usize))
+}
+
 #[test]
 fn edits_of_many_children(rt: HostRuntime) -> Result<(), Fail> {
-    let alloc = rt.alloc();
-    let row = row_of(alloc, &["a"; 1000])?;
-    for (edit, count, len, index, start) in [
-        (0, 1000, 1001, 499, 499),
-        (1, 1001, 1002, 499, 499),
-        (2, 999, 999, 500, 500),
-        (3, 502, 504, 499, 499),
-    ] {
-        let edited = edited_row(alloc, &row, edit)?;
-        assert!(rt; edited.children().len() == count);
-        assert!(rt; edited.text_len() == TextSize(len));
-        assert!(rt; place_at(&edited, 500) == Some((index, start)));
-        assert!(rt; format!(in alloc; "{edited}")?.len() == len as usize);
+    let row = row_of(rt.alloc(), &["a"; 1000])?;
+    for edit in ROW_EDITS {
+        assert!(rt; is_edited_row(rt.alloc(), &row, edit)?, "edit {}", edit.0);
     }
     Ok(())
 }
 
+/// A node of the token `x` and of a pair.
+fn outer(alloc: Global) -> Result<GreenElement, GreenError> {
+    node_of_two(alloc, 5, token(alloc, 2, "x")?, pair(alloc)?)
+}
+
+fn outer_prints(alloc: Global, text: &str) -> Result<bool, Fail> {
+    let outer = outer(alloc)?;
+    Ok(format!(in alloc; "{outer}")?.as_str() == text)
+}
+
+fn refusal_prints(alloc: Global, refusal: GreenError, text: &str) -> Result<bool, AllocError> {
+    Ok(format!(in alloc; "{refusal}")?.as_str() == text)
+}
+
 #[test]
 fn values_print_their_texts(rt: HostRuntime) -> Result<(), Fail> {
-    let alloc = rt.alloc();
-    let outer = node_of_two(alloc, 5, token(alloc, 2, "x")?, pair(alloc)?)?;
-    assert!(rt; format!(in alloc; "{outer}")?.as_str() == "xab");
-    let long = GreenError::TooLong;
-    assert!(rt; format!(in alloc; "{long}")?.as_str() == "too long");
+    assert!(rt; outer_prints(rt.alloc(), "xab")?);
+    assert!(rt; refusal_prints(rt.alloc(), GreenError::TooLong, "too long")?);
     Ok(())
 }
 
@@ -264,39 +313,68 @@ fn a_checkpoint_wraps_what_came_after_it(rt: HostRuntime) -> Result<(), Fail> {
     Ok(())
 }
 
-#[test]
-fn a_stale_checkpoint_is_unbalanced(rt: HostRuntime) -> Result<(), Fail> {
-    let alloc = rt.alloc();
-    let mut builder = GreenNodeBuilder::new(alloc);
+/// Whether a checkpoint in a node 2 in a node 1 is one before that node 2 is closed, and is refused after.
+fn goes_stale(builder: &mut GreenNodeBuilder<'_>) -> Result<bool, GreenError> {
     builder.start_node(SyntaxKind(1))?;
     builder.start_node(SyntaxKind(2))?;
     let checkpoint = builder.checkpoint();
-    assert!(rt; builder.is_checkpoint(checkpoint));
+    let was_one = builder.is_checkpoint(checkpoint);
     builder.finish_node()?;
-    assert!(rt; !builder.is_checkpoint(checkpoint));
+    let is_one = builder.is_checkpoint(checkpoint);
     let refused = builder.start_node_at(checkpoint, SyntaxKind(3));
-    assert!(rt; refused == Err(GreenError::Unbalanced));
     builder.finish_node()?;
-    let inner = node(alloc, 2, Vec::new(alloc))?;
-    assert!(rt; GreenElement::from(builder.finish()?) == node_of_one(alloc, 1, inner)?);
+    Ok(was_one & !is_one & (refused == Err(GreenError::Unbalanced)))
+}
+
+/// The node that is built then, if the checkpoint was refused.
+fn built_past_stale(alloc: Global) -> Result<Option<GreenNode>, GreenError> {
+    let mut builder = GreenNodeBuilder::new(alloc);
+    let goes_stale = goes_stale(&mut builder)?;
+    let node = builder.finish()?;
+    Ok(goes_stale.then_some(node))
+}
+
+/// A node 1 of an empty node 2.
+fn nested(alloc: Global) -> Result<GreenElement, GreenError> {
+    node_of_one(alloc, 1, node(alloc, 2, Vec::new(alloc))?)
+}
+
+#[test]
+fn a_stale_checkpoint_is_unbalanced(rt: HostRuntime) -> Result<(), Fail> {
+    let nested = nested(rt.alloc())?.into_node();
+    assert!(rt; nested.is_some());
+    assert!(rt; built_past_stale(rt.alloc())? == nested);
     Ok(())
+}
+
+/// Closes no node, which is refused, and then leaves a node 1 of a token `a` open.
+fn left_open(builder: &mut GreenNodeBuilder<'_>) -> Result<bool, GreenError> {
+    let refused = builder.finish_node();
+    builder.start_node(SyntaxKind(1))?;
+    builder.token(SyntaxKind(2), "a")?;
+    Ok(refused == Err(GreenError::Unbalanced))
+}
+
+/// The node that is built once that node is closed, where each of the other calls was refused.
+fn built_past_refusals(alloc: Global) -> Result<Option<GreenNode>, GreenError> {
+    let mut builder = GreenNodeBuilder::new(alloc);
+    if !left_open(&mut builder)? {
+        return Ok(None);
+    }
+    let Err(unfinished) = builder.finish() else {
+        return Ok(None);
+    };
+    let is_refused = unfinished.error == GreenError::Unbalanced;
+    let mut builder = unfinished.builder;
+    builder.finish_node()?;
+    let node = builder.finish()?;
+    Ok(is_refused.then_some(node))
 }
 
 #[test]
 fn what_is_not_one_complete_node_is_unbalanced(rt: HostRuntime) -> Result<(), Fail> {
-    let alloc = rt.alloc();
-    let mut builder = GreenNodeBuilder::new(alloc);
-    assert!(rt; builder.finish_node() == Err(GreenError::Unbalanced));
-    builder.start_node(SyntaxKind(1))?;
-    builder.token(SyntaxKind(2), "a")?;
-    let Err(unfinished) = builder.finish() else {
-        return Err(GreenError::TooLong)?;
-    };
-    assert!(rt; unfinished.error == GreenError::Unbalanced);
-    let mut builder = unfinished.builder;
-    builder.finish_node()?;
-    let expected = node_of_one(alloc, 1, token(alloc, 2, "a")?)?;
-    assert!(rt; GreenElement::from(builder.finish()?) == expected);
+    let expected = row_of(rt.alloc(), &["a"])?;
+    assert!(rt; built_past_refusals(rt.alloc())? == Some(expected));
     Ok(())
 }
 

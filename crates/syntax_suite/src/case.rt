@@ -1,9 +1,10 @@
 //! A case: changes recorded on a tree, and what becomes of it.
-ghost use Rattle.std.specs.Prelude.{◌≡◌, [], map, is_none, IfOk};
+ghost use Rattle.std.specs.Prelude.{◌≡◌, ◌≤◌, [], map, is_none, false, IfOk};
 ghost use Rattle.std.specs.Bool.{OnTrue};
 ghost use Rattle.std.specs.List.{All};
 ghost use Rattle.tree_rewrite.specs.Recorded.{IsOrdered, KeepsOneRoot};
 ghost use Rattle.tree_rewrite.specs.Change.{IsOneNode};
+ghost use Rattle.rowan.specs.Place.{index_of};
 ghost use Rattle.syntax_tree.specs.Handle.{element_of, parent_of};
 
 use anyhow::{Context, bail};
@@ -121,16 +122,31 @@ fn node(alloc: Global, trees: &[SyntaxNode], at: &Value) -> anyhow::Result<Synta
     }
 }
 
+/// A builder of mappings to the children of a node's parent.
+fn builder_beside(alloc: Global, output: &SyntaxNode) -> anyhow::Result<SyntaxMappingBuilder> {
+    let parent = output.parent()?.context("a root is mapped to")?;
+    Ok(SyntaxMappingBuilder::new(alloc, parent)?)
+}
+
+/// Adds an entry of the mapping.
+fn map_entry(
+    alloc: Global,
+    trees: &[SyntaxNode],
+    entry: &Value,
+    mapping: &mut SyntaxMapping,
+) -> anyhow::Result<()> {
+    let output = node(alloc, trees, entry.get(1).context("no output")?)?;
+    let mut builder = builder_beside(alloc, &output)?;
+    let input = node(alloc, trees, entry.get(0).context("no input")?)?;
+    builder.map_node(alloc, input, output)?;
+    Ok(builder.finish(mapping)?)
+}
+
 /// The mapping.
 fn mapping(alloc: Global, trees: &[SyntaxNode], case: &Value) -> anyhow::Result<SyntaxMapping> {
     let mut mapping = SyntaxMapping::new(alloc);
     for entry in list(member(case, "mapping")?)? {
-        let input = node(alloc, trees, entry.get(0).context("no input")?)?;
-        let output = node(alloc, trees, entry.get(1).context("no output")?)?;
-        let parent = output.parent()?.context("a root is mapped to")?;
-        let mut builder = SyntaxMappingBuilder::new(alloc, parent)?;
-        builder.map_node(alloc, input, output)?;
-        builder.finish(&mut mapping)?;
+        map_entry(alloc, trees, entry, &mut mapping)?;
     }
     Ok(mapping)
 }
@@ -179,6 +195,76 @@ fn is_root(element: &SyntaxElement) -> anyhow::Result<bool>
     Ok(element.parent()?.is_none())
 }
 
+/// Whether a replacement is of one element.
+fn is_single(change: &Value) -> anyhow::Result<bool> {
+    member(change, "single")?.as_bool().context("no truth")
+}
+
+/// The first and the last of a row of children.
+fn row(
+    alloc: Global,
+    parent: &SyntaxNode,
+    change: &Value,
+) -> anyhow::Result<(SyntaxElement, SyntaxElement)>
+    ensures ordered { IfOk result (λ r. index_of (element_of r.0).place ≤ index_of (element_of r.1).place) }
+    ensures below { IfOk result (λ r. is_none (parent_of (element_of r.0)) ≡ false) }
+{
+    let first = child(alloc, parent, number(change, "first")?)?;
+    let last = child(alloc, parent, number(change, "last")?)?;
+    if last.index() < first.index() {
+        bail!("a row of children is turned around")
+    }
+    if is_root(&first)? {
+        bail!("a child is a root")
+    }
+    Ok((first, last))
+}
+
+/// A recorded replacement of a row of children.
+fn row_replacement(
+    alloc: Global,
+    parent: &SyntaxNode,
+    trees: &[SyntaxNode],
+    change: &Value,
+) -> anyhow::Result<Change>
+    ensures ordered { IfOk result (λ c. IsOrdered c) }
+    ensures root { IfOk result (λ c. KeepsOneRoot c) }
+{
+    let single = is_single(change)?;
+    let (first, last) = row(alloc, parent, change)?;
+    Ok(Change::Replace {
+        first,
+        last,
+        new: payload(alloc, trees, change)?,
+        single,
+    })
+}
+
+/// A recorded replacement of the root.
+fn root_replacement(
+    alloc: Global,
+    root: &SyntaxNode,
+    trees: &[SyntaxNode],
+    change: &Value,
+) -> anyhow::Result<Change>
+    ensures ordered { IfOk result (λ c. IsOrdered c) }
+    ensures root { IfOk result (λ c. KeepsOneRoot c) }
+{
+    let single = is_single(change)?;
+    let new = payload(alloc, trees, change)?;
+    if !is_one_node(&new) {
+        bail!("the root is replaced by something else than one node")
+    }
+    let first = SyntaxElement::Node(root.clone()?);
+    let last = first.clone()?;
+    Ok(Change::Replace {
+        first,
+        last,
+        new,
+        single,
+    })
+}
+
 /// A recorded replacement.
 fn replacement(
     alloc: Global,
@@ -189,37 +275,12 @@ fn replacement(
     ensures ordered { IfOk result (λ c. IsOrdered c) }
     ensures root { IfOk result (λ c. KeepsOneRoot c) }
 {
-    let single = member(change, "single")?.as_bool().context("no truth")?;
-    let new = payload(alloc, trees, change)?;
     let path = member(change, "parent")?;
     if path.is_null() {
-        if !is_one_node(&new) {
-            bail!("the root is replaced by something else than one node")
-        }
-        let first = SyntaxElement::Node(root.clone()?);
-        let last = first.clone()?;
-        return Ok(Change::Replace {
-            first,
-            last,
-            new,
-            single,
-        });
+        return root_replacement(alloc, root, trees, change);
     }
     let parent = parent(alloc, root, path)?;
-    let first = child(alloc, &parent, number(change, "first")?)?;
-    let last = child(alloc, &parent, number(change, "last")?)?;
-    if last.index() < first.index() {
-        bail!("a row of children is turned around")
-    }
-    if is_root(&first)? {
-        bail!("a child is a root")
-    }
-    Ok(Change::Replace {
-        first,
-        last,
-        new,
-        single,
-    })
+    row_replacement(alloc, &parent, trees, change)
 }
 
 /// A recorded change.
@@ -294,42 +355,68 @@ fn is_made(alloc: Global, case: &Value, plan: &Plan, order: &[usize]) -> anyhow:
         return Ok(false);
     }
     let rewritten = plan.execute(alloc, order)?;
-    let expected = green(alloc, member(case, "tree")?)?;
     let changed = are_changed(case, &rewritten.changed)?;
     let origins = are_origins(alloc, case, &rewritten.origins)?;
+    let expected = green(alloc, member(case, "tree")?)?;
     Ok(rewritten.green == expected && changed && origins)
 }
 
-/// Whether it does so in each order that the case names, or else in the plan's own.
+/// Whether it does so in each of these orders.
+fn is_made_in_each(
+    alloc: Global,
+    case: &Value,
+    plan: &Plan,
+    orders: &[Value],
+) -> anyhow::Result<bool> {
+    for order in orders {
+        if !is_made(alloc, case, plan, &numbers(alloc, order)?)? {
+            return Ok(false);
+        }
+    }
+    Ok(true)
+}
+
+/// Whether it does so in each order that the case names, and in the plan's own.
 fn is_executed(alloc: Global, case: &Value, plan: &Plan) -> anyhow::Result<bool> {
     if plan.len() != number(case, "kept")? {
         return Ok(false);
     }
-    if let Some(orders) = case.get("orders") {
-        for order in list(orders)? {
-            if !is_made(alloc, case, plan, &numbers(alloc, order)?)? {
-                return Ok(false);
-            }
-        }
-    }
-    is_made(alloc, case, plan, &plan.order(alloc)?)
+    let in_each = match case.get("orders") {
+        Some(orders) => is_made_in_each(alloc, case, plan, list(orders)?)?,
+        None => true,
+    };
+    Ok(in_each && is_made(alloc, case, plan, &plan.order(alloc)?)?)
 }
 
-/// Whether of the changes becomes what the case says.
-pub(crate) fn is_met(alloc: Global, case: &Value) -> anyhow::Result<bool> {
+/// Whether this is what the case says of the changes.
+fn is_verdict(alloc: Global, case: &Value, built: Result<Plan, PlanError>) -> anyhow::Result<bool> {
     let verdict = member(case, "verdict")?.as_str().context("no verdict")?;
-    let green = green(
-        alloc,
-        list(member(case, "trees")?)?.first().context("no tree")?,
-    )?;
-    let root = SyntaxNode::new_root(alloc, green, &mut TreeIds::new())?;
-    let trees = trees(alloc, case)?;
-    let mapping = mapping(alloc, &trees, case)?;
-    let changes = changes(alloc, &root, &trees, case)?;
-    match Plan::build(alloc, &root, changes, &mapping) {
+    match built {
         Ok(plan) => Ok(verdict == "accepted" && is_executed(alloc, case, &plan)?),
         Err(PlanError::Intersecting) => Ok(verdict == "Intersecting"),
         Err(PlanError::MissingMapping) => Ok(verdict == "MissingMapping"),
         Err(PlanError::NoMemory) => bail!("out of memory"),
     }
+}
+
+/// Whether of the changes on the tree of a root becomes what the case says.
+fn is_met_on(alloc: Global, case: &Value, root: &SyntaxNode) -> anyhow::Result<bool>
+    requires { root.now.place.up ≡ [] }
+{
+    let trees = trees(alloc, case)?;
+    let mapping = mapping(alloc, &trees, case)?;
+    let changes = changes(alloc, root, &trees, case)?;
+    is_verdict(alloc, case, Plan::build(alloc, root, changes, &mapping))
+}
+
+/// The signs of the tree that is changed.
+fn first_tree(case: &Value) -> anyhow::Result<&Value> {
+    list(member(case, "trees")?)?.first().context("no tree")
+}
+
+/// Whether of the changes becomes what the case says.
+pub(crate) fn is_met(alloc: Global, case: &Value) -> anyhow::Result<bool> {
+    let green = green(alloc, first_tree(case)?)?;
+    let root = SyntaxNode::new_root(alloc, green, &mut TreeIds::new())?;
+    is_met_on(alloc, case, &root)
 }

@@ -88,10 +88,7 @@ impl Bench {
     fn foreign(&mut self, way: &[usize]) -> Result<(), Fail> {
         let other = root(self.alloc, Tree::Args, &mut self.ids)?;
         match other.element_at(self.alloc, way)? {
-            Some(element) => {
-                let recorded = self.editor.delete(self.alloc, &element);
-                self.tell(recorded)
-            }
+            Some(element) => self.delete_element(&element),
             None => Err(Fail::new("no such element")),
         }
     }
@@ -132,24 +129,21 @@ impl Bench {
         self.replace_by(way, &new)
     }
 
+    fn delete_element(&mut self, old: &SyntaxElement) -> Result<(), Fail> {
+        let recorded = self.editor.delete(self.alloc, old);
+        self.tell(recorded)
+    }
+
     fn delete(&mut self, way: &[usize]) -> Result<(), Fail> {
         let old = self.element(way)?;
-        let recorded = self.editor.delete(self.alloc, &old);
-        self.tell(recorded)
+        self.delete_element(&old)
     }
 
+    /// An element is replaced by many, or by none.
     fn many(&mut self, way: &[usize], texts: &[&'static str]) -> Result<(), Fail> {
-        let old = self.element(way)?;
         let new = self.all(texts)?;
-        let recorded = self.editor.replace_with_many(self.alloc, &old, new);
-        self.tell(recorded)
-    }
-
-    /// An element is replaced by none.
-    fn remove(&mut self, way: &[usize]) -> Result<(), Fail> {
         let old = self.element(way)?;
-        let none = Vec::new(self.alloc);
-        let recorded = self.editor.replace_with_many(self.alloc, &old, none);
+        let recorded = self.editor.replace_with_many(self.alloc, &old, new);
         self.tell(recorded)
     }
 
@@ -179,7 +173,7 @@ impl Bench {
             Do::Replace(way, text) => self.replace(way, text),
             Do::Delete(way) => self.delete(way),
             Do::Many(way, texts) => self.many(way, texts),
-            Do::Remove(way) => self.remove(way),
+            Do::Remove(way) => self.many(way, &[]),
             Do::DeleteAll(from, to) => self.delete_all(from, to),
             Do::ReplaceAll(from, to, texts) => self.replace_all(from, to, texts),
             Do::Deleted(way) => self.deleted(way),

@@ -55,15 +55,8 @@ enum Ask {
     Refused,
 }
 
-#[derive(Clone, Copy)]
-struct Row {
-    ask: Ask,
-    answer: &'static str,
-}
-
-fn asked(ask: Ask, answer: &'static str) -> Row {
-    Row { ask, answer }
-}
+/// A question, and what must be written for its answer.
+type Row = (Ask, &'static str);
 
 /// Its kind, and the numbers of its path.
 fn show(alloc: Global, out: &mut String, element: &SyntaxElement) -> Result<(), Fail> {
@@ -127,26 +120,41 @@ fn show_gap(
     }
 }
 
+/// The gaps beside a node.
+fn gaps_beside(alloc: Global, out: &mut String, node: &SyntaxElement) -> Result<(), Fail> {
+    show_gap(alloc, out, Position::before(node))?;
+    show_gap(alloc, out, Position::after(node))
+}
+
+/// The gap after the children of a root.
+fn last_gap(alloc: Global, out: &mut String, root: &SyntaxNode) -> Result<(), Fail> {
+    show_gap(alloc, out, Ok(Position::last_child_of(root.clone()?)))
+}
+
 fn gaps(alloc: Global, out: &mut String, root: SyntaxNode) -> Result<(), Fail> {
-    let node = SyntaxElement::Node(path(alloc, &root)?);
-    show_gap(alloc, out, Position::before(&node))?;
-    show_gap(alloc, out, Position::after(&node))?;
-    show_gap(alloc, out, Ok(Position::last_child_of(root.clone()?)))?;
+    gaps_beside(alloc, out, &SyntaxElement::Node(path(alloc, &root)?))?;
+    last_gap(alloc, out, &root)?;
     show_gap(alloc, out, Position::before(&SyntaxElement::Node(root)))
 }
 
-/// A mapping of the path to its copy in another tree, and what that has at the path's way.
+/// A mapping of the path to its copy in another tree.
+fn mapping(alloc: Global, root: &SyntaxNode, other: &SyntaxNode) -> Result<SyntaxMapping, Fail> {
+    let mut builder = SyntaxMappingBuilder::new(alloc, other.clone()?)?;
+    let input = path(alloc, root)?;
+    builder.map_node(alloc, input, path(alloc, other)?)?;
+    let mut mapping = SyntaxMapping::new(alloc);
+    builder.finish(&mut mapping)?;
+    Ok(mapping)
+}
+
+/// What that mapping has at the path's way.
 fn mapped(
     alloc: Global,
     out: &mut String,
     root: &SyntaxNode,
-    other: SyntaxNode,
+    other: &SyntaxNode,
 ) -> Result<(), Fail> {
-    let output = path(alloc, &other)?;
-    let mut builder = SyntaxMappingBuilder::new(alloc, other)?;
-    builder.map_node(alloc, path(alloc, root)?, output)?;
-    let mut mapping = SyntaxMapping::new(alloc);
-    builder.finish(&mut mapping)?;
+    let mapping = mapping(alloc, root, other)?;
     match mapping.image_at(root.tree(), &[0])? {
         Some(image) => alone(alloc, out, &SyntaxElement::Node(image.clone()?)),
         None => Ok(out.push_str("none")?),
@@ -164,87 +172,163 @@ fn show_refusal(out: &mut String, refused: Result<(), MappingError>) -> Result<(
     Ok(out.push_str(word)?)
 }
 
-fn refused(
+/// Whether a node is mapped to another one.
+fn refused_node(
     alloc: Global,
     out: &mut String,
-    root: &SyntaxNode,
-    other: SyntaxNode,
+    builder: &mut SyntaxMappingBuilder,
+    (old, new): (&SyntaxNode, &SyntaxNode),
 ) -> Result<(), Fail> {
-    let (old, new) = (path(alloc, root)?, path(alloc, &other)?);
-    let mut builder = SyntaxMappingBuilder::new(alloc, other.clone()?)?;
-    show_refusal(out, builder.map_node(alloc, new.clone()?, new.clone()?))?;
-    show_refusal(out, builder.map_node(alloc, old.clone()?, other))?;
-    let both = vec![in alloc; old.clone()?, old]?;
-    let one = vec![in alloc; new]?;
+    let old = old.clone()?;
+    show_refusal(out, builder.map_node(alloc, old, new.clone()?))
+}
+
+/// A node, so many times.
+fn copies(alloc: Global, node: &SyntaxNode, count: usize) -> Result<Vec<SyntaxNode>, Fail> {
+    let mut copies = Vec::new(alloc);
+    for _ in 0..count {
+        copies.push(node.clone()?)?;
+    }
+    Ok(copies)
+}
+
+/// Whether two nodes are mapped to one, and none to one.
+fn refused_children(
+    alloc: Global,
+    out: &mut String,
+    builder: &mut SyntaxMappingBuilder,
+    (old, new): (&SyntaxNode, &SyntaxNode),
+) -> Result<(), Fail> {
+    let both = copies(alloc, old, 2)?;
+    let one = copies(alloc, new, 1)?;
     show_refusal(out, builder.map_children(alloc, &both, &one))?;
     show_refusal(out, builder.map_children(alloc, &[], &one))
 }
 
-fn answer(alloc: Global, ask: Ask) -> Result<String, Fail> {
+fn refused_paths(
+    alloc: Global,
+    out: &mut String,
+    builder: &mut SyntaxMappingBuilder,
+    (old, new, other): (&SyntaxNode, &SyntaxNode, &SyntaxNode),
+) -> Result<(), Fail> {
+    refused_node(alloc, out, builder, (new, new))?;
+    refused_node(alloc, out, builder, (old, other))?;
+    refused_children(alloc, out, builder, (old, new))
+}
+
+fn refused(
+    alloc: Global,
+    out: &mut String,
+    root: &SyntaxNode,
+    other: &SyntaxNode,
+) -> Result<(), Fail> {
+    let mut builder = SyntaxMappingBuilder::new(alloc, other.clone()?)?;
+    let old = path(alloc, root)?;
+    let new = path(alloc, other)?;
+    refused_paths(alloc, out, &mut builder, (&old, &new, other))
+}
+
+/// What is asked of two trees.
+fn answer_of_two(
+    alloc: Global,
+    out: &mut String,
+    is_mapped: bool,
+    ids: &mut TreeIds,
+) -> Result<(), Fail> {
+    let tree = root(alloc, ids)?;
+    let other = root(alloc, ids)?;
+    if is_mapped {
+        mapped(alloc, out, &tree, &other)
+    } else {
+        refused(alloc, out, &tree, &other)
+    }
+}
+
+/// What is asked of one tree.
+fn answer_of_one(alloc: Global, out: &mut String, ask: Ask, ids: &mut TreeIds) -> Result<(), Fail> {
+    let tree = root(alloc, ids)?;
+    match ask {
+        Ask::Elements => elements(alloc, out, &tree),
+        Ask::Above => above(alloc, out, &tree),
+        Ask::Subtree => subtree(alloc, out, &tree, ids),
+        Ask::Detached => detached(alloc, out, ids),
+        _ => gaps(alloc, out, tree),
+    }
+}
+
+fn is_met(alloc: Global, (ask, expected): &Row) -> Result<bool, Fail> {
     let mut out = String::new(alloc);
     let mut ids = TreeIds::new();
-    let tree = root(alloc, &mut ids)?;
     match ask {
-        Ask::Elements => elements(alloc, &mut out, &tree)?,
-        Ask::Above => above(alloc, &mut out, &tree)?,
-        Ask::Subtree => subtree(alloc, &mut out, &tree, &mut ids)?,
-        Ask::Detached => detached(alloc, &mut out, &mut ids)?,
-        Ask::Gaps => gaps(alloc, &mut out, tree)?,
-        Ask::Mapped => mapped(alloc, &mut out, &tree, root(alloc, &mut ids)?)?,
-        Ask::Refused => refused(alloc, &mut out, &tree, root(alloc, &mut ids)?)?,
+        Ask::Mapped => answer_of_two(alloc, &mut out, true, &mut ids)?,
+        Ask::Refused => answer_of_two(alloc, &mut out, false, &mut ids)?,
+        _ => answer_of_one(alloc, &mut out, *ask, &mut ids)?,
     }
-    Ok(out)
+    Ok(out.as_str() == *expected)
 }
+
+const ROWS: &[Row] = &[
+    (Ask::Elements, "SOURCE_FILE;PATH 0;IDENT 0 0;SEMICOLON 1;"),
+    (Ask::Above, "PATH 0;SOURCE_FILE;"),
+    (Ask::Subtree, "2 PATH;"),
+    (Ask::Detached, "2 IDENT 0;"),
+    (Ask::Gaps, "0;1;2;NoParent;"),
+    (Ask::Mapped, "2 PATH 0;"),
+    (Ask::Refused, "Order;NotChild;MoreInputs;Ok;"),
+];
 
 #[test]
 fn syntax_trees(rt: HostRuntime) -> Result<(), Fail> {
-    let alloc = rt.alloc();
-    for row in [
-        asked(Ask::Elements, "SOURCE_FILE;PATH 0;IDENT 0 0;SEMICOLON 1;"),
-        asked(Ask::Above, "PATH 0;SOURCE_FILE;"),
-        asked(Ask::Subtree, "2 PATH;"),
-        asked(Ask::Detached, "2 IDENT 0;"),
-        asked(Ask::Gaps, "0;1;2;NoParent;"),
-        asked(Ask::Mapped, "2 PATH 0;"),
-        asked(Ask::Refused, "Order;NotChild;MoreInputs;Ok;"),
-    ] {
-        let answer = answer(alloc, row.ask)?;
-        assert!(rt; answer.as_str() == row.answer);
+    for row in ROWS {
+        assert!(rt; is_met(rt.alloc(), row)?, "{}", row.1);
     }
     Ok(())
 }
 
-fn one_slot(alloc: Global, number: usize) -> Result<Target, Fail> {
-    Ok(Target::Slots {
-        first: vec![in alloc; number]?,
+fn slot(alloc: Global, number: usize) -> Result<TreeChange, Fail> {
+    let first = vec![in alloc; number]?;
+    let target = Target::Slots {
+        first,
         more: 0,
         single: true,
-    })
+    };
+    Ok(TreeChange::new(target, Vec::new(alloc)))
+}
+
+fn deletion(alloc: Global) -> Result<Job, Fail> {
+    Ok(Job::new(None, slot(alloc, 0)?, None))
+}
+
+fn replacement(alloc: Global) -> Result<Job, Fail> {
+    let owner = vec![in alloc; 1]?;
+    Ok(Job::new(None, slot(alloc, 1)?, Some(owner)))
+}
+
+fn insertion(alloc: Global) -> Result<Job, Fail> {
+    let parent = vec![in alloc; 1]?;
+    let sheet = vec![in alloc; 1]?;
+    let change = TreeChange::new(Target::Gap { parent, index: 0 }, Vec::new(alloc));
+    Ok(Job::new(Some(sheet), change, None))
 }
 
 /// A node is deleted, the next one is replaced by a node, and something is put into that.
 fn jobs(alloc: Global) -> Result<Vec<Job>, Fail> {
-    let deletion = TreeChange::new(one_slot(alloc, 0)?, Vec::new(alloc));
-    let replacement = TreeChange::new(one_slot(alloc, 1)?, Vec::new(alloc));
-    let gap = Target::Gap {
-        parent: vec![in alloc; 1]?,
-        index: 0,
-    };
-    let insertion = TreeChange::new(gap, Vec::new(alloc));
-    let owner = vec![in alloc; 1]?;
-    let sheet = vec![in alloc; 1]?;
     let mut jobs = Vec::new(alloc);
-    jobs.push(Job::new(None, deletion, None))?;
-    jobs.push(Job::new(None, replacement, Some(owner)))?;
-    jobs.push(Job::new(Some(sheet), insertion, None))?;
+    jobs.push(deletion(alloc)?)?;
+    jobs.push(replacement(alloc)?)?;
+    jobs.push(insertion(alloc)?)?;
     Ok(jobs)
+}
+
+fn orders_are_told(alloc: Global) -> Result<bool, Fail> {
+    let jobs = jobs(alloc)?;
+    let admitted = is_order(&jobs, &[0, 2, 1]) & is_order(&jobs, &[2, 1, 0]);
+    let refused = is_order(&jobs, &[0, 1, 2]) | is_order(&jobs, &[2, 1]);
+    Ok(admitted & !refused)
 }
 
 #[test]
 fn owners_come_after_what_they_own(rt: HostRuntime) -> Result<(), Fail> {
-    let jobs = jobs(rt.alloc())?;
-    let admitted = is_order(&jobs, &[0, 2, 1]) & is_order(&jobs, &[2, 1, 0]);
-    let refused = is_order(&jobs, &[0, 1, 2]) | is_order(&jobs, &[2, 1]);
-    assert!(rt; admitted & !refused);
+    assert!(rt; orders_are_told(rt.alloc())?);
     Ok(())
 }

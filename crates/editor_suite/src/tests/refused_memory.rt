@@ -6,7 +6,7 @@ use parser_input::SyntaxKind;
 use rowan_green::{GreenNode, GreenNodeBuilder, GreenToken};
 use std::alloc::Global;
 use std::test::Fail;
-use syntax_editor::SyntaxEditor;
+use syntax_editor::{SyntaxEdit, SyntaxEditor};
 use syntax_tree::{Position, SyntaxElement, SyntaxNode, SyntaxToken, TreeIds};
 
 const TOKENS: &[(SyntaxKind, &str)] = &[
@@ -52,32 +52,54 @@ fn end(editor: &SyntaxEditor) -> Option<Position> {
     Some(Position { parent, index: 6 })
 }
 
+/// Whether the child of a number is deleted, by a call that is made once more where it was refused.
+fn deletes(alloc: Global, editor: &mut SyntaxEditor, child: usize) -> Option<bool> {
+    let old = editor.root().element_at(alloc, &[child]).ok()??;
+    Some(editor.delete(alloc, &old).is_ok() || editor.delete(alloc, &old).is_ok())
+}
+
+fn replaces(
+    alloc: Global,
+    editor: &mut SyntaxEditor,
+    child: usize,
+    new: &SyntaxElement,
+) -> Option<bool> {
+    let old = editor.root().element_at(alloc, &[child]).ok()??;
+    Some(editor.replace(alloc, &old, new).is_ok() || editor.replace(alloc, &old, new).is_ok())
+}
+
+fn inserts(alloc: Global, editor: &mut SyntaxEditor, new: &SyntaxElement) -> Option<bool> {
+    let place = end(editor)?;
+    let again = end(editor)?;
+    let is_done = editor.insert(alloc, place, new).is_ok();
+    Some(is_done || editor.insert(alloc, again, new).is_ok())
+}
+
 /// Whether the first number is deleted, the second replaced, and a third put in at the end, each by a call that is made once more where
 /// it was refused. None where memory was refused elsewhere.
 fn recorded(alloc: Global, editor: &mut SyntaxEditor, new: &SyntaxElement) -> Option<bool> {
-    let first = editor.root().element_at(alloc, &[1]).ok()??;
-    let second = editor.root().element_at(alloc, &[4]).ok()??;
-    let deleted = editor.delete(alloc, &first).is_ok() || editor.delete(alloc, &first).is_ok();
-    let replaced = editor.replace(alloc, &second, new).is_ok()
-        || editor.replace(alloc, &second, new).is_ok();
-    let (place, again) = (end(editor)?, end(editor)?);
-    let inserted = editor.insert(alloc, place, new).is_ok()
-        || editor.insert(alloc, again, new).is_ok();
+    let deleted = deletes(alloc, editor, 1)?;
+    let replaced = replaces(alloc, editor, 4, new)?;
+    let inserted = inserts(alloc, editor, new)?;
     Some(deleted & replaced & inserted)
 }
 
-/// Whether `(1, 2)` becomes `(, 3)3`. None where memory was refused elsewhere than in a call that records.
-fn is_edited(alloc: Global) -> Option<bool> {
+/// The edit of `(1, 2)`, with whether all was recorded. None where memory was refused elsewhere than in a call that records.
+fn edited(alloc: Global) -> Option<(SyntaxEdit, bool)> {
     let mut ids = TreeIds::new();
     let root = root(alloc, &mut ids)?;
     let new = token(alloc, &mut ids)?;
     let mut editor = SyntaxEditor::of_root(alloc, root);
-    if !recorded(alloc, &mut editor, &new)? {
-        return Some(false);
-    }
+    let is_recorded = recorded(alloc, &mut editor, &new)?;
     let edit = editor.finish(alloc, &mut ids).ok()?;
+    Some((edit, is_recorded))
+}
+
+/// Whether `(1, 2)` becomes `(, 3)3`. None where memory was refused elsewhere than in a call that records.
+fn is_edited(alloc: Global) -> Option<bool> {
+    let (edit, is_recorded) = edited(alloc)?;
     let text = edit.new_root().cursor().text().ok()?;
-    Some(text.eq_str("(, 3)3"))
+    Some(is_recorded & text.eq_str("(, 3)3"))
 }
 
 #[test]

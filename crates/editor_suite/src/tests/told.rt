@@ -5,9 +5,9 @@ use std::test::Fail;
 use syntax_editor::{Annotations, SyntaxAnnotation, SyntaxEdit, SyntaxEditor};
 use syntax_tree::{SyntaxElement, TreeIds};
 
-/// An edit of arguments, with a mark on what is put in the place of both, a mark on the comma, and one on nothing.
-struct Marked {
-    edit: SyntaxEdit,
+/// A mark on what is put in the place of both arguments, a mark on the comma, and one on nothing.
+#[derive(Clone, Copy)]
+struct Marks {
     put: SyntaxAnnotation,
     comma: SyntaxAnnotation,
     none: SyntaxAnnotation,
@@ -21,24 +21,44 @@ fn child(alloc: Global, editor: &SyntaxEditor, number: usize) -> Result<SyntaxEl
     }
 }
 
-fn edited(alloc: Global) -> Result<Marked, Fail> {
-    let mut ids = TreeIds::new();
+fn three_marks() -> Result<Marks, Fail> {
     let mut marks = Annotations::new();
-    let (put, comma, none) = (marks.next()?, marks.next()?, marks.next()?);
-    let mut editor = SyntaxEditor::of_root(alloc, root(alloc, Tree::Args, &mut ids)?);
+    let put = marks.next()?;
+    let comma = marks.next()?;
+    let none = marks.next()?;
+    Ok(Marks { put, comma, none })
+}
+
+fn mark_comma(
+    alloc: Global,
+    editor: &mut SyntaxEditor,
+    mark: SyntaxAnnotation,
+) -> Result<(), Fail> {
+    let comma = child(alloc, editor, 2)?;
+    editor.add_annotation(&comma, mark)?;
+    Ok(())
+}
+
+fn record(
+    alloc: Global,
+    editor: &mut SyntaxEditor,
+    new: &SyntaxElement,
+    marks: Marks,
+) -> Result<(), Fail> {
+    editor.add_annotation(new, marks.put)?;
+    mark_comma(alloc, editor, marks.comma)?;
+    replace(alloc, editor, 1, new)?;
+    replace(alloc, editor, 4, new)
+}
+
+/// An edit that puts one literal in the place of both arguments.
+fn edited(alloc: Global, marks: Marks) -> Result<SyntaxEdit, Fail> {
+    let mut ids = TreeIds::new();
+    let root = root(alloc, Tree::Args, &mut ids)?;
+    let mut editor = SyntaxEditor::of_root(alloc, root);
     let new = payload(alloc, "LITERAL 3", &mut ids)?;
-    editor.add_annotation(&new, put)?;
-    let second = child(alloc, &editor, 2)?;
-    editor.add_annotation(&second, comma)?;
-    replace(alloc, &mut editor, 1, &new)?;
-    replace(alloc, &mut editor, 4, &new)?;
-    let edit = editor.finish(alloc, &mut ids)?;
-    Ok(Marked {
-        edit,
-        put,
-        comma,
-        none,
-    })
+    record(alloc, &mut editor, &new, marks)?;
+    Ok(editor.finish(alloc, &mut ids)?)
 }
 
 fn replace(
@@ -67,22 +87,32 @@ fn push_ranges(alloc: Global, elements: &[SyntaxElement], out: &mut String) -> R
     Ok(())
 }
 
+fn push_annotated(
+    alloc: Global,
+    edit: &SyntaxEdit,
+    marks: Marks,
+    out: &mut String,
+) -> Result<(), Fail> {
+    for (element, mark) in edit.annotated() {
+        push_range(alloc, element, out)?;
+        out.push_str(if *mark == marks.put { " put" } else { " comma" })?;
+    }
+    Ok(())
+}
+
+fn push_told(alloc: Global, edit: &SyntaxEdit, marks: Marks, out: &mut String) -> Result<(), Fail> {
+    push_ranges(alloc, edit.changed_elements(), out)?;
+    for mark in [marks.put, marks.comma, marks.none] {
+        push_ranges(alloc, edit.find_annotation(mark), out)?;
+    }
+    push_annotated(alloc, edit, marks, out)
+}
+
 /// The ranges of what was put in; of what is found again of each mark; and of what is found again of all marks.
 pub(crate) fn told(alloc: Global) -> Result<String, Fail> {
-    let Marked {
-        edit,
-        put,
-        comma,
-        none,
-    } = edited(alloc)?;
+    let marks = three_marks()?;
+    let edit = edited(alloc, marks)?;
     let mut out = String::new(alloc);
-    push_ranges(alloc, edit.changed_elements(), &mut out)?;
-    for mark in [put, comma, none] {
-        push_ranges(alloc, edit.find_annotation(mark), &mut out)?;
-    }
-    for (element, mark) in edit.annotated() {
-        push_range(alloc, element, &mut out)?;
-        out.push_str(if *mark == put { " put" } else { " comma" })?;
-    }
+    push_told(alloc, &edit, marks, &mut out)?;
     Ok(out)
 }

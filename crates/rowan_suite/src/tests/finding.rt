@@ -1,7 +1,7 @@
 //! Nodes and tokens that are found by offset, range and kind, and trees with one of them replaced.
 use super::{Node, SAMPLE, Shown, Token, comma, first_list, green, hash_of, show_item, tree};
 use crate::{Kind, ListNode, Lists};
-use rowan::{AstNode, AstPtr, SyntaxNodePtr, TokenAtOffset, WalkEvent, support};
+use rowan::{AstNode, AstPtr, CursorError, SyntaxNodePtr, TokenAtOffset, WalkEvent, support};
 use rowan_green::{GreenToken, SyntaxKind, TextRange, TextSize};
 use std::alloc::{AllocError, Global};
 use std::test::Fail;
@@ -138,8 +138,26 @@ fn not_found(alloc: Global, out: &mut String, root: &Node) -> Result<(), Fail> {
     };
     match pointer.to_node(alloc, root) {
         Ok(node) => node.show(alloc, out),
-        Err(e) => Ok(out.push_str(format!(in alloc; "{e}")?.as_str())?),
+        Err(e) => show_not_found(alloc, out, e),
     }
+}
+
+/// What a pointer to a list finds in a tree.
+fn typed_found_in(
+    alloc: Global,
+    out: &mut String,
+    list: &ListNode,
+    root: &Node,
+) -> Result<(), Fail> {
+    match AstPtr::new(list).to_node(alloc, root) {
+        Ok(found) => found.syntax().show(alloc, out),
+        Err(e) => show_not_found(alloc, out, e),
+    }
+}
+
+fn show_not_found(alloc: Global, out: &mut String, error: CursorError) -> Result<(), Fail> {
+    let word = format!(in alloc; "{error}")?;
+    Ok(out.push_str(word.as_str())?)
 }
 
 /// A pointer to a list of another tree.
@@ -147,10 +165,8 @@ fn typed_not_found(alloc: Global, out: &mut String, list: Node) -> Result<(), Fa
     let Some(list) = ListNode::cast(list) else {
         return Ok(out.push_str("no list ")?);
     };
-    match AstPtr::new(&list).to_node(alloc, &tree(alloc, "{ ab cd }")?) {
-        Ok(found) => found.syntax().show(alloc, out),
-        Err(e) => Ok(out.push_str(format!(in alloc; "{e}")?.as_str())?),
-    }
+    let other = tree(alloc, "{ ab cd }")?;
+    typed_found_in(alloc, out, &list, &other)
 }
 
 fn typed_children(alloc: Global, out: &mut String, root: &Node) -> Result<(), Fail> {

@@ -23,8 +23,8 @@ type Row = (Ask, &'static str);
 fn after_second(
     mut walk: PreorderWithTokens<Lists>,
 ) -> Result<PreorderWithTokens<Lists>, AllocError> {
-    let _first = walk.next();
-    let _second = walk.next();
+    drop(walk.next());
+    drop(walk.next());
     walk.skip_subtree()?;
     Ok(walk)
 }
