@@ -79,9 +79,9 @@ origins_agree nothing t n h = cc
 origins_agree (token m l r) t n h = cc
 origins_agree (inner m k f r) t n h =
     let inside : t.forest ≡ forest_in f = cc in
-    let behind : forest_in r ≡ empty = cc in (
+    let after : forest_in r ≡ empty = cc in (
       walked-tree n t ∙ ap (λ l. element_at n t [] ∷ l) (ap (λ g. walked n (walk_forest (place_of t []) 0 g)) inside ∙ walked-marks n t f [] 0),
-      ap (λ l. m.origin ∷ l) (ap (λ l. origins f ++ l) (nothing_else r behind) ∙ append-nil (origins f) ∙ origins-marks f [] 0),
+      ap (λ l. m.origin ∷ l) (ap (λ l. origins f ++ l) (nothing_else r after) ∙ append-nil (origins f) ∙ origins-marks f [] 0),
     )
 
 -- ---- what is picked by its origin
@@ -143,8 +143,8 @@ put_agree : (m : Marked) (t : Tree) → IsNode m t → put_marks m ≡ put_in (m
 put_agree nothing t h = cc
 put_agree (token m l r) t h = cc
 put_agree (inner m k f r) t h =
-    let behind : forest_in r ≡ empty = cc in
-    ap (λ l. m.put ∷ l) (ap (λ l. put_marks f ++ l) (none_else r behind) ∙ append-nil (put_marks f) ∙ marks-put f [] 0)
+    let after : forest_in r ≡ empty = cc in
+    ap (λ l. m.put ∷ l) (ap (λ l. put_marks f ++ l) (none_else r after) ∙ append-nil (put_marks f) ∙ marks-put f [] 0)
 
 pub changed_beside : (m : Marked) (root : Element) (bs : List Bool) → ArePutMarks m root bs
     → map element_of (picked (λ b. b) (zip (elements root) bs)) ≡ map (element_at root.number root.place.root) (changed m)

@@ -31,14 +31,16 @@ pub fn core_trees_are_clean()
     ensures expressions { CoreExpressionsAreClean }
 {}
 
-/// The leaves of a core tree, parted by white space, are a core list of that tree, whatever its floats are.
+/// The leaves of a core tree, parted by white space, are a core list of that tree, whatever its
+/// floats are.
 pub fn spaced_core_trees_are_core()
     ensures files { SpacedCoreFilesAreCore }
     ensures types { SpacedCoreTypesAreCore }
     ensures expressions { SpacedCoreExpressionsAreCore }
 {}
 
-/// A file and an expression of the core language, with their trees; and a tree that this expression does not have.
+/// A file and an expression of the core language, with their trees; and a tree that this expression
+/// does not have.
 pub fn examples_are_core()
     ensures { ExamplesAreCore }
 {}

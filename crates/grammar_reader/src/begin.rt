@@ -33,8 +33,8 @@ fn told_here(place: Place, production: Production, ahead: usize, ranks: u8) -> O
     begins_before(production, kind)
 }
 
-/// Whether the rule begins so many tokens ahead. Of a production that is asked so many calls deep the answer is no, as in the
-/// definition.
+/// Whether the rule begins so many tokens ahead. Of a production that is asked so many calls deep
+/// the answer is no, as in the definition.
 pub fn begins(
     p: &mut Parser<'_>,
     place: Place,

@@ -60,7 +60,8 @@ pub(crate) use operands;
 pub(crate) use refs;
 pub(crate) use single_patterns;
 
-/// Before which kinds of the next token a production surely begins, and before which more tokens tell; before others it does not.
+/// Before which kinds of the next token a production surely begins, and before which more tokens
+/// tell; before others it does not.
 pub struct First {
     sure: u128,
     unsure: u128,
@@ -320,7 +321,8 @@ pub(crate) fn has(set: u128, kind: u16) -> bool
     (set >> kind) % 2 == 1
 }
 
-/// Whether a production begins before a token of this kind that is no contextual keyword, if that alone tells.
+/// Whether a production begins before a token of this kind that is no contextual keyword, if that
+/// alone tells.
 pub fn begins_before(production: Production, kind: SyntaxKind) -> Option<bool>
     ensures { IfSome result (λ answer. known_answer (raw_of kind) (look_of whole (named production)) ≡ Some answer) }
 {
@@ -382,7 +384,8 @@ pub(crate) fn operators_at(height: u8) -> u128
     OPERATORS[usize::from(height - 1)]
 }
 
-/// Whether a layer with these operators ends before a token of this kind that is no contextual keyword.
+/// Whether a layer with these operators ends before a token of this kind that is no contextual
+/// keyword.
 pub fn layer_ends_before(operators: u128, kind: SyntaxKind) -> bool
     ensures { IsTrue result → (r : Rule) → all_end_before 128 operators r ≡ true → ends_before (raw_of kind) r ≡ true }
 {
@@ -393,8 +396,9 @@ pub fn layer_ends_before(operators: u128, kind: SyntaxKind) -> bool
     !has(operators, kind)
 }
 
-/// The lowest layer of operators above one, up to the top one, that may have a turn before the next token, whose kind is given where
-/// it is known and that is no contextual keyword; one above the top where none has.
+/// The lowest layer of operators above one, up to the top one, that may have a turn before the next
+/// token, whose kind is given where it is known and that is no contextual keyword; one above the
+/// top where none has.
 pub(crate) fn next_layer(next: Option<SyntaxKind>, height: u8, top: u8) -> u8
     requires low { height < top }
     requires high { top ≤ 10 }

@@ -43,7 +43,8 @@ pub(crate) fn layer_of(height: u8) -> Layer
     LAYERS[usize::from(height - 1)]
 }
 
-/// The height of the layer of operators that a production is, if it is one: from 1, casts, which bind the tightest, to 10.
+/// The height of the layer of operators that a production is, if it is one: from 1, casts, which
+/// bind the tightest, to 10.
 pub(crate) fn height_of(production: Production) -> Option<u8>
     ensures layer { IfSome result (λ height. named production ≡ layer_at height) }
     ensures low { IfSome result (λ height. 1 ≤ height) }

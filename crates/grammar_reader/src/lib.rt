@@ -1,7 +1,8 @@
 //! The table of the grammar as data, and where its rules begin in an input.
 //!
-//! [`table::rule_of`] gives the rule of each production, as the definitions have it. [`begin::begins`] tells whether a rule begins
-//! where a parser stands. [`open`] has what leaves, messages and wraps make of the node that a production fills.
+//! [`table::rule_of`] gives the rule of each production, as the definitions have it.
+//! [`begin::begins`] tells whether a rule begins where a parser stands. [`open`] has what leaves,
+//! messages and wraps make of the node that a production fills.
 #![tactic(auto)]
 
 pub mod begin;

@@ -59,7 +59,8 @@ fn is_next(p: &mut Parser<'_>, place: Place, kind: SyntaxKind, n: u8, ahead: usi
     p.kind_at(far).to_raw() == kind.to_raw()
 }
 
-/// Whether a token of this kind is the n-th, so many tokens further ahead, and touches the next one.
+/// Whether a token of this kind is the n-th, so many tokens further ahead, and touches the next
+/// one.
 fn is_joint(p: &mut Parser<'_>, place: Place, kind: SyntaxKind, n: u8, ahead: usize) -> bool
     requires total { place.total ≡ length p.old.input }
     requires short { length p.old.input < 2 ^ 64 }

@@ -1,5 +1,6 @@
-//! The writing of the table. A spelling is named by the kind of its leaf; `then!(a, b)` is a followed by b, `near!(n, a, b)` the
-//! same where the looks of both are asked and a is one leaf of n tokens, `or!(a, b)` the first whose looks are there (of several, the last where none is).
+//! The writing of the table. A spelling is named by the kind of its leaf; `then!(a, b)` is a
+//! followed by b, `near!(n, a, b)` the same where the looks of both are asked and a is one leaf of
+//! n tokens, `or!(a, b)` the first whose looks are there (of several, the last where none is).
 
 /// The spelling of a leaf.
 macro_rules! one {

@@ -155,7 +155,8 @@ pub fn leave_out(p: &mut Parser<'_>, node: Open) -> bool
     given
 }
 
-/// Closes the node as a field access by the float that is next, and opens one around it. Nothing where no float is next.
+/// Closes the node as a field access by the float that is next, and opens one around it. Nothing
+/// where no float is next.
 pub fn split(p: &mut Parser<'_>, node: Open) -> Open
     requires marker { IsInnermost node.marker p.old.nodes }
     ensures input { p.new.input ≡ p.old.input }

@@ -19,7 +19,8 @@ use crate::table::rule_of;
 use parser_events::parser::Parser;
 use parser_input::syntax_kind::SyntaxKind;
 
-/// Before each kind of a set so many alternatives of a row are passed by, and before each kind of another so many.
+/// Before each kind of a set so many alternatives of a row are passed by, and before each kind of
+/// another so many.
 pub struct Passed {
     many_before: u128,
     many: u8,
@@ -149,7 +150,8 @@ fn after(row: &'static Rule, count: u8) -> &'static Rule
     }
 }
 
-/// The part of a production's row that is read before the next token, as far as its kind alone tells.
+/// The part of a production's row that is read before the next token, as far as its kind alone
+/// tells.
 pub(crate) fn row_before(p: &mut Parser<'_>, production: Production) -> &'static Rule
     ensures part { StandsFor (left p.old) (plain result.now) (rule (named production)) }
     ensures few { size (plain result.now) < 2048 }

@@ -28,8 +28,8 @@ use crate::rule::Rule;
 use crate::table::{later_atoms, later_bodies, turns_in};
 use parser_events::parser::Parser;
 
-/// On whose behalf a rule is read. It is passed by reference: no function that hands it on keeps it in its frame, so what is read last
-/// needs none of its own.
+/// On whose behalf a rule is read. It is passed by reference: no function that hands it on keeps it
+/// in its frame, so what is read last needs none of its own.
 #[derive(Clone, Copy)]
 pub(crate) struct Caller {
     /// How many tokens were left where the production began.
@@ -65,8 +65,8 @@ pub fn at(
     begins(p, place, rule, 0, 20)
 }
 
-/// The rank at most of a production that is called now: any where tokens were taken since the caller began, a lower one
-/// where none were.
+/// The rank at most of a production that is called now: any where tokens were taken since the
+/// caller began, a lower one where none were.
 fn ranks_below(p: &Parser<'_>, caller: &Caller) -> Option<u8>
     requires total { caller.now.total ≡ length p.now.input }
     requires few { caller.now.ranks ≤ 20 }
@@ -104,8 +104,8 @@ fn passes_by(p: &mut Parser<'_>, production: Production) -> bool
     }
 }
 
-/// Reads a production as a continuation of the present one. How many looks it makes is bounded by its rank, and by 4,096 for each
-/// token that it takes.
+/// Reads a production as a continuation of the present one. How many looks it makes is bounded by
+/// its rank, and by 4,096 for each token that it takes.
 #[cycle(reader)]
 pub fn production(
     p: &mut Parser<'_>,
@@ -147,7 +147,8 @@ pub fn production(
     read(p, node, row, condition, &caller)
 }
 
-/// Reads an operand and the operators after it, up to the layer of this height, where the present production gave nothing yet.
+/// Reads an operand and the operators after it, up to the layer of this height, where the present
+/// production gave nothing yet.
 #[cycle(reader)]
 fn layers(
     p: &mut Parser<'_>,
@@ -187,8 +188,8 @@ fn layers(
     climb(p, node, 0, height, condition, &caller)
 }
 
-/// Reads on from a layer that was read, up to another: the turns of each layer between. The layers that have no turn before the
-/// next token are passed by at once.
+/// Reads on from a layer that was read, up to another: the turns of each layer between. The layers
+/// that have no turn before the next token are passed by at once.
 #[cycle(reader)]
 fn climb(
     p: &mut Parser<'_>,
@@ -228,7 +229,8 @@ fn climb(
     climb(p, node, upper, top, condition, caller)
 }
 
-/// Reads a production in a node that is left out in the end; in the present one, where that has nothing yet.
+/// Reads a production in a node that is left out in the end; in the present one, where that has
+/// nothing yet.
 #[cycle(reader)]
 fn call(
     p: &mut Parser<'_>,

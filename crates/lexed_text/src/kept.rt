@@ -9,6 +9,7 @@ pub struct Kept {
     /// The tokens that were lexed after them.
     pub lexed: usize,
 
-    /// The last tokens that were kept: those from the first boundary on that both texts have after the edit.
+    /// The last tokens that were kept: those from the first boundary on that both texts have after
+    /// the edit.
     pub back: usize,
 }

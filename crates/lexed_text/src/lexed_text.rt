@@ -13,7 +13,8 @@ use std::alloc::{AllocError, Global};
 use std::marker::Model;
 use std::ops::Range;
 
-/// A text that keeps its tokens over edits. Contracts see it as the bytes of the text; its tokens are always those of the text.
+/// A text that keeps its tokens over edits. Contracts see it as the bytes of the text; its tokens
+/// are always those of the text.
 #[derive(Drop)]
 pub struct LexedText {
     alloc: Global,
@@ -71,8 +72,8 @@ impl LexedText {
         &self.tokens
     }
 
-    /// Whether a text of so many bytes can be put in the place of a range of bytes: the range is in order, within the text, and
-    /// cuts no character, and the new length fits a `usize`.
+    /// Whether a text of so many bytes can be put in the place of a range of bytes: the range is in
+    /// order, within the text, and cuts no character, and the new length fits a `usize`.
     pub fn can_edit(&self, range: Range<usize>, new_len: usize) -> bool
         ensures { IsTrue result ↔ CanEdit self.now range.start range.end new_len }
     {
@@ -87,8 +88,8 @@ impl LexedText {
         new_len <= usize::MAX - kept
     }
 
-    /// Puts a text in the place of a range of bytes, and lexes what has to be lexed again; how many tokens were kept and lexed.
-    /// Fails only when out of memory, and then changes nothing.
+    /// Puts a text in the place of a range of bytes, and lexes what has to be lexed again; how many
+    /// tokens were kept and lexed. Fails only when out of memory, and then changes nothing.
     pub fn edit(&mut self, range: Range<usize>, replacement: &str) -> Result<Kept, AllocError>
         requires { CanEdit self.old range.start range.end (length replacement.now) }
         ensures text { OnOk result (self.new ≡ edited self.old range.start range.end replacement.now) }

@@ -44,7 +44,8 @@ fn without_two(text: &str) -> Option<usize>
     }
 }
 
-/// The last boundary that has no more than so many bytes before it: run by run, and then token by token.
+/// The last boundary that has no more than so many bytes before it: run by run, and then token by
+/// token.
 fn ends_within(runs: &[Run], tokens: &[Token], limit: usize) -> Place
     requires { RunsFrom 0 0 runs.now tokens.now }
     ensures { EndsWithin tokens.now limit result.count result.bytes }
@@ -79,7 +80,8 @@ pub(crate) fn find_front(runs: &[Run], tokens: &[Token], before: &str) -> Place
     }
 }
 
-/// The first boundary from `from` on that has no more than `most` bytes after it; a place counts the bytes after it.
+/// The first boundary from `from` on that has no more than `most` bytes after it; a place counts
+/// the bytes after it.
 fn pass(tokens: &[Token], from: Place, most: usize) -> Place
     requires within { from.count ≤ length tokens.now }
     requires is_left { from.bytes ≡ left from.count tokens.now }
@@ -105,8 +107,8 @@ struct Lexing {
     stop: usize,
 }
 
-/// Lexes a text up to the first boundary with no more than `most` bytes after it that has as many as one of the old tokens, from
-/// the front's end on.
+/// Lexes a text up to the first boundary with no more than `most` bytes after it that has as many
+/// as one of the old tokens, from the front's end on.
 fn lex(
     alloc: Global,
     old: &[Token],
@@ -141,8 +143,9 @@ fn lex(
     })
 }
 
-/// Lexes a new text from the front's end on, and puts its tokens into the place of those that it has no more. The front's end and
-/// the edit's count the bytes after them. A refusal leaves tokens and runs as they are.
+/// Lexes a new text from the front's end on, and puts its tokens into the place of those that it
+/// has no more. The front's end and the edit's count the bytes after them. A refusal leaves tokens
+/// and runs as they are.
 pub(crate) fn renew(
     alloc: Global,
     tokens: &mut Vec<Token>,

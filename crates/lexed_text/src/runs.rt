@@ -74,7 +74,8 @@ fn bytes_of(tokens: &[Token]) -> usize
     tokens.iter().map(|token| token.len).sum()
 }
 
-/// Room for the runs of so many lexed tokens and of those around them, among the runs and beside them.
+/// Room for the runs of so many lexed tokens and of those around them, among the runs and beside
+/// them.
 pub(crate) fn room_for(
     alloc: Global,
     runs: &mut Vec<Run>,
@@ -120,8 +121,9 @@ pub(crate) fn cut_runs(
     Ok(runs)
 }
 
-/// Puts new runs of the tokens from `first` up to `to` in the place of those from `first` to `next`. Where `room_for` made no room
-/// for them, and memory is refused, it drops the runs from `first` on: what has no run is looked at token by token.
+/// Puts new runs of the tokens from `first` up to `to` in the place of those from `first` to
+/// `next`. Where `room_for` made no room for them, and memory is refused, it drops the runs from
+/// `first` on: what has no run is looked at token by token.
 pub(crate) fn renew_runs(
     room: Vec<Run>,
     runs: &mut Vec<Run>,

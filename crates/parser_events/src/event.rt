@@ -3,8 +3,8 @@
 use crate::message::Message;
 use parser_input::syntax_kind::SyntaxKind;
 
-/// One entry of the record. A node stands after what it holds, so that nothing is recorded where it is opened, left
-/// out, or put around another.
+/// One entry of the record. A node stands after what it holds, so that nothing is recorded where it
+/// is opened, left out, or put around another.
 #[derive(Clone, Copy)]
 pub(crate) enum Event {
     Token {

@@ -77,8 +77,8 @@ pub(crate) fn has_one_root(backwards: &[Step]) -> bool
     leaves_root(&backwards[..last - 1])
 }
 
-/// The number of the leaf after so many, from one on; none where one of them is white space or a comment, or the end comes
-/// before that.
+/// The number of the leaf after so many, from one on; none where one of them is white space or a
+/// comment, or the end comes before that.
 fn unbroken_end(lexed: &LexedStr<'_>, start: usize, n: u8) -> Option<usize>
     requires { start ≤ length lexed.now.leaves }
     ensures { MatchOption result (is_unbroken n (drop start (leaves_of lexed.now.leaves)) ≡ false)
@@ -125,8 +125,8 @@ fn is_split_at(lexed: &LexedStr<'_>, expected: bool, i: usize) -> bool
     !ends_in_dot(lexed.text(i))
 }
 
-/// The leaf that a step over so many tokens leads to, from one on; none where white space, a comment or the end stands
-/// between the tokens.
+/// The leaf that a step over so many tokens leads to, from one on; none where white space, a
+/// comment or the end stands between the tokens.
 fn after_token(lexed: &LexedStr<'_>, n: u8, start: usize) -> Option<usize>
     requires { start ≤ length lexed.now.leaves }
     ensures { MatchOption result ((kind : ℕ) → Misfits lexed.now.leaves (steps.Token kind n) start)
@@ -139,7 +139,8 @@ fn after_token(lexed: &LexedStr<'_>, n: u8, start: usize) -> Option<usize>
     }
 }
 
-/// The leaf that a split leads to, from one on; none where the float that it is for does not stand there.
+/// The leaf that a split leads to, from one on; none where the float that it is for does not stand
+/// there.
 fn after_split(lexed: &LexedStr<'_>, expected: bool, start: usize) -> Option<usize>
     requires { start ≤ length lexed.now.leaves }
     ensures { MatchOption result (Misfits lexed.now.leaves (steps.FloatSplit expected) start)
@@ -173,8 +174,9 @@ fn after_step(lexed: &LexedStr<'_>, step: Step, start: usize) -> Option<usize>
     }
 }
 
-/// Whether the steps, which are given last one first, take the tokens of a text one after another, all of them, with no
-/// white space or comment inside a leaf, and split each float as its text says.
+/// Whether the steps, which are given last one first, take the tokens of a text one after another,
+/// all of them, with no white space or comment inside a leaf, and split each float as its text
+/// says.
 pub(crate) fn covers(backwards: &[Step], lexed: &LexedStr<'_>) -> bool
     ensures { result ≡ covers (map step_of (reverse backwards.now)) (leaves_of lexed.now.leaves) }
 {

@@ -22,8 +22,8 @@ fn cut_at_dot(text: &str) -> (&str, &str)
     }
 }
 
-/// Puts a text that has these parts before its first dot and from there on, as a float that ends the field access entered
-/// last, and starts at a place, in bytes.
+/// Puts a text that has these parts before its first dot and from there on, as a float that ends
+/// the field access entered last, and starts at a place, in bytes.
 fn put_parts<'a, S: StrSink>(
     text: &'a str,
     whole: &'a str,
@@ -108,7 +108,8 @@ fn put_parts<'a, S: StrSink>(
     }
 }
 
-/// Gives a sink what a float puts that ends the field access entered last, and starts at a place, in bytes.
+/// Gives a sink what a float puts that ends the field access entered last, and starts at a place,
+/// in bytes.
 pub(crate) fn put_float<S: StrSink>(
     text: &str,
     ends_in_dot: bool,

@@ -2,7 +2,8 @@
 
 ghost use Rattle.parser_events.specs.Laws.{TextIsKept, StepsAreBalanced, WalksAreBalanced, MarksKeepSteps, MarksStandBeside, DressedIsPut};
 
-/// The leaves of a dressed tree, joined, are the text that it was dressed with, whatever the forest is.
+/// The leaves of a dressed tree, joined, are the text that it was dressed with, whatever the forest
+/// is.
 pub fn text_is_kept()
     ensures { TextIsKept }
 {}
@@ -27,7 +28,8 @@ pub fn marks_stand_beside()
     ensures { MarksStandBeside }
 {}
 
-/// What the steps of one node put of a text that they fit are the steps of the tree dressed with the text.
+/// What the steps of one node put of a text that they fit are the steps of the tree dressed with
+/// the text.
 pub fn dressed_is_put()
     ensures { DressedIsPut }
 {}

@@ -70,9 +70,10 @@ impl Output {
         self.looks
     }
 
-    /// Whether the steps are those of one tree over the leaves of a text: one node stands around all, the steps take as
-    /// many tokens as the text has, no white space or comment stands inside a leaf of several tokens, and each split is
-    /// on a float that ends in a dot just where the split says so.
+    /// Whether the steps are those of one tree over the leaves of a text: one node stands around
+    /// all, the steps take as many tokens as the text has, no white space or comment stands inside
+    /// a leaf of several tokens, and each split is on a float that ends in a dot just where the
+    /// split says so.
     pub fn fits(&self, lexed: &LexedStr<'_>) -> bool
         ensures { result ≡ fits self.now.steps (leaves_of lexed.now.leaves) }
     {

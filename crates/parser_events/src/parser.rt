@@ -1,8 +1,9 @@
 //! The calls by which a grammar reads its input and marks its nodes.
 //!
-//! Contracts see a parser's nodes as the stack of those that are open, with the trees that each has so far. A call changes
-//! that stack or is refused a growth; then there is no stack from there on. So a body that records nothing and says that a
-//! growth was refused meets every clause on nodes: that nothing is refused while there is memory is what the tests show.
+//! Contracts see a parser's nodes as the stack of those that are open, with the trees that each has
+//! so far. A call changes that stack or is refused a growth; then there is no stack from there on.
+//! So a body that records nothing and says that a growth was refused meets every clause on nodes:
+//! that nothing is refused while there is memory is what the tests show.
 
 ghost use Rattle.std.specs.Prelude.{◌≡◌, ◌≢◌, ◌+◌, ◌-◌, ◌^◌, ◌<◌, ◌≤◌, ◌↔◌, ◌∷◌, [], true, length, min, Some, IfSome, IfOk};
 ghost use Rattle.parser_input.specs.Kind.{raw_of};
@@ -21,8 +22,8 @@ use parser_input::syntax_kind::SyntaxKind;
 use std::alloc::{AllocError, Global};
 use std::marker::Model;
 
-/// A walk over an input, and the trees that are made of it on the way. Once a growth is refused, nothing more is
-/// recorded, and [`Parser::finish`] answers that; all else goes on as before.
+/// A walk over an input, and the trees that are made of it on the way. Once a growth is refused,
+/// nothing more is recorded, and [`Parser::finish`] answers that; all else goes on as before.
 #[derive(Drop)]
 pub struct Parser<'t> {
     input: &'t Input,
@@ -106,8 +107,8 @@ impl<'t> Parser<'t> {
         self.recorder.record(Event::Error { msg });
     }
 
-    /// The kind that the word of the identifier so far ahead has as a contextual keyword, or `IDENT`; `EOF` at any other
-    /// token and past the end. This is no look.
+    /// The kind that the word of the identifier so far ahead has as a contextual keyword, or
+    /// `IDENT`; `EOF` at any other token and past the end. This is no look.
     pub fn contextual_at(&self, n: usize) -> SyntaxKind
         ensures { raw_of result ≡ (token_at self.now.input (self.now.position + n)).contextual }
     {
@@ -150,8 +151,9 @@ impl<'t> Parser<'t> {
         above == 1
     }
 
-    /// Whether the closed node is one of the trees of the innermost open node, or stands outside of all nodes where none is
-    /// open. Yes once a growth was refused. This passes over the trees after it, each in one step.
+    /// Whether the closed node is one of the trees of the innermost open node, or stands outside of
+    /// all nodes where none is open. Yes once a growth was refused. This passes over the trees
+    /// after it, each in one step.
     pub fn can_precede(&self, completed: &CompletedMarker) -> bool
         ensures { (result ≡ true) ↔ IsChild completed.now self.now.nodes }
     {
@@ -159,8 +161,8 @@ impl<'t> Parser<'t> {
         self.recorder.is_child(completed.first, inside)
     }
 
-    /// Closes the marker's node as a field access by the float that is next, and opens a node around it. The marker's node
-    /// must be the innermost open one.
+    /// Closes the marker's node as a field access by the float that is next, and opens a node
+    /// around it. The marker's node must be the innermost open one.
     pub fn split_float(&mut self, marker: Marker, ends_in_dot: bool) -> Marker
         requires innermost { IsInnermost marker self.old.nodes }
         requires float { (token_at self.old.input self.old.position).kind ≡ kinds.FLOAT_NUMBER }
@@ -173,8 +175,8 @@ impl<'t> Parser<'t> {
         marker
     }
 
-    /// The steps of the trees. No node may be open. A growth that was refused before is answered here, and so is one that
-    /// is refused now.
+    /// The steps of the trees. No node may be open. A growth that was refused before is answered
+    /// here, and so is one that is refused now.
     pub fn finish(self) -> Result<Output, AllocError>
         requires { IsClosed self.nodes }
         ensures steps { IfOk result (λ output. AreStepsOf self.entry.nodes output.steps) }
@@ -191,8 +193,8 @@ impl<'t> Parser<'t> {
     }
 }
 
-/// A node that is open. It must be spent, by [`Marker::complete`], [`Marker::abandon`] or [`Parser::split_float`].
-/// Contracts see how many nodes are open around it.
+/// A node that is open. It must be spent, by [`Marker::complete`], [`Marker::abandon`] or
+/// [`Parser::split_float`]. Contracts see how many nodes are open around it.
 pub struct Marker {
     /// How many nodes are open around it.
     around: usize,
@@ -220,7 +222,8 @@ impl Marker {
         CompletedMarker { first, last }
     }
 
-    /// Leaves the node out, which must be the innermost open one: what it has goes to the node around it.
+    /// Leaves the node out, which must be the innermost open one: what it has goes to the node
+    /// around it.
     pub fn abandon(self, p: &mut Parser<'_>)
         requires { IsInnermost self p.old.nodes }
         ensures nodes { Becomes left_out p.old.nodes p.new.nodes }
@@ -231,7 +234,8 @@ impl Marker {
     }
 }
 
-/// A node that was closed. It may be dropped. Contracts see where it stands, in leaves, messages and nodes.
+/// A node that was closed. It may be dropped. Contracts see where it stands, in leaves, messages
+/// and nodes.
 #[derive(Drop)]
 pub struct CompletedMarker {
     /// The number of the first entry that stands for the node and what it holds.
@@ -250,7 +254,8 @@ impl Model for CompletedMarker {
 }
 
 impl CompletedMarker {
-    /// Opens a node around this one and all that stands after it in the innermost open node, of which it must be a child.
+    /// Opens a node around this one and all that stands after it in the innermost open node, of
+    /// which it must be a child.
     pub fn precede(self, p: &mut Parser<'_>) -> Marker
         requires { IsChild self p.old.nodes }
         ensures nodes { Becomes (wrapped self.before) p.old.nodes p.new.nodes }

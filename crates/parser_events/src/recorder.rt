@@ -133,8 +133,9 @@ impl Recorder {
         steps_backwards(self.alloc, &self.events)
     }
 
-    /// Whether a node that was closed is one of the trees of the innermost open node: by the number of the first entry that
-    /// stands for it, and how many it holds. Yes once a growth was refused. This passes over the trees after it.
+    /// Whether a node that was closed is one of the trees of the innermost open node: by the number
+    /// of the first entry that stands for it, and how many it holds. Yes once a growth was refused.
+    /// This passes over the trees after it.
     pub(crate) fn is_child(&self, first: usize, inside: usize) -> bool
         ensures tells { (kept : Kept) → self.now ≡ Some kept → (f : Marked) (below : List Marked)
             → kept.entered ≡ all_entries (f ∷ below) → innermost kept ≡ total_size below →
@@ -155,7 +156,8 @@ impl Recorder {
     }
 }
 
-// Whether a node that begins at the entry `first` and holds so many is one of the trees from an entry on.
+// Whether a node that begins at the entry `first` and holds so many is one of the trees from an
+// entry on.
 fn is_tree(events: &[Event], floor: usize, first: usize, inside: usize) -> bool
     ensures { (f : Marked) (below : List Marked) → map event_of events.now ≡ all_entries (f ∷ below)
         → floor ≡ total_size below →
@@ -187,7 +189,8 @@ fn start_of(event: Event, place: usize) -> usize
     if start <= place { start } else { place }
 }
 
-// Whether this entry, at a place, is that of a closed node that begins at the entry `first` and holds so many.
+// Whether this entry, at a place, is that of a closed node that begins at the entry `first` and
+// holds so many.
 fn is_node(event: Event, first: usize, place: usize, inside: usize) -> bool
     ensures { (result ≡ true) ↔ (IsClosing first (event_of event) × (place - first ≡ inside)) }
 {

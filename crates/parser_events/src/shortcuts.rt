@@ -351,9 +351,9 @@ fn put_output<S: StrSink>(
     }
 }
 
-/// Gives a sink the steps of a parser's trees with a text: white space, comments and the places of messages are put where
-/// the trees' steps and the text's leaves say. Where the steps fit the text and are those of one node, these are the steps
-/// of the node dressed with the text.
+/// Gives a sink the steps of a parser's trees with a text: white space, comments and the places of
+/// messages are put where the trees' steps and the text's leaves say. Where the steps fit the text
+/// and are those of one node, these are the steps of the node dressed with the text.
 ///
 /// # Errors
 ///

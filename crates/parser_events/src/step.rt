@@ -12,8 +12,8 @@ pub enum Step {
         /// How many tokens of the input it stands over.
         n_input_tokens: u8,
     },
-    /// A float after a dot. It ends the field access that was entered last, which is left, and what the float has
-    /// after its first dot follows.
+    /// A float after a dot. It ends the field access that was entered last, which is left, and what
+    /// the float has after its first dot follows.
     FloatSplit {
         /// Whether the dot is the float's last character.
         ends_in_dot: bool,

@@ -13,7 +13,8 @@ pub trait StrSink {
     /// A sink that is as the first says takes the step, and is as the second says from then on.
     ghost takes: { Self → TextStep → Self → Type 0 };
 
-    /// A sink that is as the first says refuses the step for this reason, and is as the second says from then on.
+    /// A sink that is as the first says refuses the step for this reason, and is as the second says
+    /// from then on.
     ghost refuses: { Self → TextStep → Self.Error → Self → Type 0 };
 
     /// Takes the next step, or says why not.

@@ -33,7 +33,8 @@ fn is_outer_line(text: &str) -> bool
     begins_with(text, "///") & !begins_with(text, "////")
 }
 
-/// Whether a block comment is on what stands after it. The shortest one, of two stars and two slashes, is not.
+/// Whether a block comment is on what stands after it. The shortest one, of two stars and two
+/// slashes, is not.
 fn is_outer_block(text: &str) -> bool
     ensures { result ≡ (begins_with (47 ∷ 42 ∷ 42 ∷ []) (chars text.now) && not
         (get_or (chars text.now) 3 0 == 42) && not (get_or (chars text.now) 3 0 == 47)) }
@@ -127,8 +128,8 @@ fn stops_at(lexed: &LexedStr<'_>, start: usize, leaf: usize) -> bool
     has_empty_line(lexed.text(leaf)) & !is_outer_before(lexed, start, leaf)
 }
 
-/// Where the leaves begin, of the white space and comments from one number to another, that stand inside a node after
-/// them which takes comments.
+/// Where the leaves begin, of the white space and comments from one number to another, that stand
+/// inside a node after them which takes comments.
 fn first_inside(lexed: &LexedStr<'_>, start: usize, end: usize) -> usize
     requires order { start ≤ end }
     requires within { end ≤ length lexed.now.leaves }
@@ -151,8 +152,8 @@ fn first_inside(lexed: &LexedStr<'_>, start: usize, end: usize) -> usize
     first
 }
 
-/// Where the leaves begin, of the white space and comments from one number to another, that stand inside a node of this
-/// kind after them.
+/// Where the leaves begin, of the white space and comments from one number to another, that stand
+/// inside a node of this kind after them.
 pub(crate) fn attached_from(
     lexed: &LexedStr<'_>,
     kind: SyntaxKind,

@@ -19,7 +19,8 @@ pub(crate) struct Pending {
     start: usize,
 }
 
-/// The steps after a place, the last one first, and the nodes that go on before it, the outermost first.
+/// The steps after a place, the last one first, and the nodes that go on before it, the outermost
+/// first.
 #[derive(Drop)]
 pub(crate) struct Unwinding {
     steps: Vec<Step>,

@@ -21,7 +21,8 @@ fn next_fault(leaves: &[StoredLeaf], start: usize) -> Option<(usize, Message)>
     None
 }
 
-/// The leaves that something is wrong with: their numbers, and what it is. A contract sees the list of those that are left.
+/// The leaves that something is wrong with: their numbers, and what it is. A contract sees the list
+/// of those that are left.
 #[derive(Drop)]
 pub struct Errors<'a> {
     leaves: &'a [StoredLeaf],

@@ -134,7 +134,8 @@ fn is_byte(rules: Rules, first: char, second: char) -> bool
     rules.fits_byte(16 * hex_digit(first) + hex_digit(second))
 }
 
-// Passes over digits among which `_` may stand, and gives what they stand for. None where they are more than six.
+// Passes over digits among which `_` may stand, and gives what they stand for. None where they are
+// more than six.
 fn eat_digits(rest: &mut Cursor) -> Option<u32>
     ensures { MatchOption result (6 < length (digits_of rest.old)) (λ value.
         (length (digits_of rest.old) ≤ 6) × (value ≡ hex_value 0 (digits_of rest.old)) ×
@@ -157,7 +158,8 @@ fn eat_digits(rest: &mut Cursor) -> Option<u32>
     Some(value)
 }
 
-// Passes over the digits and the `}` of a Unicode escape, after its `{`; no where they are not right.
+// Passes over the digits and the `}` of a Unicode escape, after its `{`; no where they are not
+// right.
 fn eat_unicode(rules: Rules, rest: &mut Cursor) -> bool
     ensures told { result ≡ is_unicode rules rest.old }
     ensures after { result ≡ true → rest.new ≡ drop 1 (drop (run_len hex_or_underscore rest.old) rest.old) }

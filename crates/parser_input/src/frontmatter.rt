@@ -26,7 +26,8 @@ use rustc_lexer::{Cursor, is_horizontal_whitespace, strip_shebang};
 use std::marker::Model;
 use std::ops::Range;
 
-/// Whether a character is white space of Rust: U+0009 to U+000D, space, U+0085, U+200E, U+200F, U+2028, U+2029.
+/// Whether a character is white space of Rust: U+0009 to U+000D, space, U+0085, U+200E, U+200F,
+/// U+2028, U+2029.
 pub fn is_rust_whitespace(c: char) -> bool
     ensures { result ≡ is_whitespace c }
 {
@@ -189,8 +190,9 @@ fn closing_line<'s>(mut rest: Cursor<'s>, count: usize) -> Option<Cursor<'s>>
 
 /// The first lines of a text, told apart from what the grammar reads.
 ///
-/// A shebang is a first line that begins with `#!`, unless that begins an attribute. After it a line that begins with three dashes or
-/// more opens a frontmatter, and a line of as many dashes closes it.
+/// A shebang is a first line that begins with `#!`, unless that begins an attribute. After it a
+/// line that begins with three dashes or more opens a frontmatter, and a line of as many dashes
+/// closes it.
 #[derive(Drop)]
 pub struct ScriptSource<'s> {
     shebang: Option<Piece<'s>>,
@@ -268,8 +270,8 @@ impl<'s> ScriptSource<'s> {
         }
     }
 
-    /// Tells the first lines of a text apart. Refused where one or two dashes begin the first line that is not blank, or where no later
-    /// line closes the frontmatter.
+    /// Tells the first lines of a text apart. Refused where one or two dashes begin the first line
+    /// that is not blank, or where no later line closes the frontmatter.
     pub fn parse(raw: &'s str) -> Result<ScriptSource<'s>, FrontmatterError>
         ensures { result ≡ source (chars raw.now) }
     {
@@ -313,7 +315,8 @@ impl<'s> ScriptSource<'s> {
         span_of(&self.opening)
     }
 
-    /// What follows these dashes on their line, without white space at its ends. None where that is empty.
+    /// What follows these dashes on their line, without white space at its ends. None where that is
+    /// empty.
     pub fn info(&self) -> Option<&'s str>
         ensures { option_map chars_of result ≡ option_map text_of self.now.info }
     {

@@ -14,7 +14,8 @@ use std::marker::Model;
 #[derive(Clone, Copy)]
 struct InputToken {
     kind: SyntaxKind,
-    /// The kind that the word of an identifier has as a contextual keyword, or `IDENT`. `EOF` at any other token.
+    /// The kind that the word of an identifier has as a contextual keyword, or `IDENT`. `EOF` at
+    /// any other token.
     contextual_kind: SyntaxKind,
     /// Whether nothing stands between this token and the next one.
     joint: bool,
@@ -79,7 +80,8 @@ impl Input {
         self.push_token(kind, SyntaxKind::EOF, false)
     }
 
-    /// Adds an identifier, with the kind that its word has as a contextual keyword. It does not touch the next token.
+    /// Adds an identifier, with the kind that its word has as a contextual keyword. It does not
+    /// touch the next token.
     pub fn push_ident(&mut self, contextual_kind: SyntaxKind) -> Result<(), AllocError>
         ensures { self.new ≡ tokens_with (is_ok result) self.old (identifier (raw_of contextual_kind)) }
     {
@@ -114,7 +116,8 @@ impl Input {
         }
     }
 
-    /// The kind that the word of an identifier has as a contextual keyword, or `IDENT`; `EOF` at any other token and past the end.
+    /// The kind that the word of an identifier has as a contextual keyword, or `IDENT`; `EOF` at
+    /// any other token and past the end.
     pub fn contextual_kind(&self, n: usize) -> SyntaxKind
         ensures { raw_of result ≡ (token_at self.now n).contextual }
     {
@@ -124,7 +127,8 @@ impl Input {
         }
     }
 
-    /// Whether a token touches the next one, so that both may be read as one operator. No past the end.
+    /// Whether a token touches the next one, so that both may be read as one operator. No past the
+    /// end.
     pub fn is_joint(&self, n: usize) -> bool
         ensures { result ≡ (token_at self.now n).joint }
     {

@@ -2,7 +2,8 @@
 
 ghost use Rattle.parser_input.specs.Laws.{LeavesAreTheText, LexedIsLeaves, LeavesAreSlices, PiecesAreSlices, LinesJoin, FirstFenceCloses, NoFenceIsUnclosed};
 
-/// Where a text has no shebang and no frontmatter, and no guarded prefix that is cut anew, its leaves are its tokens.
+/// Where a text has no shebang and no frontmatter, and no guarded prefix that is cut anew, its
+/// leaves are its tokens.
 pub fn lexed_is_leaves()
     ensures { LexedIsLeaves }
 {}
@@ -12,15 +13,16 @@ pub fn leaves_are_the_text()
     ensures { LeavesAreTheText }
 {}
 
-/// The text of a leaf is the slice of the whole text at the leaf's span; so is each piece of a `ScriptSource`, and its content.
-/// A span begins and ends between characters.
+/// The text of a leaf is the slice of the whole text at the leaf's span; so is each piece of a
+/// `ScriptSource`, and its content. A span begins and ends between characters.
 pub fn spans_are_slices()
     ensures leaves { LeavesAreSlices }
     ensures pieces { PiecesAreSlices }
 {}
 
-/// The line that closes a frontmatter is the first one after the opening line that is a fence of as many dashes; the lines
-/// between are the frontmatter, those after it the content. Where no line is such a fence, the frontmatter is unclosed.
+/// The line that closes a frontmatter is the first one after the opening line that is a fence of as
+/// many dashes; the lines between are the frontmatter, those after it the content. Where no line is
+/// such a fence, the frontmatter is unclosed.
 pub fn first_fence_closes()
     ensures lines { LinesJoin }
     ensures first { FirstFenceCloses }

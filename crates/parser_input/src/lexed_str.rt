@@ -36,7 +36,8 @@ pub(crate) struct StoredLeaf {
     end: usize,
 }
 
-// Whether a token is a guarded prefix that is cut anew: before 2024 its first `#` stands for itself.
+// Whether a token is a guarded prefix that is cut anew: before 2024 its first `#` stands for
+// itself.
 #[tactic(auto, unfolding(crate::specs::Lexed::is_split))]
 fn is_split(edition: Edition, kind: TokenKind) -> bool
     ensures { result ≡ is_split edition kind }
@@ -239,7 +240,8 @@ fn tokens(
     Ok(tokens)
 }
 
-/// A text with its leaves: the shebang, the frontmatter, and then each token, with what is wrong with it.
+/// A text with its leaves: the shebang, the frontmatter, and then each token, with what is wrong
+/// with it.
 #[derive(Drop)]
 pub struct LexedStr<'a> {
     edition: Edition,
@@ -280,8 +282,8 @@ impl<'a> LexedStr<'a> {
         })
     }
 
-    /// Reads a text like [`LexedStr::new`], where the tokens of what is left after its first lines are known. Before 2024
-    /// none of them may be a guarded prefix, which is no token there.
+    /// Reads a text like [`LexedStr::new`], where the tokens of what is left after its first lines
+    /// are known. Before 2024 none of them may be a guarded prefix, which is no token there.
     pub fn from_tokens(
         alloc: Global,
         edition: Edition,
@@ -303,8 +305,8 @@ impl<'a> LexedStr<'a> {
         })
     }
 
-    /// The kind of a text that is one token, with what is wrong with it. `None` where it is not one token, or is cut into
-    /// several leaves. No preface is read: a shebang is no token.
+    /// The kind of a text that is one token, with what is wrong with it. `None` where it is not one
+    /// token, or is cut into several leaves. No preface is read: a shebang is no token.
     pub fn single_token(edition: Edition, text: &str) -> Option<(SyntaxKind, Option<&'static str>)>
         ensures { option_map read result ≡ option_map kind_and_message (single edition (chars text.now)) }
     {

@@ -11,7 +11,8 @@ use crate::edition::Edition;
 use crate::keywords::contextual_keyword;
 use crate::syntax_kind::SyntaxKind;
 
-/// The kind that the word of an identifier has as a contextual keyword, or `IDENT`. `EOF` for any other leaf.
+/// The kind that the word of an identifier has as a contextual keyword, or `IDENT`. `EOF` for any
+/// other leaf.
 pub(crate) fn contextual_kind(edition: Edition, kind: SyntaxKind, text: &str) -> SyntaxKind
     ensures { raw_of result ≡ (if raw_of kind == kinds.IDENT then unwrap_or
         (contextual_kind edition (chars text.now)) kinds.IDENT else kinds.EOF) }
@@ -31,7 +32,8 @@ fn ends_in_dot(text: &str) -> bool
     text.ends_with('.')
 }
 
-/// Whether a leaf touches the token after it; `is_followed` says that the next leaf is one that the parser sees.
+/// Whether a leaf touches the token after it; `is_followed` says that the next leaf is one that the
+/// parser sees.
 pub(crate) fn is_joint(kind: SyntaxKind, text: &str, is_followed: bool) -> bool
     ensures { (next : List Leaf) → is_followed ≡ touches next → result ≡ is_joint
         record { kind = raw_of kind; text = chars text.now } next }

@@ -81,7 +81,8 @@ fn takes_every_input(entry_point: TopEntryPoint) -> bool
     }
 }
 
-/// What is said where an entry does not begin. A list takes every input, so that nothing is said of one.
+/// What is said where an entry does not begin. A list takes every input, so that nothing is said of
+/// one.
 #[tactic(auto, unfolding(rust_grammar::specs::Entry::takes_all))]
 fn missing(entry_point: TopEntryPoint) -> Message
     ensures { takes_all (production_of entry_point) ≡ false

@@ -51,9 +51,9 @@ impl From<AllocError> for ParseError {
 }
 
 impl TopEntryPoint {
-    /// Reads the tokens of an input as the one thing that is asked. Every input has a tree: what is wrong with it is said by messages
-    /// in it, and tokens that have no place stand in errors. At most [`STEPS_PER_TOKEN`] looks are made for each token and for the
-    /// end.
+    /// Reads the tokens of an input as the one thing that is asked. Every input has a tree: what is
+    /// wrong with it is said by messages in it, and tokens that have no place stand in errors. At
+    /// most [`STEPS_PER_TOKEN`] looks are made for each token and for the end.
     ///
     /// # Errors
     ///

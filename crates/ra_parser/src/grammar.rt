@@ -1,7 +1,7 @@
 //! The productions, each as a function that reads by a parser and marks its nodes.
 //!
-//! A contract names the production, or the rule, that the function reads, and says how many looks it makes at most: where it
-//! takes tokens these pay for the looks.
+//! A contract names the production, or the rule, that the function reads, and says how many looks
+//! it makes at most: where it takes tokens these pay for the looks.
 
 ghost use Rattle.std.specs.Prelude.{◌≡◌, ◌≢◌, ◌+◌, ◌≤◌, ◌==◌, Bool, not, ℕ, IsTrue, [], ◌∷◌};
 ghost use Rattle.parser_input.specs.Kind.{raw_of};

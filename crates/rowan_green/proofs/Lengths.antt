@@ -27,18 +27,18 @@ pub prefix_all : (es : List Term) (i : ℕ) → length es ≤ i → sum_by term_
 prefix_all es i h = rw take_all (sym (length-texts_of es))
 
 -- a list without one of its terms is no longer
-text_behind : (es : List Term) (i : ℕ) → length (texts_of (take i es ++ drop (suc i) es)) ≤ length (texts_of es)
-text_behind [] zero = omega arith
-text_behind [] (suc i) = omega arith
-text_behind (Node t ∷ es) zero = omega (arith, length-append (tree_text t) (texts_of es))
-text_behind (Token l ∷ es) zero = omega (arith, length-append l.text (texts_of es))
-text_behind (Node t ∷ es) (suc i) =
-    omega (arith, text_behind es i, length-append (tree_text t) (texts_of (take i es ++ drop (suc i) es)), length-append (tree_text t) (texts_of es))
-text_behind (Token l ∷ es) (suc i) =
-    omega (arith, text_behind es i, length-append l.text (texts_of (take i es ++ drop (suc i) es)), length-append l.text (texts_of es))
+text_after : (es : List Term) (i : ℕ) → length (texts_of (take i es ++ drop (suc i) es)) ≤ length (texts_of es)
+text_after [] zero = omega arith
+text_after [] (suc i) = omega arith
+text_after (Node t ∷ es) zero = omega (arith, length-append (tree_text t) (texts_of es))
+text_after (Token l ∷ es) zero = omega (arith, length-append l.text (texts_of es))
+text_after (Node t ∷ es) (suc i) =
+    omega (arith, text_after es i, length-append (tree_text t) (texts_of (take i es ++ drop (suc i) es)), length-append (tree_text t) (texts_of es))
+text_after (Token l ∷ es) (suc i) =
+    omega (arith, text_after es i, length-append l.text (texts_of (take i es ++ drop (suc i) es)), length-append l.text (texts_of es))
 
 text_without : (es : List Term) (i : ℕ) → length (texts_of (take i es ++ [] ++ drop (i + 1) es)) ≤ length (texts_of es)
-text_without es i = rw (append-nil, add-one) (text_behind es i)
+text_without es i = rw (append-nil, add-one) (text_after es i)
 
 -- and a node that may have all may have the rest
 pub fits_without : (es : List Term) (i : ℕ) → i < length es → FitsNode es → FitsNode (spliced es i (i + 1) [])

@@ -8,7 +8,8 @@ use crate::element_list::ElementList;
 use std::iter::{DoubleEndedIterator, ExactSizeIterator, FusedIterator};
 use std::marker::Model;
 
-/// The children of a node, in order, from both ends. A contract sees the list of those that are left.
+/// The children of a node, in order, from both ends. A contract sees the list of those that are
+/// left.
 #[derive(Drop)]
 pub struct Children<'a> {
     all: &'a ElementList,

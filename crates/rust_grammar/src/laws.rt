@@ -4,8 +4,8 @@ ghost use Rattle.rust_grammar.specs.Examples.{ExamplesAreRight};
 ghost use Rattle.rust_grammar.specs.Laws.{CallsBeginAnew, CallsHaveGivenNothing, EachProductionHasARule, EntriesAreRooted, EntriesFit, EntriesTakeAllInOrder, NodesHaveGivenNothing, OnlyOneBeginning, OnlyOneReading, OperatorsOfEntriesBindByPower, OperatorsOfProductionsBindByPower, PartsLookAhead, ProductionsTakeInOrder, RepetitionsAreReadTurnByTurn, TokenTreesAreBracketed, WholeProductionsBeginAsTheirRules, WholeProductionsMeanTheirRules};
 ghost use Rattle.rust_grammar.specs.Misplaced.{MisplacedOperatorsAreTold};
 
-/// A production gives what its rule gives, where each production that the rule calls gives what it means; each has a rule, and
-/// begins where its rule does.
+/// A production gives what its rule gives, where each production that the rule calls gives what it
+/// means; each has a rule, and begins where its rule does.
 pub fn whole_productions_mean_their_rules()
     ensures means { WholeProductionsMeanTheirRules }
     ensures begin { WholeProductionsBeginAsTheirRules }
@@ -23,8 +23,8 @@ pub fn repetitions_are_read_turn_by_turn()
     ensures { RepetitionsAreReadTurnByTurn }
 {}
 
-/// Looks after a part are those of the place after it. A call and a node begin where they would with nothing given, and what
-/// was given makes no difference to where a production begins.
+/// Looks after a part are those of the place after it. A call and a node begin where they would
+/// with nothing given, and what was given makes no difference to where a production begins.
 pub fn looks_are_of_their_place()
     ensures ahead { PartsLookAhead }
     ensures called { CallsHaveGivenNothing }
@@ -32,26 +32,29 @@ pub fn looks_are_of_their_place()
     ensures anew { CallsBeginAnew }
 {}
 
-/// What a production gives stands over the tokens that it takes, one leaf after another, each over tokens that are spelled as
-/// its kind says; the tree of an entry stands so over all tokens.
+/// What a production gives stands over the tokens that it takes, one leaf after another, each over
+/// tokens that are spelled as its kind says; the tree of an entry stands so over all tokens.
 pub fn leaves_are_spelled()
     ensures productions { ProductionsTakeInOrder }
     ensures entries { EntriesTakeAllInOrder }
 {}
 
-/// The tree of each of the seven entries is one node, whatever the tokens are; its steps fit every text with that input.
+/// The tree of each of the seven entries is one node, whatever the tokens are; its steps fit every
+/// text with that input.
 pub fn entries_fit()
     ensures rooted { EntriesAreRooted }
     ensures fit { EntriesFit }
 {}
 
-/// Each token tree begins with an opening bracket, and ends with its partner or the message that it is missing.
+/// Each token tree begins with an opening bracket, and ends with its partner or the message that it
+/// is missing.
 pub fn token_trees_are_bracketed()
     ensures { TokenTreesAreBracketed }
 {}
 
-/// A right operand that is a binary expression binds more tightly than the operator before it, unless that is an assignment; a
-/// left one binds no less tightly than the operator after it, and is no assignment. Some trees where that is not so are told.
+/// A right operand that is a binary expression binds more tightly than the operator before it,
+/// unless that is an assignment; a left one binds no less tightly than the operator after it, and
+/// is no assignment. Some trees where that is not so are told.
 pub fn operators_bind_by_power()
     ensures productions { OperatorsOfProductionsBindByPower }
     ensures entries { OperatorsOfEntriesBindByPower }

@@ -3,7 +3,8 @@
 ghost use Rattle.std.specs.Prelude.{◌≡◌, chars};
 ghost use Rattle.rustc_lexer.specs.Characters.{is_whitespace, is_horizontal_whitespace, is_digit, is_id_start, is_id_continue, is_ident};
 
-/// Whether a character is white space between tokens: U+0009 to U+000D, space, U+0085, U+200E, U+200F, U+2028, U+2029.
+/// Whether a character is white space between tokens: U+0009 to U+000D, space, U+0085, U+200E,
+/// U+200F, U+2028, U+2029.
 #[tactic(auto, unfolding(crate::specs::Characters::is_whitespace))]
 pub fn is_whitespace(c: char) -> bool
     ensures { result ≡ is_whitespace c }
@@ -49,7 +50,8 @@ pub fn is_id_continue(c: char) -> bool
     unicode_ident::is_xid_continue(c)
 }
 
-/// Whether a text is an identifier: not empty, begun by what may begin one, and gone on with by what may follow in one.
+/// Whether a text is an identifier: not empty, begun by what may begin one, and gone on with by
+/// what may follow in one.
 pub fn is_ident(text: &str) -> bool
     ensures { result ≡ is_ident (chars text.now) }
 {

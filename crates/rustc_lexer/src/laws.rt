@@ -60,8 +60,8 @@ pub fn idents_are_idents()
     ensures { IdentsAreIdents }
 {}
 
-/// A string closes at the first quote with an even run of `\` before it inside the string, a raw string at the first with its
-/// hashes after it; else they run to the end.
+/// A string closes at the first quote with an even run of `\` before it inside the string, a raw
+/// string at the first with its hashes after it; else they run to the end.
 pub fn strings_close()
     ensures plain { StringsClose }
     ensures raw { RawStringsClose }
@@ -72,23 +72,23 @@ pub fn comments_nest()
     ensures { CommentsNest }
 {}
 
-/// A number is the prefix of a base and digits, then a dot with digits, then an exponent, as far as these are there; it is
-/// what has these parts, each as long as it can be, and nothing else.
+/// A number is the prefix of a base and digits, then a dot with digits, then an exponent, as far as
+/// these are there; it is what has these parts, each as long as it can be, and nothing else.
 pub fn numbers_have_parts()
     ensures read { NumbersAreRead }
     ensures parts { NumbersHaveParts }
 {}
 
-/// A character ends with the `'` after its only character, or at the first `'`, `/` or line feed that no `\` takes away; else
-/// it runs to the end.
+/// A character ends with the `'` after its only character, or at the first `'`, `/` or line feed
+/// that no `\` takes away; else it runs to the end.
 pub fn characters_end()
     ensures one { OneCharacterCloses }
     ensures first { CharactersEnd }
     ensures open { CharactersStayOpen }
 {}
 
-/// A lifetime is a `'` and a word, which may begin with a digit or with `r#`, and ends where that word does; before a `'` it is
-/// a character.
+/// A lifetime is a `'` and a word, which may begin with a digit or with `r#`, and ends where that
+/// word does; before a `'` it is a character.
 pub fn lifetimes_end()
     ensures plain { LifetimesEnd }
     ensures quoted { QuotedNamesAreCharacters }

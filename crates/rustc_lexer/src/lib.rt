@@ -1,4 +1,5 @@
-//! Lexemes of Rust source text: cuts a text into tokens, each a kind and a length, with no text left over.
+//! Lexemes of Rust source text: cuts a text into tokens, each a kind and a length, with no text
+//! left over.
 #![tactic(auto)]
 
 mod bytes;

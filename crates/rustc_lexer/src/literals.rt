@@ -74,7 +74,8 @@ fn counted(hashes: usize, closed: bool) -> Option<u8>
 }
 
 impl<'a> Cursor<'a> {
-    /// Ends a literal that began where `start` bytes were left: takes its suffix, if one may follow.
+    /// Ends a literal that began where `start` bytes were left: takes its suffix, if one may
+    /// follow.
     pub(crate) fn end_literal(&mut self, start: usize, body: Body) -> TokenKind
         requires { size self.old ≤ start }
         ensures kind { result ≡ TokenKind.Literal body.kind (start - size self.old) }
@@ -149,7 +150,8 @@ impl<'a> Cursor<'a> {
         false
     }
 
-    /// The rest of a raw string after its `r`; the number of its hashes, if it is closed and they are at most 255.
+    /// The rest of a raw string after its `r`; the number of its hashes, if it is closed and they
+    /// are at most 255.
     pub(crate) fn eat_raw_string(&mut self) -> Option<u8>
         ensures { Reads raw_end self.old result self.new }
     {

@@ -8,8 +8,9 @@ use crate::cursor::Cursor;
 use crate::token::TokenKind;
 use crate::tokens::Tokens;
 
-/// The bytes of the shebang at the front of a text, up to before the end of its line. A text that begins with `#!` has one,
-/// unless its next token, white space and comments that document nothing aside, is `[`: then it is an attribute.
+/// The bytes of the shebang at the front of a text, up to before the end of its line. A text that
+/// begins with `#!` has one, unless its next token, white space and comments that document nothing
+/// aside, is `[`: then it is an attribute.
 pub fn strip_shebang(text: &str) -> Option<usize>
     ensures { result ≡ shebang (chars text.now) }
 {

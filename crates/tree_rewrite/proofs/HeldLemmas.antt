@@ -63,9 +63,9 @@ module _ {A : Type 0} where
   any-same f g h [] = refl
   any-same f g h (x ∷ xs) = ap (λ b. b || list_any f xs) (h x) ∙ ap (λ b. g x || b) (any-same f g h xs)
 
-  any-behind : (f : A → Bool) (xs : List A) (y : A) (ys : List A) → f y ≡ true → list_any f (xs ++ y ∷ ys) ≡ true
-  any-behind f [] y ys h = or_left (f y) _ h
-  any-behind f (x ∷ xs) y ys h = or_right (f x) _ (any-behind f xs y ys h)
+  any-after : (f : A → Bool) (xs : List A) (y : A) (ys : List A) → f y ≡ true → list_any f (xs ++ y ∷ ys) ≡ true
+  any-after f [] y ys h = or_left (f y) _ h
+  any-after f (x ∷ xs) y ys h = or_right (f x) _ (any-after f xs y ys h)
 
   any-push : (f : A → Bool) (xs : List A) (y : A) → list_any f xs ≡ false → f y ≡ false → list_any f (xs ++ y ∷ []) ≡ false
   any-push f [] y h k = ap (λ b. b || false) k
@@ -123,7 +123,7 @@ slot-meet (insert p i new) d w x y = absurd (false≢true x)
 slot-meet (replace f n es s) (insert p i new) w x y = absurd (false≢true y)
 slot-meet (replace f n es s) (replace g m ds t) w x y = covers_meet f g w n m es ds s t x y
 
--- ---- a change behind others that do not collide
+-- ---- a change after others that do not collide
 
 -- one of them replaces an element that it replaces
 collides : (cs : List Change) (c : Change) (ds : List Change) (w : Way) → replaces c w ≡ true → list_any (λ r. replaces r w) cs ≡ true → has_collision (cs ++ c ∷ ds) ≡ true
@@ -132,7 +132,7 @@ collides (d ∷ cs) c ds w x h = by_test (replaces d w) refl h (λ e. collides c
   where
     by_test : (b : Bool) → replaces d w ≡ b → (b || list_any (λ r. replaces r w) cs) ≡ true → (list_any (λ r. replaces r w) cs ≡ true → has_collision (cs ++ c ∷ ds) ≡ true)
         → (list_any (meets d) (cs ++ c ∷ ds) || has_collision (cs ++ c ∷ ds)) ≡ true
-    by_test true y e rest = or_left (list_any (meets d) (cs ++ c ∷ ds)) _ (any-behind (meets d) cs c ds (slot-meet d c w y x))
+    by_test true y e rest = or_left (list_any (meets d) (cs ++ c ∷ ds)) _ (any-after (meets d) cs c ds (slot-meet d c w y x))
     by_test false y e rest = or_right (list_any (meets d) (cs ++ c ∷ ds)) _ (rest e)
 
 -- none does
@@ -293,11 +293,11 @@ pub nested-root : (n : ℕ) (new : List Element) (s : Bool) (r : Change) → is_
 nested-root n new s (insert q k others) = refl
 nested-root n new s (replace f m others t) = refl
 
--- a gap that a change splits lies behind an element that it replaces
-split-behind : (p : Way) (i : ℕ) (r : Change) → splits p (i + 1) r ≡ true → replaces r (i ∷ p) ≡ true
-split-behind p i (insert q k new) h = absurd (false≢true h)
-split-behind p i (replace [] n new s) h = absurd (false≢true h)
-split-behind p i (replace (a ∷ q) n new s) h =
+-- a gap that a change splits lies after an element that it replaces
+split-after : (p : Way) (i : ℕ) (r : Change) → splits p (i + 1) r ≡ true → replaces r (i ∷ p) ≡ true
+split-after p i (insert q k new) h = absurd (false≢true h)
+split-after p i (replace [] n new s) h = absurd (false≢true h)
+split-after p i (replace (a ∷ q) n new s) h =
     let x = and_parts (same_way q p) _ h in
     let y = and_parts (ltb a (i + 1)) (leb (i + 1) (a + n)) x.1 in
     and_from _ _ x.0 (and_from _ _ (le-leb a i (omega (arith, ltb-true a (i + 1) y.0))) (le-leb i (a + n) (omega (arith, leb-true (i + 1) (a + n) y.1))))
@@ -318,7 +318,7 @@ any-split p i j k cs is h =
     ∙ any-held (i ∷ p) (λ r. splits p j r && k r) cs h
   where
     by_test : (r : Change) (b : Bool) → splits p j r ≡ b → (b && k r) ≡ (replaces r (i ∷ p) && (b && k r))
-    by_test r true e = sym (ap (λ x. x && k r) (split-behind p i r (ap (λ n. splits p n r) (sym is) ∙ e)))
+    by_test r true e = sym (ap (λ x. x && k r) (split-after p i r (ap (λ n. splits p n r) (sym is) ∙ e)))
     by_test r false e = nothing (replaces r (i ∷ p))
       where
         nothing : (x : Bool) → false ≡ (x && false)

@@ -171,8 +171,8 @@ pub marked : (p : Puts) (ps : List Piece) (m : Marked) → Say ps m → MarksPut
 marked p ps m h old = (subst (λ s. MarksPuts p s) (h.says start) old).marks
 
 -- what was added after is what a piece brought
-pub brought-behind : {A B : Type 0} (f : A → B) (old all : List A) (by : List B) (n : ℕ) → n ≡ length old → map f all ≡ map f old ++ by → map f (take (length all - n) (drop n all)) ≡ by
-brought-behind f old all by n len is =
+pub brought-after : {A B : Type 0} (f : A → B) (old all : List A) (by : List B) (n : ℕ) → n ≡ length old → map f all ≡ map f old ++ by → map f (take (length all - n) (drop n all)) ≡ by
+brought-after f old all by n len is =
     let rest = drop n all in
     ap (map f) (take_all (length all - n) rest (omega (arith, length-drop n all)))
     ∙ sym (drop-map f n all)

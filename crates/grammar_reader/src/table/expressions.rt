@@ -41,7 +41,8 @@ pub(crate) fn postfix() -> &'static Rule
     &POSTFIX
 }
 
-/// Of a float after a dot nothing more is read, unless it ends in a dot: then it is read on after that dot.
+/// Of a float after a dot nothing more is read, unless it ends in a dot: then it is read on after
+/// that dot.
 static AFTER_DOT: Rule = or!(
     when!(
         either!(next!(IDENT L_PAREN), next!(IDENT COLON2)),
@@ -79,7 +80,8 @@ pub(crate) fn arguments() -> &'static Rule
     &ARGUMENTS
 }
 
-/// What stands after a path: the rest of a macro call, the fields of a record, or nothing; `!=` is an operator.
+/// What stands after a path: the rest of a macro call, the fields of a record, or nothing; `!=` is
+/// an operator.
 macro_rules! after_path {
     () => {
         or!(

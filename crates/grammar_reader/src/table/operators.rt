@@ -1,4 +1,5 @@
-//! The rows of operators: ranges and assignments, the layers of binary operators, casts and prefixes.
+//! The rows of operators: ranges and assignments, the layers of binary operators, casts and
+//! prefixes.
 
 ghost use Rattle.std.specs.Prelude.{◌≡◌, false};
 ghost use Rattle.rust_grammar.specs.Rule as rules;

@@ -26,8 +26,8 @@ macro_rules! goes_on {
     () => { either!(next!(QUESTION), both!(next!(DOT), not!(next!(DOT2)))) };
 }
 
-/// A statement of a list that ends where `ends` looks, with what stands after an expression: an expression that ends in a
-/// block needs no `;`, and the last expression of a list is no statement.
+/// A statement of a list that ends where `ends` looks, with what stands after an expression: an
+/// expression that ends in a block needs no `;`, and the last expression of a list is no statement.
 macro_rules! statement_of {
     ($ends:expr, $end:ident) => {
         or!(

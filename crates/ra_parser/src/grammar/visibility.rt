@@ -15,7 +15,8 @@ use crate::grammar::{at, at_second, at_third, complete, eat, expect, nth, start,
 use parser_events::parser::Parser;
 use parser_input::syntax_kind::SyntaxKind;
 
-/// Whether a bracket is next that belongs to the `pub` before it: what stands in it is a path after `in`, or one word.
+/// Whether a bracket is next that belongs to the `pub` before it: what stands in it is a path after
+/// `in`, or one word.
 fn at_scope(p: &mut Parser<'_>) -> bool
     ensures sees { (c : Bool) → Saw c visibility_goes_on p.old result }
     ensures some { IsTrue result → 1 ≤ tokens p.old }

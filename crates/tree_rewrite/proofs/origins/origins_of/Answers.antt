@@ -5,7 +5,7 @@ use Rattle.tree_rewrite.specs.Came.{all_origins}
 use Rattle.tree_rewrite.specs.Pieces.{start, after}
 use Rattle.tree_rewrite.specs.Puts.{MarksPuts}
 use Rattle.tree_rewrite.proofs.CameLemmas.{origins-said}
-use Rattle.tree_rewrite.proofs.PutMarkLemmas.{marked, brought-behind}
+use Rattle.tree_rewrite.proofs.PutMarkLemmas.{marked, brought-after}
 use Rattle.tree_rewrite.proofs.origins.origins_of.Goals as goal
 
 pub step-requires : goal.step-requires
@@ -13,7 +13,7 @@ step-requires c =
     let old = c.loop-piece.elements.items in
     let added = ap (map element_of) c.deref.ensures.value ∙ c.in_ok-push_piece.ensures in
     let before : c.len-before.result ≡ length old = grind arith in
-    brought-behind element_of old c.deref.result.now _ c.len-before.result before added
+    brought-after element_of old c.deref.result.now _ c.len-before.result before added
 
 pub returns-clause-elements : goal.returns-clause-elements
 returns-clause-elements c = λ m h.
