@@ -35,7 +35,8 @@ fn element_below(
     node: &SyntaxNode,
     way: &[usize],
 ) -> Result<Option<SyntaxElement>, AllocError>
-    ensures { IfOk result (λ r. option_map element_of r ≡ standing_at node.now (way.now ++ node.now.place.up)) }
+    ensures { IfOk result (λ r. option_map element_of r
+        ≡ standing_at node.now (way.now ++ node.now.place.up)) }
 {
     let mut whole = Vec::from_slice(alloc, way)?;
     let mut above = node.way(alloc)?;

@@ -29,7 +29,8 @@ fn token_stands_at(token: &SyntaxToken, way: &[usize]) -> Result<bool, AllocErro
 
 /// Whether an element stands at a way in the tree of this number.
 fn is_at(element: &SyntaxElement, tree: u32, way: &[usize]) -> Result<bool, AllocError>
-    ensures { (t : Tree) → IfOk result (λ b. b ≡ same_element (element_of element.now) (element_at tree t way.now)) }
+    ensures { (t : Tree) → IfOk result (λ b. b
+        ≡ same_element (element_of element.now) (element_at tree t way.now)) }
 {
     if element.tree() != tree {
         return Ok(false);

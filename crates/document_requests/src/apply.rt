@@ -111,7 +111,8 @@ fn put_element(
     old: &SyntaxElement,
     new: &SyntaxElement,
 ) -> Result<(), Stop>
-    ensures done { OnOk result ((next : ℕ) → put_element op (element_of old.now) editor.old next (element_of new.now)
+    ensures done { OnOk result ((next : ℕ)
+        → put_element op (element_of old.now) editor.old next (element_of new.now)
         ≡ Ready editor.new next) }
     ensures stopped { IfErr result (λ stop. (next : ℕ)
         → IsUnprepared (put_element op (element_of old.now) editor.old next (element_of new.now)) next stop) }
@@ -131,7 +132,8 @@ fn prepare(
     change: Change<'_>,
     ids: &mut TreeIds,
 ) -> Result<(), Stop>
-    ensures done { OnOk result (prepared_by (change_in change.entry) document.now editor.old ids.old ≡ Ready editor.new ids.new) }
+    ensures done { OnOk result (prepared_by (change_in change.entry) document.now editor.old ids.old
+        ≡ Ready editor.new ids.new) }
     ensures stopped { IfErr result (IsUnprepared (prepared_by (change_in change.entry) document.now editor.old ids.old) ids.new) }
 {
     match change {

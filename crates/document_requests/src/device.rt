@@ -19,7 +19,8 @@ const CHUNK: usize = 65_536;
 /// All bytes that a reader gives. Stops at the first read that fails.
 pub fn read_to_end<R: Read>(alloc: Global, reader: &mut Watched<R>) -> Result<Vec<u8>, Fault>
     requires { failures_of reader.old < 2 ^ 64 - 1 }
-    ensures read { IfOk result (λ bytes. IfSome (R.remaining (device_of reader.old)) (λ input. bytes.items ≡ input)) }
+    ensures read { IfOk result (λ bytes. IfSome (R.remaining (device_of reader.old))
+        (λ input. bytes.items ≡ input)) }
     ensures none_failed { OnOk result (NoneFailed reader.old reader.new) }
     ensures stopped { IfErr result (StopsReading reader.old reader.new) }
     ensures reads { BoundsReads reader.old reader.new }

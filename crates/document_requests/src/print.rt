@@ -74,7 +74,8 @@ fn tree_value(alloc: Global, lines: &[String]) -> Result<Value, AllocError>
 }
 
 fn errors_value(alloc: Global, errors: &[SyntaxError]) -> Result<Value, AllocError>
-    ensures { IfOk result (λ value. view value ≡ reply_data (Errors (map worded (map message_of_error errors.now)))) }
+    ensures { IfOk result (λ value. view value
+        ≡ reply_data (Errors (map worded (map message_of_error errors.now)))) }
 {
     let messages = Value::Array(message_values(alloc, errors)?);
     json!(in alloc; {"errors": messages, "ok": "errors"})

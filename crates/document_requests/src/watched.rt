@@ -107,7 +107,8 @@ impl<W: Write> Write for Watched<W> {
             (W.contents (device_of self.new)) result buf.now }
         ensures calls { calls_of self.new ≡ counted (calls_of self.old + 1) }
         ensures some { IfOk result (λ n. n ≢ 0 → failures_of self.new ≡ failures_of self.old) }
-        ensures none { IfOk result (λ n. n ≡ 0 → failures_of self.new ≡ counted (failures_of self.old + 1)) }
+        ensures none { IfOk result (λ n. n ≡ 0 → failures_of self.new
+            ≡ counted (failures_of self.old + 1)) }
         ensures err { OnErr result (failures_of self.new ≡ counted (failures_of self.old + 1)) }
     {
         let result = self.device.write(buf);

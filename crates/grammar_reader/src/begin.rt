@@ -20,7 +20,8 @@ use parser_events::parser::Parser;
 
 /// Whether a production begins here, if the kind of the next token alone tells.
 fn told_here(place: &Place, production: Production, ahead: usize, ranks: u8) -> Option<bool>
-    ensures { IfSome result (λ answer. (c : Bool) (s : Reading) → IfSome place.now.next (λ kind. IsNext (raw_of kind) s.rest)
+    ensures { IfSome result (λ answer. (c : Bool) (s : Reading)
+        → IfSome place.now.next (λ kind. IsNext (raw_of kind) s.rest)
         → answer ≡ sees c s (shift ahead (begins_below whole ranks (named production)))) }
 {
     if ahead != 0 {

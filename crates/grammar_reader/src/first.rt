@@ -324,7 +324,8 @@ pub(crate) fn has(set: u128, kind: u16) -> bool
 /// Whether a production begins before a token of this kind that is no contextual keyword, if that
 /// alone tells.
 pub fn begins_before(production: Production, kind: SyntaxKind) -> Option<bool>
-    ensures { IfSome result (λ answer. known_answer (raw_of kind) (look_of whole (named production)) ≡ Some answer) }
+    ensures { IfSome result (λ answer. known_answer (raw_of kind) (look_of whole (named production))
+        ≡ Some answer) }
 {
     let kind = kind.to_raw();
     if kind >= 128 {
@@ -387,7 +388,8 @@ pub(crate) fn operators_at(height: u8) -> u128
 /// Whether a layer with these operators ends before a token of this kind that is no contextual
 /// keyword.
 pub fn layer_ends_before(operators: u128, kind: SyntaxKind) -> bool
-    ensures { IsTrue result → (r : Rule) → all_end_before 128 operators r ≡ true → ends_before (raw_of kind) r ≡ true }
+    ensures { IsTrue result → (r : Rule) → all_end_before 128 operators r ≡ true
+        → ends_before (raw_of kind) r ≡ true }
 {
     let kind = kind.to_raw();
     if kind >= 128 {

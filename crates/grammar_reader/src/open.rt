@@ -30,7 +30,8 @@ pub fn take(p: &mut Parser<'_>, node: Open, kind: SyntaxKind, count: u8, total: 
     ensures looks { p.new.looks ≡ p.old.looks }
     ensures marker { IsInnermost result.marker p.new.nodes }
     ensures innermost { (n : ℕ) → IsInnermost n p.old.nodes → IsInnermost n p.new.nodes }
-    ensures does { (s : Reading) (below : Option (List Marked)) → Stands node.given p.old s below → count ≤ length s.rest
+    ensures does { (s : Reading) (below : Option (List Marked)) → Stands node.given p.old s below
+        → count ≤ length s.rest
         → Stands result.given p.new (leaf (raw_of kind) count s) below }
 {
     let Open { marker, given } = node;
@@ -88,7 +89,8 @@ pub fn take_any(p: &mut Parser<'_>, node: Open, total: usize) -> Open
     ensures looks { p.new.looks ≤ p.old.looks + 1 }
     ensures marker { IsInnermost result.marker p.new.nodes }
     ensures innermost { (n : ℕ) → IsInnermost n p.old.nodes → IsInnermost n p.new.nodes }
-    ensures does { (s : Reading) (below : Option (List Marked)) → Stands node.given p.old s below → 1 ≤ length s.rest
+    ensures does { (s : Reading) (below : Option (List Marked)) → Stands node.given p.old s below
+        → 1 ≤ length s.rest
         → Stands result.given p.new (leaf (ahead 0 s.rest).kind 1 s) below }
 {
     let kind = p.kind_at(0);
@@ -103,7 +105,8 @@ pub fn skip(p: &mut Parser<'_>, node: Open, message: Message, total: usize) -> O
     ensures looks { p.new.looks ≤ p.old.looks + 1 }
     ensures marker { IsInnermost result.marker p.new.nodes }
     ensures innermost { (n : ℕ) → IsInnermost n p.old.nodes → IsInnermost n p.new.nodes }
-    ensures does { (s : Reading) (below : Option (List Marked)) → Stands node.given p.old s below → 1 ≤ length s.rest
+    ensures does { (s : Reading) (below : Option (List Marked)) → Stands node.given p.old s below
+        → 1 ≤ length s.rest
         → Stands result.given p.new (skip (message_of message) s) below }
 {
     let Open { marker, given: _ } = node;

@@ -208,7 +208,8 @@ fn climb(
     ensures input { p.new.input ≡ p.old.input }
     ensures marker { IsInnermost result.marker p.new.nodes }
     ensures innermost { (n : ℕ) → IsInnermost n p.old.nodes → IsInnermost n p.new.nodes }
-    ensures reads { (s : Reading) (below : Option (List Marked)) → CanClimb caller.now.began caller.now.ranks top condition s
+    ensures reads { (s : Reading) (below : Option (List Marked))
+        → CanClimb caller.now.began caller.now.ranks top condition s
         → Stands node.given p.old (meaning whole (layer_at height) condition s) below
         → Stands result.given p.new (meaning whole (layer_at top) condition s) below }
     ensures looks { (entry : View) (s : Reading) (below : Option (List Marked))
@@ -246,11 +247,13 @@ fn call(
     ensures input { p.new.input ≡ p.old.input }
     ensures marker { IsInnermost result.marker p.new.nodes }
     ensures innermost { (n : ℕ) → IsInnermost n p.old.nodes → IsInnermost n p.new.nodes }
-    ensures reads { (x : rules.Production) (s : Reading) (below : Option (List Marked)) → rank x ≤ caller.now.ranks
+    ensures reads { (x : rules.Production) (s : Reading) (below : Option (List Marked))
+        → rank x ≤ caller.now.ranks
         → Stands node.given p.old s below → IsBelow x caller.now.began (named called) s
         → IsBegun (named called) condition (fresh s)
         → Stands result.given p.new (after s (meaning whole (named called) condition (fresh s))) below }
-    ensures looks { (x : rules.Production) (s : Reading) (below : Option (List Marked)) → rank x ≤ caller.now.ranks
+    ensures looks { (x : rules.Production) (s : Reading) (below : Option (List Marked))
+        → rank x ≤ caller.now.ranks
         → Stands node.given p.old s below → IsBelow x caller.now.began (named called) s
         → IsBegun (named called) condition (fresh s)
         → Costs (idle_of (named called)) (debt_of (named called)) p.old p.new }
@@ -294,11 +297,13 @@ fn go_on(
     ensures input { p.new.input ≡ p.old.input }
     ensures marker { IsInnermost result.marker p.new.nodes }
     ensures innermost { (n : ℕ) → IsInnermost n p.old.nodes → IsInnermost n p.new.nodes }
-    ensures reads { (x : rules.Production) (s : Reading) (below : Option (List Marked)) → rank x ≤ caller.now.ranks
+    ensures reads { (x : rules.Production) (s : Reading) (below : Option (List Marked))
+        → rank x ≤ caller.now.ranks
         → Stands node.given p.old s below → IsBelow x caller.now.began (named called) s
         → IsBegun (named called) condition s
         → Stands result.given p.new (meaning whole (named called) condition s) below }
-    ensures looks { (x : rules.Production) (s : Reading) (below : Option (List Marked)) → rank x ≤ caller.now.ranks
+    ensures looks { (x : rules.Production) (s : Reading) (below : Option (List Marked))
+        → rank x ≤ caller.now.ranks
         → Stands node.given p.old s below → IsBelow x caller.now.began (named called) s
         → IsBegun (named called) condition s
         → Costs (idle_of (named called)) (debt_of (named called)) p.old p.new }
@@ -325,10 +330,12 @@ fn turns(
     ensures input { p.new.input ≡ p.old.input }
     ensures marker { IsInnermost result.marker p.new.nodes }
     ensures innermost { (n : ℕ) → IsInnermost n p.old.nodes → IsInnermost n p.new.nodes }
-    ensures reads { (x : rules.Production) (s : Reading) (below : Option (List Marked)) → rank x ≤ caller.now.ranks
+    ensures reads { (x : rules.Production) (s : Reading) (below : Option (List Marked))
+        → rank x ≤ caller.now.ranks
         → Stands node.given p.old s below → CanRead x caller.now.began condition (rules.Star (plain rule.now)) s
         → Stands result.given p.new (reads condition (rules.Star (plain rule.now)) s) below }
-    ensures looks { (x : rules.Production) (s : Reading) (below : Option (List Marked)) → rank x ≤ caller.now.ranks
+    ensures looks { (x : rules.Production) (s : Reading) (below : Option (List Marked))
+        → rank x ≤ caller.now.ranks
         → Stands node.given p.old s below → CanRead x caller.now.began condition (rules.Star (plain rule.now)) s
         → is_paid (rules.Star (plain rule.now)) ≡ true
         → Costs (idle (rules.Star (plain rule.now))) (debt (rules.Star (plain rule.now))) p.old p.new }
@@ -365,10 +372,12 @@ fn read(
     ensures input { p.new.input ≡ p.old.input }
     ensures marker { IsInnermost result.marker p.new.nodes }
     ensures innermost { (n : ℕ) → IsInnermost n p.old.nodes → IsInnermost n p.new.nodes }
-    ensures reads { (x : rules.Production) (s : Reading) (below : Option (List Marked)) → rank x ≤ caller.now.ranks
+    ensures reads { (x : rules.Production) (s : Reading) (below : Option (List Marked))
+        → rank x ≤ caller.now.ranks
         → Stands node.given p.old s below → CanRead x caller.now.began condition (plain rule.now) s
         → Stands result.given p.new (reads condition (plain rule.now) s) below }
-    ensures looks { (x : rules.Production) (s : Reading) (below : Option (List Marked)) → rank x ≤ caller.now.ranks
+    ensures looks { (x : rules.Production) (s : Reading) (below : Option (List Marked))
+        → rank x ≤ caller.now.ranks
         → Stands node.given p.old s below → CanRead x caller.now.began condition (plain rule.now) s
         → is_paid (plain rule.now) ≡ true
         → Costs (idle (plain rule.now)) (debt (plain rule.now)) p.old p.new }

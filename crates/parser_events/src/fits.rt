@@ -17,7 +17,8 @@ use parser_input::syntax_kind::SyntaxKind;
 
 /// Whether a step may be the first one of a tree with one root.
 fn is_enter(step: Step) -> bool
-    ensures { (rest : List steps.Step) → has_one_root (step_of step ∷ rest) ≡ (result && leaves_root 0 rest) }
+    ensures { (rest : List steps.Step) → has_one_root (step_of step ∷ rest)
+        ≡ (result && leaves_root 0 rest) }
 {
     match step {
         Step::Enter { kind: _ } => true,

@@ -28,7 +28,8 @@ fn is_inner(text: &str) -> bool
 
 /// Whether a line comment is on what stands after it.
 fn is_outer_line(text: &str) -> bool
-    ensures { result ≡ (begins_with (47 ∷ 47 ∷ 47 ∷ []) (chars text.now) && not (get_or (chars text.now) 3 0 == 47)) }
+    ensures { result ≡ (begins_with (47 ∷ 47 ∷ 47 ∷ []) (chars text.now)
+        && not (get_or (chars text.now) 3 0 == 47)) }
 {
     begins_with(text, "///") & !begins_with(text, "////")
 }

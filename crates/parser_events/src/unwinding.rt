@@ -46,7 +46,8 @@ impl Unwinding {
 
     // Enters the nodes that begin at a place.
     fn enter(&mut self, index: usize) -> Result<(), AllocError>
-        ensures { OnOk result (state_of self.new ≡ begun index (state_of self.old).pending (state_of self.old).laid) }
+        ensures { OnOk result (state_of self.new
+            ≡ begun index (state_of self.old).pending (state_of self.old).laid) }
     {
         'begun: while let Some(kind) = self.begun_at(index) {
             self.steps.push(Step::Enter { kind })?;

@@ -204,7 +204,8 @@ fn push_frontmatter(
 
 // Whether there is a leaf at a place, and it is one that the parser sees.
 fn is_solid(leaves: &[StoredLeaf], i: usize) -> bool
-    ensures { (text : List ℕ) (place : ℕ) → result ≡ touches (leaves_of (seen_from text place (drop i leaves.now))) }
+    ensures { (text : List ℕ) (place : ℕ) → result
+        ≡ touches (leaves_of (seen_from text place (drop i leaves.now))) }
 {
     match leaves.get(i) {
         Some(leaf) => !leaf.kind.is_trivia(),

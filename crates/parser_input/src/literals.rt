@@ -157,7 +157,8 @@ fn is_past_ascii(quoted: &Quoted, text: &Cursor) -> bool
 
 // Whether a literal is not of one character.
 fn is_bad_length(quoted: &Quoted, text: &Cursor) -> bool
-    ensures { result ≡ (quoted.now.is_single && not (is_one quoted.now.rules (between_quotes quoted.now text.now))) }
+    ensures { result ≡ (quoted.now.is_single
+        && not (is_one quoted.now.rules (between_quotes quoted.now text.now))) }
 {
     quoted.is_single && !is_one(quoted.rules, between_quotes(quoted, text))
 }

@@ -59,7 +59,8 @@ impl TopEntryPoint {
     ///
     /// An input of more than [`MOST_TOKENS`] tokens, or out of memory.
     pub fn parse(self, alloc: Global, input: &Input) -> Result<Output, ParseError>
-        ensures parsed { IfOk result (λ output. output.steps ≡ steps (entry whole (production_of self) input.now)) }
+        ensures parsed { IfOk result (λ output. output.steps
+            ≡ steps (entry whole (production_of self) input.now)) }
         ensures looks { IfOk result (λ output. output.looks ≤ STEPS_PER_TOKEN * (length input.now + 1)) }
         ensures short { IfOk result (λ output. length input.now ≤ most_tokens) }
         ensures refused { IfErr result (RefusesParse input.now) }

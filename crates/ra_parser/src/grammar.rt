@@ -166,7 +166,8 @@ fn take(p: &mut Parser<'_>, kind: SyntaxKind)
 /// Takes the next two tokens, as one leaf of this kind.
 fn take_pair(p: &mut Parser<'_>, kind: SyntaxKind)
     requires { 2 ≤ tokens p.old }
-    ensures reads { (c : Bool) (first second : ℕ) → Reads c (One (joined (raw_of kind) (first ∷ second ∷ []))) p.old p.new }
+    ensures reads { (c : Bool) (first second : ℕ)
+        → Reads c (One (joined (raw_of kind) (first ∷ second ∷ []))) p.old p.new }
     ensures left { tokens p.new + 2 ≡ tokens p.old }
     ensures looks { spent p.new + 8192 ≡ spent p.old }
 {

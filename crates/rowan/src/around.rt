@@ -215,7 +215,8 @@ fn node_beside(
     direction: Direction,
     current: &cursor::SyntaxNode,
 ) -> Result<Option<cursor::SyntaxNode>, AllocError>
-    ensures { IfOk result (λ r. sibling_nodes direction current.now ≡ current.now ∷ sibling_nodes_left direction r) }
+    ensures { IfOk result (λ r. sibling_nodes direction current.now
+        ≡ current.now ∷ sibling_nodes_left direction r) }
 {
     match direction {
         Direction::Next => current.next_sibling(alloc),

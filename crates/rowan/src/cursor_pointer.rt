@@ -44,7 +44,8 @@ impl SyntaxNode {
         requires { offset ≡ start_of (below self.now from) }
         ensures ok { IfOk result (λ r. r ≡ first
             (filter (spans range.start.0 range.end.0) (nodes (children_from self.now from)))) }
-        ensures child { IfOk result (λ r. IfSome r (λ q. Some (Node q) ≡ cursor_at (below self.now (index_of q)))) }
+        ensures child { IfOk result (λ r. IfSome r
+            (λ q. Some (Node q) ≡ cursor_at (below self.now (index_of q)))) }
         ensures siblings_after { IfOk result (λ r. IfSome r (λ q. from ≤ index_of q)) }
     {
         let green = self.green();

@@ -48,7 +48,8 @@ fn push_front(
     end: u32,
     to: &mut String,
 ) -> Result<(), AllocError>
-    ensures front { OnOk result (string_bytes to.new ≡ string_bytes to.old ++ line_front depth name.now start end) }
+    ensures front { OnOk result (string_bytes to.new
+        ≡ string_bytes to.old ++ line_front depth name.now start end) }
     ensures fits { OnOk result (depth + 1 < 2 ^ 64) }
 {
     'levels: for _level in 0..depth {

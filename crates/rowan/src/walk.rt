@@ -25,7 +25,8 @@ pub fn step_after(
     leaving: bool,
     depth: u64,
 ) -> Result<Option<Step>, AllocError>
-    ensures { IfOk result (λ s. left_at leaving element.now depth ≡ event_of leaving element.now ∷ left_by s) }
+    ensures { IfOk result (λ s. left_at leaving element.now depth
+        ≡ event_of leaving element.now ∷ left_by s) }
 {
     if leaving {
         step_after_leaving(alloc, element, depth)

@@ -97,7 +97,8 @@ impl Document {
         text: &str,
         ids: &mut TreeIds,
     ) -> Result<Document, OpenError>
-        ensures opened { IfOk result (λ d. d ≡ record { edition = edition; text = text.now; number = ids.old }) }
+        ensures opened { IfOk result (λ d. d
+            ≡ record { edition = edition; text = text.now; number = ids.old }) }
         ensures number { OnOk result (ids.new ≡ ids.old + 1) }
         ensures is_read { OnOk result (IsOpened text.now) }
         ensures brackets { IfOk result (λ d. HasPairedBrackets d) }

@@ -12,7 +12,8 @@ use std::alloc::Global;
 pub fn edited(alloc: Global, text: &str, range: TextRange, put: &str) -> Result<String, EditError>
     requires at_boundaries { can_edit text.now range.start.0 range.end.0 ≡ true }
     requires within_limit { length text.now ≤ MAX_TEXT }
-    ensures edited { IfOk result (λ new. string_bytes new ≡ edited text.now range.start.0 range.end.0 put.now) }
+    ensures edited { IfOk result (λ new. string_bytes new
+        ≡ edited text.now range.start.0 range.end.0 put.now) }
     ensures fits { IfOk result (λ new. length (string_bytes new) ≤ MAX_TEXT) }
     ensures refused { IfErr result (IsUnedited (edited text.now range.start.0 range.end.0 put.now)) }
 {

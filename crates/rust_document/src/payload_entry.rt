@@ -67,7 +67,8 @@ fn whole_tree(
     text: &str,
 ) -> Result<GreenNode, PayloadError>
     ensures given { IfOk result (λ t. entry_payload (production_of top) edition text.now ≡ Whole t) }
-    ensures refused { IfErr result (λ e. (number : ℕ) → RefusesPayload number (entry_payload (production_of top) edition text.now) e) }
+    ensures refused { IfErr result (λ e. (number : ℕ)
+        → RefusesPayload number (entry_payload (production_of top) edition text.now) e) }
 {
     if text.len() > MAX_TEXT {
         return Err(PayloadError::TooLong);
@@ -93,7 +94,8 @@ fn has_messages(alloc: Global, edition: Edition, text: &str) -> Result<bool, All
 fn only_leaf<'a>(alloc: Global, edition: Edition, text: &'a str) -> Result<Leaf<'a>, PayloadError>
     ensures given { IfOk result (λ l. token_payload edition text.now ≡ One (seen l)) }
     ensures fits { IfOk result (λ l. length l.text.now < 2 ^ 32) }
-    ensures refused { IfErr result (λ e. (number : ℕ) → RefusesPayload number (token_payload edition text.now) e) }
+    ensures refused { IfErr result (λ e. (number : ℕ)
+        → RefusesPayload number (token_payload edition text.now) e) }
 {
     if text.len() > MAX_TEXT {
         return Err(PayloadError::TooLong);

@@ -87,7 +87,8 @@ fn append_fault(
 
 /// Appends the messages of the lexer.
 fn append_faults(lexed: &LexedStr<'_>, errors: &mut Vec<SyntaxError>) -> Result<(), AllocError>
-    ensures { OnOk result (map message_of_error errors.new.items ≡ map message_of_error errors.old.items ++ of_leaves 0 lexed.now.leaves) }
+    ensures { OnOk result (map message_of_error errors.new.items
+        ≡ map message_of_error errors.old.items ++ of_leaves 0 lexed.now.leaves) }
 {
     for leaf in 0..lexed.len() {
         append_fault(lexed, leaf, errors)?;

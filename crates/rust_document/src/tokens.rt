@@ -64,7 +64,8 @@ pub(crate) fn lexed_tokens(
     lexed: &LexedStr<'_>,
 ) -> Result<Vec<LexedToken>, AllocError>
     requires { length (encode_utf8_all (joined (leaves_of lexed.now.leaves))) ≤ 16777216 }
-    ensures { IfOk result (λ v. map span_of v.items ≡ spans_from 0 (map in_bytes (leaves_of lexed.now.leaves))) }
+    ensures { IfOk result (λ v. map span_of v.items
+        ≡ spans_from 0 (map in_bytes (leaves_of lexed.now.leaves))) }
 {
     let mut tokens = Vec::with_capacity(alloc, lexed.len())?;
     let mut place = TextSize::new(0);

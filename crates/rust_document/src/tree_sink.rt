@@ -34,7 +34,8 @@ fn put_token(
     kind: SyntaxKind,
     text: &str,
 ) -> Result<(), GreenError>
-    ensures ok { OnOk result (builder.new ≡ built builder.old (texts.Token (raw_of kind) (chars text.now))) }
+    ensures ok { OnOk result (builder.new
+        ≡ built builder.old (texts.Token (raw_of kind) (chars text.now))) }
     ensures refused { IfErr result (MayRefuse builder.old (texts.Token (raw_of kind) (chars text.now))) }
     ensures err { OnErr result (builder.new ≡ builder.old) }
 {
@@ -67,7 +68,8 @@ fn put_message(
     message: Message,
     offset: usize,
 ) -> Result<(), GreenError>
-    ensures ok { OnOk result (map message_of_error errors.new.items ≡ map message_of_error errors.old.items ++
+    ensures ok { OnOk result (map message_of_error errors.new.items
+        ≡ map message_of_error errors.old.items ++
         (offset, OfGrammar (message_of message)) ∷ []) }
     ensures refused { IfErr result (λ error. error ≡ NoMemory) }
     ensures err { OnErr result (errors.new.items ≡ errors.old.items) }

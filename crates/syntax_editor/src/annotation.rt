@@ -60,7 +60,8 @@ pub(crate) fn marked(
     elements: &[SyntaxElement],
     annotation: SyntaxAnnotation,
 ) -> Result<Vec<(SyntaxElement, SyntaxAnnotation)>, AllocError>
-    ensures { IfOk result (λ v. map annotated v.items ≡ map (with_annotation annotation.number) (map element_of elements.now)) }
+    ensures { IfOk result (λ v. map annotated v.items
+        ≡ map (with_annotation annotation.number) (map element_of elements.now)) }
 {
     let mut marked = Vec::new(alloc);
     for element in elements {

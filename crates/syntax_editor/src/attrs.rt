@@ -41,7 +41,8 @@ fn push_if(
     elements: &mut Vec<SyntaxElement>,
     element: SyntaxElement,
 ) -> Result<(), AllocError>
-    ensures { OnOk result (elements.new.items ≡ (if goes then elements.old.items ++ element ∷ [] else elements.old.items)) }
+    ensures { OnOk result (elements.new.items
+        ≡ (if goes then elements.old.items ++ element ∷ [] else elements.old.items)) }
 {
     if goes {
         elements.push(element)?;
@@ -68,7 +69,8 @@ impl SyntaxEditor {
     /// Records these changes again, last of all. After a refusal some of them are recorded.
     fn record_again(&mut self, alloc: Global, changes: &[Change]) -> Result<(), AllocError>
         requires { All (IsSound self.old.top) changes.now }
-        ensures { OnOk result (self.new ≡ with_changes self.old (self.old.changes ++ map recorded changes.now)) }
+        ensures { OnOk result (self.new ≡ with_changes self.old (self.old.changes
+            ++ map recorded changes.now)) }
     {
         for change in changes {
             let change = copy(alloc, change)?;
@@ -101,7 +103,8 @@ impl SyntaxEditor {
     /// Records that each of these is deleted, in their order. After a refusal some deletions are
     /// recorded.
     fn delete_each(&mut self, alloc: Global, elements: &[SyntaxElement]) -> Result<(), RecordError>
-        ensures recorded { OnOk result (deleting_each self.old (map element_of elements.now) ≡ Recorded self.new.changes) }
+        ensures recorded { OnOk result (deleting_each self.old (map element_of elements.now)
+            ≡ Recorded self.new.changes) }
         ensures rest { OnOk result (self.new ≡ with_changes self.old self.new.changes) }
         ensures refused { IfErr result (RefusesRecord (deleting_each self.old (map element_of elements.now))) }
     {
@@ -118,7 +121,8 @@ impl SyntaxEditor {
         alloc: Global,
         elements: &[SyntaxElement],
     ) -> Result<SyntaxEditor, RecordError>
-        ensures recorded { IfOk result (λ d. deleting_each self.now (map element_of elements.now) ≡ Recorded d.changes) }
+        ensures recorded { IfOk result (λ d. deleting_each self.now (map element_of elements.now)
+            ≡ Recorded d.changes) }
         ensures top { IfOk result (λ d. d.top ≡ self.now.top) }
         ensures refused { IfErr result (RefusesRecord (deleting_each self.now (map element_of elements.now))) }
     {
@@ -163,7 +167,8 @@ pub trait AttrsOwnerEdit: HasAttrs {
         alloc: Global,
         editor: &mut SyntaxEditor,
     ) -> Result<(), RecordError>
-        ensures recorded { OnOk result (removing_attrs editor.old (Self.stands self.now) ≡ Recorded editor.new.changes) }
+        ensures recorded { OnOk result (removing_attrs editor.old (Self.stands self.now)
+            ≡ Recorded editor.new.changes) }
         ensures rest { OnOk result (editor.new ≡ with_changes editor.old editor.new.changes) }
         ensures refused { IfErr result (RefusesRecord (removing_attrs editor.old (Self.stands self.now))) }
         ensures kept { IfErr result (λ _. editor.new ≡ editor.old) }

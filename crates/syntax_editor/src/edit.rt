@@ -63,7 +63,8 @@ impl Model for SyntaxEdit {
           annotated = map inside.annotated e.annotated.items;
         } };
 
-    ghost invariant = { λ e. (n : ℕ) → map element_of (group_of e.groups n) ≡ of_annotation n (map inside.annotated e.annotated.items) };
+    ghost invariant = { λ e. (n : ℕ) → map element_of (group_of e.groups n)
+        ≡ of_annotation n (map inside.annotated e.annotated.items) };
 }
 
 impl SyntaxEdit {

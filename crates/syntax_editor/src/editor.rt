@@ -174,7 +174,8 @@ impl SyntaxEditor {
     /// Adds a change last of all.
     pub(crate) fn push(&mut self, change: Change) -> Result<(), AllocError>
         requires { IsSound self.old.top change }
-        ensures ok { OnOk result (self.new ≡ with_changes self.old (self.old.changes ++ recorded change ∷ [])) }
+        ensures ok { OnOk result (self.new
+            ≡ with_changes self.old (self.old.changes ++ recorded change ∷ [])) }
         ensures err { OnErr result (self.new ≡ self.old) }
     {
         self.changes.push(change)?;

@@ -44,7 +44,8 @@ pub(crate) fn grouped(
     alloc: Global,
     found: &[(SyntaxElement, SyntaxAnnotation)],
 ) -> Result<Groups, AllocError>
-    ensures { (n : ℕ) → IfOk result (λ g. map element_of (group_of g n) ≡ of_annotation n (map annotated found.now)) }
+    ensures { (n : ℕ) → IfOk result (λ g. map element_of (group_of g n)
+        ≡ of_annotation n (map annotated found.now)) }
 {
     let mut groups = HashMap::new(alloc);
     for (element, annotation) in found {

@@ -35,7 +35,8 @@ impl AstNode for SourceFile {
     }
 
     fn cast(node: SyntaxNode) -> Option<SourceFile>
-        ensures cast_when { IsSome result ↔ ((raw_of (kind_of_raw (kind_at node.place)) == raw_of SOURCE_FILE) ≡ true) }
+        ensures cast_when { IsSome result
+            ↔ ((raw_of (kind_of_raw (kind_at node.place)) == raw_of SOURCE_FILE) ≡ true) }
         ensures gives { IfSome result (λ x. x.syntax ≡ node) }
     {
         if is(node.kind().to_raw(), SyntaxKind::SOURCE_FILE) {
@@ -72,7 +73,8 @@ impl AstNode for Struct {
     }
 
     fn cast(node: SyntaxNode) -> Option<Struct>
-        ensures cast_when { IsSome result ↔ ((raw_of (kind_of_raw (kind_at node.place)) == raw_of STRUCT) ≡ true) }
+        ensures cast_when { IsSome result
+            ↔ ((raw_of (kind_of_raw (kind_at node.place)) == raw_of STRUCT) ≡ true) }
         ensures gives { IfSome result (λ x. x.syntax ≡ node) }
     {
         if is(node.kind().to_raw(), SyntaxKind::STRUCT) {
@@ -109,7 +111,8 @@ impl AstNode for Fn {
     }
 
     fn cast(node: SyntaxNode) -> Option<Fn>
-        ensures cast_when { IsSome result ↔ ((raw_of (kind_of_raw (kind_at node.place)) == raw_of FN) ≡ true) }
+        ensures cast_when { IsSome result
+            ↔ ((raw_of (kind_of_raw (kind_at node.place)) == raw_of FN) ≡ true) }
         ensures gives { IfSome result (λ x. x.syntax ≡ node) }
     {
         if is(node.kind().to_raw(), SyntaxKind::FN) {
@@ -146,7 +149,8 @@ impl AstNode for Use {
     }
 
     fn cast(node: SyntaxNode) -> Option<Use>
-        ensures cast_when { IsSome result ↔ ((raw_of (kind_of_raw (kind_at node.place)) == raw_of USE) ≡ true) }
+        ensures cast_when { IsSome result
+            ↔ ((raw_of (kind_of_raw (kind_at node.place)) == raw_of USE) ≡ true) }
         ensures gives { IfSome result (λ x. x.syntax ≡ node) }
     {
         if is(node.kind().to_raw(), SyntaxKind::USE) {
@@ -183,7 +187,8 @@ impl AstNode for ItemList {
     }
 
     fn cast(node: SyntaxNode) -> Option<ItemList>
-        ensures cast_when { IsSome result ↔ ((raw_of (kind_of_raw (kind_at node.place)) == raw_of ITEM_LIST) ≡ true) }
+        ensures cast_when { IsSome result
+            ↔ ((raw_of (kind_of_raw (kind_at node.place)) == raw_of ITEM_LIST) ≡ true) }
         ensures gives { IfSome result (λ x. x.syntax ≡ node) }
     {
         if is(node.kind().to_raw(), SyntaxKind::ITEM_LIST) {
@@ -220,7 +225,8 @@ impl AstNode for StmtList {
     }
 
     fn cast(node: SyntaxNode) -> Option<StmtList>
-        ensures cast_when { IsSome result ↔ ((raw_of (kind_of_raw (kind_at node.place)) == raw_of STMT_LIST) ≡ true) }
+        ensures cast_when { IsSome result
+            ↔ ((raw_of (kind_of_raw (kind_at node.place)) == raw_of STMT_LIST) ≡ true) }
         ensures gives { IfSome result (λ x. x.syntax ≡ node) }
     {
         if is(node.kind().to_raw(), SyntaxKind::STMT_LIST) {

@@ -71,7 +71,8 @@ impl SyntaxEditor {
     /// is recorded. Refuses an element of another tree as `Foreign`, then the root as `BadTarget`.
     /// A refusal records nothing.
     pub fn delete(&mut self, alloc: Global, element: &SyntaxElement) -> Result<(), RecordError>
-        ensures recorded { OnOk result (replacing self.old (element_of element.now) [] ≡ Recorded self.new.changes) }
+        ensures recorded { OnOk result (replacing self.old (element_of element.now) []
+            ≡ Recorded self.new.changes) }
         ensures rest { OnOk result (self.new ≡ with_changes self.old self.new.changes) }
         ensures refused { IfErr result (RefusesRecord (replacing self.old (element_of element.now) [])) }
         ensures kept { IfErr result (λ _. self.new ≡ self.old) }

@@ -55,8 +55,10 @@ pub(crate) fn made(
     ensures changed { IfOk result (λ r. AreChanged r.changed.items (rewriting (editing_of root.now changes.items mapping.now))) }
     ensures origins { IfOk result (λ r. map element_of r.origins.items
         ≡ origins (rewriting (editing_of root.now changes.items mapping.now))) }
-    ensures put { IfOk result (λ r. r.put.items ≡ put_marks (rewriting (editing_of root.now changes.items mapping.now))) }
-    ensures fits { OnOk result (new_fits (rewriting (editing_of root.now changes.items mapping.now)) ≡ true) }
+    ensures put { IfOk result (λ r. r.put.items
+        ≡ put_marks (rewriting (editing_of root.now changes.items mapping.now))) }
+    ensures fits { OnOk result (new_fits (rewriting (editing_of root.now changes.items mapping.now))
+        ≡ true) }
     ensures refused { IfErr result (RefusesRewriting (editing_of root.now changes.items mapping.now)) }
 {
     let plan = Plan::build(alloc, root, changes, mapping)?;

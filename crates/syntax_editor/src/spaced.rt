@@ -161,7 +161,8 @@ fn spaced(
     elements: Vec<SyntaxElement>,
     ids: &mut TreeIds,
 ) -> Result<Vec<SyntaxElement>, WhitespaceError>
-    ensures ok { IfOk result (λ v. map element_of v.items ≡ spaced parent.now index ids.old elements.items) }
+    ensures ok { IfOk result (λ v. map element_of v.items
+        ≡ spaced parent.now index ids.old elements.items) }
     ensures number { OnOk result (ids.new ≡ ids.old + spaced_count parent.now index elements.items) }
     ensures refused { IfErr result (RefusesSpaced true (ids.old + spaced_count parent.now index elements.items)) }
     ensures forward { IfErr result (λ _. ids.old ≤ ids.new) }
@@ -189,7 +190,8 @@ impl SyntaxEditor {
         ensures recorded { OnOk result (inserting_spaced self.old position.parent position.index ids.old (new.now ∷ [])
             ≡ Recorded self.new.changes) }
         ensures rest { OnOk result (self.new ≡ with_changes self.old self.new.changes) }
-        ensures number { OnOk result (ids.new ≡ number_after self.old position.parent position.index ids.old (new.now ∷ [])) }
+        ensures number { OnOk result (ids.new
+            ≡ number_after self.old position.parent position.index ids.old (new.now ∷ [])) }
         ensures refused { IfErr result (RefusesSpaced (is_gap self.old.top position.parent position.index)
             (number_after self.old position.parent position.index ids.old (new.now ∷ []))) }
         ensures kept { IfErr result (λ _. self.new ≡ self.old) }
@@ -216,7 +218,8 @@ impl SyntaxEditor {
         ensures recorded { OnOk result (inserting_spaced self.old position.parent position.index ids.old new.items
             ≡ Recorded self.new.changes) }
         ensures rest { OnOk result (self.new ≡ with_changes self.old self.new.changes) }
-        ensures number { OnOk result (ids.new ≡ number_after self.old position.parent position.index ids.old new.items) }
+        ensures number { OnOk result (ids.new
+            ≡ number_after self.old position.parent position.index ids.old new.items) }
         ensures refused { IfErr result (RefusesSpaced (is_gap self.old.top position.parent position.index)
             (number_after self.old position.parent position.index ids.old new.items)) }
         ensures kept { IfErr result (λ _. self.new ≡ self.old) }

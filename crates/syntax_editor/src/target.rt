@@ -78,7 +78,8 @@ pub(crate) fn are_in_order(first: &[usize], last: &[usize]) -> bool
 /// The element that a position stands after, the parent where it stands before all children; none
 /// where the parent has no such child.
 fn anchor(alloc: Global, position: &Position) -> Result<Option<SyntaxElement>, AllocError>
-    ensures { IfOk result (λ r. option_map element_of r ≡ standing (anchor position.now.parent position.now.index)) }
+    ensures { IfOk result (λ r. option_map element_of r
+        ≡ standing (anchor position.now.parent position.now.index)) }
 {
     if position.index == 0 {
         return Ok(Some(SyntaxElement::Node(position.parent.clone()?)));

@@ -139,7 +139,8 @@ impl SyntaxMappingBuilder {
         input: SyntaxNode,
         output: SyntaxNode,
     ) -> Result<(), MappingError>
-        ensures ok { OnOk result (self.new ≡ record self.old { entries = self.old.entries ++ (input, output) ∷ [] }) }
+        ensures ok { OnOk result (self.new
+            ≡ record self.old { entries = self.old.entries ++ (input, output) ∷ [] }) }
         ensures fits { OnOk result (AcceptsNode self.old.parent input output) }
         ensures refused { IfErr result (RefusesNode self.old.parent input output) }
         ensures err { OnErr result (self.new ≡ self.old) }
@@ -163,7 +164,8 @@ impl SyntaxMappingBuilder {
         inputs: &[SyntaxNode],
         outputs: &[SyntaxNode],
     ) -> Result<(), MappingError>
-        ensures ok { OnOk result (self.new ≡ record self.old { entries = self.old.entries ++ zip inputs.now outputs.now }) }
+        ensures ok { OnOk result (self.new
+            ≡ record self.old { entries = self.old.entries ++ zip inputs.now outputs.now }) }
         ensures fits { OnOk result (AcceptsNodes self.old.parent inputs.now outputs.now) }
         ensures refused { IfErr result (RefusesNodes self.old.parent inputs.now outputs.now) }
         ensures err { OnErr result (self.new ≡ self.old) }

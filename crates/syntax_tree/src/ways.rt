@@ -10,7 +10,8 @@ use std::alloc::{AllocError, Global};
 impl SyntaxNode {
     /// The child of this number, counted from 0, nodes and tokens alike.
     fn child(&self, alloc: Global, number: usize) -> Result<Option<SyntaxElement>, AllocError>
-        ensures { IfOk result (λ r. option_map element_of r ≡ standing_at self.now (number ∷ self.now.place.up)) }
+        ensures { IfOk result (λ r. option_map element_of r
+            ≡ standing_at self.now (number ∷ self.now.place.up)) }
     {
         let found = self.cursor().nth_child_or_token(alloc, number)?;
         match found {

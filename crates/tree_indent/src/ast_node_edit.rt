@@ -45,7 +45,8 @@ pub trait AstNodeEdit: AstNode {
         ids: &mut TreeIds,
     ) -> Result<Self, IndentError>
         ensures ok { IfOk result (λ x. IsShifted (In level) (Self.stands self.now) ids.old (Self.stands x)) }
-        ensures mapped { IfOk result (λ x. mapping.new ≡ mapping.old ++ pairs_below (Self.stands self.now) (Self.stands x)) }
+        ensures mapped { IfOk result (λ x. mapping.new
+            ≡ mapping.old ++ pairs_below (Self.stands self.now) (Self.stands x)) }
         ensures after { OnOk result (IsAfter ids.old (Self.stands self.now)) }
         ensures number { OnOk result (ids.new ≡ ids.old + 1) }
         ensures refused { IfErr result (RefusesMapped (In level) (Self.stands self.now) ids.old) }

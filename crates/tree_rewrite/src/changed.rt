@@ -44,7 +44,8 @@ fn push_ranges(ranges: Vec<TextRange>, to: &mut Vec<TextRange>) -> Result<(), Al
 /// Adds a range, if told so.
 fn push_if(is_there: bool, start: u32, end: u32, to: &mut Vec<TextRange>) -> Result<(), AllocError>
     requires { is_there ≡ true → start ≤ end }
-    ensures { OnOk result (map bounds to.new.items ≡ map bounds to.old.items ++ if_changed is_there (start, end) []) }
+    ensures { OnOk result (map bounds to.new.items
+        ≡ map bounds to.old.items ++ if_changed is_there (start, end) []) }
 {
     if is_there {
         to.push(TextRange::new(TextSize(start), TextSize(end)))?;
@@ -73,7 +74,8 @@ impl Tracker {
     /// Passes an element with all below it.
     fn pass(&mut self, element: &SyntaxElement) -> Result<(), AllocError>
         requires { self.now.offset + bytes_by (Whole element.now) < 2 ^ 32 }
-        ensures tracks { (s : Stand) → Tracks self.old s → OnOk result (Tracks self.new (after_piece (Whole element.now) s)) }
+        ensures tracks { (s : Stand) → Tracks self.old s
+            → OnOk result (Tracks self.new (after_piece (Whole element.now) s)) }
         ensures offset { OnOk result (self.new.offset ≡ self.old.offset + bytes_by (Whole element.now)) }
     {
         let green = element.green()?;
@@ -88,7 +90,8 @@ impl Tracker {
         ensures ranges { OnOk result (self.new.ranges.items ≡ []) }
         ensures offset { OnOk result (self.new.offset ≡ self.old.offset) }
         ensures told { OnOk result (self.new.told ≡ told) }
-        ensures around { OnOk result ((g : Entered) × (self.new.around.items ≡ self.old.around.items ++ g ∷ [])
+        ensures around { OnOk result ((g : Entered)
+            × (self.new.around.items ≡ self.old.around.items ++ g ∷ [])
             × (g.is_node ≡ is_node) × (g.start ≡ self.old.offset) × (g.told ≡ self.old.told)
             × (g.before.items ≡ self.old.ranges.items)) }
     {
@@ -107,7 +110,8 @@ impl Tracker {
     /// Leaves what was entered last.
     fn leave(&mut self) -> Result<(), AllocError>
         requires { (s : Stand) × Tracks self.now s }
-        ensures tracks { (s : Stand) → Tracks self.old s → OnOk result (Tracks self.new (closed s.done s.around)) }
+        ensures tracks { (s : Stand) → Tracks self.old s
+            → OnOk result (Tracks self.new (closed s.done s.around)) }
         ensures offset { OnOk result (self.new.offset ≡ self.old.offset) }
     {
         let Some(
@@ -137,7 +141,8 @@ impl Tracker {
     fn step(&mut self, alloc: Global, piece: &Piece) -> Result<(), AllocError>
         requires tracks { (s : Stand) × Tracks self.now s }
         requires fits { self.now.offset + bytes_by piece.now < 2 ^ 32 }
-        ensures tracks { (s : Stand) → Tracks self.old s → OnOk result (Tracks self.new (after_piece piece.now s)) }
+        ensures tracks { (s : Stand) → Tracks self.old s
+            → OnOk result (Tracks self.new (after_piece piece.now s)) }
         ensures offset { OnOk result (self.new.offset ≡ self.old.offset + bytes_by piece.now) }
     {
         match piece {

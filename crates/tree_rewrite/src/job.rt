@@ -91,21 +91,24 @@ impl Job {
 
     /// Whether it puts into a gap of a sheet.
     pub(crate) fn sets_gap(&self, sheet: &Option<Vec<usize>>, way: &[usize], index: usize) -> bool
-        ensures { result ≡ (same_sheet self.now.sheet (way_of sheet.now) && sets self.now.change (gap way.now index)) }
+        ensures { result ≡ (same_sheet self.now.sheet (way_of sheet.now)
+            && sets self.now.change (gap way.now index)) }
     {
         same_sheet(&self.sheet, sheet) && self.change.sets_gap(way, index)
     }
 
     /// Whether it says what stands in the place of an element of a sheet.
     pub(crate) fn sets_slot(&self, sheet: &Option<Vec<usize>>, way: &[usize]) -> bool
-        ensures { result ≡ (same_sheet self.now.sheet (way_of sheet.now) && sets self.now.change (slot way.now)) }
+        ensures { result ≡ (same_sheet self.now.sheet (way_of sheet.now)
+            && sets self.now.change (slot way.now)) }
     {
         same_sheet(&self.sheet, sheet) && self.change.replaces(way)
     }
 
     /// Whether it says what stands below an element of a sheet.
     pub(crate) fn reaches(&self, sheet: &Option<Vec<usize>>, way: &[usize]) -> bool
-        ensures { result ≡ (same_sheet self.now.sheet (way_of sheet.now) && reaches way.now self.now.change) }
+        ensures { result ≡ (same_sheet self.now.sheet (way_of sheet.now)
+            && reaches way.now self.now.change) }
     {
         same_sheet(&self.sheet, sheet) && self.change.reaches(way)
     }

@@ -33,7 +33,8 @@ fn push_row(
     more: usize,
     lists: &mut Vec<Vec<usize>>,
 ) -> Result<(), AllocError>
-    ensures { OnOk result (lists_of lists.new.items ≡ with_row number start more (lists_of lists.old.items)) }
+    ensures { OnOk result (lists_of lists.new.items
+        ≡ with_row number start more (lists_of lists.old.items)) }
 {
     let mut index = start;
     let mut left = more;

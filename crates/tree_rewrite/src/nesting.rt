@@ -129,7 +129,8 @@ fn is_gone(root: &GreenNode, changes: &[TreeChange], held: &WayMap, way: &[usize
 fn is_lost(root: &GreenNode, changes: &[TreeChange], held: &WayMap, way: &[usize]) -> bool
     requires apart { has_collision changes.now ≡ false }
     requires holds { Holds held.now changes.now }
-    ensures { result ≡ list_any (λ r. leads_through way.now r && not (is_node_by_node root.now r)) changes.now }
+    ensures { result ≡ list_any (λ r. leads_through way.now r
+        && not (is_node_by_node root.now r)) changes.now }
 {
     let mut rest = way;
     loop {

@@ -47,7 +47,8 @@ fn push_token(token: &SyntaxToken, to: &mut Vec<SyntaxElement>) -> Result<(), Al
 
 /// Adds the elements that a piece brings, in preorder.
 fn push_piece(alloc: Global, piece: &Piece, to: &mut Vec<SyntaxElement>) -> Result<(), AllocError>
-    ensures { OnOk result (map element_of to.new.items ≡ map element_of to.old.items ++ origins_by piece.now) }
+    ensures { OnOk result (map element_of to.new.items
+        ≡ map element_of to.old.items ++ origins_by piece.now) }
 {
     match piece {
         Piece::Whole(SyntaxElement::Node(node)) => push_walk(alloc, node, to)?,
@@ -60,7 +61,8 @@ fn push_piece(alloc: Global, piece: &Piece, to: &mut Vec<SyntaxElement>) -> Resu
 
 /// Where the elements that pieces say came from, and which of them were put in, in preorder.
 pub fn origins_of(alloc: Global, pieces: &[Piece]) -> Result<Origins, AllocError>
-    ensures elements { (m : Marked) → Say pieces.now m → IfOk result (λ o. map element_of o.elements.items ≡ origins m) }
+    ensures elements { (m : Marked) → Say pieces.now m
+        → IfOk result (λ o. map element_of o.elements.items ≡ origins m) }
     ensures put { (m : Marked) → Say pieces.now m → IfOk result (λ o. o.put.items ≡ put_marks m) }
 {
     let mut elements = Vec::new(alloc);

@@ -84,7 +84,8 @@ impl Plan {
         requires ordered { All IsOrdered changes.items }
         requires root { All KeepsOneRoot changes.items }
         ensures top { IfOk result (λ p. p.top ≡ root.now) }
-        ensures jobs { IfOk result (λ p. jobs root.now (map recorded changes.items) mapping.now ≡ Some p.jobs) }
+        ensures jobs { IfOk result (λ p. jobs root.now (map recorded changes.items) mapping.now
+            ≡ Some p.jobs) }
         ensures apart { OnOk result (has_collision (map recorded changes.items) ≡ false) }
         ensures refused { IfErr result (RefusesPlan root.now (map recorded changes.items) mapping.now) }
     {
@@ -130,7 +131,8 @@ impl Plan {
         ensures changed { IfOk result (λ r. AreChanged r.changed.items (rewritten self.now.top (reverse self.now.jobs))) }
         ensures origins { IfOk result (λ r. map element_of r.origins.items
             ≡ origins (rewritten self.now.top (reverse self.now.jobs))) }
-        ensures put { IfOk result (λ r. r.put.items ≡ put_marks (rewritten self.now.top (reverse self.now.jobs))) }
+        ensures put { IfOk result (λ r. r.put.items
+            ≡ put_marks (rewritten self.now.top (reverse self.now.jobs))) }
         ensures fits { OnOk result (new_fits (rewritten self.now.top (reverse self.now.jobs)) ≡ true) }
         ensures refused { IfErr result (RefusesRewrite (rewritten self.now.top (reverse self.now.jobs))) }
     {
@@ -155,7 +157,8 @@ impl Plan {
     fn pieces(&self, alloc: Global, order: &[usize]) -> Result<Vec<Piece>, AllocError>
         requires { is_order self.now.jobs order.now ≡ true }
         ensures says { IfOk result (λ v. Say v.items (rewritten self.now.top (reverse self.now.jobs))) }
-        ensures node { OnOk result ((t : Tree) × IsNode (rewritten self.now.top (reverse self.now.jobs)) t) }
+        ensures node { OnOk result ((t : Tree)
+            × IsNode (rewritten self.now.top (reverse self.now.jobs)) t) }
     {
         let made = make_all(alloc, &self.jobs, order)?;
         let mut pieces = Vec::new(alloc);

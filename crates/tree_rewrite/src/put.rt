@@ -57,7 +57,8 @@ impl Puts {
     /// Passes an element with all below it: these elements.
     fn pass(&mut self, element: &SyntaxElement, brought: &[SyntaxElement]) -> Result<(), AllocError>
         requires { map element_of brought.now ≡ origins_by (Whole element.now) }
-        ensures { (s : Stand) → MarksPuts self.old s → OnOk result (MarksPuts self.new (after_piece (Whole element.now) s)) }
+        ensures { (s : Stand) → MarksPuts self.old s
+            → OnOk result (MarksPuts self.new (after_piece (Whole element.now) s)) }
     {
         let _stands = element.green()?;
         push_marks(is_put(self.told), brought, &mut self.marks)
@@ -90,7 +91,8 @@ impl Puts {
         brought: &[SyntaxElement],
     ) -> Result<(), AllocError>
         requires { map element_of brought.now ≡ origins_by piece.now }
-        ensures { (s : Stand) → MarksPuts self.old s → OnOk result (MarksPuts self.new (after_piece piece.now s)) }
+        ensures { (s : Stand) → MarksPuts self.old s
+            → OnOk result (MarksPuts self.new (after_piece piece.now s)) }
     {
         match piece {
             Piece::Whole(element) => self.pass(element, brought)?,
