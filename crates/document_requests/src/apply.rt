@@ -134,7 +134,8 @@ fn prepare(
 ) -> Result<(), Stop>
     ensures done { OnOk result (prepared_by (change_in change.entry) document.now editor.old ids.old
         ≡ Ready editor.new ids.new) }
-    ensures stopped { IfErr result (IsUnprepared (prepared_by (change_in change.entry) document.now editor.old ids.old) ids.new) }
+    ensures stopped { IfErr result (IsUnprepared
+        (prepared_by (change_in change.entry) document.now editor.old ids.old) ids.new) }
 {
     match change {
         Change::Put {
@@ -169,7 +170,8 @@ fn prepare_all(
 ) -> Result<(), Stop>
     ensures done { OnOk result (prepared (map change_in changes.now) document.now editor.old ids.old
         ≡ Ready editor.new ids.new) }
-    ensures stopped { IfErr result (IsUnprepared (prepared (map change_in changes.now) document.now editor.old ids.old) ids.new) }
+    ensures stopped { IfErr result (IsUnprepared
+        (prepared (map change_in changes.now) document.now editor.old ids.old) ids.new) }
 {
     for change in changes {
         prepare(alloc, document, editor, *change, ids)?;

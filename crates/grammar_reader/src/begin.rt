@@ -49,7 +49,8 @@ pub fn begins(
     ensures sees { (s : Reading) → IsAt place.now.given p.old s
         → result ≡ sees place.now.condition s (shift ahead (rules.begins (begins_below whole ranks) (plain rule.now))) }
     ensures same { p.new ≡ record p.old { looks = p.new.looks } }
-    ensures looks { p.new.looks ≤ p.old.looks + asked (rules.begins (begins_below whole ranks) (plain rule.now)) }
+    ensures looks { p.new.looks
+        ≤ p.old.looks + asked (rules.begins (begins_below whole ranks) (plain rule.now)) }
 {
     let anew = Place {
         total: place.total,

@@ -100,8 +100,10 @@ static BLOCK_LIKE: Passed = Passed {
 
 /// What is passed by of the rows that are read most.
 fn passed_of(production: Production) -> Option<&'static Passed>
-    ensures many { IfSome result (λ x. all_passed 128 x.now.many_before x.now.many (rule (named production)) ≡ true) }
-    ensures few { IfSome result (λ x. all_passed 128 x.now.few_before x.now.few (rule (named production)) ≡ true) }
+    ensures many { IfSome result (λ x. all_passed 128 x.now.many_before x.now.many
+        (rule (named production)) ≡ true) }
+    ensures few { IfSome result (λ x. all_passed 128 x.now.few_before x.now.few
+        (rule (named production)) ≡ true) }
 {
     match production {
         Production::Body => Some(&BODY),

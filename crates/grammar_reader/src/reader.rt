@@ -71,7 +71,8 @@ fn ranks_below(p: &Parser<'_>, caller: &Caller) -> Option<u8>
     requires total { caller.now.total ≡ length p.now.input }
     requires few { caller.now.ranks ≤ 20 }
     ensures few { IfSome result (λ ranks. ranks ≤ 20) }
-    ensures falls { IfSome result (λ ranks. 32 * length (left p.now) + ranks < 32 * caller.now.began + caller.now.ranks) }
+    ensures falls { IfSome result (λ ranks. 32 * length (left p.now) + ranks
+        < 32 * caller.now.began + caller.now.ranks) }
     ensures some { (x y : rules.Production) (s : Reading) → left p.now ≡ s.rest → rank x ≤ caller.now.ranks
         → IsBelow x caller.now.began y s → HasRank (rank y) result }
 {

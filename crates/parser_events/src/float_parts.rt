@@ -34,7 +34,8 @@ fn put_parts<'a, S: StrSink>(
 ) -> Result<(), S::Error>
     requires before { chars whole.now ≡ before_dot (chars text.now) }
     requires from { chars rest.now ≡ from_dot (chars text.now) }
-    ensures taken { OnOk result (TakesAll S.takes sink.old (split_steps ends_in_dot pos (chars text.now)) sink.new) }
+    ensures taken { OnOk result (TakesAll S.takes sink.old
+        (split_steps ends_in_dot pos (chars text.now)) sink.new) }
     ensures refused { IfErr result (λ error. RefusesOne S.takes S.refuses sink.old
         (split_steps ends_in_dot pos (chars text.now)) error sink.new) }
 {
@@ -116,7 +117,8 @@ pub(crate) fn put_float<S: StrSink>(
     pos: usize,
     sink: &mut S,
 ) -> Result<(), S::Error>
-    ensures taken { OnOk result (TakesAll S.takes sink.old (split_steps ends_in_dot pos (chars text.now)) sink.new) }
+    ensures taken { OnOk result (TakesAll S.takes sink.old
+        (split_steps ends_in_dot pos (chars text.now)) sink.new) }
     ensures refused { IfErr result (λ error. RefusesOne S.takes S.refuses sink.old
         (split_steps ends_in_dot pos (chars text.now)) error sink.new) }
 {

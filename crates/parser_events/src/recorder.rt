@@ -32,7 +32,8 @@ impl Model for Recorder {
 
     ghost use Rattle.parser_events.specs.Seen.{event_of};
 
-    ghost view = { λ r. if r.refused then None else Some (record { entered = map event_of r.events.items; opened = r.open_nodes.items }) };
+    ghost view = { λ r. if r.refused then None
+        else Some (record { entered = map event_of r.events.items; opened = r.open_nodes.items }) };
 }
 
 impl Recorder {

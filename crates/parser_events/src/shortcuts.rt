@@ -240,7 +240,8 @@ fn put_step<S: StrSink>(
     sink: &mut S,
 ) -> Result<usize, S::Error>
     requires { start ≤ length lexed.now.leaves }
-    ensures taken { IfOk result (λ next. Lays S.takes lexed.now.leaves (step_of step) start sink.old next sink.new) }
+    ensures taken { IfOk result (λ next. Lays S.takes lexed.now.leaves
+        (step_of step) start sink.old next sink.new) }
     ensures refused { IfErr result (λ error. RefusesOne S.takes S.refuses sink.old
         (put_by (step_of step) (place_at lexed.now.leaves start)) error sink.new) }
 {

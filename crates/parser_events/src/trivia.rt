@@ -163,7 +163,8 @@ pub(crate) fn attached_from(
 ) -> usize
     requires order { start ≤ end }
     requires within { end ≤ length lexed.now.leaves }
-    ensures inside { end - result ≡ attached (raw_of kind) (slice_range (leaves_of lexed.now.leaves) start end) }
+    ensures inside { end - result
+        ≡ attached (raw_of kind) (slice_range (leaves_of lexed.now.leaves) start end) }
     ensures after { start ≤ result }
     ensures before { result ≤ end }
 {

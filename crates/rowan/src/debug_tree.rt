@@ -30,7 +30,8 @@ fn excerpt_end(text: &str) -> usize
 
 /// Puts a token's text, quoted, after what is printed.
 fn push_quoted(alloc: Global, text: &str, to: &mut String) -> Result<(), AllocError>
-    ensures { OnOk result (AppendsText (string_bytes to.old) (string_bytes to.new) (debug_str (excerpt text.now))) }
+    ensures { OnOk result (AppendsText (string_bytes to.old) (string_bytes to.new)
+        (debug_str (excerpt text.now))) }
 {
     if text.len() < 25 {
         return write!(to, "{text:?}");

@@ -89,7 +89,8 @@ fn node_at<L: Language>(
     kind: L::Kind,
     range: TextRange,
 ) -> Result<Option<cursor::SyntaxNode>, AllocError>
-    ensures { IfOk result (λ r. r ≡ first_in (is_at L.Kind.eq L.from_raw kind range.start.0 range.end.0) node.now) }
+    ensures { IfOk result (λ r. r
+        ≡ first_in (is_at L.Kind.eq L.from_raw kind range.start.0 range.end.0) node.now) }
 {
     if is_at::<L>(node, kind, range) {
         return Ok(Some(node.clone()?));

@@ -202,7 +202,8 @@ impl Document {
         ensures back { IfOk result (λ e. e.back ≡ 0) }
         ensures steps { IfOk result (λ e. e.steps ≤ most_steps self.old.edition
             (chars (edited self.old.text range.start.0 range.end.0 text.now))) }
-        ensures refused { IfErr result (RefusesEdit (edited self.old.text range.start.0 range.end.0 text.now) ids.old) }
+        ensures refused { IfErr result (RefusesEdit
+            (edited self.old.text range.start.0 range.end.0 text.now) ids.old) }
         ensures kept { IfErr result (λ _. (self.new ≡ self.old) × (ids.new ≡ ids.old)) }
     {
         let text = edited(alloc, self.text(), range, text)?;
@@ -272,7 +273,8 @@ impl Document {
         ensures operators { OnOk result (HasPlacedOperators self.new) }
         ensures changed { IfOk result (λ c. map ends_of c.changed.items ≡ changed editor) }
         ensures annotated { IfOk result (λ c. map annotated_ends c.annotated.items ≡ annotated editor) }
-        ensures steps { IfOk result (λ c. c.steps ≤ most_steps self.old.edition (chars (tree_text (rewritten editor)))) }
+        ensures steps { IfOk result (λ c. c.steps ≤ most_steps self.old.edition
+            (chars (tree_text (rewritten editor)))) }
         ensures number { OnOk result (ids.new ≡ ids.old + 1) }
         ensures refused { IfErr result (RefusesCommit (verdict self.old editor) ids.old) }
         ensures kept { IfErr result (λ _. (self.new ≡ self.old) × (ids.new ≡ ids.old)) }

@@ -53,7 +53,8 @@ fn parsed(
     ensures built { IfOk result (λ p. IsBuilt
         (steps (forest_by (production_of entry) lexed.now.edition (leaves_of lexed.now.leaves)))
         (leaves_of lexed.now.leaves) p.built.root p.built.errors.items) }
-    ensures steps { IfOk result (λ p. p.steps ≤ steps_for (input lexed.now.edition (leaves_of lexed.now.leaves))) }
+    ensures steps { IfOk result (λ p. p.steps ≤ steps_for
+        (input lexed.now.edition (leaves_of lexed.now.leaves))) }
 {
     let input = lexed.to_input(alloc)?;
     let output = match entry.parse(alloc, &input) {

@@ -93,7 +93,8 @@ pub fn rewrite(
     edition: Edition,
     editor: &SyntaxEditor,
 ) -> Result<Rewritten, CommitError>
-    ensures ok { IfOk result (λ r. IsRewritten edition editor.now (string_bytes r.text) r.reading r.changed.items) }
+    ensures ok { IfOk result (λ r. IsRewritten edition editor.now
+        (string_bytes r.text) r.reading r.changed.items) }
     ensures annotated { IfOk result (λ r. map annotated_ends r.annotated.items ≡ annotated editor.now) }
     ensures refused { IfErr result (RefusesRewritten edition editor.now) }
 {

@@ -30,7 +30,8 @@ impl SyntaxEditor {
         position: Position,
         new: &SyntaxElement,
     ) -> Result<(), RecordError>
-        ensures recorded { OnOk result (inserting self.old position.parent position.index (element_of new.now ∷ [])
+        ensures recorded { OnOk result (inserting self.old position.parent position.index
+            (element_of new.now ∷ [])
             ≡ Recorded self.new.changes) }
         ensures rest { OnOk result (self.new ≡ with_changes self.old self.new.changes) }
         ensures refused { IfErr result (RefusesRecord
@@ -49,7 +50,8 @@ impl SyntaxEditor {
         position: Position,
         new: Vec<SyntaxElement>,
     ) -> Result<(), RecordError>
-        ensures recorded { OnOk result (inserting self.old position.parent position.index (map element_of new.items)
+        ensures recorded { OnOk result (inserting self.old position.parent position.index
+            (map element_of new.items)
             ≡ Recorded self.new.changes) }
         ensures rest { OnOk result (self.new ≡ with_changes self.old self.new.changes) }
         ensures refused { IfErr result (RefusesRecord
@@ -92,7 +94,8 @@ impl SyntaxEditor {
         ensures recorded { OnOk result (replacing self.old (element_of old.now) (element_of new.now ∷ [])
             ≡ Recorded self.new.changes) }
         ensures rest { OnOk result (self.new ≡ with_changes self.old self.new.changes) }
-        ensures refused { IfErr result (RefusesRecord (replacing self.old (element_of old.now) (element_of new.now ∷ []))) }
+        ensures refused { IfErr result (RefusesRecord
+            (replacing self.old (element_of old.now) (element_of new.now ∷ []))) }
         ensures kept { IfErr result (λ _. self.new ≡ self.old) }
     {
         let new = vec![in alloc; new.clone()?]?;
@@ -109,7 +112,8 @@ impl SyntaxEditor {
         ensures recorded { OnOk result (replacing self.old (element_of old.now) (map element_of new.items)
             ≡ Recorded self.new.changes) }
         ensures rest { OnOk result (self.new ≡ with_changes self.old self.new.changes) }
-        ensures refused { IfErr result (RefusesRecord (replacing self.old (element_of old.now) (map element_of new.items))) }
+        ensures refused { IfErr result (RefusesRecord
+            (replacing self.old (element_of old.now) (map element_of new.items))) }
         ensures kept { IfErr result (λ _. self.new ≡ self.old) }
     {
         let Some(own) = target(alloc, &self.root, old)? else {
@@ -215,7 +219,8 @@ impl SyntaxEditor {
         last: &SyntaxElement,
         new: Vec<SyntaxElement>,
     ) -> Result<(), RecordError>
-        ensures recorded { OnOk result (replacing_all self.old (element_of first.now) (element_of last.now) (map element_of new.items)
+        ensures recorded { OnOk result (replacing_all self.old (element_of first.now)
+            (element_of last.now) (map element_of new.items)
             ≡ Recorded self.new.changes) }
         ensures rest { OnOk result (self.new ≡ with_changes self.old self.new.changes) }
         ensures refused { IfErr result (RefusesRecord
@@ -240,7 +245,8 @@ impl SyntaxEditor {
         ensures recorded { OnOk result (deleting_all self.old (element_of first.now) (element_of last.now)
             ≡ Recorded self.new.changes) }
         ensures rest { OnOk result (self.new ≡ with_changes self.old self.new.changes) }
-        ensures refused { IfErr result (RefusesRecord (deleting_all self.old (element_of first.now) (element_of last.now))) }
+        ensures refused { IfErr result (RefusesRecord
+            (deleting_all self.old (element_of first.now) (element_of last.now))) }
         ensures kept { IfErr result (λ _. self.new ≡ self.old) }
     {
         match self.row(alloc, first, last)? {

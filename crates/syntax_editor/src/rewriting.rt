@@ -51,8 +51,10 @@ pub(crate) fn made(
     requires ordered { All IsOrdered changes.items }
     requires root { All KeepsOneRoot changes.items }
     ensures placeable { OnOk result (IsPlaceable (editing_of root.now changes.items mapping.now)) }
-    ensures green { IfOk result (λ r. IsNode (rewriting (editing_of root.now changes.items mapping.now)) r.green) }
-    ensures changed { IfOk result (λ r. AreChanged r.changed.items (rewriting (editing_of root.now changes.items mapping.now))) }
+    ensures green { IfOk result (λ r. IsNode
+        (rewriting (editing_of root.now changes.items mapping.now)) r.green) }
+    ensures changed { IfOk result (λ r. AreChanged r.changed.items
+        (rewriting (editing_of root.now changes.items mapping.now))) }
     ensures origins { IfOk result (λ r. map element_of r.origins.items
         ≡ origins (rewriting (editing_of root.now changes.items mapping.now))) }
     ensures put { IfOk result (λ r. r.put.items

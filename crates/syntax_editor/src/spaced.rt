@@ -164,7 +164,8 @@ fn spaced(
     ensures ok { IfOk result (λ v. map element_of v.items
         ≡ spaced parent.now index ids.old elements.items) }
     ensures number { OnOk result (ids.new ≡ ids.old + spaced_count parent.now index elements.items) }
-    ensures refused { IfErr result (RefusesSpaced true (ids.old + spaced_count parent.now index elements.items)) }
+    ensures refused { IfErr result (RefusesSpaced true
+        (ids.old + spaced_count parent.now index elements.items)) }
     ensures forward { IfErr result (λ _. ids.old ≤ ids.new) }
     ensures within { IfErr result (λ _. ids.new ≤ ids.old + spaced_count parent.now index elements.items) }
 {

@@ -75,9 +75,11 @@ pub trait AstNodeEdit: AstNode {
 
     /// By the steps of its own level less.
     fn reset_indent(&self, alloc: Global, ids: &mut TreeIds) -> Result<Self, MakeError>
-        ensures ok { IfOk result (λ x. IsShifted (Out (own_level (Self.stands self.now))) (Self.stands self.now) ids.old (Self.stands x)) }
+        ensures ok { IfOk result (λ x. IsShifted (Out (own_level (Self.stands self.now)))
+            (Self.stands self.now) ids.old (Self.stands x)) }
         ensures number { OnOk result (ids.new ≡ ids.old + 1) }
-        ensures refused { IfErr result (RefusesShifted (Out (own_level (Self.stands self.now))) (Self.stands self.now) ids.old) }
+        ensures refused { IfErr result (RefusesShifted (Out (own_level (Self.stands self.now)))
+            (Self.stands self.now) ids.old) }
         ensures kept { IfErr result (λ _. ids.new ≡ ids.old) }
     {
         let root = edit::reset_indent(alloc, self.syntax(), ids)?;

@@ -128,7 +128,8 @@ impl Plan {
     pub fn execute(&self, alloc: Global, order: &[usize]) -> Result<Rewritten, ExecuteError>
         requires { is_order self.now.jobs order.now ≡ true }
         ensures green { IfOk result (λ r. IsNode (rewritten self.now.top (reverse self.now.jobs)) r.green) }
-        ensures changed { IfOk result (λ r. AreChanged r.changed.items (rewritten self.now.top (reverse self.now.jobs))) }
+        ensures changed { IfOk result (λ r. AreChanged r.changed.items
+            (rewritten self.now.top (reverse self.now.jobs))) }
         ensures origins { IfOk result (λ r. map element_of r.origins.items
             ≡ origins (rewritten self.now.top (reverse self.now.jobs))) }
         ensures put { IfOk result (λ r. r.put.items

@@ -64,7 +64,8 @@ pub(crate) fn at_unexpected(p: &mut Parser<'_>) -> bool
 /// The comma after an element, or the message that it is missing; none is wanted before the closing
 /// token.
 pub(crate) fn comma(p: &mut Parser<'_>, closing: SyntaxKind)
-    ensures reads { (c : Bool) → Reads c (One 'comma' or When (next (one (raw_of closing))) Nothing or Say (Expected COMMA)) p.old p.new }
+    ensures reads { (c : Bool) → Reads c
+        (One 'comma' or When (next (one (raw_of closing))) Nothing or Say (Expected COMMA)) p.old p.new }
     ensures left { tokens p.new ≤ tokens p.old }
     ensures looks { spent p.new ≤ spent p.old + 2 }
 {

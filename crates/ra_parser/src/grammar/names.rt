@@ -68,7 +68,8 @@ pub(crate) fn opt_lifetime(p: &mut Parser<'_>)
 /// The word of a path's segment.
 fn take_word(p: &mut Parser<'_>)
     requires { 1 ≤ tokens p.old }
-    ensures reads { (c : Bool) → Reads c (One 'ident' or One 'self' or One 'super' or One 'crate' or One 'Self') p.old p.new }
+    ensures reads { (c : Bool) → Reads c
+        (One 'ident' or One 'self' or One 'super' or One 'crate' or One 'Self') p.old p.new }
     ensures left { tokens p.new + 1 ≡ tokens p.old }
     ensures looks { spent p.new + 4095 ≤ spent p.old }
 {

@@ -21,7 +21,8 @@ use parser_input::syntax_kind::SyntaxKind;
 
 /// Whether `::` is next.
 pub(crate) fn at_colons(p: &mut Parser<'_>) -> bool
-    ensures sees { (c : Bool) → Saw c (Both (Kind 0 kinds.COLON) (Both (Joint 0) (Kind 1 kinds.COLON))) p.old result }
+    ensures sees { (c : Bool) → Saw c (Both (Kind 0 kinds.COLON)
+        (Both (Joint 0) (Kind 1 kinds.COLON))) p.old result }
     ensures some { IsTrue result → 2 ≤ tokens p.old }
     ensures same { Does (λ s. s) p.old p.new }
     ensures left { tokens p.new ≡ tokens p.old }
@@ -67,7 +68,8 @@ pub(crate) fn first_word(p: &mut Parser<'_>)
 fn first_segment(p: &mut Parser<'_>)
     requires begins { (c : Bool) → Saw c (looks rules.path) p.old true }
     requires some { 1 ≤ tokens p.old }
-    ensures reads { (c : Bool) → Reads c (PATH ⟨ PATH_SEGMENT ⟨ ⁅ One '::' ⁆ ▸ Ref ! ▸ Nothing ⟩ ⟩) p.old p.new }
+    ensures reads { (c : Bool) → Reads c
+        (PATH ⟨ PATH_SEGMENT ⟨ ⁅ One '::' ⁆ ▸ Ref ! ▸ Nothing ⟩ ⟩) p.old p.new }
     ensures left { tokens p.new + 1 ≤ tokens p.old }
     ensures looks { spent p.new + 4090 ≤ spent p.old }
 {

@@ -18,7 +18,8 @@ use parser_input::syntax_kind::SyntaxKind;
 
 /// Whether the word `dyn` is next, as no keyword of the edition, before what can follow `dyn`.
 fn at_dyn_word(p: &mut Parser<'_>) -> bool
-    ensures sees { (c : Bool) → Saw c (Both (Contextual 0 DYN_KW) (one_of 1 ('?' ∷ 'lifetime' ∷ refs))) p.old result }
+    ensures sees { (c : Bool) → Saw c (Both (Contextual 0 DYN_KW)
+        (one_of 1 ('?' ∷ 'lifetime' ∷ refs))) p.old result }
     ensures some { IsTrue result → 1 ≤ tokens p.old }
     ensures same { Does (λ s. s) p.old p.new }
     ensures left { tokens p.new ≡ tokens p.old }
