@@ -2,44 +2,14 @@
 ghost use Rattle.std.specs.Prelude.{◌≡◌, [], ◌∷◌, ◌++◌, map, if◌then◌else◌, IfOk, OnOk};
 ghost use Rattle.std.specs.List.{zip};
 ghost use Rattle.rowan_green.specs.Forest.{Tree};
-ghost use Rattle.syntax_tree.specs.Element.{same_way, same_element, element_at};
+ghost use Rattle.syntax_tree.specs.Element.{same_element, element_at};
 ghost use Rattle.syntax_tree.specs.Handle.{element_of};
 ghost use Rattle.syntax_tree.specs.Search.{elements};
 ghost use Rattle.tree_rewrite.specs.Marked.{Marked};
 ghost use Rattle.annotated_elements.specs.Found.{picked, found, AreOrigins};
 
 use std::alloc::{AllocError, Global};
-use syntax_tree::{SyntaxElement, SyntaxNode, SyntaxToken};
-
-/// Whether a token stands at a way, the innermost number first.
-fn token_stands_at(token: &SyntaxToken, way: &[usize]) -> Result<bool, AllocError>
-    ensures { IfOk result (λ b. b ≡ same_way token.now.place.up way.now) }
-{
-    let Some(parent) = token.parent()? else {
-        return Ok(way.is_empty());
-    };
-    let Some((number, up)) = way.split_first() else {
-        return Ok(false);
-    };
-    if token.cursor().index() != *number {
-        return Ok(false);
-    }
-    parent.stands_at(up)
-}
-
-/// Whether an element stands at a way in the tree of this number.
-fn is_at(element: &SyntaxElement, tree: u32, way: &[usize]) -> Result<bool, AllocError>
-    ensures { (t : Tree) → IfOk result (λ b. b
-        ≡ same_element (element_of element.now) (element_at tree t way.now)) }
-{
-    if element.tree() != tree {
-        return Ok(false);
-    }
-    match element {
-        SyntaxElement::Node(node) => node.stands_at(way),
-        SyntaxElement::Token(token) => token_stands_at(token, way),
-    }
-}
+use syntax_tree::{SyntaxElement, SyntaxNode};
 
 /// Adds an element, if told so.
 pub(crate) fn push_if(
@@ -75,7 +45,7 @@ fn beside(
         let Some((first, others)) = rest.split_first() else {
             return Ok(found);
         };
-        let is_there = is_at(first, origin.tree(), &way)?;
+        let is_there = first.stands_at(origin.tree(), &way)?;
         push_if(is_there, element, &mut found)?;
         rest = others;
     }

@@ -12,6 +12,7 @@ pub mod Contents
 pub mod TreeSinks
 pub mod TreeRefusals
 pub mod Faults
+pub mod SeenTokens
 pub mod Shapes
 pub mod Shown
 pub mod Silent

@@ -1,7 +1,6 @@
 -- Two texts with equal input, whose floats hold dots alike, have trees of equal kinds.
-use Rattle.std.proofs.Common.{◌≡◌, ℕ, zero, suc, ◌+◌, ◌-◌, ◌≤◌, Bool, true, false, not, ◌&&◌, ◌||◌, ◌==◌, List, [], ◌∷◌, length, take, drop, Some, refl, sym, ap, subst, ◌∙◌, arith, inl, inr, if◌then◌else◌, true≢false}
-use Rattle.std.specs.List.{prefix_len}
-use Rattle.std.proofs.lemmas.Bool.{cases_Bool, eqb-true, or_cases}
+use Rattle.std.proofs.Common.{◌≡◌, ℕ, zero, suc, ◌-◌, ◌≤◌, Bool, true, false, not, ◌&&◌, ◌||◌, ◌==◌, List, [], ◌∷◌, length, take, drop, Some, refl, sym, ap, subst, ◌∙◌, arith, inl, inr, if◌then◌else◌, true≢false}
+use Rattle.std.proofs.lemmas.Bool.{cases_Bool}
 use Rattle.rowan_green.specs.Forest.{Forest, empty, node, leaf, Tree}
 use Rattle.rowan_green.specs.Leaf as green
 use Rattle.parser_input.specs.Kinds.{ERROR, FIELD_EXPR, FLOAT_NUMBER, DOT, WHITESPACE, COMMENT}
@@ -14,7 +13,7 @@ use Rattle.parser_events.specs.Fits.{IsRooted}
 use Rattle.parser_events.specs.Dressed as dressed
 use Rattle.parser_events.specs.Dressed.{Dressed, ◌followed_by◌}
 use Rattle.parser_events.specs.Trivia.{pending, attached}
-use Rattle.parser_events.specs.Dress.{Dressing, as_dressed, reach, put, put_each, put_pending, put_leaf, open_node, close_node, say, next_text, before_dot, from_dot, is_empty, number, access, access_dot, dress, root, dress_root}
+use Rattle.parser_events.specs.Dress.{Dressing, as_dressed, put, put_each, put_pending, put_leaf, open_node, close_node, say, next_text, before_dot, from_dot, is_empty, number, access, access_dot, dress, root, dress_root}
 use Rattle.parser_events.proofs.Coverings.{attached-most}
 use Rattle.parser_events.proofs.Dressings.{settled}
 use Rattle.rust_grammar.specs.Rule.{Production}
@@ -28,128 +27,7 @@ use Rattle.rust_grammar.proofs.EntriesInOrder.{entries-in-order}
 use Rattle.rust_grammar.proofs.EntriesFit.{entry-rooted}
 use Rattle.rust_document.specs.Reading.{terms_of, root_of, dressed_by, tree_by, leaves_in}
 use Rattle.rust_document.specs.Shape.{kinds_in, kinds_of, has_dot, dots}
-
--- Leaves that are no trivia, each with its token and, of a float, whether it holds a dot.
-pub record Seen : Type 0 where
-  pub token : Token
-  pub dot : Bool
-
-unfoldable pub dot_of : Leaf → Bool
-dot_of l = if l.kind == FLOAT_NUMBER then has_dot l.text else false
-
-unfoldable pub seen : Edition → List Leaf → List Seen
-seen e [] = []
-seen e (l ∷ ls) = let rest = seen e ls in if is_trivia l then rest else record { token = token_of e l ls; dot = dot_of l } ∷ rest
-
-unfoldable pub tokens : List Seen → List Token
-tokens [] = []
-tokens (s ∷ ss) = s.token ∷ tokens ss
-
--- the same from the input and the dots
-unfoldable together : List Token → List Bool → List Seen
-together [] bs = []
-together (t ∷ ts) [] = record { token = t; dot = false } ∷ together ts []
-together (t ∷ ts) (b ∷ bs) =
-    let float = record { token = t; dot = b } ∷ together ts bs in
-    let other = record { token = t; dot = false } ∷ together ts (b ∷ bs) in
-    if t.kind == FLOAT_NUMBER then float else other
-
-no-float : (l : Leaf) → is_trivia l ≡ true → (l.kind == FLOAT_NUMBER) ≡ false
-unfolding is_trivia
-no-float l e = elim (or_cases (l.kind == WHITESPACE) (l.kind == COMMENT) e) [
-  | inl i ↦ ap (λ (k : ℕ). k == FLOAT_NUMBER) (eqb-true l.kind WHITESPACE i)
-  | inr i ↦ ap (λ (k : ℕ). k == FLOAT_NUMBER) (eqb-true l.kind COMMENT i)
-]
-
-token-kind : (e : Edition) (l : Leaf) (ls : List Leaf) → (token_of e l ls).kind ≡ l.kind
-unfolding token_of
-token-kind e l ls = refl
-
-without : (t : Token) (ts : List Token) (bs : List Bool) → (t.kind == FLOAT_NUMBER) ≡ false → together (t ∷ ts) bs ≡ record { token = t; dot = false } ∷ together ts bs
-unfolding together
-without t ts [] e = refl
-without t ts (b ∷ bs) e = rw e refl
-
-with-dot : (t : Token) (ts : List Token) (b : Bool) (bs : List Bool) → (t.kind == FLOAT_NUMBER) ≡ true → together (t ∷ ts) (b ∷ bs) ≡ record { token = t; dot = b } ∷ together ts bs
-unfolding together
-with-dot t ts b bs e = rw e refl
-
-seen-together : (e : Edition) (ls : List Leaf) → seen e ls ≡ together (input e ls) (dots ls)
-unfolding seen input dots dot_of together
-seen-together e [] = refl
-seen-together e (l ∷ ls) = elim (cases_Bool (is_trivia l)) [
-  | inl i ↦ rw (i, no-float l i) (seen-together e ls)
-  | inr i ↦ elim (cases_Bool (l.kind == FLOAT_NUMBER)) [
-    | inl j ↦ rw (i, j) (ap (λ (ss : List Seen). record { token = token_of e l ls; dot = has_dot l.text } ∷ ss) (seen-together e ls) ∙ sym (with-dot (token_of e l ls) (input e ls) (has_dot l.text) (dots ls) (ap (λ (k : ℕ). k == FLOAT_NUMBER) (token-kind e l ls) ∙ j)))
-    | inr j ↦ rw (i, j) (ap (λ (ss : List Seen). record { token = token_of e l ls; dot = false } ∷ ss) (seen-together e ls) ∙ sym (without (token_of e l ls) (input e ls) (dots ls) (ap (λ (k : ℕ). k == FLOAT_NUMBER) (token-kind e l ls) ∙ j)))
-  ]
-]
-
-pub tokens-seen : (e : Edition) (ls : List Leaf) → tokens (seen e ls) ≡ input e ls
-unfolding seen input tokens
-tokens-seen e [] = refl
-tokens-seen e (l ∷ ls) = elim (cases_Bool (is_trivia l)) [
-  | inl i ↦ rw i (tokens-seen e ls)
-  | inr i ↦ rw i (ap (λ (ts : List Token). token_of e l ls ∷ ts) (tokens-seen e ls))
-]
-
-tokens-drop : (n : ℕ) (ss : List Seen) → tokens (drop n ss) ≡ drop n (tokens ss)
-unfolding tokens
-tokens-drop zero ss = refl
-tokens-drop (suc n) [] = refl
-tokens-drop (suc n) (s ∷ ss) = tokens-drop n ss
-
-drop-one : (n : ℕ) (l : Leaf) (ls : List Leaf) → drop (1 + n) (l ∷ ls) ≡ drop n ls
-drop-one n l ls = ap (λ (m : ℕ). drop m (l ∷ ls)) (let same : 1 + n ≡ suc n = omega arith in same)
-
-pending-more : (l : Leaf) (ls : List Leaf) → is_trivia l ≡ true → pending (l ∷ ls) ≡ l ∷ pending ls
-unfolding pending
-pending-more l ls i = rw i (ap (λ (m : ℕ). take m (l ∷ ls)) (let same : 1 + prefix_len is_trivia ls ≡ suc (prefix_len is_trivia ls) = omega arith in same))
-
-pending-no-more : (l : Leaf) (ls : List Leaf) → is_trivia l ≡ false → pending (l ∷ ls) ≡ []
-unfolding pending
-pending-no-more l ls i = rw i refl
-
--- What is left after the next tokens, and after white space and comments.
-seen-reach : (e : Edition) (n : ℕ) (ls : List Leaf) → seen e (drop (reach n ls) ls) ≡ drop n (seen e ls)
-unfolding seen reach
-seen-reach e zero ls = refl
-seen-reach e (suc n) [] = refl
-seen-reach e (suc n) (l ∷ ls) = elim (cases_Bool (is_trivia l)) [
-  | inl i ↦ rw i (ap (seen e) (drop-one (reach (suc n) ls) l ls) ∙ seen-reach e (suc n) ls)
-  | inr i ↦ rw i (ap (seen e) (drop-one (reach n ls) l ls) ∙ seen-reach e n ls)
-]
-
--- so many of the pending leaves, where the first is one
-one-less : (l : Leaf) (ls : List Leaf) (c : ℕ) → is_trivia l ≡ true → suc c ≤ length (pending (l ∷ ls)) → c ≤ length (pending ls)
-one-less l ls c i le = omega (arith, le, ap (λ (ms : List Leaf). length ms) (pending-more l ls i))
-
-none-pending : (l : Leaf) (ls : List Leaf) (c : ℕ) → is_trivia l ≡ false → suc c ≤ length (pending (l ∷ ls)) → ⊥
-none-pending l ls c i le = omega (arith, le, ap (λ (ms : List Leaf). length ms) (pending-no-more l ls i))
-
-pub seen-over : (e : Edition) (c : ℕ) (ls : List Leaf) → c ≤ length (pending ls) → seen e (drop c ls) ≡ seen e ls
-unfolding seen
-seen-over e zero ls le = refl
-seen-over e (suc c) [] le = refl
-seen-over e (suc c) (l ∷ ls) le = elim (cases_Bool (is_trivia l)) [
-  | inl i ↦ rw i (seen-over e c ls (one-less l ls c i le))
-  | inr i ↦ absurd (none-pending l ls c i le)
-]
-
-no-pending : (c : ℕ) → suc c ≤ length (pending []) → ⊥
-unfolding pending
-no-pending c le = omega (arith, le)
-
-one-more : (l : Leaf) (ls : List Leaf) → is_trivia l ≡ true → length (pending (l ∷ ls)) ≡ length (pending ls) + 1
-one-more l ls i = omega (arith, ap (λ (ms : List Leaf). length ms) (pending-more l ls i))
-
-pending-over : (c : ℕ) (ls : List Leaf) → c ≤ length (pending ls) → length (pending (drop c ls)) + c ≡ length (pending ls)
-pending-over zero ls le = omega arith
-pending-over (suc c) [] le = absurd (no-pending c le)
-pending-over (suc c) (l ∷ ls) le = elim (cases_Bool (is_trivia l)) [
-  | inl i ↦ let more = pending-over c ls (one-less l ls c i le) in let all = one-more l ls i in omega (arith, more, all)
-  | inr i ↦ absurd (none-pending l ls c i le)
-]
+use Rattle.rust_document.proofs.SeenTokens.{Seen, dot_of, seen, tokens, together, token-kind, seen-together, tokens-seen, tokens-drop, pending-more, seen-reach, one-less, none-pending, seen-over, one-more, pending-over}
 
 -- Kinds of what was dressed.
 unfoldable pub shown : Dressed → Forest

@@ -1,9 +1,11 @@
 -- What contracts see of an editor.
-use Rattle.std.specs.Prelude.{◌≡◌, ℕ, ◌+◌, List, [], ◌∷◌, ◌++◌, Some}
+use Rattle.std.specs.Prelude.{◌≡◌, ℕ, ◌+◌, ◌^◌, List, [], ◌∷◌, ◌++◌, Some}
 use Rattle.rowan_green.specs.Forest.{Tree}
 use Rattle.rowan_green.specs.declared.utility_types.NodeOrToken.TheVariants.{Node}
 use Rattle.syntax_tree.specs.Element.{Way, Element, element_at, term_of}
 use Rattle.syntax_tree.specs.Mapping.{Mapping}
+use Rattle.syntax_tree.specs.declared.error.TreeError.{TreeError}
+use Rattle.syntax_tree.specs.declared.error.TreeError.TheVariants.{Spent, NoMemory}
 use Rattle.tree_rewrite.specs.Change.{Change}
 
 -- an element with the number of an annotation
@@ -41,6 +43,12 @@ IsEdited e n top = is_edited e.place.up
 abbrev pub next_number : Way → ℕ → ℕ
 next_number [] n = n
 next_number (i ∷ w) n = n + 1
+
+-- no editor of this node was made: for want of a number only where it is an inner node and none is left; out of memory at any point
+abbrev pub RefusesEditor : Way → ℕ → TreeError → Type 0
+RefusesEditor [] n Spent = ⊥
+RefusesEditor (i ∷ w) n Spent = n ≡ 2 ^ 32
+RefusesEditor w n NoMemory = Unit {0}
 
 -- all that one has, and after it all that the other has
 abbrev pub merged : Editing → Editing → Editing

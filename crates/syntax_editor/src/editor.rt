@@ -3,10 +3,9 @@ ghost use Rattle.std.specs.Prelude.{◌≡◌, ◌≤◌, ◌<◌, ◌+◌, leng
 ghost use Rattle.std.specs.Borrow.{sem};
 ghost use Rattle.syntax_tree.specs.Element.{Way, Element};
 ghost use Rattle.syntax_tree.specs.Handle.{element_of};
-ghost use Rattle.syntax_tree.specs.Refusal.{RefusesTree};
 ghost use Rattle.tree_rewrite.specs.Change.{IsOneNode};
 ghost use Rattle.tree_rewrite.specs.Recorded.{recorded};
-ghost use Rattle.syntax_editor.specs.Editing.{with_annotation, untouched, with_changes, IsEdited, next_number};
+ghost use Rattle.syntax_editor.specs.Editing.{with_annotation, untouched, with_changes, IsEdited, next_number, RefusesEditor};
 ghost use Rattle.syntax_editor.specs.Recording.{is_single_at, over, with_single, is_deleted};
 ghost use Rattle.syntax_editor.specs.Inside.{IsOf, IsSound, annotated};
 ghost use Rattle.syntax_editor.specs.Lending.{LendsMapping};
@@ -84,7 +83,7 @@ impl SyntaxEditor {
 
     /// An editor of the tree of a node, with nothing recorded, and the root of that. A root is
     /// edited in its own tree; an inner node is cloned into a tree of its own, which gets the next
-    /// number of `ids`. A refusal may have taken that number.
+    /// number of `ids`. A refusal may have taken that number; for a root it takes none.
     pub fn new(
         alloc: Global,
         node: SyntaxNode,
@@ -93,8 +92,9 @@ impl SyntaxEditor {
         ensures editor { IfOk result (λ r. r.0 ≡ untouched r.1) }
         ensures root { IfOk result (λ r. IsEdited node ids.old r.1) }
         ensures number { OnOk result (ids.new ≡ next_number node.place.up ids.old) }
-        ensures refused { IfErr result (RefusesTree ids.old) }
-        ensures moved { IfErr result (λ _. (ids.old ≤ ids.new) × (ids.new ≤ ids.old + 1)) }
+        ensures refused { IfErr result (RefusesEditor node.place.up ids.old) }
+        ensures forward { IfErr result (λ _. ids.old ≤ ids.new) }
+        ensures within { IfErr result (λ _. ids.new ≤ next_number node.place.up ids.old) }
     {
         let root = match node.parent()? {
             None => node,

@@ -1,7 +1,6 @@
 //! Editors of typed nodes.
 ghost use Rattle.std.specs.Prelude.{◌≡◌, ◌≤◌, ◌+◌, IfOk, IfErr, OnOk};
-ghost use Rattle.syntax_tree.specs.Refusal.{RefusesTree};
-ghost use Rattle.syntax_editor.specs.Editing.{untouched, IsEdited, next_number};
+ghost use Rattle.syntax_editor.specs.Editing.{untouched, IsEdited, next_number, RefusesEditor};
 
 use crate::editor::SyntaxEditor;
 use std::alloc::Global;
@@ -10,7 +9,8 @@ use syntax_tree::{AstNode, TreeError, TreeIds};
 impl SyntaxEditor {
     /// An editor of the tree of a typed node, with nothing recorded, and the root of that, of the
     /// same type. A root is edited in its own tree; an inner node is cloned into a tree of its own,
-    /// which gets the next number of `ids`. A refusal may have taken that number.
+    /// which gets the next number of `ids`. A refusal may have taken that number; for a root it takes
+    /// none.
     pub fn with_ast_node<T: AstNode>(
         alloc: Global,
         node: &T,
@@ -19,8 +19,9 @@ impl SyntaxEditor {
         ensures editor { IfOk result (λ r. r.0 ≡ untouched (T.stands r.1)) }
         ensures root { IfOk result (λ r. IsEdited (T.stands node.now) ids.old (T.stands r.1)) }
         ensures number { OnOk result (ids.new ≡ next_number (T.stands node.now).place.up ids.old) }
-        ensures refused { IfErr result (RefusesTree ids.old) }
-        ensures moved { IfErr result (λ _. (ids.old ≤ ids.new) × (ids.new ≤ ids.old + 1)) }
+        ensures refused { IfErr result (RefusesEditor (T.stands node.now).place.up ids.old) }
+        ensures forward { IfErr result (λ _. ids.old ≤ ids.new) }
+        ensures within { IfErr result (λ _. ids.new ≤ next_number (T.stands node.now).place.up ids.old) }
     {
         let node = node.syntax().clone()?;
         let (editor, root) = SyntaxEditor::new(alloc, node, ids)?;

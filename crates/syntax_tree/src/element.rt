@@ -3,7 +3,8 @@ ghost use Rattle.std.specs.Prelude.{◌≡◌, ◌+◌, ◌<◌, ◌^◌, length
 ghost use Rattle.std.specs.Option.{option_copied};
 ghost use Rattle.rowan.specs.Place.{kind_at, start_of, end_of, index_of, terms_below};
 ghost use Rattle.syntax_tree.specs.Language.{kind_of_raw};
-ghost use Rattle.syntax_tree.specs.Element.{term_of, is_node};
+ghost use Rattle.rowan_green.specs.Forest.{Tree};
+ghost use Rattle.syntax_tree.specs.Element.{term_of, element_at, is_node, same_element};
 ghost use Rattle.syntax_tree.specs.declared.element.SyntaxElement.{SyntaxElement};
 ghost use Rattle.syntax_tree.specs.Handle.{element_of, node_of, token_of, parent_of};
 
@@ -151,6 +152,20 @@ impl SyntaxElement {
         let index = self.index_below(parent);
         prove!(index < siblings);
         index + 1
+    }
+
+    /// Whether it stands at a way, the innermost number first, in the tree of this number.
+    pub fn stands_at(&self, tree: u32, way: &[usize]) -> Result<bool, AllocError>
+        ensures { (t : Tree) → IfOk result (λ b. b
+            ≡ same_element (element_of self.now) (element_at tree t way.now)) }
+    {
+        if self.tree() != tree {
+            return Ok(false);
+        }
+        match self {
+            SyntaxElement::Node(node) => node.stands_at(way),
+            SyntaxElement::Token(token) => token.stands_at(way),
+        }
     }
 
     /// The parent, none of a root.

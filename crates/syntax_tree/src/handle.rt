@@ -274,6 +274,22 @@ impl SyntaxToken {
         self.cursor.text_range()
     }
 
+    /// Whether it stands at a way, the innermost number first.
+    pub fn stands_at(&self, way: &[usize]) -> Result<bool, AllocError>
+        ensures { IfOk result (λ b. b ≡ same_way self.now.place.up way.now) }
+    {
+        let Some(parent) = self.parent()? else {
+            return Ok(way.is_empty());
+        };
+        let Some((number, up)) = way.split_first() else {
+            return Ok(false);
+        };
+        if self.cursor.index() != *number {
+            return Ok(false);
+        }
+        parent.stands_at(up)
+    }
+
     /// The parent. A token always has one.
     pub fn parent(&self) -> Result<Option<SyntaxNode>, AllocError>
         ensures { IfOk result (λ r. r ≡ parent_of self.now) }

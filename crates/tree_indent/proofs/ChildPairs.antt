@@ -1,5 +1,5 @@
 -- Child nodes of a node, and of the shifted one.
-use Rattle.std.proofs.Common.{◌≡◌, ℕ, suc, ◌+◌, ◌<◌, List, [], ◌∷◌, length, map, Some, Bool, true, ltb, refl, ap, sym, ◌∙◌, subst, arith}
+use Rattle.std.proofs.Common.{◌≡◌, ℕ, suc, ◌+◌, ◌<◌, ◌^◌, List, [], ◌∷◌, length, map, Some, Bool, true, ltb, refl, ap, sym, ◌∙◌, subst, arith}
 use Rattle.std.proofs.lemmas.Bool.{eq-eqb, lt-ltb, ltb-true, and_parts, and_from, both_ways}
 use Rattle.std.proofs.lemmas.List.{length-map}
 use Rattle.std.specs.List.{zip, list_all}
@@ -16,7 +16,7 @@ use Rattle.syntax_tree.specs.declared.error.MappingError.TheVariants.{NotChild, 
 use Rattle.tree_rewrite.proofs.OrderLemmas.{same_way-own}
 use Rattle.syntax_editor.specs.declared.make_error.MakeError.{MakeError}
 use Rattle.syntax_editor.specs.declared.make_error.MakeError.TheVariants as makes
-use Rattle.tree_indent.specs.Indented.{RefusesShifted}
+use Rattle.tree_indent.specs.Indented.{FitsShifted, RefusesShifted}
 use Rattle.tree_indent.specs.Mapped.{child_nodes, pairs_below, IsAfter, RefusesMapped, of_mapping, of_make}
 use Rattle.tree_indent.specs.Shifted.{shifted_tree}
 use Rattle.tree_indent.specs.declared.shift.Shift.{Shift}
@@ -82,16 +82,21 @@ is_after s t e root n is stands h some =
 
 -- only the order may be wrong
 pub refused_order : (s : Shift) (t : Tree) (e root : Element) (n : ℕ) → term_of e ≡ Some (Node t) → root ≡ element_at n (shifted_tree s t) []
+    → FitsShifted s e → n < 2 ^ 32
     → (error : MappingError) → RefusesNodes root (child_nodes e) (child_nodes root) error → RefusesMapped s e n (of_mapping error)
-refused_order s t e root n is stands NotChild h = absurd (both_ways _ h (outputs_below e root))
-refused_order s t e root n is stands MoreInputs h =
+refused_order s t e root n is stands fits few NotChild h = absurd (both_ways _ h (outputs_below e root))
+refused_order s t e root n is stands fits few MoreInputs h =
     let many : length (child_nodes e) ≡ length (child_nodes root) = same_count s t e n is ∙ ap (λ r. length (child_nodes r)) (sym stands) in
     absurd (omega (arith, h.1, many))
-refused_order s t e root n is stands Order h = λ after.
-    let new : Element = element_at n (shifted_tree s t) [] in
-    let ordered : are_ordered (pairs_below e new) ≡ true = ordered_after e new (nodes (children e.place)) (nodes (children new.place)) (λ k. after (subst (λ j. 0 < j) (sym (count_places e)) k)) in
-    both_ways _ h.2 (subst (λ r. are_ordered (pairs_below e r) ≡ true) (sym stands) ordered)
-refused_order s t e root n is stands NoMemory h = tt
+refused_order s t e root n is stands fits few Order h = (
+  fits,
+  few,
+  λ after.
+      let new : Element = element_at n (shifted_tree s t) [] in
+      let ordered : are_ordered (pairs_below e new) ≡ true = ordered_after e new (nodes (children e.place)) (nodes (children new.place)) (λ k. after (subst (λ j. 0 < j) (sym (count_places e)) k)) in
+      both_ways _ h.2 (subst (λ r. are_ordered (pairs_below e r) ≡ true) (sym stands) ordered),
+)
+refused_order s t e root n is stands fits few NoMemory h = tt
 
 -- a refusal of the node alone
 pub refused_alone : (s : Shift) (e : Element) (n : ℕ) (error : MakeError) → RefusesShifted s e n error → RefusesMapped s e n (of_make error)

@@ -20,12 +20,15 @@ abbrev pub IsShifted : Shift → Element → ℕ → Element → Type 0
 IsShifted s e n root = (t : Tree) × (term_of e ≡ Some (Node t)) × (root ≡ element_at n (shifted_tree s t) [])
 
 -- the shifted node may stand as a tree
-abbrev pub FitsShifted : Shift → Option Term → Type 0
-FitsShifted s (Some (Node t)) = FitsTree (shifted_tree s t)
-FitsShifted s _ = ⊥
+abbrev pub FitsTerm : Shift → Option Term → Type 0
+FitsTerm s (Some (Node t)) = FitsTree (shifted_tree s t)
+FitsTerm s _ = ⊥
 
--- too long only where that may not stand; for want of a number only where none is left; out of memory at any point
+abbrev pub FitsShifted : Shift → Element → Type 0
+FitsShifted s e = FitsTerm s (term_of e)
+
+-- too long only where that may not stand; then for want of a number only where none is left; out of memory at any point
 abbrev pub RefusesShifted : Shift → Element → ℕ → MakeError → Type 0
 RefusesShifted s e number NoMemory = Unit {0}
-RefusesShifted s e number NoTreeNumber = number ≡ 2 ^ 32
-RefusesShifted s e number TooLong = FitsShifted s (term_of e) → ⊥
+RefusesShifted s e number NoTreeNumber = FitsShifted s e × (number ≡ 2 ^ 32)
+RefusesShifted s e number TooLong = FitsShifted s e → ⊥

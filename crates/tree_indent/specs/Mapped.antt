@@ -2,7 +2,7 @@
 use Rattle.std.specs.Prelude.{◌≡◌, ℕ, ◌<◌, ◌^◌, List, length, map, codes}
 use Rattle.std.specs.List.{zip}
 use Rattle.rowan.specs.Around.{children, nodes}
-use Rattle.syntax_tree.specs.Element.{Element, term_of}
+use Rattle.syntax_tree.specs.Element.{Element}
 use Rattle.syntax_tree.specs.Handle.{with_place}
 use Rattle.syntax_tree.specs.Mapping.{Mapping}
 use Rattle.syntax_tree.specs.declared.error.MappingError.{MappingError}
@@ -26,12 +26,12 @@ pairs_below e root = zip (child_nodes e) (child_nodes root)
 abbrev pub IsAfter : ℕ → Element → Type 0
 IsAfter number e = 0 < length (child_nodes e) → e.number < number
 
--- as for the node alone; and out of order only where that does not hold
+-- as for the node alone; then out of order only where the tree does not come after
 abbrev pub RefusesMapped : Shift → Element → ℕ → IndentError → Type 0
-RefusesMapped s e number Order = IsAfter number e → ⊥
+RefusesMapped s e number Order = FitsShifted s e × (number < 2 ^ 32) × (IsAfter number e → ⊥)
 RefusesMapped s e number NoMemory = Unit {0}
-RefusesMapped s e number NoTreeNumber = number ≡ 2 ^ 32
-RefusesMapped s e number TooLong = FitsShifted s (term_of e) → ⊥
+RefusesMapped s e number NoTreeNumber = FitsShifted s e × (number ≡ 2 ^ 32)
+RefusesMapped s e number TooLong = FitsShifted s e → ⊥
 
 -- a refusal of the node alone, as a later call tells it
 abbrev pub of_make : MakeError → IndentError

@@ -1,6 +1,6 @@
 //! Typed nodes by more steps, or by fewer.
 ghost use Rattle.std.specs.Prelude.{◌≡◌, ◌+◌, ◌++◌, IfOk, IfErr, OnOk};
-ghost use Rattle.tree_indent.specs.Indented.{IsShifted, RefusesShifted, own_level};
+ghost use Rattle.tree_indent.specs.Indented.{IsShifted, FitsShifted, RefusesShifted, own_level};
 ghost use Rattle.tree_indent.specs.Mapped.{pairs_below, IsAfter, RefusesMapped};
 ghost use Rattle.tree_indent.specs.declared.shift.Shift.TheVariants.{In, Out};
 
@@ -28,6 +28,7 @@ pub trait AstNodeEdit: AstNode {
         ids: &mut TreeIds,
     ) -> Result<Self, MakeError>
         ensures ok { IfOk result (λ x. IsShifted (In level) (Self.stands self.now) ids.old (Self.stands x)) }
+        ensures fits { OnOk result (FitsShifted (In level) (Self.stands self.now)) }
         ensures number { OnOk result (ids.new ≡ ids.old + 1) }
         ensures refused { IfErr result (RefusesShifted (In level) (Self.stands self.now) ids.old) }
         ensures kept { IfErr result (λ _. ids.new ≡ ids.old) }
@@ -48,6 +49,7 @@ pub trait AstNodeEdit: AstNode {
         ensures mapped { IfOk result (λ x. mapping.new
             ≡ mapping.old ++ pairs_below (Self.stands self.now) (Self.stands x)) }
         ensures after { OnOk result (IsAfter ids.old (Self.stands self.now)) }
+        ensures fits { OnOk result (FitsShifted (In level) (Self.stands self.now)) }
         ensures number { OnOk result (ids.new ≡ ids.old + 1) }
         ensures refused { IfErr result (RefusesMapped (In level) (Self.stands self.now) ids.old) }
         ensures kept { IfErr result (λ _. ids.new ≡ ids.old) }
@@ -65,6 +67,7 @@ pub trait AstNodeEdit: AstNode {
         ids: &mut TreeIds,
     ) -> Result<Self, MakeError>
         ensures ok { IfOk result (λ x. IsShifted (Out level) (Self.stands self.now) ids.old (Self.stands x)) }
+        ensures fits { OnOk result (FitsShifted (Out level) (Self.stands self.now)) }
         ensures number { OnOk result (ids.new ≡ ids.old + 1) }
         ensures refused { IfErr result (RefusesShifted (Out level) (Self.stands self.now) ids.old) }
         ensures kept { IfErr result (λ _. ids.new ≡ ids.old) }
@@ -77,6 +80,7 @@ pub trait AstNodeEdit: AstNode {
     fn reset_indent(&self, alloc: Global, ids: &mut TreeIds) -> Result<Self, MakeError>
         ensures ok { IfOk result (λ x. IsShifted (Out (own_level (Self.stands self.now)))
             (Self.stands self.now) ids.old (Self.stands x)) }
+        ensures fits { OnOk result (FitsShifted (Out (own_level (Self.stands self.now))) (Self.stands self.now)) }
         ensures number { OnOk result (ids.new ≡ ids.old + 1) }
         ensures refused { IfErr result (RefusesShifted (Out (own_level (Self.stands self.now)))
             (Self.stands self.now) ids.old) }

@@ -3,7 +3,7 @@ ghost use Rattle.std.specs.Prelude.{◌≡◌, ◌+◌, [], IfOk, IfErr, OnOk, S
 ghost use Rattle.rowan_green.specs.Forest.{Tree};
 ghost use Rattle.rowan_green.specs.declared.utility_types.NodeOrToken.TheVariants.{Node};
 ghost use Rattle.syntax_tree.specs.Element.{term_of, element_at};
-ghost use Rattle.tree_indent.specs.Indented.{IsShifted, RefusesShifted, own_level};
+ghost use Rattle.tree_indent.specs.Indented.{IsShifted, FitsShifted, RefusesShifted, own_level};
 ghost use Rattle.tree_indent.specs.declared.shift.Shift.TheVariants.{In, Out};
 
 use crate::shift::Shift;
@@ -23,6 +23,7 @@ pub fn indent(
     ids: &mut TreeIds,
 ) -> Result<SyntaxNode, MakeError>
     ensures ok { IfOk result (IsShifted (In level) node.now ids.old) }
+    ensures fits { OnOk result (FitsShifted (In level) node.now) }
     ensures number { OnOk result (ids.new ≡ ids.old + 1) }
     ensures refused { IfErr result (RefusesShifted (In level) node.now ids.old) }
     ensures kept { IfErr result (λ _. ids.new ≡ ids.old) }
@@ -39,6 +40,7 @@ pub fn dedent(
     ids: &mut TreeIds,
 ) -> Result<SyntaxNode, MakeError>
     ensures ok { IfOk result (IsShifted (Out level) node.now ids.old) }
+    ensures fits { OnOk result (FitsShifted (Out level) node.now) }
     ensures number { OnOk result (ids.new ≡ ids.old + 1) }
     ensures refused { IfErr result (RefusesShifted (Out level) node.now ids.old) }
     ensures kept { IfErr result (λ _. ids.new ≡ ids.old) }
@@ -53,6 +55,7 @@ pub fn reset_indent(
     ids: &mut TreeIds,
 ) -> Result<SyntaxNode, MakeError>
     ensures ok { IfOk result (IsShifted (Out (own_level node.now)) node.now ids.old) }
+    ensures fits { OnOk result (FitsShifted (Out (own_level node.now)) node.now) }
     ensures number { OnOk result (ids.new ≡ ids.old + 1) }
     ensures refused { IfErr result (RefusesShifted (Out (own_level node.now)) node.now ids.old) }
     ensures kept { IfErr result (λ _. ids.new ≡ ids.old) }
@@ -72,6 +75,7 @@ fn shifted(
     ids: &mut TreeIds,
 ) -> Result<SyntaxNode, MakeError>
     ensures ok { IfOk result (IsShifted shift node.now ids.old) }
+    ensures fits { OnOk result (FitsShifted shift node.now) }
     ensures number { OnOk result (ids.new ≡ ids.old + 1) }
     ensures refused { IfErr result (RefusesShifted shift node.now ids.old) }
     ensures kept { IfErr result (λ _. ids.new ≡ ids.old) }

@@ -1,7 +1,7 @@
 //! Nodes by more steps whose old child nodes are mapped to the new ones.
 ghost use Rattle.std.specs.Prelude.{◌≡◌, ◌+◌, ◌++◌, IfOk, IfErr, OnOk, OnErr};
 ghost use Rattle.syntax_tree.specs.Mapping.{AcceptsNodes, RefusesNodes};
-ghost use Rattle.tree_indent.specs.Indented.{IsShifted};
+ghost use Rattle.tree_indent.specs.Indented.{IsShifted, FitsShifted};
 ghost use Rattle.tree_indent.specs.Mapped.{child_nodes, pairs_below, IsAfter, RefusesMapped, of_mapping};
 ghost use Rattle.tree_indent.specs.declared.shift.Shift.TheVariants.{In};
 
@@ -55,6 +55,7 @@ pub fn indent_with_mapping(
     ids: &mut TreeIds,
 ) -> Result<SyntaxNode, IndentError>
     ensures ok { IfOk result (IsShifted (In level) node.now ids.old) }
+    ensures fits { OnOk result (FitsShifted (In level) node.now) }
     ensures mapped { IfOk result (λ root. mapping.new ≡ mapping.old ++ pairs_below node.now root) }
     ensures after { OnOk result (IsAfter ids.old node.now) }
     ensures number { OnOk result (ids.new ≡ ids.old + 1) }

@@ -1,5 +1,5 @@
 //! White space by more steps, or by fewer.
-ghost use Rattle.std.specs.Prelude.{◌≡◌, ◌==◌, IfOk, IfErr, string_bytes};
+ghost use Rattle.std.specs.Prelude.{◌≡◌, ◌==◌, IfOk, IfErr, OnOk, string_bytes};
 ghost use Rattle.std.specs.List.{list_any};
 ghost use Rattle.rowan_green.specs.Refusal.{RefusesUnless};
 ghost use Rattle.rowan_green.specs.Term.{FitsToken};
@@ -64,6 +64,7 @@ pub(crate) fn shifted_token(
     shift: Shift,
 ) -> Result<GreenToken, GreenError>
     ensures ok { IfOk result (λ t. t ≡ shifted_leaf shift token.now) }
+    ensures fits { OnOk result (FitsToken token.now.text → FitsToken (shifted_leaf shift token.now).text) }
     ensures refused { IfErr result (RefusesUnless (FitsToken (shifted_leaf shift token.now).text)) }
 {
     if token.kind().0 != SyntaxKind::WHITESPACE.to_raw() {

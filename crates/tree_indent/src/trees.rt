@@ -1,5 +1,5 @@
 //! Trees whose lines are set in by more steps, or by fewer.
-ghost use Rattle.std.specs.Prelude.{◌≡◌, IfOk, IfErr};
+ghost use Rattle.std.specs.Prelude.{◌≡◌, IfOk, IfErr, OnOk};
 ghost use Rattle.rowan_green.specs.Refusal.{RefusesUnless};
 ghost use Rattle.rowan_green.specs.Term.{tree_of, FitsNode};
 ghost use Rattle.tree_indent.specs.Shifted.{shifted_tree, FitsTree};
@@ -15,6 +15,7 @@ pub(crate) fn shifted_tree(
     shift: Shift,
 ) -> Result<GreenNode, GreenError>
     ensures ok { IfOk result (λ n. n ≡ shifted_tree shift node.now) }
+    ensures fits { OnOk result (FitsTree (shifted_tree shift node.now)) }
     ensures refused { IfErr result (RefusesUnless (FitsTree (shifted_tree shift node.now))) }
 {
     let mut children = Vec::new(alloc);
@@ -35,6 +36,7 @@ fn node_of(
     children: Vec<GreenElement>,
 ) -> Result<GreenNode, GreenError>
     ensures ok { IfOk result (λ n. n ≡ tree_of kind.0 children.items) }
+    ensures fits { OnOk result (FitsNode children.items) }
     ensures refused { IfErr result (RefusesUnless (FitsNode children.items)) }
 {
     GreenNode::new(alloc, kind, children.into_iter())

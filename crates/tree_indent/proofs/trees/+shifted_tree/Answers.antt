@@ -1,9 +1,9 @@
-use Rattle.std.proofs.Common.{◌≡◌, ◌++◌, map, sym, ap, ◌∙◌, subst}
+use Rattle.std.proofs.Common.{◌≡◌, ◌++◌, ◌<◌, ◌^◌, map, length, sym, ap, ◌∙◌, subst}
 use Rattle.std.proofs.lemmas.Result.{IfOk-weaker, IfErr-weaker}
 use Rattle.std.proofs.lemmas.List.{append-nil}
-use Rattle.rowan_green.specs.Term.{children_of, FitsNode}
+use Rattle.rowan_green.specs.Term.{children_of, texts_of, FitsNode}
 use Rattle.tree_indent.specs.Shifted.{shifted_tree, FitsTree}
-use Rattle.tree_indent.proofs.Shifting.{shifted_term, shifted-terms, whole-tree, all-below, fits-children, refuses-whole}
+use Rattle.tree_indent.proofs.Shifting.{shifted_term, shifted-terms, whole-tree, all-below, fits-children, refuses-whole, whole-fits}
 use Rattle.tree_indent.proofs.trees.+shifted_tree.Goals as goal
 
 pub loop-child-init : goal.loop-child-init
@@ -17,6 +17,8 @@ loop-child-init t c =
       finite = tt;
       same = ap (λ l. l ++ map (shifted_term s) es) c.new-children.ensures.items ∙ ap (map (shifted_term s)) are;
       below = all-below node es are;
+      made = tt;
+      short = subst (λ l. length (texts_of l) < 2 ^ 32) (sym are) c.children-child-items.ensures.fits.text;
       fits = λ h. fits-children s node es are h;
     }
 
@@ -28,6 +30,15 @@ returns-clause-ok t c =
     let same : made ≡ map (shifted_term s) (children_of node) =
     sym (ap (λ l. made ++ map (shifted_term s) l) c.in-None.ensures.steps.0 ∙ append-nil made) ∙ c.loop-child.invariant.same in
     IfOk-weaker c.node_of.result _ _ (λ n h. h ∙ whole-tree s node c.kind.result.0 made c.kind.ensures same) c.node_of.ensures.ok
+
+pub returns-clause-fits : goal.returns-clause-fits
+returns-clause-fits t c =
+    let node = c.args.node.now in
+    let s = c.args.shift in
+    let made = c.loop-child.children.items in
+    let same : made ≡ map (shifted_term s) (children_of node) =
+    sym (ap (λ l. made ++ map (shifted_term s) l) c.in-None.ensures.steps.0 ∙ append-nil made) ∙ c.loop-child.invariant.same in
+    IfOk-weaker c.node_of.result _ _ (λ n h. whole-fits s node made same h c.loop-child.invariant.made) c.node_of.ensures.fits
 
 pub returns-clause-refused : goal.returns-clause-refused
 returns-clause-refused t c =

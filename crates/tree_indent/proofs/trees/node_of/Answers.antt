@@ -17,6 +17,15 @@ returns-clause-ok c =
     (YieldsList-from_vec c.args.children.items c.into_iter.ensures.rest (c.into_iter.ensures.len ∙ c.args.children.ok.0))))
     c.new.ensures.ok
 
+pub returns-clause-fits : goal.returns-clause-fits
+returns-clause-fits c =
+    IfOk-weaker c.new.result _ _
+    (λ n made.
+    subst FitsNode (sym (map-same made.0)
+    ∙ items_from_drains made.0 (made.1.1.0, made.1.1.1, λ w. (made.1.0, made.1.1.2))
+    (YieldsList-from_vec c.args.children.items c.into_iter.ensures.rest (c.into_iter.ensures.len ∙ c.args.children.ok.0))) made.2)
+    c.new.ensures.ok
+
 pub returns-clause-refused : goal.returns-clause-refused
 returns-clause-refused c =
     IfErr-weaker c.new.result _ _
