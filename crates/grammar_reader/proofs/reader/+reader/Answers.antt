@@ -1,33 +1,32 @@
 -- Form by form.
-use Rattle.std.proofs.Common.{◌≡◌, Some, ℕ, ◌+◌, ◌-◌, ◌*◌, ◌<◌, ◌≤◌, max, Bool, true, false, List, Option, None, refl, sym, ap, subst, ◌∙◌, arith, length, if◌then◌else◌}
+mod Looks
+mod Climbing
+use Rattle.std.proofs.Common.{◌≡◌, Some, ℕ, ◌+◌, ◌-◌, ◌*◌, ◌<◌, ◌≤◌, Bool, true, false, List, Option, refl, sym, ap, subst, ◌∙◌, arith, length, if◌then◌else◌}
 use Rattle.parser_events.specs.Marked.{marked}
 use Rattle.parser_events.specs.View.{View}
 use Rattle.parser_input.specs.Input.{Token}
 use Rattle.rust_grammar.specs.Rule.{Production, Rule}
-use Rattle.rust_grammar.specs.Meaning.{Reading, read, fresh, after, leaf, say, skip, split, wrapped, meaning}
+use Rattle.rust_grammar.specs.Meaning.{Reading, read, fresh, after, leaf, skip, split, meaning}
 use Rattle.rust_grammar.specs.Whole.{rank, rule, whole}
 use Rattle.rust_grammar.specs.Begun.{IsBegun}
 use Rattle.rust_grammar.specs.Laws.{reads}
 use Rattle.rust_grammar.proofs.WholeTable.{whole-means}
-use Rattle.grammar_reader.specs.CanRead.{CanRead, HasRank, is_begun}
-use Rattle.grammar_reader.specs.Layers.{layer_at, turns_of}
+use Rattle.grammar_reader.specs.CanRead.{HasRank, is_begun}
 use Rattle.grammar_reader.proofs.Below.{row-can-read}
 use Rattle.grammar_reader.specs.Data.{plain, named}
 use Rattle.grammar_reader.specs.Size.{size}
 use Rattle.grammar_reader.specs.Stands.{Stands, left}
 use Rattle.grammar_reader.specs.declared.rule.Rule as rows
-use Rattle.grammar_reader.proofs.Sizes.{falls-read, falls-turns, falls-call, falls-climb, below-measure}
+use Rattle.grammar_reader.proofs.Sizes.{falls-read, falls-turns, falls-call, below-measure}
 use Rattle.grammar_reader.proofs.Standing.{inside, stands-still, stands-opened, stands-closed, stands-left-out, nothing-given, after-nothing, still-innermost, total-still, short-still}
-use Rattle.rust_grammar.proofs.Plain.{and_l, and_r}
 use Rattle.grammar_reader.specs.Looks.{begin_looks, Costs}
-use Rattle.grammar_reader.specs.Prices.{in_turn, idle, debt, is_paid, either, idle_of, debt_of}
-use Rattle.grammar_reader.proofs.Spending.{no-token, some-tokens, after-each-other, first-of, second-of, same-length, same-left, fewer-left, tested, tested-read, tested-alone, within, as-priced, rule-paid, turn-taken, turn-idle, turn-refused, turns-over, tail-passed-by, turn-is-paid, turns-are-paid, first-paid, second-paid, second-few}
-use Rattle.grammar_reader.proofs.Layering.{rank-at, begun-under, operands, operands-rank, upper-few, upper-means, upper-read, upper-costs, turns-paid}
-use Rattle.grammar_reader.proofs.Passing.{passed-means, passed-idle, passed-looked}
-use Rattle.grammar_reader.proofs.Telling.{next-there}
+use Rattle.grammar_reader.specs.Prices.{in_turn, idle, debt, idle_of, debt_of}
+use Rattle.grammar_reader.proofs.Spending.{same-length, tested, within, as-priced, rule-paid, turn-taken, tail-passed-by, turn-is-paid, turns-are-paid}
 use Rattle.grammar_reader.proofs.Turning.{no-turn, last-turn, next-turn, zero-turns}
 use Rattle.grammar_reader.proofs.reader.+reader.Goals as goal
 use Rattle.grammar_reader.proofs.reader.+reader.Goals.{call-then-given, call-else-given}
+use Rattle.grammar_reader.proofs.reader.+reader.Answers.Looks as looks
+use Rattle.grammar_reader.proofs.reader.+reader.Answers.Climbing as climbing
 
 pub call-returns-in_default-clause-reads : goal.call-returns-in_default-clause-reads
 call-returns-in_default-clause-reads t c = λ x s below low h b e.
@@ -102,108 +101,37 @@ production-returns-clause-looks t c = λ s below low h b.
     (c.layers.ensures.looks s below (subst (λ (x : Production). rank x ≤ c.args.ranks) e low) h (subst (λ (x : Production). IsBegun x c.args.condition s) e b))
 
 pub climb-read-node-requires : goal.climb-read-node-requires
-climb-read-node-requires t c =
-    let u = c.next_layer-upper.result in
-    let above = c.next_layer-upper.ensures.above in
-    let high : u ≤ 10 = omega (arith, c.if-upper-top.false, c.requires.high) in
-    let turned = c.turns_in.ensures ∙ ap (λ (n : ℕ). turns_of (rule (layer_at n))) c.layer_of.ensures in
-    let few = subst (λ (r : Rule). size r < 2048) (sym turned) (upper-few (u - 1) u (omega (arith, above)) (omega (arith, above, high))) in
-    let input = ap (λ (v : View). v.input) c.next_kind-next.ensures.same in
-    (below-measure c.decreases (falls-climb c.turns_in.result.now (32 * c.args.caller.now.began + c.args.caller.now.ranks) c.args.height few (omega (arith, above, high))), (total-still _ _ _ input c.requires.total, (short-still _ _ input c.requires.short, (c.requires.few, still-innermost _ c.args.p.now c.next_kind-next.new.p c.next_kind-next.ensures.same c.requires.marker))))
+climb-read-node-requires = climbing.climb-read-node-requires
 
 pub layers-returns-then-ranks-eq0-clause-reads : goal.layers-returns-then-ranks-eq0-clause-reads
-layers-returns-then-ranks-eq0-clause-reads t c = λ s below low h b. absurd (omega (arith, low, rank-at c.args.height c.requires.high, c.if-ranks-eq0.true))
+layers-returns-then-ranks-eq0-clause-reads = climbing.layers-returns-then-ranks-eq0-clause-reads
 
 pub layers-returns-then-ranks-eq0-clause-looks : goal.layers-returns-then-ranks-eq0-clause-looks
-layers-returns-then-ranks-eq0-clause-looks t c = λ s below low h b. absurd (omega (arith, low, rank-at c.args.height c.requires.high, c.if-ranks-eq0.true))
+layers-returns-then-ranks-eq0-clause-looks = climbing.layers-returns-then-ranks-eq0-clause-looks
 
 pub layers-returns-clause-reads : goal.layers-returns-clause-reads
-layers-returns-clause-reads t c = λ s below low h b.
-    let anew = nothing-given s (subst (λ (g : Bool). Stands g c.args.p.now s below) c.requires.nothing h) in
-    let begun = subst (λ (x : Production). IsBegun x c.args.condition s) operands (begun-under 0 c.args.height (omega arith) c.requires.high c.args.condition s anew b) in
-    let operand = c.production-node.ensures.reads s below (omega (arith, operands-rank, rank-at c.args.height c.requires.high, low, c.requires.low)) h begun in
-    c.climb.ensures.reads s below (record { few = low; here = c.tokens_left-began.ensures ∙ same-length h.at.rest; anew = anew; begun = b })
-    (subst (λ (x : Production). Stands c.production-node.result.given c.production-node.new.p (meaning whole x c.args.condition s) below) (sym operands) operand)
+layers-returns-clause-reads = climbing.layers-returns-clause-reads
 
 pub layers-returns-clause-looks : goal.layers-returns-clause-looks
-layers-returns-clause-looks t c = λ s below low h b.
-    let anew = nothing-given s (subst (λ (g : Bool). Stands g c.args.p.now s below) c.requires.nothing h) in
-    let begun = subst (λ (x : Production). IsBegun x c.args.condition s) operands (begun-under 0 c.args.height (omega arith) c.requires.high c.args.condition s anew b) in
-    let operand = c.production-node.ensures.reads s below (omega (arith, operands-rank, rank-at c.args.height c.requires.high, low, c.requires.low)) h begun in
-    let spent = c.production-node.ensures.looks s below (omega (arith, operands-rank, rank-at c.args.height c.requires.high, low, c.requires.low)) h begun in
-    c.climb.ensures.looks c.args.p.now s below (record { few = low; here = c.tokens_left-began.ensures ∙ same-length h.at.rest; anew = anew; begun = b })
-    (subst (λ (x : Production). Stands c.production-node.result.given c.production-node.new.p (meaning whole x c.args.condition s) below) (sym operands) operand)
-    (subst (λ (x : Production). Costs (idle_of x) (debt_of x) c.args.p.now c.production-node.new.p) (sym operands) spent)
+layers-returns-clause-looks = climbing.layers-returns-clause-looks
 
 pub climb-returns-then-height-top-clause-reads : goal.climb-returns-then-height-top-clause-reads
-climb-returns-then-height-top-clause-reads t c = λ s below can h.
-    subst (λ (n : ℕ). Stands c.args.node.given c.args.p.now (meaning whole (layer_at n) c.args.condition s) below) (omega (arith, c.if-height-top.true, c.requires.below)) h
+climb-returns-then-height-top-clause-reads = climbing.climb-returns-then-height-top-clause-reads
 
 pub climb-returns-then-height-top-clause-looks : goal.climb-returns-then-height-top-clause-looks
-climb-returns-then-height-top-clause-looks t c = λ entry s below can h spent.
-    subst (λ (n : ℕ). Costs (idle_of (layer_at n)) (debt_of (layer_at n)) entry c.args.p.now) (omega (arith, c.if-height-top.true, c.requires.below)) spent
+climb-returns-then-height-top-clause-looks = climbing.climb-returns-then-height-top-clause-looks
 
 pub climb-returns-then-upper-top-clause-reads : goal.climb-returns-then-upper-top-clause-reads
-climb-returns-then-upper-top-clause-reads t c = λ s below can h.
-    let stood = stands-still c.next_kind-next.ensures.same h in
-    let next = next-there c.next_kind-next.result stood.at.rest c.next_kind-next.ensures.next in
-    let over = λ (j : ℕ) (p : c.args.height < j) (q : j < c.args.top + 1). c.next_layer-upper.ensures.over j p (omega (arith, q, c.if-upper-top.true)) in
-    subst (λ (r : Reading). Stands c.args.node.given c.next_kind-next.new.p r below)
-    (sym (passed-means c.args.condition s can.anew c.args.height c.args.top (omega (arith, c.if-height-top.false)) c.requires.high c.next_kind-next.result next over)) stood
+climb-returns-then-upper-top-clause-reads = climbing.climb-returns-then-upper-top-clause-reads
 
 pub climb-returns-then-upper-top-clause-looks : goal.climb-returns-then-upper-top-clause-looks
-climb-returns-then-upper-top-clause-looks t c = λ entry s below can h spent.
-    let over = λ (j : ℕ) (p : c.args.height < j) (q : j < c.args.top + 1). c.next_layer-upper.ensures.over j p (omega (arith, q, c.if-upper-top.true)) in
-    passed-looked c.args.height c.args.top (omega (arith, c.if-height-top.false)) c.requires.high c.next_kind-next.result over spent (same-length (ap left c.next_kind-next.ensures.same)) c.next_kind-next.ensures.looks
+climb-returns-then-upper-top-clause-looks = climbing.climb-returns-then-upper-top-clause-looks
 
 pub climb-returns-clause-reads : goal.climb-returns-clause-reads
-climb-returns-clause-reads t c = λ s below can h.
-    let u = c.next_layer-upper.result in
-    let above = c.next_layer-upper.ensures.above in
-    let high : u ≤ 10 = omega (arith, c.if-upper-top.false, c.requires.high) in
-    let one : u ≡ (u - 1) + 1 = omega (arith, above) in
-    let low : u - 1 < 10 = omega (arith, above, high) in
-    let stood = stands-still c.next_kind-next.ensures.same h in
-    let next = next-there c.next_kind-next.result stood.at.rest c.next_kind-next.ensures.next in
-    let over = λ (j : ℕ) (p : c.args.height < j) (q : j < (u - 1) + 1). c.next_layer-upper.ensures.over j p (omega (arith, q, above)) in
-    let passed = passed-means c.args.condition s can.anew c.args.height (u - 1) (omega (arith, above)) (omega (arith, high)) c.next_kind-next.result next over in
-    let m = meaning whole (layer_at (u - 1)) c.args.condition s in
-    let begun = begun-under u c.args.top (omega (arith, c.if-upper-top.false)) c.requires.high c.args.condition s can.anew can.begun in
-    let readable = subst (λ (n : ℕ). CanRead (layer_at u) n c.args.condition (turns_of (rule (layer_at u))) m) (sym can.here) (upper-read (u - 1) u one low c.args.condition s can.anew begun) in
-    let few : rank (layer_at u) ≤ c.args.caller.now.ranks = omega (arith, can.few, rank-at c.args.top c.requires.high, rank-at u high, c.if-upper-top.false) in
-    let turned = c.turns_in.ensures ∙ ap (λ (n : ℕ). turns_of (rule (layer_at n))) c.layer_of.ensures in
-    let read = c.read-node.ensures.reads (layer_at u) m below few (subst (λ (r : Reading). Stands c.args.node.given c.next_kind-next.new.p r below) (sym passed) stood)
-    (subst (λ (r : Rule). CanRead (layer_at u) c.args.caller.now.began c.args.condition r m) (sym turned) readable) in
-    c.climb.ensures.reads s below can
-    (subst (λ (r : Reading). Stands c.read-node.result.given c.read-node.new.p r below)
-    (ap (λ (r : Rule). reads c.args.condition r m) turned ∙ sym (upper-means (u - 1) u one low c.args.condition s can.anew)) read)
+climb-returns-clause-reads = climbing.climb-returns-clause-reads
 
 pub climb-returns-clause-looks : goal.climb-returns-clause-looks
-climb-returns-clause-looks t c = λ entry s below can h spent.
-    let u = c.next_layer-upper.result in
-    let above = c.next_layer-upper.ensures.above in
-    let high : u ≤ 10 = omega (arith, c.if-upper-top.false, c.requires.high) in
-    let one : u ≡ (u - 1) + 1 = omega (arith, above) in
-    let low : u - 1 < 10 = omega (arith, above, high) in
-    let stood = stands-still c.next_kind-next.ensures.same h in
-    let next = next-there c.next_kind-next.result stood.at.rest c.next_kind-next.ensures.next in
-    let over = λ (j : ℕ) (p : c.args.height < j) (q : j < (u - 1) + 1). c.next_layer-upper.ensures.over j p (omega (arith, q, above)) in
-    let passed = passed-means c.args.condition s can.anew c.args.height (u - 1) (omega (arith, above)) (omega (arith, high)) c.next_kind-next.result next over in
-    let m = meaning whole (layer_at (u - 1)) c.args.condition s in
-    let begun = begun-under u c.args.top (omega (arith, c.if-upper-top.false)) c.requires.high c.args.condition s can.anew can.begun in
-    let readable = subst (λ (n : ℕ). CanRead (layer_at u) n c.args.condition (turns_of (rule (layer_at u))) m) (sym can.here) (upper-read (u - 1) u one low c.args.condition s can.anew begun) in
-    let few : rank (layer_at u) ≤ c.args.caller.now.ranks = omega (arith, can.few, rank-at c.args.top c.requires.high, rank-at u high, c.if-upper-top.false) in
-    let turned = c.turns_in.ensures ∙ ap (λ (n : ℕ). turns_of (rule (layer_at n))) c.layer_of.ensures in
-    let there = subst (λ (r : Reading). Stands c.args.node.given c.next_kind-next.new.p r below) (sym passed) stood in
-    let can_turn = subst (λ (r : Rule). CanRead (layer_at u) c.args.caller.now.began c.args.condition r m) (sym turned) readable in
-    let read = c.read-node.ensures.reads (layer_at u) m below few there can_turn in
-    let looked = c.read-node.ensures.looks (layer_at u) m below few there can_turn (ap is_paid turned ∙ turns-paid (u - 1) u one low) in
-    let idled = passed-idle c.args.height (u - 1) (omega (arith, above)) (omega (arith, high)) c.next_kind-next.result over spent in
-    c.climb.ensures.looks entry s below can
-    (subst (λ (r : Reading). Stands c.read-node.result.given c.read-node.new.p r below)
-    (ap (λ (r : Rule). reads c.args.condition r m) turned ∙ sym (upper-means (u - 1) u one low c.args.condition s can.anew)) read)
-    (upper-costs (u - 1) u one low idled (same-length (ap left c.next_kind-next.ensures.same)) c.next_kind-next.ensures.looks
-    (subst (λ (r : Rule). Costs (idle r) (debt r) c.next_kind-next.new.p c.read-node.new.p) turned looked))
+climb-returns-clause-looks = climbing.climb-returns-clause-looks
 
 pub read-read-node-requires : goal.read-read-node-requires
 unfolding size
@@ -489,164 +417,82 @@ production-returns-2-clause-looks t c = λ s below low h b.
     (part.costs c.row_before-row.new.p c.read.new.p (c.read.ensures.looks x s below low stood can (part.paid (rule-paid x (rule x) refl))))))
 
 pub read-returns-in-Nothing-clause-looks : goal.read-returns-in-Nothing-clause-looks
-unfolding idle debt
-read-returns-in-Nothing-clause-looks t c = rw c.in-Nothing.is (λ x s below low h can paid. no-token 0 0 refl (omega arith))
+read-returns-in-Nothing-clause-looks = looks.read-returns-in-Nothing-clause-looks
 
 pub read-returns-in-One-clause-looks : goal.read-returns-in-One-clause-looks
-unfolding read idle debt leaf
-read-returns-in-One-clause-looks t c = rw c.in-One.is (λ x s below low h can paid.
-    let n : c.count.result ≤ length s.rest = omega (arith, c.count.ensures.count, can) in
-    let t = c.take.ensures.does s below h n in
-    some-tokens None 0 (fewer-left c.count.result c.count.ensures.some n h.at.rest t.at.rest) (omega (arith, c.take.ensures.looks)))
+read-returns-in-One-clause-looks = looks.read-returns-in-One-clause-looks
 
 pub read-returns-in-Any-clause-looks : goal.read-returns-in-Any-clause-looks
-unfolding read idle debt leaf
-read-returns-in-Any-clause-looks t c = rw c.in-Any.is (λ x s below low h can paid.
-    some-tokens None 1 (fewer-left 1 (omega arith) can h.at.rest (c.take_any.ensures.does s below h can).at.rest) c.take_any.ensures.looks)
+read-returns-in-Any-clause-looks = looks.read-returns-in-Any-clause-looks
 
 pub read-returns-in-Then-clause-looks : goal.read-returns-in-Then-clause-looks
-unfolding read idle debt is_paid
-read-returns-in-Then-clause-looks t c = rw c.in-Then.is (λ x s below low h can paid.
-    let a = plain c.in-Then.first.now in
-    let b = plain c.in-Then.second.now in
-    after-each-other (idle a) (idle b) (debt a) (debt b) (second-few a b paid) (c.read-node.ensures.looks x s below low h can.0 (first-paid a b paid))
-    (c.read.ensures.looks x _ below low (c.read-node.ensures.reads x s below low h can.0) can.1 (second-paid a b paid)))
+read-returns-in-Then-clause-looks = looks.read-returns-in-Then-clause-looks
 
 pub read-returns-in-Near-clause-looks : goal.read-returns-in-Near-clause-looks
-unfolding read idle debt is_paid
-read-returns-in-Near-clause-looks t c = rw c.in-Near.is (λ x s below low h can paid.
-    let a = plain c.in-Near.first.now in
-    let b = plain c.in-Near.second.now in
-    after-each-other (idle a) (idle b) (debt a) (debt b) (second-few a b paid) (c.read-node-in-Near.ensures.looks x s below low h can.0 (first-paid a b paid))
-    (c.read-in-Near.ensures.looks x _ below low (c.read-node-in-Near.ensures.reads x s below low h can.0) can.1 (second-paid a b paid)))
+read-returns-in-Near-clause-looks = looks.read-returns-in-Near-clause-looks
 
 pub read-returns-then-at-clause-looks : goal.read-returns-then-at-clause-looks
-unfolding read idle debt is_paid
-read-returns-then-at-clause-looks t c = rw c.in-Or.is (λ x s below low h can paid.
-    let a = plain c.in-Or.first.now in
-    let b = plain c.in-Or.second.now in
-    let e : is_begun c.args.condition a s ≡ true = sym (c.at.ensures.sees s below h) ∙ c.if-at.true in
-    tested (begin_looks a) (either (idle a) (idle b)) (max (debt a) (debt b)) (same-length (ap left c.at.ensures.same)) c.at.ensures.looks
-    (first-of (idle a) (idle b) (debt a) (debt b) (c.read-then-at.ensures.looks x s below low (stands-still c.at.ensures.same h) (can.0 e) (and_l (is_paid a) (is_paid b) paid))))
+read-returns-then-at-clause-looks = looks.read-returns-then-at-clause-looks
 
 pub read-returns-else-at-clause-looks : goal.read-returns-else-at-clause-looks
-unfolding read idle debt is_paid
-read-returns-else-at-clause-looks t c = rw c.in-Or.is (λ x s below low h can paid.
-    let a = plain c.in-Or.first.now in
-    let b = plain c.in-Or.second.now in
-    let e : is_begun c.args.condition a s ≡ false = sym (c.at.ensures.sees s below h) ∙ c.if-at.false in
-    tested (begin_looks a) (either (idle a) (idle b)) (max (debt a) (debt b)) (same-length (ap left c.at.ensures.same)) c.at.ensures.looks
-    (second-of (idle a) (idle b) (debt a) (debt b) (c.read-in-Or.ensures.looks x s below low (stands-still c.at.ensures.same h) (can.1 e) (and_r (is_paid a) (is_paid b) paid))))
+read-returns-else-at-clause-looks = looks.read-returns-else-at-clause-looks
 
 pub read-returns-then-at-2-clause-looks : goal.read-returns-then-at-2-clause-looks
-unfolding read idle debt is_paid
-read-returns-then-at-2-clause-looks t c = rw c.in-Opt.is (λ x s below low h can paid.
-    let a = plain c.in-Opt.inner.now in
-    let e : is_begun c.args.condition a s ≡ true = sym (c.at-in-Opt.ensures.sees s below h) ∙ c.if-at-2.true in
-    tested-read (begin_looks a) (idle a) (debt a) (same-length (ap left c.at-in-Opt.ensures.same)) c.at-in-Opt.ensures.looks
-    (c.read-then-at-2.ensures.looks x s below low (stands-still c.at-in-Opt.ensures.same h) (can e) paid))
+read-returns-then-at-2-clause-looks = looks.read-returns-then-at-2-clause-looks
 
 pub read-returns-then-at-3-clause-looks : goal.read-returns-then-at-3-clause-looks
-unfolding read idle debt is_paid
-read-returns-then-at-3-clause-looks t c = rw c.in-Want.is (λ x s below low h can paid.
-    let a = plain c.in-Want.inner.now in
-    let e : is_begun c.args.condition a s ≡ true = sym (c.at-in-Want.ensures.sees s below h) ∙ c.if-at-3.true in
-    tested-read (begin_looks a) (idle a) (debt a) (same-length (ap left c.at-in-Want.ensures.same)) c.at-in-Want.ensures.looks
-    (c.read-then-at-3.ensures.looks x s below low (stands-still c.at-in-Want.ensures.same h) (can e) paid))
+read-returns-then-at-3-clause-looks = looks.read-returns-then-at-3-clause-looks
 
 pub read-returns-else-at-2-clause-looks : goal.read-returns-else-at-2-clause-looks
-unfolding read idle debt is_paid
-read-returns-else-at-2-clause-looks t c = rw c.in-Opt.is (λ x s below low h can paid.
-    let a = plain c.in-Opt.inner.now in
-    tested-alone (begin_looks a) (idle a) (begin_looks a + debt a) (same-length (ap left c.at-in-Opt.ensures.same)) c.at-in-Opt.ensures.looks)
+read-returns-else-at-2-clause-looks = looks.read-returns-else-at-2-clause-looks
 
 pub read-returns-else-at-3-clause-looks : goal.read-returns-else-at-3-clause-looks
-unfolding read idle debt is_paid say
-read-returns-else-at-3-clause-looks t c = rw c.in-Want.is (λ x s below low h can paid.
-    let a = plain c.in-Want.inner.now in
-    let t = c.tell.ensures.does s below (stands-still c.at-in-Want.ensures.same h) in
-    tested-alone (begin_looks a) (idle a) (begin_looks a + debt a) (same-left h.at.rest t.at.rest) (omega (arith, c.tell.ensures.looks, c.at-in-Want.ensures.looks)))
+read-returns-else-at-3-clause-looks = looks.read-returns-else-at-3-clause-looks
 
 pub read-returns-in-When-clause-looks : goal.read-returns-in-When-clause-looks
-unfolding read idle debt is_paid
-read-returns-in-When-clause-looks t c = rw c.in-When.is (λ x s below low h can paid. c.read-in-When.ensures.looks x s below low h can paid)
+read-returns-in-When-clause-looks = looks.read-returns-in-When-clause-looks
 
 pub read-returns-in-Unless-clause-looks : goal.read-returns-in-Unless-clause-looks
-unfolding read idle debt is_paid
-read-returns-in-Unless-clause-looks t c = rw c.in-Unless.is (λ x s below low h can paid. c.read-in-Unless.ensures.looks x s below low h can paid)
+read-returns-in-Unless-clause-looks = looks.read-returns-in-Unless-clause-looks
 
 pub read-returns-in-Mode-clause-looks : goal.read-returns-in-Mode-clause-looks
-unfolding read idle debt is_paid
-read-returns-in-Mode-clause-looks t c = rw c.in-Mode.is (λ x s below low h can paid. c.read-in-Mode.ensures.looks x s below low h can paid)
+read-returns-in-Mode-clause-looks = looks.read-returns-in-Mode-clause-looks
 
 pub read-returns-in-Star-clause-looks : goal.read-returns-in-Star-clause-looks
-unfolding read
-read-returns-in-Star-clause-looks t c = rw c.in-Star.is (λ x s below low h can paid. c.turns.ensures.looks x s below low h can paid)
+read-returns-in-Star-clause-looks = looks.read-returns-in-Star-clause-looks
 
 pub read-returns-in-Node-clause-looks : goal.read-returns-in-Node-clause-looks
-unfolding read idle debt is_paid
-read-returns-in-Node-clause-looks t c = rw c.in-Node.is (λ x s below low h can paid.
-    let inner = c.read-child.ensures.looks x (fresh s) (inside below (marked s.given)) low (stands-opened c.start-child.ensures.opens c.start-child.ensures.given h) can paid in
-    within (same-length c.start-child.ensures.opens.rest) c.start-child.ensures.looks (same-length c.close.ensures.closes.rest) c.close.ensures.looks inner)
+read-returns-in-Node-clause-looks = looks.read-returns-in-Node-clause-looks
 
 pub read-returns-in-Wrap-clause-looks : goal.read-returns-in-Wrap-clause-looks
-unfolding read idle debt is_paid wrapped
-read-returns-in-Wrap-clause-looks t c = rw c.in-Wrap.is (λ x s below low h can paid.
-    let t = c.read-node-in-Wrap.ensures.reads x s below low h can in
-    let w = c.wrap.ensures.does _ below t in
-    within refl refl (same-left t.at.rest w.at.rest) c.wrap.ensures.looks (c.read-node-in-Wrap.ensures.looks x s below low h can paid))
+read-returns-in-Wrap-clause-looks = looks.read-returns-in-Wrap-clause-looks
 
 pub read-returns-in-Say-clause-looks : goal.read-returns-in-Say-clause-looks
-unfolding read idle debt say
-read-returns-in-Say-clause-looks t c = rw c.in-Say.is (λ x s below low h can paid.
-    no-token 0 0 (same-left h.at.rest (c.tell-in-Say.ensures.does s below h).at.rest) (omega (arith, c.tell-in-Say.ensures.looks)))
+read-returns-in-Say-clause-looks = looks.read-returns-in-Say-clause-looks
 
 pub read-returns-in-Skip-clause-looks : goal.read-returns-in-Skip-clause-looks
-unfolding read idle debt skip
-read-returns-in-Skip-clause-looks t c = rw c.in-Skip.is (λ x s below low h can paid.
-    some-tokens None 1 (fewer-left 1 (omega arith) can h.at.rest (c.skip.ensures.does s below h can).at.rest) c.skip.ensures.looks)
+read-returns-in-Skip-clause-looks = looks.read-returns-in-Skip-clause-looks
 
 pub read-returns-in-Split-clause-looks : goal.read-returns-in-Split-clause-looks
-unfolding read idle debt split
-read-returns-in-Split-clause-looks t c = rw c.in-Split.is (λ x s below low h can paid.
-    some-tokens None 1 (fewer-left 1 (omega arith) can.0 h.at.rest (c.split.ensures.does s below h can.1).at.rest) c.split.ensures.looks)
+read-returns-in-Split-clause-looks = looks.read-returns-in-Split-clause-looks
 
 pub read-returns-in-Call-clause-looks : goal.read-returns-in-Call-clause-looks
-unfolding read idle debt fresh
-read-returns-in-Call-clause-looks t c = rw c.in-Call.is (λ x s below low h can paid. c.call.ensures.looks x s below low h can.0 can.1)
+read-returns-in-Call-clause-looks = looks.read-returns-in-Call-clause-looks
 
 pub read-returns-in-Continue-clause-looks : goal.read-returns-in-Continue-clause-looks
-unfolding read idle debt
-read-returns-in-Continue-clause-looks t c = rw c.in-Continue.is (λ x s below low h can paid. c.go_on.ensures.looks x s below low h can.0 can.1)
+read-returns-in-Continue-clause-looks = looks.read-returns-in-Continue-clause-looks
 
 pub read-returns-in-LaterBodies-clause-looks : goal.read-returns-in-LaterBodies-clause-looks
-unfolding read idle debt is_paid
-read-returns-in-LaterBodies-clause-looks t c = rw (c.in-LaterBodies.is, sym c.later_bodies.ensures.rule) (λ x s below low h can paid. c.read-in-LaterBodies.ensures.looks x s below low h can paid)
+read-returns-in-LaterBodies-clause-looks = looks.read-returns-in-LaterBodies-clause-looks
 
 pub read-returns-in-LaterAtoms-clause-looks : goal.read-returns-in-LaterAtoms-clause-looks
-unfolding read idle debt is_paid
-read-returns-in-LaterAtoms-clause-looks t c = rw (c.in-LaterAtoms.is, sym c.later_atoms.ensures.rule) (λ x s below low h can paid. c.read-in-LaterAtoms.ensures.looks x s below low h can paid)
+read-returns-in-LaterAtoms-clause-looks = looks.read-returns-in-LaterAtoms-clause-looks
 
 pub turns-returns-then-not-at-clause-looks : goal.turns-returns-then-not-at-clause-looks
-unfolding idle debt
-turns-returns-then-not-at-clause-looks t c = λ x s below low h can paid.
-    let r = plain c.args.rule.now in
-    turn-refused (begin_looks r) (debt r) (idle r) (same-length (ap left c.at.ensures.same)) c.at.ensures.looks (c.turns.invariant.spending x s below low h can paid)
+turns-returns-then-not-at-clause-looks = looks.turns-returns-then-not-at-clause-looks
 
 pub turns-returns-then-tokens_left-before-clause-looks : goal.turns-returns-then-tokens_left-before-clause-looks
-unfolding idle debt
-turns-returns-then-tokens_left-before-clause-looks t c = λ x s below low h can paid.
-    let r = plain c.args.rule.now in
-    let b = c.turns.invariant.between x s below low h can in
-    let e : is_begun c.args.condition r b.now ≡ true = sym (c.at.ensures.sees b.now below b.stands) ∙ c.if-not-at.false in
-    let some : 0 < length s.rest = omega (arith, c.turns-test.true, b.most) in
-    let stood = stands-still c.at.ensures.same b.stands in
-    let read = c.read-node.ensures.looks x b.now below low stood (can b.now some b.shorter e) (turn-is-paid r paid) in
-    turn-idle (begin_looks r) (debt r) (idle r) (same-length (ap left c.at.ensures.same)) c.at.ensures.looks
-    (omega (arith, c.tokens_left-before.ensures, c.tokens_left.ensures, c.if-tokens_left-before.true)) (c.turns.invariant.spending x s below low h can paid) read
+turns-returns-then-tokens_left-before-clause-looks = looks.turns-returns-then-tokens_left-before-clause-looks
 
 pub turns-returns-clause-looks : goal.turns-returns-clause-looks
-unfolding idle debt
-turns-returns-clause-looks t c = λ x s below low h can paid.
-    let r = plain c.args.rule.now in
-    turns-over (begin_looks r) (debt r) (idle r) (c.turns.invariant.spending x s below low h can paid)
+turns-returns-clause-looks = looks.turns-returns-clause-looks
