@@ -1,9 +1,9 @@
 -- Shifted trees, child by child.
-use Rattle.std.proofs.Common.{◌≡◌, ℕ, ◌+◌, ◌<◌, ◌^◌, ◌≤◌, List, [], ◌∷◌, ◌++◌, map, length, length-append, refl, ap, sym, ◌∙◌, subst, arith, append_assoc}
-use Rattle.rowan_green.specs.Forest.{Forest, empty, node, leaf, Tree, tree_count, forest_count, tree_text}
+use Rattle.std.proofs.Common.{◌≡◌, ℕ, ◌+◌, ◌<◌, List, [], ◌∷◌, ◌++◌, map, refl, ap, sym, ◌∙◌, subst, arith, append_assoc}
+use Rattle.rowan_green.specs.Forest.{Forest, empty, node, leaf, Tree, tree_count, forest_count}
 use Rattle.rowan_green.specs.Leaf.{Leaf}
 use Rattle.rowan_green.specs.Refusal.{RefusesUnless}
-use Rattle.rowan_green.specs.Term.{Term, terms, texts_of, forest_of, forest_of-terms, term_count, tree_of, children_of, FitsNode, FitsToken}
+use Rattle.rowan_green.specs.Term.{Term, terms, forest_of, forest_of-terms, term_count, tree_of, children_of, FitsNode, FitsToken}
 use Rattle.rowan_green.specs.declared.error.GreenError.{GreenError}
 use Rattle.rowan_green.specs.declared.error.GreenError.TheVariants.{TooLong, Unbalanced, NoMemory}
 use Rattle.rowan_green.specs.declared.utility_types.NodeOrToken.TheVariants.{Node, Token}
@@ -88,18 +88,6 @@ refuses-whole P Q Unbalanced h r = r
 refuses-whole P Q NoMemory h r = tt
 
 -- ---- what stands
-
--- the children of a node have texts that may stand
-rest-shorter : (e : Term) (es : List Term) → length (texts_of es) ≤ length (texts_of (e ∷ es))
-rest-shorter (Node t) es = omega (arith, length-append (tree_text t) (texts_of es))
-rest-shorter (Token l) es = omega (arith, length-append l.text (texts_of es))
-
-pub rest-short : (e : Term) (before after : List Term) → before ≡ e ∷ after → length (texts_of before) < 2 ^ 32 → length (texts_of after) < 2 ^ 32
-rest-short e before after first h = omega (arith, h, ap (λ l. length (texts_of l)) first, rest-shorter e after)
-
-pub token-short : (l : Leaf) (e : Term) (before after : List Term) → before ≡ e ∷ after → e ≡ Token l → length (texts_of before) < 2 ^ 32 → FitsToken l.text
-token-short l e before after first is h =
-    omega (arith, h, ap (λ es. length (texts_of es)) (first ∙ ap (λ x. x ∷ after) is), length-append l.text (texts_of after))
 
 fits-append : (es : List Term) (e : Term) → FitsForest (forest_of es) → FitsForest (forest_of (e ∷ [])) → FitsForest (forest_of (es ++ e ∷ []))
 fits-append [] e h g = g

@@ -64,10 +64,11 @@ pub(crate) fn shifted_token(
     shift: Shift,
 ) -> Result<GreenToken, GreenError>
     ensures ok { IfOk result (λ t. t ≡ shifted_leaf shift token.now) }
-    ensures fits { OnOk result (FitsToken token.now.text → FitsToken (shifted_leaf shift token.now).text) }
+    ensures fits { OnOk result (FitsToken (shifted_leaf shift token.now).text) }
     ensures refused { IfErr result (RefusesUnless (FitsToken (shifted_leaf shift token.now).text)) }
 {
     if token.kind().0 != SyntaxKind::WHITESPACE.to_raw() {
+        let _len = token.text_len();
         return Ok(token.clone()?);
     }
     let text = shifted_text(alloc, token.text(), shift)?;

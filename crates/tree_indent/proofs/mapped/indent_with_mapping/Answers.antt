@@ -1,5 +1,5 @@
 -- As many new child nodes stand there as old ones, so that only their order may be refused.
-use Rattle.std.proofs.Common.{ap, sym, ◌∙◌, subst, rules}
+use Rattle.std.proofs.Common.{◌<◌, ◌^◌, ap, sym, ◌∙◌, subst, rules, arith}
 use Rattle.syntax_tree.specs.Element.{Element}
 use Rattle.tree_indent.specs.Mapped.{RefusesMapped}
 use Rattle.tree_indent.specs.declared.shift.Shift.TheVariants.{In}
@@ -14,8 +14,9 @@ returns-in-Ok-clause-after c =
 pub returns-in-Err-clause-refused : goal.returns-in-Err-clause-refused
 returns-in-Err-clause-refused c =
     let made = c.in_ok-root.ensures.ok in
+    let few : c.args.ids.now < 2 ^ 32 = omega (arith, c.tree.ensures, ap (λ (e : Element). e.number) made.2) in
     subst (RefusesMapped (In c.args.level) c.args.node.now c.args.ids.now) (sym c.of_mapping.ensures)
-    (refused_order (In c.args.level) made.0 c.args.node.now c.in_ok-root.root c.args.ids.now made.1 made.2 c.in-Err.e c.in-Err.ensures.refused)
+    (refused_order (In c.args.level) made.0 c.args.node.now c.in_ok-root.root c.args.ids.now made.1 made.2 c.in_ok-root.ensures.fits few c.in-Err.e c.in-Err.ensures.refused)
 
 pub returns-in-Err-clause-kept : goal.returns-in-Err-clause-kept
 returns-in-Err-clause-kept c = c.starting_at.ensures ∙ c.tree.ensures ∙ ap (λ (e : Element). e.number) c.in_ok-root.ensures.ok.2

@@ -1,6 +1,6 @@
-use Rattle.std.proofs.Common.{◌≡◌, ◌++◌, ◌<◌, ◌^◌, map, length}
+use Rattle.std.proofs.Common.{◌≡◌, ◌++◌, ◌<◌, map}
 use Rattle.rowan_green.specs.Forest.{tree_count, forest_count}
-use Rattle.rowan_green.specs.Term.{children_of, forest_of, texts_of}
+use Rattle.rowan_green.specs.Term.{children_of, forest_of}
 use Rattle.tree_indent.specs.Shifted.{shifted_tree, FitsForest, FitsTree}
 use Rattle.tree_indent.proofs.Shifting.{shifted_term, FitsTerms}
 use Rattle.tree_indent.proofs.trees.+shifted_tree.Given as goal
@@ -16,6 +16,5 @@ invariant-loop-child l = record {
   same : l.children.items ++ map (shifted_term l.shift) l.child-iterator ≡ map (shifted_term l.shift) (children_of l.node);
   below : forest_count (forest_of l.child-iterator) < tree_count l.node;
   made : FitsForest (forest_of l.children.items);
-  short : length (texts_of l.child-iterator) < 2 ^ 32;
   fits : FitsTree (shifted_tree l.shift l.node) → FitsTerms l.shift l.child-iterator;
 }
