@@ -19,9 +19,9 @@ use crate::table::{later_atoms, later_bodies, rule_of};
 use parser_events::parser::Parser;
 
 /// Whether a production begins here, if the kind of the next token alone tells.
-fn told_here(place: &Place, production: Production, ahead: usize, ranks: u8) -> Option<bool>
+fn told_here(place: Place, production: Production, ahead: usize, ranks: u8) -> Option<bool>
     ensures { IfSome result (λ answer. (c : Bool) (s : Reading)
-        → IfSome place.now.next (λ kind. IsNext (raw_of kind) s.rest)
+        → IfSome place.next (λ kind. IsNext (raw_of kind) s.rest)
         → answer ≡ sees c s (shift ahead (begins_below whole ranks (named production)))) }
 {
     if ahead != 0 {
@@ -38,16 +38,16 @@ fn told_here(place: &Place, production: Production, ahead: usize, ranks: u8) -> 
 /// the answer is no, as in the definition.
 pub fn begins(
     p: &mut Parser<'_>,
-    place: &Place,
+    place: Place,
     rule: &'static Rule,
     ahead: usize,
     ranks: u8,
 ) -> bool
-    requires total { place.now.total ≡ length p.old.input }
+    requires total { place.total ≡ length p.old.input }
     requires short { length p.old.input < 2 ^ 64 }
-    requires next { IfSome place.now.next (λ kind. IsNext (raw_of kind) (left p.old)) }
-    ensures sees { (s : Reading) → IsAt place.now.given p.old s
-        → result ≡ sees place.now.condition s (shift ahead (rules.begins (begins_below whole ranks) (plain rule.now))) }
+    requires next { IfSome place.next (λ kind. IsNext (raw_of kind) (left p.old)) }
+    ensures sees { (s : Reading) → IsAt place.given p.old s
+        → result ≡ sees place.condition s (shift ahead (rules.begins (begins_below whole ranks) (plain rule.now))) }
     ensures same { p.new ≡ record p.old { looks = p.new.looks } }
     ensures looks { p.new.looks
         ≤ p.old.looks + asked (rules.begins (begins_below whole ranks) (plain rule.now)) }
@@ -99,16 +99,16 @@ pub fn begins(
         }
         Rule::Opt(inner) => begins(p, place, inner, ahead, ranks),
         Rule::Star(inner) => begins(p, place, inner, ahead, ranks),
-        Rule::Node(_, inner) => begins(p, &anew, inner, ahead, ranks),
+        Rule::Node(_, inner) => begins(p, anew, inner, ahead, ranks),
         Rule::Wrap(_, inner) => begins(p, place, inner, ahead, ranks),
         Rule::Want(inner, _) => begins(p, place, inner, ahead, ranks),
         Rule::Call(production) => {
             if ranks == 0 {
                 return false;
             }
-            match told_here(&anew, *production, ahead, ranks) {
+            match told_here(anew, *production, ahead, ranks) {
                 Some(answer) => answer,
-                None => begins(p, &anew, rule_of(*production), ahead, ranks - 1),
+                None => begins(p, anew, rule_of(*production), ahead, ranks - 1),
             }
         }
         Rule::Continue(production) => {
@@ -127,7 +127,7 @@ pub fn begins(
                 given: place.given,
                 next: place.next,
             };
-            begins(p, &there, inner, ahead, ranks)
+            begins(p, there, inner, ahead, ranks)
         }
         Rule::LaterBodies => begins(p, place, later_bodies(), ahead, ranks),
         Rule::LaterAtoms => begins(p, place, later_atoms(), ahead, ranks),

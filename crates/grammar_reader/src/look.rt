@@ -47,11 +47,11 @@ pub fn tokens_left(p: &Parser<'_>, total: usize) -> usize
 }
 
 /// Whether a token of this kind is the n-th, so many tokens further ahead.
-fn is_next(p: &mut Parser<'_>, place: &Place, kind: SyntaxKind, n: u8, ahead: usize) -> bool
-    requires total { place.now.total ≡ length p.old.input }
+fn is_next(p: &mut Parser<'_>, place: Place, kind: SyntaxKind, n: u8, ahead: usize) -> bool
+    requires total { place.total ≡ length p.old.input }
     requires short { length p.old.input < 2 ^ 64 }
-    ensures sees { (s : Reading) → IsAt place.now.given p.old s
-        → result ≡ sees place.now.condition s (shift ahead (Kind n (raw_of kind))) }
+    ensures sees { (s : Reading) → IsAt place.given p.old s
+        → result ≡ sees place.condition s (shift ahead (Kind n (raw_of kind))) }
     ensures same { p.new ≡ record p.old { looks = p.new.looks } }
     ensures looks { p.new.looks ≤ p.old.looks + 1 }
 {
@@ -61,11 +61,11 @@ fn is_next(p: &mut Parser<'_>, place: &Place, kind: SyntaxKind, n: u8, ahead: us
 
 /// Whether a token of this kind is the n-th, so many tokens further ahead, and touches the next
 /// one.
-fn is_joint(p: &mut Parser<'_>, place: &Place, kind: SyntaxKind, n: u8, ahead: usize) -> bool
-    requires total { place.now.total ≡ length p.old.input }
+fn is_joint(p: &mut Parser<'_>, place: Place, kind: SyntaxKind, n: u8, ahead: usize) -> bool
+    requires total { place.total ≡ length p.old.input }
     requires short { length p.old.input < 2 ^ 64 }
-    ensures sees { (s : Reading) → IsAt place.now.given p.old s
-        → result ≡ sees place.now.condition s (shift ahead (Both (Kind n (raw_of kind)) (Joint n))) }
+    ensures sees { (s : Reading) → IsAt place.given p.old s
+        → result ≡ sees place.condition s (shift ahead (Both (Kind n (raw_of kind)) (Joint n))) }
     ensures same { p.new ≡ record p.old { looks = p.new.looks } }
     ensures looks { p.new.looks ≤ p.old.looks + 1 }
 {
@@ -76,11 +76,11 @@ fn is_joint(p: &mut Parser<'_>, place: &Place, kind: SyntaxKind, n: u8, ahead: u
 }
 
 /// Whether the look is there, so many tokens further ahead.
-pub fn is_there(p: &mut Parser<'_>, place: &Place, look: &Look, ahead: usize) -> bool
-    requires total { place.now.total ≡ length p.old.input }
+pub fn is_there(p: &mut Parser<'_>, place: Place, look: &Look, ahead: usize) -> bool
+    requires total { place.total ≡ length p.old.input }
     requires short { length p.old.input < 2 ^ 64 }
-    ensures sees { (s : Reading) → IsAt place.now.given p.old s
-        → result ≡ sees place.now.condition s (shift ahead (plain_look look.now)) }
+    ensures sees { (s : Reading) → IsAt place.given p.old s
+        → result ≡ sees place.condition s (shift ahead (plain_look look.now)) }
     ensures same { p.new ≡ record p.old { looks = p.new.looks } }
     ensures looks { p.new.looks ≤ p.old.looks + asked (plain_look look.now) }
 {
@@ -103,11 +103,11 @@ pub fn is_there(p: &mut Parser<'_>, place: &Place, look: &Look, ahead: usize) ->
 }
 
 /// Whether a spelling stands so many tokens ahead.
-pub fn is_spelled(p: &mut Parser<'_>, place: &Place, spelling: &Spelling, ahead: usize) -> bool
-    requires total { place.now.total ≡ length p.old.input }
+pub fn is_spelled(p: &mut Parser<'_>, place: Place, spelling: &Spelling, ahead: usize) -> bool
+    requires total { place.total ≡ length p.old.input }
     requires short { length p.old.input < 2 ^ 64 }
-    ensures sees { (s : Reading) → IsAt place.now.given p.old s
-        → result ≡ sees place.now.condition s (shift ahead (there_at 0 (spelled spelling.now).parts)) }
+    ensures sees { (s : Reading) → IsAt place.given p.old s
+        → result ≡ sees place.condition s (shift ahead (there_at 0 (spelled spelling.now).parts)) }
     ensures same { p.new ≡ record p.old { looks = p.new.looks } }
     ensures looks { p.new.looks ≤ p.old.looks + asked (there_at 0 (spelled spelling.now).parts) }
 {

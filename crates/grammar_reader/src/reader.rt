@@ -62,7 +62,7 @@ pub fn at(
         given,
         next,
     };
-    begins(p, &place, rule, 0, 20)
+    begins(p, place, rule, 0, 20)
 }
 
 /// The rank at most of a production that is called now: any where tokens were taken since the

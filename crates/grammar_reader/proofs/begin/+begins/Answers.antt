@@ -18,43 +18,43 @@ use Rattle.grammar_reader.proofs.begin.+begins.Goals as goal
 
 pub returns-then-is_silent-clause-sees : goal.returns-then-is_silent-clause-sees
 unfolding begins
-returns-then-is_silent-clause-sees t c s at = rw c.in-Then.is (silent-then c.args.place.now.condition s c.args.ahead c.args.ranks (plain c.in-Then.first.now) (plain c.in-Then.second.now) (sym c.is_silent.ensures ∙ c.if-is_silent.true) (c.begins.ensures.sees s at))
+returns-then-is_silent-clause-sees t c s at = rw c.in-Then.is (silent-then c.args.place.condition s c.args.ahead c.args.ranks (plain c.in-Then.first.now) (plain c.in-Then.second.now) (sym c.is_silent.ensures ∙ c.if-is_silent.true) (c.begins.ensures.sees s at))
 
 pub returns-then-begins-clause-sees : goal.returns-then-begins-clause-sees
 unfolding begins
-returns-then-begins-clause-sees t c s at = rw c.in-Then.is (first-then c.args.place.now.condition s c.args.ahead c.args.ranks (plain c.in-Then.first.now) (plain c.in-Then.second.now) (sym c.is_silent.ensures ∙ c.if-is_silent.false) (c.begins-in-Then.ensures.sees s at) c.if-begins.true)
+returns-then-begins-clause-sees t c s at = rw c.in-Then.is (first-then c.args.place.condition s c.args.ahead c.args.ranks (plain c.in-Then.first.now) (plain c.in-Then.second.now) (sym c.is_silent.ensures ∙ c.if-is_silent.false) (c.begins-in-Then.ensures.sees s at) c.if-begins.true)
 
 pub returns-then-not-is_passed-clause-sees : goal.returns-then-not-is_passed-clause-sees
 unfolding begins
-returns-then-not-is_passed-clause-sees t c s at = rw c.in-Then.is (no-then c.args.place.now.condition s c.args.ahead c.args.ranks (plain c.in-Then.first.now) (plain c.in-Then.second.now) (sym c.is_silent.ensures ∙ c.if-is_silent.false) (c.begins-in-Then.ensures.sees s at) c.if-begins.false (sym c.is_passed.ensures ∙ c.if-not-is_passed.true))
+returns-then-not-is_passed-clause-sees t c s at = rw c.in-Then.is (no-then c.args.place.condition s c.args.ahead c.args.ranks (plain c.in-Then.first.now) (plain c.in-Then.second.now) (sym c.is_silent.ensures ∙ c.if-is_silent.false) (c.begins-in-Then.ensures.sees s at) c.if-begins.false (sym c.is_passed.ensures ∙ c.if-not-is_passed.true))
 
 pub returns-else-not-is_passed-clause-sees : goal.returns-else-not-is_passed-clause-sees
 unfolding begins
-returns-else-not-is_passed-clause-sees t c s at = rw c.in-Then.is (second-then c.args.place.now.condition s c.args.ahead c.args.ranks (plain c.in-Then.first.now) (plain c.in-Then.second.now) (sym c.is_silent.ensures ∙ c.if-is_silent.false) (c.begins-in-Then.ensures.sees s at) c.if-begins.false (sym c.is_passed.ensures ∙ c.if-not-is_passed.false) (c.begins-in-Then-2.ensures.sees s (still-at c.begins-in-Then.ensures.same at)))
+returns-else-not-is_passed-clause-sees t c s at = rw c.in-Then.is (second-then c.args.place.condition s c.args.ahead c.args.ranks (plain c.in-Then.first.now) (plain c.in-Then.second.now) (sym c.is_silent.ensures ∙ c.if-is_silent.false) (c.begins-in-Then.ensures.sees s at) c.if-begins.false (sym c.is_passed.ensures ∙ c.if-not-is_passed.false) (c.begins-in-Then-2.ensures.sees s (still-at c.begins-in-Then.ensures.same at)))
 
 pub returns-then-not-begins-clause-sees : goal.returns-then-not-begins-clause-sees
 unfolding begins
-returns-then-not-begins-clause-sees t c s at = rw c.in-Near.is (no-near c.args.place.now.condition s c.args.ahead c.args.ranks c.in-Near.width (plain c.in-Near.first.now) (plain c.in-Near.second.now) (c.begins-in-Near.ensures.sees s at) c.if-not-begins.true)
+returns-then-not-begins-clause-sees t c s at = rw c.in-Near.is (no-near c.args.place.condition s c.args.ahead c.args.ranks c.in-Near.width (plain c.in-Near.first.now) (plain c.in-Near.second.now) (c.begins-in-Near.ensures.sees s at) c.if-not-begins.true)
 
 pub returns-else-not-begins-clause-sees : goal.returns-else-not-begins-clause-sees
 unfolding begins
-returns-else-not-begins-clause-sees t c s at = rw c.in-Near.is (both-near c.args.place.now.condition s c.args.ahead c.args.ranks c.in-Near.width (plain c.in-Near.first.now) (plain c.in-Near.second.now) c.saturating_add-after.result (rest-short at c.requires.short) (c.saturating_add-after.ensures ∙ ap (λ (i : ℕ). min (c.args.ahead + i) (2 ^ 64 - 1)) c.from.ensures) (c.begins-in-Near.ensures.sees s at) c.if-not-begins.false (c.begins-in-Near-2.ensures.sees s (still-at c.begins-in-Near.ensures.same at)))
+returns-else-not-begins-clause-sees t c s at = rw c.in-Near.is (both-near c.args.place.condition s c.args.ahead c.args.ranks c.in-Near.width (plain c.in-Near.first.now) (plain c.in-Near.second.now) c.saturating_add-after.result (rest-short at c.requires.short) (c.saturating_add-after.ensures ∙ ap (λ (i : ℕ). min (c.args.ahead + i) (2 ^ 64 - 1)) c.from.ensures) (c.begins-in-Near.ensures.sees s at) c.if-not-begins.false (c.begins-in-Near-2.ensures.sees s (still-at c.begins-in-Near.ensures.same at)))
 
 pub returns-then-begins-2-clause-sees : goal.returns-then-begins-2-clause-sees
 unfolding begins
-returns-then-begins-2-clause-sees t c s at = rw c.in-Or.is (first-or c.args.place.now.condition s c.args.ahead c.args.ranks (plain c.in-Or.first.now) (plain c.in-Or.second.now) (c.begins-in-Or.ensures.sees s at) c.if-begins-2.true)
+returns-then-begins-2-clause-sees t c s at = rw c.in-Or.is (first-or c.args.place.condition s c.args.ahead c.args.ranks (plain c.in-Or.first.now) (plain c.in-Or.second.now) (c.begins-in-Or.ensures.sees s at) c.if-begins-2.true)
 
 pub returns-else-begins-2-clause-sees : goal.returns-else-begins-2-clause-sees
 unfolding begins
-returns-else-begins-2-clause-sees t c s at = rw c.in-Or.is (second-or c.args.place.now.condition s c.args.ahead c.args.ranks (plain c.in-Or.first.now) (plain c.in-Or.second.now) (c.begins-in-Or.ensures.sees s at) c.if-begins-2.false (c.begins-in-Or-2.ensures.sees s (still-at c.begins-in-Or.ensures.same at)))
+returns-else-begins-2-clause-sees t c s at = rw c.in-Or.is (second-or c.args.place.condition s c.args.ahead c.args.ranks (plain c.in-Or.first.now) (plain c.in-Or.second.now) (c.begins-in-Or.ensures.sees s at) c.if-begins-2.false (c.begins-in-Or-2.ensures.sees s (still-at c.begins-in-Or.ensures.same at)))
 
 pub returns-then-is_there-clause-sees : goal.returns-then-is_there-clause-sees
 unfolding begins
-returns-then-is_there-clause-sees t c s at = rw c.in-Unless.is (no-unless c.args.place.now.condition s c.args.ahead c.args.ranks (plain_look c.in-Unless.look) (plain c.in-Unless.inner.now) (c.is_there-in-Unless.ensures.sees s at) c.if-is_there.true)
+returns-then-is_there-clause-sees t c s at = rw c.in-Unless.is (no-unless c.args.place.condition s c.args.ahead c.args.ranks (plain_look c.in-Unless.look) (plain c.in-Unless.inner.now) (c.is_there-in-Unless.ensures.sees s at) c.if-is_there.true)
 
 pub returns-else-is_there-clause-sees : goal.returns-else-is_there-clause-sees
 unfolding begins
-returns-else-is_there-clause-sees t c s at = rw c.in-Unless.is (unless c.args.place.now.condition s c.args.ahead c.args.ranks (plain_look c.in-Unless.look) (plain c.in-Unless.inner.now) (c.is_there-in-Unless.ensures.sees s at) c.if-is_there.false (c.begins-in-Unless.ensures.sees s (still-at c.is_there-in-Unless.ensures.same at)))
+returns-else-is_there-clause-sees t c s at = rw c.in-Unless.is (unless c.args.place.condition s c.args.ahead c.args.ranks (plain_look c.in-Unless.look) (plain c.in-Unless.inner.now) (c.is_there-in-Unless.ensures.sees s at) c.if-is_there.false (c.begins-in-Unless.ensures.sees s (still-at c.is_there-in-Unless.ensures.same at)))
 
 pub returns-in-Nothing-clause-sees : goal.returns-in-Nothing-clause-sees
 unfolding begins sees shift
@@ -94,7 +94,7 @@ returns-in-Star-clause-sees t c s at = rw c.in-Star.is (c.begins-in-Star.ensures
 
 pub returns-in-Node-clause-sees : goal.returns-in-Node-clause-sees
 unfolding begins
-returns-in-Node-clause-sees t c s at = rw c.in-Node.is (inside c.args.place.now.condition s c.args.ahead (begins (begins_below whole c.args.ranks) (plain c.in-Node.inner.now)) (c.begins-in-Node.ensures.sees (fresh s) (fresh-at at)))
+returns-in-Node-clause-sees t c s at = rw c.in-Node.is (inside c.args.place.condition s c.args.ahead (begins (begins_below whole c.args.ranks) (plain c.in-Node.inner.now)) (c.begins-in-Node.ensures.sees (fresh s) (fresh-at at)))
 
 pub returns-in-Wrap-clause-sees : goal.returns-in-Wrap-clause-sees
 unfolding begins
@@ -106,37 +106,37 @@ returns-in-Want-clause-sees t c s at = rw c.in-Want.is (c.begins-in-Want.ensures
 
 pub returns-then-ranks-eq0-clause-sees : goal.returns-then-ranks-eq0-clause-sees
 unfolding begins
-returns-then-ranks-eq0-clause-sees t c s at = rw c.in-Call.is (inside c.args.place.now.condition s c.args.ahead (begins_below whole c.args.ranks (named c.in-Call.production)) (no-rank c.args.place.now.condition (fresh s) c.args.ahead c.args.ranks (named c.in-Call.production) c.if-ranks-eq0.true))
+returns-then-ranks-eq0-clause-sees t c s at = rw c.in-Call.is (inside c.args.place.condition s c.args.ahead (begins_below whole c.args.ranks (named c.in-Call.production)) (no-rank c.args.place.condition (fresh s) c.args.ahead c.args.ranks (named c.in-Call.production) c.if-ranks-eq0.true))
 
 pub returns-in-Some-clause-sees : goal.returns-in-Some-clause-sees
 unfolding begins fresh
 returns-in-Some-clause-sees t c s at =
-    rw c.in-Call.is (inside c.args.place.now.condition s c.args.ahead (begins_below whole c.args.ranks (named c.in-Call.production))
-    (answered (λ (b : Bool). (d : Bool) (u : Reading) → IfSome c.args.place.now.next (λ k. IsNext (raw_of k) u.rest) → b ≡ sees d u (shift c.args.ahead (begins_below whole c.args.ranks (named c.in-Call.production)))) c.in-Some.is c.told_here.ensures c.args.place.now.condition (fresh s) (next-there c.args.place.now.next at.rest c.requires.next)))
+    rw c.in-Call.is (inside c.args.place.condition s c.args.ahead (begins_below whole c.args.ranks (named c.in-Call.production))
+    (answered (λ (b : Bool). (d : Bool) (u : Reading) → IfSome c.args.place.next (λ k. IsNext (raw_of k) u.rest) → b ≡ sees d u (shift c.args.ahead (begins_below whole c.args.ranks (named c.in-Call.production)))) c.in-Some.is c.told_here.ensures c.args.place.condition (fresh s) (next-there c.args.place.next at.rest c.requires.next)))
 
 pub returns-in-Some-told_here-clause-sees : goal.returns-in-Some-told_here-clause-sees
 unfolding begins
 returns-in-Some-told_here-clause-sees t c s at =
     rw c.in-Continue.is
-    (answered (λ (b : Bool). (d : Bool) (u : Reading) → IfSome c.args.place.now.next (λ k. IsNext (raw_of k) u.rest) → b ≡ sees d u (shift c.args.ahead (begins_below whole c.args.ranks (named c.in-Continue.production)))) c.in-Some-told_here.is c.told_here-in-Continue.ensures c.args.place.now.condition s (next-there c.args.place.now.next at.rest c.requires.next))
+    (answered (λ (b : Bool). (d : Bool) (u : Reading) → IfSome c.args.place.next (λ k. IsNext (raw_of k) u.rest) → b ≡ sees d u (shift c.args.ahead (begins_below whole c.args.ranks (named c.in-Continue.production)))) c.in-Some-told_here.is c.told_here-in-Continue.ensures c.args.place.condition s (next-there c.args.place.next at.rest c.requires.next))
 
 pub returns-in-None-clause-sees : goal.returns-in-None-clause-sees
 unfolding begins
 returns-in-None-clause-sees t c s at =
-    rw c.in-Call.is (inside c.args.place.now.condition s c.args.ahead (begins_below whole c.args.ranks (named c.in-Call.production))
-    (one-rank c.args.place.now.condition (fresh s) c.args.ahead c.args.ranks (c.args.ranks - 1) (named c.in-Call.production) _ (one-less c.args.ranks c.if-ranks-eq0.false) c.rule_of.ensures.rule (c.begins-in-None.ensures.sees (fresh s) (fresh-at at))))
+    rw c.in-Call.is (inside c.args.place.condition s c.args.ahead (begins_below whole c.args.ranks (named c.in-Call.production))
+    (one-rank c.args.place.condition (fresh s) c.args.ahead c.args.ranks (c.args.ranks - 1) (named c.in-Call.production) _ (one-less c.args.ranks c.if-ranks-eq0.false) c.rule_of.ensures.rule (c.begins-in-None.ensures.sees (fresh s) (fresh-at at))))
 
 pub returns-then-ranks-eq0-2-clause-sees : goal.returns-then-ranks-eq0-2-clause-sees
 unfolding begins
-returns-then-ranks-eq0-2-clause-sees t c s at = rw c.in-Continue.is (no-rank c.args.place.now.condition s c.args.ahead c.args.ranks (named c.in-Continue.production) c.if-ranks-eq0-2.true)
+returns-then-ranks-eq0-2-clause-sees t c s at = rw c.in-Continue.is (no-rank c.args.place.condition s c.args.ahead c.args.ranks (named c.in-Continue.production) c.if-ranks-eq0-2.true)
 
 pub returns-in-None-told_here-clause-sees : goal.returns-in-None-told_here-clause-sees
 unfolding begins
-returns-in-None-told_here-clause-sees t c s at = rw c.in-Continue.is (one-rank c.args.place.now.condition s c.args.ahead c.args.ranks (c.args.ranks - 1) (named c.in-Continue.production) _ (one-less c.args.ranks c.if-ranks-eq0-2.false) c.rule_of-in-None-told_here.ensures.rule (c.begins-in-None-told_here.ensures.sees s at))
+returns-in-None-told_here-clause-sees t c s at = rw c.in-Continue.is (one-rank c.args.place.condition s c.args.ahead c.args.ranks (c.args.ranks - 1) (named c.in-Continue.production) _ (one-less c.args.ranks c.if-ranks-eq0-2.false) c.rule_of-in-None-told_here.ensures.rule (c.begins-in-None-told_here.ensures.sees s at))
 
 pub returns-in-Mode-clause-sees : goal.returns-in-Mode-clause-sees
 unfolding begins
-returns-in-Mode-clause-sees t c s at = rw c.in-Mode.is (in-mode c.args.place.now.condition s c.args.ahead c.args.ranks c.in-Mode.condition (plain c.in-Mode.inner.now) (c.begins-in-Mode.ensures.sees s (record { rest = at.rest; gave = at.gave })))
+returns-in-Mode-clause-sees t c s at = rw c.in-Mode.is (in-mode c.args.place.condition s c.args.ahead c.args.ranks c.in-Mode.condition (plain c.in-Mode.inner.now) (c.begins-in-Mode.ensures.sees s (record { rest = at.rest; gave = at.gave })))
 
 pub returns-in-LaterBodies-clause-sees : goal.returns-in-LaterBodies-clause-sees
 unfolding begins

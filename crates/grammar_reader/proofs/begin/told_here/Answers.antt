@@ -6,5 +6,5 @@ use Rattle.grammar_reader.proofs.begin.told_here.Goals as goal
 
 pub returns : goal.returns
 returns c =
-    told-there c.args.place.now.next c.in_ok-kind.kind c.args.ahead c.args.ranks (named c.args.production) c.begins_before.result
+    told-there c.args.place.next c.in_ok-kind.kind c.args.ahead c.args.ranks (named c.args.production) c.begins_before.result
     (omega (arith, c.if-ahead-ne0.false)) (omega (arith, c.if-ranks-ne20.false)) c.in_ok-kind.was c.begins_before.ensures

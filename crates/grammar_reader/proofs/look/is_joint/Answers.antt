@@ -12,4 +12,4 @@ pub returns-clause-sees : goal.returns-clause-sees
 unfolding sees shift
 returns-clause-sees c s at =
     both-on (c.is_next.ensures.sees s at) c.if-not-is_next.false
-    (joint-seen _ _ s (still-at c.is_next.ensures.same at) (still-short c.args.p.now _ c.is_next.ensures.same c.requires.short) c.args.place.now.condition c.args.n c.args.ahead _ _ (omega (arith, c.saturating_add.ensures, c.from.ensures)) c.joint_at.ensures)
+    (joint-seen _ _ s (still-at c.is_next.ensures.same at) (still-short c.args.p.now _ c.is_next.ensures.same c.requires.short) c.args.place.condition c.args.n c.args.ahead _ _ (omega (arith, c.saturating_add.ensures, c.from.ensures)) c.joint_at.ensures)
