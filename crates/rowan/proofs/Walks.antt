@@ -133,10 +133,11 @@ past_by root (i ∷ up) p k h =
     let e : q ≡ p = cc in
     skipped_walk q (i + 1) (forest_of (drop (i + 1) (terms_below q))) 0 (left_leaving (Node q) k) ∙ ap (λ x. left_leaving (Node x) k) e
 
-pub past_up : (c : Cursor) (p : Place) (d k : ℕ) → d ≡ k + 1 → Some p ≡ above (place_in c) → left_at true (Node p) k ≡ skipped 0 (left_at false c d)
-past_up c p d k e h =
+pub past_up : (c : Cursor) (p q : Place) (d k : ℕ) → d ≡ k + 1 → Some p ≡ above (place_in c) → q ≡ p → left_at true (Node q) k ≡ skipped 0 (left_at false c d)
+past_up c p q d k e h same =
     let m : d ≡ suc k = e ∙ add-one k in
-    sym (skipped_here c d ∙ ap (λ n. skipped 0 (left_above (place_in c).root (place_in c).up n)) m ∙ past_by (place_in c).root (place_in c).up p k h)
+    ap (λ x. left_leaving (Node x) k) same
+    ∙ sym (skipped_here c d ∙ ap (λ n. skipped 0 (left_above (place_in c).root (place_in c).up n)) m ∙ past_by (place_in c).root (place_in c).up p k h)
 
 pub past_top : (c : Cursor) (d : ℕ) → None ≡ above (place_in c) → [] ≡ skipped 0 (left_at false c d)
 past_top c d h = sym (skipped_here c d ∙ ap (skipped 0) (top_by (place_in c).root (place_in c).up d h))

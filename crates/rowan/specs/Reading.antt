@@ -131,6 +131,13 @@ module _ {F T E : Type 0} (call : F → T → List ℕ → Result T E → F → 
   pub text_err : (f g : F) (t : T) (e : E) (c : List ℕ) → 0 < length c → call f t c (Err e) g → FoldsText call f t c (Err e) g
   text_err f g t e c n h = record { pieces = c ∷ []; whole = append-nil c; full = one_full c n; calls = (Err e, g, h, (refl, refl)) }
 
+  -- the same of an answer that is known by an equation
+  pub text_ok_as : (f g : F) (t u : T) (r : Result T E) (c : List ℕ) → r ≡ Ok u → 0 < length c → call f t c r g → FoldsText call f t c (Ok u) g
+  text_ok_as f g t u r c is n h = text_ok f g t u c n (subst (λ x. call f t c x g) is h)
+
+  pub text_err_as : (f g : F) (t : T) (e : E) (r : Result T E) (c : List ℕ) → r ≡ Err e → 0 < length c → call f t c r g → FoldsText call f t c (Err e) g
+  text_err_as f g t e r c is n h = text_err f g t e c n (subst (λ x. call f t c x g) is h)
+
   -- what may be called at the pieces of two texts may be called at those of the first
   pub takes_begins : (takes : F → T → List ℕ → Type 0) (f : F) (t : T) (a b : List ℕ) → TakesText call takes f t (a ++ b) → TakesText call takes f t a
   takes_begins takes f t a b p = record {

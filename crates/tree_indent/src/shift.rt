@@ -68,6 +68,7 @@ pub(crate) fn shifted_token(
     ensures refused { IfErr result (RefusesUnless (FitsToken (shifted_leaf shift token.now).text)) }
 {
     if token.kind().0 != SyntaxKind::WHITESPACE.to_raw() {
+        // Asked only for what its contract says: the length of a token's text has 32 bits.
         let _len = token.text_len();
         return Ok(token.clone()?);
     }

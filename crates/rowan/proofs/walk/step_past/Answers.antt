@@ -8,7 +8,7 @@ returns-in_default c = let d : c.args.depth ≡ 0 = grind (arith, c.in_default.e
 pub returns-in_ok-clone-in-Some-parent_of : goal.returns-in_ok-clone-in-Some-parent_of
 returns-in_ok-clone-in-Some-parent_of c =
     let d : c.args.depth ≡ c.in-Some.above + 1 = grind (arith, c.in-Some.ensures) in
-    rw c.in_ok-clone-in-Some-parent_of.ensures.cases (past_up c.args.element.now _ c.args.depth c.in-Some.above d c.in-Some-parent_of.ensures)
+    past_up c.args.element.now _ _ c.args.depth c.in-Some.above d c.in-Some-parent_of.ensures c.in_ok-clone-in-Some-parent_of.ensures.cases
 
 pub returns-in-None : goal.returns-in-None
 returns-in-None c = past_top c.args.element.now c.args.depth c.in-None.ensures
