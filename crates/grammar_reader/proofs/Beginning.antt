@@ -40,7 +40,7 @@ module _ (c : Bool) (s : Reading) (m k : ℕ) where
   unfolding begins sees shift
   no-near w a b f t = none-on (sees c s (shift m (shift w (begins (begins_below whole k) b)))) f t
 
-  pub both-near : (w : ℕ) (a b : Rule) {r q : Bool} (n : ℕ) → length s.rest < 2 ^ 64 → n ≡ min (m + w) (2 ^ 64 - 1) → r ≡ at a → r ≡ true → q ≡ sees c s (shift n (begins (begins_below whole k) b)) → q ≡ at (Near w a b)
+  pub both-near : (w : ℕ) (a b : Rule) {r q : Bool} (n : ℕ) → length s.rest < 2 ^ 58 → n ≡ min (m + w) (2 ^ 64 - 1) → r ≡ at a → r ≡ true → q ≡ sees c s (shift n (begins (begins_below whole k) b)) → q ≡ at (Near w a b)
   unfolding begins sees shift
   both-near w a b {r} {q} n short is f t g = both-on f t (g ∙ further (begins (begins_below whole k) b))
     where
@@ -92,7 +92,7 @@ pub one-less : (k : ℕ) → (k ≡ 0 → ⊥) → k ≡ suc (k - 1)
 one-less zero e = absurd (e refl)
 one-less (suc k) e = omega arith
 
-pub rest-short : {given : Bool} {v : View} {s : Reading} → IsAt given v s → length v.input < 2 ^ 64 → length s.rest < 2 ^ 64
+pub rest-short : {given : Bool} {v : View} {s : Reading} → IsAt given v s → length v.input < 2 ^ 58 → length s.rest < 2 ^ 58
 rest-short {given} {v} {s} at h = omega (arith, h, ap length at.rest, length-drop v.position v.input)
 
 -- no further ahead

@@ -191,8 +191,5 @@ pub still-innermost : (around : ℕ) (old new : View) {looks : ℕ} → new ≡ 
 still-innermost around old new same i = subst (λ (n : Option (List Marked)). IsInnermost around n) (sym (ap (λ (v : View). v.nodes) same)) i
 
 -- the same input, as long as before
-pub total-still : (total : ℕ) (old new : List Token) → new ≡ old → total ≡ length old → total ≡ length new
-total-still total old new e h = h ∙ ap (λ (ts : List Token). length ts) (sym e)
-
-pub short-still : (old new : List Token) → new ≡ old → length old < 2 ^ 64 → length new < 2 ^ 64
-short-still old new e h = subst (λ (ts : List Token). length ts < 2 ^ 64) (sym e) h
+pub short-still : (old new : List Token) → new ≡ old → length old < 2 ^ 58 → length new < 2 ^ 58
+short-still old new e h = subst (λ (ts : List Token). length ts < 2 ^ 58) (sym e) h

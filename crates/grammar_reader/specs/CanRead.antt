@@ -33,14 +33,19 @@ CanTake calls c (Call x) s = calls x c (fresh s)
 CanTake calls c (Continue x) s = calls x c s
 CanTake calls c (Mode d a) s = CanTake calls d a s
 
+-- Where a production began, by how many tokens were left, and its rank at most.
+pub record Calling : Type 0 where
+  pub began : ℕ
+  pub ranks : ℕ
+
 -- A call is made where tokens were taken since the caller began with so many left, or none were and its rank is lower.
 abbrev pub IsBelow : Production → (began : ℕ) → Production → Reading → Type 0
 IsBelow x began y s = (length s.rest < began) ⊎ ((length s.rest ≤ began) × (rank y < rank x))
 
 -- a rank is given, and it is no lower than this one
-abbrev pub HasRank : ℕ → Option ℕ → Type 0
+abbrev pub HasRank : ℕ → Option Calling → Type 0
 HasRank n None = ⊥
-HasRank n (Some ranks) = n ≤ ranks
+HasRank n (Some now) = n ≤ now.ranks
 
 -- The rule can be read on behalf of a production that began with so many tokens left.
 abbrev pub CanRead : (caller : Production) → (began : ℕ) → Bool → Rule → Reading → Type 0

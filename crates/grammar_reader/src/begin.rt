@@ -43,8 +43,7 @@ pub fn begins(
     ahead: usize,
     ranks: u8,
 ) -> bool
-    requires total { place.total ≡ length p.old.input }
-    requires short { length p.old.input < 2 ^ 64 }
+    requires short { length p.old.input < 2 ^ 58 }
     requires next { IfSome place.next (λ kind. IsNext (raw_of kind) (left p.old)) }
     ensures sees { (s : Reading) → IsAt place.given p.old s
         → result ≡ sees place.condition s (shift ahead (rules.begins (begins_below whole ranks) (plain rule.now))) }
@@ -53,7 +52,6 @@ pub fn begins(
         ≤ p.old.looks + asked (rules.begins (begins_below whole ranks) (plain rule.now)) }
 {
     let anew = Place {
-        total: place.total,
         condition: place.condition,
         given: false,
         next: place.next,
@@ -62,9 +60,9 @@ pub fn begins(
         Rule::Nothing => true,
         Rule::Say(_) => true,
         Rule::One(spelling) => is_spelled(p, place, spelling, ahead),
-        Rule::Any => tokens_left(p, place.total) > 0,
-        Rule::Skip(_) => tokens_left(p, place.total) > 0,
-        Rule::Split => tokens_left(p, place.total) > 0,
+        Rule::Any => tokens_left(p) > 0,
+        Rule::Skip(_) => tokens_left(p) > 0,
+        Rule::Split => tokens_left(p) > 0,
         Rule::Then(first, second) => {
             if first.is_silent() {
                 return begins(p, place, second, ahead, ranks);
@@ -122,7 +120,6 @@ pub fn begins(
         }
         Rule::Mode(condition, inner) => {
             let there = Place {
-                total: place.total,
                 condition: *condition,
                 given: place.given,
                 next: place.next,

@@ -6,6 +6,7 @@
 #![tactic(auto)]
 
 pub mod begin;
+pub mod caller;
 pub mod first;
 pub mod layer;
 pub mod look;

@@ -16,8 +16,6 @@ use parser_input::syntax_kind::SyntaxKind;
 /// What looks ask of besides the tokens ahead.
 #[derive(Clone, Copy)]
 pub struct Place {
-    /// How many tokens the input has.
-    pub total: usize,
     /// Whether condition mode is on.
     pub condition: bool,
     /// Whether the present production gave something.
@@ -39,17 +37,15 @@ pub fn next_kind(p: &mut Parser<'_>) -> Option<SyntaxKind>
 }
 
 /// How many tokens are left.
-pub fn tokens_left(p: &Parser<'_>, total: usize) -> usize
-    requires { total ≡ length p.now.input }
+pub fn tokens_left(p: &Parser<'_>) -> usize
     ensures { result ≡ length (left p.now) }
 {
-    total.saturating_sub(p.position())
+    p.tokens_left()
 }
 
 /// Whether a token of this kind is the n-th, so many tokens further ahead.
 fn is_next(p: &mut Parser<'_>, place: Place, kind: SyntaxKind, n: u8, ahead: usize) -> bool
-    requires total { place.total ≡ length p.old.input }
-    requires short { length p.old.input < 2 ^ 64 }
+    requires short { length p.old.input < 2 ^ 58 }
     ensures sees { (s : Reading) → IsAt place.given p.old s
         → result ≡ sees place.condition s (shift ahead (Kind n (raw_of kind))) }
     ensures same { p.new ≡ record p.old { looks = p.new.looks } }
@@ -62,8 +58,7 @@ fn is_next(p: &mut Parser<'_>, place: Place, kind: SyntaxKind, n: u8, ahead: usi
 /// Whether a token of this kind is the n-th, so many tokens further ahead, and touches the next
 /// one.
 fn is_joint(p: &mut Parser<'_>, place: Place, kind: SyntaxKind, n: u8, ahead: usize) -> bool
-    requires total { place.total ≡ length p.old.input }
-    requires short { length p.old.input < 2 ^ 64 }
+    requires short { length p.old.input < 2 ^ 58 }
     ensures sees { (s : Reading) → IsAt place.given p.old s
         → result ≡ sees place.condition s (shift ahead (Both (Kind n (raw_of kind)) (Joint n))) }
     ensures same { p.new ≡ record p.old { looks = p.new.looks } }
@@ -77,8 +72,7 @@ fn is_joint(p: &mut Parser<'_>, place: Place, kind: SyntaxKind, n: u8, ahead: us
 
 /// Whether the look is there, so many tokens further ahead.
 pub fn is_there(p: &mut Parser<'_>, place: Place, look: &Look, ahead: usize) -> bool
-    requires total { place.total ≡ length p.old.input }
-    requires short { length p.old.input < 2 ^ 64 }
+    requires short { length p.old.input < 2 ^ 58 }
     ensures sees { (s : Reading) → IsAt place.given p.old s
         → result ≡ sees place.condition s (shift ahead (plain_look look.now)) }
     ensures same { p.new ≡ record p.old { looks = p.new.looks } }
@@ -93,7 +87,7 @@ pub fn is_there(p: &mut Parser<'_>, place: Place, look: &Look, ahead: usize) -> 
             p.contextual_at(far).to_raw() == kind.to_raw()
         }
         Look::Joint(n) => p.joint_at(ahead.saturating_add(usize::from(*n))),
-        Look::Left => tokens_left(p, place.total) > 0,
+        Look::Left => tokens_left(p) > 0,
         Look::InCondition => place.condition,
         Look::Given => place.given,
         Look::Both(a, b) => is_there(p, place, a, ahead) && is_there(p, place, b, ahead),
@@ -104,8 +98,7 @@ pub fn is_there(p: &mut Parser<'_>, place: Place, look: &Look, ahead: usize) -> 
 
 /// Whether a spelling stands so many tokens ahead.
 pub fn is_spelled(p: &mut Parser<'_>, place: Place, spelling: &Spelling, ahead: usize) -> bool
-    requires total { place.total ≡ length p.old.input }
-    requires short { length p.old.input < 2 ^ 64 }
+    requires short { length p.old.input < 2 ^ 58 }
     ensures sees { (s : Reading) → IsAt place.given p.old s
         → result ≡ sees place.condition s (shift ahead (there_at 0 (spelled spelling.now).parts)) }
     ensures same { p.new ≡ record p.old { looks = p.new.looks } }

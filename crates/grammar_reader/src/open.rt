@@ -22,8 +22,7 @@ pub struct Open {
 }
 
 /// Takes so many tokens as a leaf of this kind, if they are there.
-pub fn take(p: &mut Parser<'_>, node: Open, kind: SyntaxKind, count: u8, total: usize) -> Open
-    requires total { total ≡ length p.old.input }
+pub fn take(p: &mut Parser<'_>, node: Open, kind: SyntaxKind, count: u8) -> Open
     requires some { 1 ≤ count }
     requires marker { IsInnermost node.marker p.old.nodes }
     ensures input { p.new.input ≡ p.old.input }
@@ -35,7 +34,7 @@ pub fn take(p: &mut Parser<'_>, node: Open, kind: SyntaxKind, count: u8, total: 
         → Stands result.given p.new (leaf (raw_of kind) count s) below }
 {
     let Open { marker, given } = node;
-    if usize::from(count) > tokens_left(p, total) {
+    if usize::from(count) > tokens_left(p) {
         return Open { marker, given };
     }
     p.token(kind, count);
@@ -82,8 +81,7 @@ pub fn wrap(p: &mut Parser<'_>, node: Open, kind: SyntaxKind) -> Open
 }
 
 /// Takes the next token as it is, if one is left.
-pub fn take_any(p: &mut Parser<'_>, node: Open, total: usize) -> Open
-    requires total { total ≡ length p.old.input }
+pub fn take_any(p: &mut Parser<'_>, node: Open) -> Open
     requires marker { IsInnermost node.marker p.old.nodes }
     ensures input { p.new.input ≡ p.old.input }
     ensures looks { p.new.looks ≤ p.old.looks + 1 }
@@ -94,12 +92,11 @@ pub fn take_any(p: &mut Parser<'_>, node: Open, total: usize) -> Open
         → Stands result.given p.new (leaf (ahead 0 s.rest).kind 1 s) below }
 {
     let kind = p.kind_at(0);
-    take(p, node, kind, 1, total)
+    take(p, node, kind, 1)
 }
 
 /// Takes the next token into an error, after the message, if one is left.
-pub fn skip(p: &mut Parser<'_>, node: Open, message: Message, total: usize) -> Open
-    requires total { total ≡ length p.old.input }
+pub fn skip(p: &mut Parser<'_>, node: Open, message: Message) -> Open
     requires marker { IsInnermost node.marker p.old.nodes }
     ensures input { p.new.input ≡ p.old.input }
     ensures looks { p.new.looks ≤ p.old.looks + 1 }
@@ -112,7 +109,7 @@ pub fn skip(p: &mut Parser<'_>, node: Open, message: Message, total: usize) -> O
     let Open { marker, given: _ } = node;
     let inner = start(p);
     let inner = tell(p, inner, message);
-    let inner = take_any(p, inner, total);
+    let inner = take_any(p, inner);
     close(p, inner, SyntaxKind::ERROR);
     Open {
         marker,

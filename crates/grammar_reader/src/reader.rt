@@ -18,6 +18,7 @@ ghost use Rattle.grammar_reader.specs.Size.{size};
 ghost use Rattle.grammar_reader.specs.Stands.{Stands, left};
 
 use crate::begin::begins;
+use crate::caller::Caller;
 use crate::first::{next_layer, operation_ends_before};
 use crate::layer::{height_of, layer_of};
 use crate::look::{Place, next_kind, tokens_left};
@@ -28,28 +29,9 @@ use crate::rule::Rule;
 use crate::table::{later_atoms, later_bodies, turns_in};
 use parser_events::parser::Parser;
 
-/// On whose behalf a rule is read. It is passed by reference: no function that hands it on keeps it
-/// in its frame, so what is read last needs none of its own.
-#[derive(Clone, Copy)]
-pub(crate) struct Caller {
-    /// How many tokens were left where the production began.
-    began: usize,
-    /// Its rank at most.
-    ranks: u8,
-    /// How many tokens the input has.
-    total: usize,
-}
-
 /// Whether the rule begins here.
-pub fn at(
-    p: &mut Parser<'_>,
-    given: bool,
-    rule: &'static Rule,
-    condition: bool,
-    total: usize,
-) -> bool
-    requires total { total ≡ length p.old.input }
-    requires short { length p.old.input < 2 ^ 64 }
+pub fn at(p: &mut Parser<'_>, given: bool, rule: &'static Rule, condition: bool) -> bool
+    requires short { length p.old.input < 2 ^ 58 }
     ensures sees { (s : Reading) (below : Option (List Marked)) → Stands given p.old s below
         → result ≡ is_begun condition (plain rule.now) s }
     ensures same { p.new ≡ record p.old { looks = p.new.looks } }
@@ -57,7 +39,6 @@ pub fn at(
 {
     let next = next_kind(p);
     let place = Place {
-        total,
         condition,
         given,
         next,
@@ -65,25 +46,25 @@ pub fn at(
     begins(p, place, rule, 0, 20)
 }
 
-/// The rank at most of a production that is called now: any where tokens were taken since the
-/// caller began, a lower one where none were.
-fn ranks_below(p: &Parser<'_>, caller: &Caller) -> Option<u8>
-    requires total { caller.now.total ≡ length p.now.input }
-    requires few { caller.now.ranks ≤ 20 }
-    ensures few { IfSome result (λ ranks. ranks ≤ 20) }
-    ensures falls { IfSome result (λ ranks. 32 * length (left p.now) + ranks
-        < 32 * caller.now.began + caller.now.ranks) }
-    ensures some { (x y : rules.Production) (s : Reading) → left p.now ≡ s.rest → rank x ≤ caller.now.ranks
-        → IsBelow x caller.now.began y s → HasRank (rank y) result }
+/// What is called now: of any rank where tokens were taken since the caller began, of a lower one
+/// where none were.
+fn callee(p: &Parser<'_>, caller: Caller) -> Option<Caller>
+    requires short { length p.now.input < 2 ^ 58 }
+    requires few { caller.ranks ≤ 20 }
+    ensures few { IfSome result (λ now. now.ranks ≤ 20) }
+    ensures here { IfSome result (λ now. now.began ≡ length (left p.now)) }
+    ensures falls { IfSome result (λ now. 32 * now.began + now.ranks < 32 * caller.began + caller.ranks) }
+    ensures some { (x y : rules.Production) (s : Reading) → left p.now ≡ s.rest → rank x ≤ caller.ranks
+        → IsBelow x caller.began y s → HasRank (rank y) result }
 {
-    let left = tokens_left(p, caller.total);
-    if left < caller.began {
-        return Some(20);
+    let left = tokens_left(p);
+    if left < caller.began() {
+        return Some(Caller::new(left, 20));
     }
-    if left > caller.began || caller.ranks == 0 {
+    if left > caller.began() || caller.ranks() == 0 {
         return None;
     }
-    Some(caller.ranks - 1)
+    Some(Caller::new(left, caller.ranks() - 1))
 }
 
 /// Whether a production is passed by here, as the next token tells: nothing is read of it.
@@ -113,55 +94,41 @@ pub fn production(
     node: Open,
     production: Production,
     condition: bool,
-    ranks: u8,
-    total: usize,
+    caller: Caller,
 ) -> Open
-    requires total { total ≡ length p.old.input }
-    requires short { length p.old.input < 2 ^ 64 }
-    requires few { ranks ≤ 20 }
+    requires short { length p.old.input < 2 ^ 58 }
+    requires few { caller.ranks ≤ 20 }
+    requires here { caller.began ≡ length (left p.old) }
     requires marker { IsInnermost node.marker p.old.nodes }
     ensures input { p.new.input ≡ p.old.input }
     ensures marker { IsInnermost result.marker p.new.nodes }
     ensures innermost { (n : ℕ) → IsInnermost n p.old.nodes → IsInnermost n p.new.nodes }
-    ensures reads { (s : Reading) (below : Option (List Marked)) → rank (named production) ≤ ranks
+    ensures reads { (s : Reading) (below : Option (List Marked)) → rank (named production) ≤ caller.ranks
         → Stands node.given p.old s below → IsBegun (named production) condition s
         → Stands result.given p.new (meaning whole (named production) condition s) below }
-    ensures looks { (s : Reading) (below : Option (List Marked)) → rank (named production) ≤ ranks
+    ensures looks { (s : Reading) (below : Option (List Marked)) → rank (named production) ≤ caller.ranks
         → Stands node.given p.old s below → IsBegun (named production) condition s
         → Costs (idle_of (named production)) (debt_of (named production)) p.old p.new }
 {
     if !node.given
         && let Some(height) = height_of(production)
     {
-        return layers(p, node, height, condition, ranks, total);
+        return layers(p, node, height, condition, caller);
     }
     if passes_by(p, production) {
         return node;
     }
     let row = row_before(p, production);
-    let began = tokens_left(p, total);
-    let caller = Caller {
-        began,
-        ranks,
-        total,
-    };
-    read(p, node, row, condition, &caller)
+    read(p, node, row, condition, caller)
 }
 
 /// Reads an operand and the operators after it, up to the layer of this height, where the present
 /// production gave nothing yet.
 #[cycle(reader)]
-fn layers(
-    p: &mut Parser<'_>,
-    node: Open,
-    height: u8,
-    condition: bool,
-    ranks: u8,
-    total: usize,
-) -> Open
-    requires total { total ≡ length p.old.input }
-    requires short { length p.old.input < 2 ^ 64 }
-    requires few { ranks ≤ 20 }
+fn layers(p: &mut Parser<'_>, node: Open, height: u8, condition: bool, caller: Caller) -> Open
+    requires short { length p.old.input < 2 ^ 58 }
+    requires few { caller.ranks ≤ 20 }
+    requires here { caller.began ≡ length (left p.old) }
     requires marker { IsInnermost node.marker p.old.nodes }
     requires nothing { node.given ≡ false }
     requires low { 1 ≤ height }
@@ -169,24 +136,19 @@ fn layers(
     ensures input { p.new.input ≡ p.old.input }
     ensures marker { IsInnermost result.marker p.new.nodes }
     ensures innermost { (n : ℕ) → IsInnermost n p.old.nodes → IsInnermost n p.new.nodes }
-    ensures reads { (s : Reading) (below : Option (List Marked)) → rank (layer_at height) ≤ ranks
+    ensures reads { (s : Reading) (below : Option (List Marked)) → rank (layer_at height) ≤ caller.ranks
         → Stands node.given p.old s below → IsBegun (layer_at height) condition s
         → Stands result.given p.new (meaning whole (layer_at height) condition s) below }
-    ensures looks { (s : Reading) (below : Option (List Marked)) → rank (layer_at height) ≤ ranks
+    ensures looks { (s : Reading) (below : Option (List Marked)) → rank (layer_at height) ≤ caller.ranks
         → Stands node.given p.old s below → IsBegun (layer_at height) condition s
         → Costs (idle_of (layer_at height)) (debt_of (layer_at height)) p.old p.new }
 {
-    if ranks == 0 {
+    if caller.ranks() == 0 {
         return node;
     }
-    let began = tokens_left(p, total);
-    let caller = Caller {
-        began,
-        ranks,
-        total,
-    };
-    let node = production(p, node, Production::Prefixed, condition, ranks - 1, total);
-    climb(p, node, 0, height, condition, &caller)
+    let operand = Caller::new(caller.began(), caller.ranks() - 1);
+    let node = production(p, node, Production::Prefixed, condition, operand);
+    climb(p, node, 0, height, condition, caller)
 }
 
 /// Reads on from a layer that was read, up to another: the turns of each layer between. The layers
@@ -198,11 +160,10 @@ fn climb(
     height: u8,
     top: u8,
     condition: bool,
-    caller: &Caller,
+    caller: Caller,
 ) -> Open
-    requires total { caller.now.total ≡ length p.old.input }
-    requires short { length p.old.input < 2 ^ 64 }
-    requires few { caller.now.ranks ≤ 20 }
+    requires short { length p.old.input < 2 ^ 58 }
+    requires few { caller.ranks ≤ 20 }
     requires marker { IsInnermost node.marker p.old.nodes }
     requires below { height ≤ top }
     requires high { top ≤ 10 }
@@ -210,11 +171,11 @@ fn climb(
     ensures marker { IsInnermost result.marker p.new.nodes }
     ensures innermost { (n : ℕ) → IsInnermost n p.old.nodes → IsInnermost n p.new.nodes }
     ensures reads { (s : Reading) (below : Option (List Marked))
-        → CanClimb caller.now.began caller.now.ranks top condition s
+        → CanClimb caller.began caller.ranks top condition s
         → Stands node.given p.old (meaning whole (layer_at height) condition s) below
         → Stands result.given p.new (meaning whole (layer_at top) condition s) below }
     ensures looks { (entry : View) (s : Reading) (below : Option (List Marked))
-        → CanClimb caller.now.began caller.now.ranks top condition s
+        → CanClimb caller.began caller.ranks top condition s
         → Stands node.given p.old (meaning whole (layer_at height) condition s) below
         → Costs (idle_of (layer_at height)) (debt_of (layer_at height)) entry p.old
         → Costs (idle_of (layer_at top)) (debt_of (layer_at top)) entry p.new }
@@ -234,47 +195,33 @@ fn climb(
 /// Reads a production in a node that is left out in the end; in the present one, where that has
 /// nothing yet.
 #[cycle(reader)]
-fn call(
-    p: &mut Parser<'_>,
-    node: Open,
-    called: Production,
-    condition: bool,
-    caller: &Caller,
-) -> Open
-    requires total { caller.now.total ≡ length p.old.input }
-    requires short { length p.old.input < 2 ^ 64 }
-    requires few { caller.now.ranks ≤ 20 }
+fn call(p: &mut Parser<'_>, node: Open, called: Production, condition: bool, caller: Caller) -> Open
+    requires short { length p.old.input < 2 ^ 58 }
+    requires few { caller.ranks ≤ 20 }
     requires marker { IsInnermost node.marker p.old.nodes }
     ensures input { p.new.input ≡ p.old.input }
     ensures marker { IsInnermost result.marker p.new.nodes }
     ensures innermost { (n : ℕ) → IsInnermost n p.old.nodes → IsInnermost n p.new.nodes }
     ensures reads { (x : rules.Production) (s : Reading) (below : Option (List Marked))
-        → rank x ≤ caller.now.ranks
-        → Stands node.given p.old s below → IsBelow x caller.now.began (named called) s
+        → rank x ≤ caller.ranks
+        → Stands node.given p.old s below → IsBelow x caller.began (named called) s
         → IsBegun (named called) condition (fresh s)
         → Stands result.given p.new (after s (meaning whole (named called) condition (fresh s))) below }
     ensures looks { (x : rules.Production) (s : Reading) (below : Option (List Marked))
-        → rank x ≤ caller.now.ranks
-        → Stands node.given p.old s below → IsBelow x caller.now.began (named called) s
+        → rank x ≤ caller.ranks
+        → Stands node.given p.old s below → IsBelow x caller.began (named called) s
         → IsBegun (named called) condition (fresh s)
         → Costs (idle_of (named called)) (debt_of (named called)) p.old p.new }
 {
-    let Some(ranks) = ranks_below(p, caller) else {
+    let Some(now) = callee(p, caller) else {
         return node;
     };
     let Open { marker, given } = node;
     if !given {
-        return production(
-            p,
-            Open { marker, given },
-            called,
-            condition,
-            ranks,
-            caller.total,
-        );
+        return production(p, Open { marker, given }, called, condition, now);
     }
     let inner = start(p);
-    let inner = production(p, inner, called, condition, ranks, caller.total);
+    let inner = production(p, inner, called, condition, now);
     let gave = leave_out(p, inner);
     Open {
         marker,
@@ -289,30 +236,29 @@ fn go_on(
     node: Open,
     called: Production,
     condition: bool,
-    caller: &Caller,
+    caller: Caller,
 ) -> Open
-    requires total { caller.now.total ≡ length p.old.input }
-    requires short { length p.old.input < 2 ^ 64 }
-    requires few { caller.now.ranks ≤ 20 }
+    requires short { length p.old.input < 2 ^ 58 }
+    requires few { caller.ranks ≤ 20 }
     requires marker { IsInnermost node.marker p.old.nodes }
     ensures input { p.new.input ≡ p.old.input }
     ensures marker { IsInnermost result.marker p.new.nodes }
     ensures innermost { (n : ℕ) → IsInnermost n p.old.nodes → IsInnermost n p.new.nodes }
     ensures reads { (x : rules.Production) (s : Reading) (below : Option (List Marked))
-        → rank x ≤ caller.now.ranks
-        → Stands node.given p.old s below → IsBelow x caller.now.began (named called) s
+        → rank x ≤ caller.ranks
+        → Stands node.given p.old s below → IsBelow x caller.began (named called) s
         → IsBegun (named called) condition s
         → Stands result.given p.new (meaning whole (named called) condition s) below }
     ensures looks { (x : rules.Production) (s : Reading) (below : Option (List Marked))
-        → rank x ≤ caller.now.ranks
-        → Stands node.given p.old s below → IsBelow x caller.now.began (named called) s
+        → rank x ≤ caller.ranks
+        → Stands node.given p.old s below → IsBelow x caller.began (named called) s
         → IsBegun (named called) condition s
         → Costs (idle_of (named called)) (debt_of (named called)) p.old p.new }
 {
-    let Some(ranks) = ranks_below(p, caller) else {
+    let Some(now) = callee(p, caller) else {
         return node;
     };
-    production(p, node, called, condition, ranks, caller.total)
+    production(p, node, called, condition, now)
 }
 
 /// Reads turns of a rule, one for each token at most; a turn that takes no token is the last.
@@ -322,34 +268,33 @@ fn turns(
     node: Open,
     rule: &'static Rule,
     condition: bool,
-    caller: &Caller,
+    caller: Caller,
 ) -> Open
-    requires total { caller.now.total ≡ length p.old.input }
-    requires short { length p.old.input < 2 ^ 64 }
-    requires few { caller.now.ranks ≤ 20 }
+    requires short { length p.old.input < 2 ^ 58 }
+    requires few { caller.ranks ≤ 20 }
     requires marker { IsInnermost node.marker p.old.nodes }
     ensures input { p.new.input ≡ p.old.input }
     ensures marker { IsInnermost result.marker p.new.nodes }
     ensures innermost { (n : ℕ) → IsInnermost n p.old.nodes → IsInnermost n p.new.nodes }
     ensures reads { (x : rules.Production) (s : Reading) (below : Option (List Marked))
-        → rank x ≤ caller.now.ranks
-        → Stands node.given p.old s below → CanRead x caller.now.began condition (rules.Star (plain rule.now)) s
+        → rank x ≤ caller.ranks
+        → Stands node.given p.old s below → CanRead x caller.began condition (rules.Star (plain rule.now)) s
         → Stands result.given p.new (reads condition (rules.Star (plain rule.now)) s) below }
     ensures looks { (x : rules.Production) (s : Reading) (below : Option (List Marked))
-        → rank x ≤ caller.now.ranks
-        → Stands node.given p.old s below → CanRead x caller.now.began condition (rules.Star (plain rule.now)) s
+        → rank x ≤ caller.ranks
+        → Stands node.given p.old s below → CanRead x caller.began condition (rules.Star (plain rule.now)) s
         → is_paid (rules.Star (plain rule.now)) ≡ true
         → Costs (idle (rules.Star (plain rule.now))) (debt (rules.Star (plain rule.now))) p.old p.new }
 {
     let mut node = node;
-    let mut turns = tokens_left(p, caller.total);
+    let mut turns = tokens_left(p);
     'turns: while turns > 0 {
-        if !at(p, node.given, rule, condition, caller.total) {
+        if !at(p, node.given, rule, condition) {
             return node;
         }
-        let before = tokens_left(p, caller.total);
+        let before = tokens_left(p);
         node = read(p, node, rule, condition, caller);
-        if tokens_left(p, caller.total) >= before {
+        if tokens_left(p) >= before {
             return node;
         }
         turns -= 1;
@@ -364,29 +309,28 @@ fn read(
     node: Open,
     rule: &'static Rule,
     condition: bool,
-    caller: &Caller,
+    caller: Caller,
 ) -> Open
-    requires total { caller.now.total ≡ length p.old.input }
-    requires short { length p.old.input < 2 ^ 64 }
-    requires few { caller.now.ranks ≤ 20 }
+    requires short { length p.old.input < 2 ^ 58 }
+    requires few { caller.ranks ≤ 20 }
     requires marker { IsInnermost node.marker p.old.nodes }
     ensures input { p.new.input ≡ p.old.input }
     ensures marker { IsInnermost result.marker p.new.nodes }
     ensures innermost { (n : ℕ) → IsInnermost n p.old.nodes → IsInnermost n p.new.nodes }
     ensures reads { (x : rules.Production) (s : Reading) (below : Option (List Marked))
-        → rank x ≤ caller.now.ranks
-        → Stands node.given p.old s below → CanRead x caller.now.began condition (plain rule.now) s
+        → rank x ≤ caller.ranks
+        → Stands node.given p.old s below → CanRead x caller.began condition (plain rule.now) s
         → Stands result.given p.new (reads condition (plain rule.now) s) below }
     ensures looks { (x : rules.Production) (s : Reading) (below : Option (List Marked))
-        → rank x ≤ caller.now.ranks
-        → Stands node.given p.old s below → CanRead x caller.now.began condition (plain rule.now) s
+        → rank x ≤ caller.ranks
+        → Stands node.given p.old s below → CanRead x caller.began condition (plain rule.now) s
         → is_paid (plain rule.now) ≡ true
         → Costs (idle (plain rule.now)) (debt (plain rule.now)) p.old p.new }
 {
     match rule {
         Rule::Nothing => node,
-        Rule::One(spelling) => take(p, node, spelling.kind(), spelling.count(), caller.total),
-        Rule::Any => take_any(p, node, caller.total),
+        Rule::One(spelling) => take(p, node, spelling.kind(), spelling.count()),
+        Rule::Any => take_any(p, node),
         Rule::Then(first, second) => {
             let node = read(p, node, first, condition, caller);
             read(p, node, second, condition, caller)
@@ -396,7 +340,7 @@ fn read(
             read(p, node, second, condition, caller)
         }
         Rule::Or(first, second) => {
-            if at(p, node.given, first, condition, caller.total) {
+            if at(p, node.given, first, condition) {
                 return read(p, node, first, condition, caller);
             }
             read(p, node, second, condition, caller)
@@ -404,7 +348,7 @@ fn read(
         Rule::When(_, inner) => read(p, node, inner, condition, caller),
         Rule::Unless(_, inner) => read(p, node, inner, condition, caller),
         Rule::Opt(inner) => {
-            if at(p, node.given, inner, condition, caller.total) {
+            if at(p, node.given, inner, condition) {
                 return read(p, node, inner, condition, caller);
             }
             node
@@ -425,13 +369,13 @@ fn read(
             wrap(p, node, *kind)
         }
         Rule::Want(inner, message) => {
-            if at(p, node.given, inner, condition, caller.total) {
+            if at(p, node.given, inner, condition) {
                 return read(p, node, inner, condition, caller);
             }
             tell(p, node, *message)
         }
         Rule::Say(message) => tell(p, node, *message),
-        Rule::Skip(message) => skip(p, node, *message, caller.total),
+        Rule::Skip(message) => skip(p, node, *message),
         Rule::Split => split(p, node),
         Rule::Call(called) => call(p, node, *called, condition, caller),
         Rule::Continue(called) => go_on(p, node, *called, condition, caller),

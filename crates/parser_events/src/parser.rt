@@ -72,6 +72,13 @@ impl<'t> Parser<'t> {
         self.input.len() - self.left
     }
 
+    /// How many tokens of the input are left.
+    pub fn tokens_left(&self) -> usize
+        ensures { result ≡ length self.now.input - self.now.position }
+    {
+        self.input.len() - self.position()
+    }
+
     /// The kind of the token so far ahead; `EOF` past the end, and there alone. This is one look.
     pub fn kind_at(&mut self, n: usize) -> SyntaxKind
         ensures kind { raw_of result ≡ (token_at self.old.input (self.old.position + n)).kind }

@@ -1,5 +1,5 @@
 -- What an entry is, case by case.
-use Rattle.std.proofs.Common.{◌≡◌, ◌≤◌, Bool, true, false, List, [], ◌∷◌, length, Option, Some, None, refl, sym, ap, subst, ◌∙◌, arith, true≢false, if◌then◌else◌, inl, inr}
+use Rattle.std.proofs.Common.{◌≡◌, ℕ, ◌≤◌, Bool, true, false, List, [], ◌∷◌, length, Option, Some, None, refl, sym, ap, subst, ◌∙◌, arith, true≢false, if◌then◌else◌, inl, inr}
 use Rattle.std.proofs.lemmas.Bool.{cases_Bool}
 use Rattle.parser_input.specs.Input.{Token}
 use Rattle.parser_events.specs.Forest as forest
@@ -83,12 +83,13 @@ holds-left-out f l h = l.nodes (marked f) marks.End [] h
 
 -- an entry's production is read
 pub read-there :
-    {gave given : Bool} {old new : View} (x y : Production) (ts : List Token)
-    → ((s : Reading) (below : Option (List Marked)) → all.rank y ≤ 20 → Stands gave old s below → IsBegun y false s → Stands given new (meaning whole y false s) below)
+    {gave given : Bool} {old new : View} {ranks : ℕ} (x y : Production) (ts : List Token)
+    → ranks ≡ 20
+    → ((s : Reading) (below : Option (List Marked)) → all.rank y ≤ ranks → Stands gave old s below → IsBegun y false s → Stands given new (meaning whole y false s) below)
     → y ≡ x → Stands gave old (from ts) (Some (marks.End ∷ [])) → can_enter x (from ts) ≡ true → Stands given new (read_from x ts) (Some (marks.End ∷ []))
-read-there {gave} {given} {old} {new} x y ts reads e h b =
+read-there {gave} {given} {old} {new} x y ts any reads e h b =
     subst (λ (z : Production). Stands given new (meaning whole z false (from ts)) (Some (marks.End ∷ []))) e
-    (reads (from ts) (Some (marks.End ∷ [])) (omega (arith, few-ranks y)) h (subst (λ (z : Production). IsBegun z false (from ts)) (sym e) (can-begin x (from ts) b)))
+    (reads (from ts) (Some (marks.End ∷ [])) (omega (arith, any, few-ranks y)) h (subst (λ (z : Production). IsBegun z false (from ts)) (sym e) (can-begin x (from ts) b)))
 
 -- the steps of all trees
 pub parsed-steps : (nodes : Option (List Marked)) (f : Forest) (steps : List Step) → Holds nodes (marked f ∷ []) → AreStepsOf nodes steps → steps ≡ walk.steps f

@@ -1,5 +1,5 @@
 -- How many looks the production of an entry takes.
-use Rattle.std.proofs.Common.{◌≡◌, ◌+◌, ◌*◌, ◌≤◌, Bool, true, false, nat_le, List, [], ◌∷◌, length, Option, Some, refl, sym, subst, arith, inl, inr}
+use Rattle.std.proofs.Common.{◌≡◌, ℕ, ◌+◌, ◌*◌, ◌≤◌, Bool, true, false, nat_le, List, [], ◌∷◌, length, Option, Some, refl, sym, subst, arith, inl, inr}
 use Rattle.std.proofs.lemmas.Bool.{leb-true}
 use Rattle.parser_input.specs.Input.{Token}
 use Rattle.parser_events.specs.Marked.{Marked, End}
@@ -69,10 +69,11 @@ read-few e (inr h) =
 
 -- where an entry is read
 pub few-there :
-    {gave : Bool} {old new : View} (e : TopEntryPoint) (y : Production) (ts : List Token)
-    → ((s : Reading) (below : Option (List Marked)) → rank y ≤ 20 → Stands gave old s below → IsBegun y false s → Costs (idle_of y) (debt_of y) old new)
+    {gave : Bool} {old new : View} {ranks : ℕ} (e : TopEntryPoint) (y : Production) (ts : List Token)
+    → ranks ≡ 20
+    → ((s : Reading) (below : Option (List Marked)) → rank y ≤ ranks → Stands gave old s below → IsBegun y false s → Costs (idle_of y) (debt_of y) old new)
     → y ≡ production_of e → Stands gave old (from ts) (Some (End ∷ [])) → can_enter (production_of e) (from ts) ≡ true → new.looks + length (left new) ≤ old.looks + 4096 * length (left old) + 3000
-few-there {gave} {old} {new} e y ts reads same h b =
+few-there {gave} {old} {new} e y ts any reads same h b =
     read-few e
     (subst (λ (z : Production). Costs (idle_of z) (debt_of z) old new) same
-    (reads (from ts) (Some (End ∷ [])) (omega (arith, few-ranks y)) h (subst (λ (z : Production). IsBegun z false (from ts)) (sym same) (can-begin (production_of e) (from ts) b))))
+    (reads (from ts) (Some (End ∷ [])) (omega (arith, any, few-ranks y)) h (subst (λ (z : Production). IsBegun z false (from ts)) (sym same) (can-begin (production_of e) (from ts) b))))

@@ -14,6 +14,7 @@ ghost use Rattle.ra_parser.specs.Entries.{can_enter, production_of, strayed, wit
 ghost use Rattle.ra_parser.specs.Looks.{looks_per_token};
 
 use crate::entry_points::TopEntryPoint;
+use grammar_reader::caller::Caller;
 use grammar_reader::look::tokens_left;
 use grammar_reader::open::{Open, close, leave_out, start, take_any, tell};
 use grammar_reader::production::Production;
@@ -24,8 +25,7 @@ use parser_events::parser::Parser;
 use parser_input::syntax_kind::SyntaxKind;
 
 /// Takes the tokens that are left, each as a leaf.
-fn take_rest(p: &mut Parser<'_>, node: Open, total: usize) -> Open
-    requires total { total ≡ length p.old.input }
+fn take_rest(p: &mut Parser<'_>, node: Open) -> Open
     requires marker { IsInnermost node.marker p.old.nodes }
     ensures marker { IsInnermost result.marker p.new.nodes }
     ensures does { (s : Reading) (below : Option (List Marked)) → Stands node.given p.old s below
@@ -33,22 +33,21 @@ fn take_rest(p: &mut Parser<'_>, node: Open, total: usize) -> Open
     ensures looks { p.new.looks ≤ p.old.looks + length (left p.old) }
 {
     let mut node = node;
-    'tokens: while tokens_left(p, total) > 0 {
-        node = take_any(p, node, total);
+    'tokens: while tokens_left(p) > 0 {
+        node = take_any(p, node);
     }
     node
 }
 
 /// Closes the only open node as an error, with this message and the tokens that are left.
-fn stray(p: &mut Parser<'_>, node: Open, message: Message, total: usize)
-    requires total { total ≡ length p.old.input }
+fn stray(p: &mut Parser<'_>, node: Open, message: Message)
     requires marker { IsInnermost node.marker p.old.nodes }
     ensures tree { (s : Reading) → Stands node.given p.old s (Some (End ∷ []))
         → Holds p.new.nodes (marked (strayed (message_of message) s) ∷ []) }
     ensures looks { p.new.looks ≤ p.old.looks + length (left p.old) }
 {
     let node = tell(p, node, message);
-    let node = take_rest(p, node, total);
+    let node = take_rest(p, node);
     close(p, node, SyntaxKind::ERROR);
 }
 
@@ -100,9 +99,8 @@ fn missing(entry_point: TopEntryPoint) -> Message
 }
 
 /// Whether an entry can be read.
-fn is_entered(p: &mut Parser<'_>, entry_point: TopEntryPoint, total: usize) -> bool
-    requires total { total ≡ length p.old.input }
-    requires short { length p.old.input < 2 ^ 64 }
+fn is_entered(p: &mut Parser<'_>, entry_point: TopEntryPoint) -> bool
+    requires short { length p.old.input < 2 ^ 58 }
     ensures sees { (s : Reading) (below : Option (List Marked)) → Stands false p.old s below
         → result ≡ can_enter (production_of entry_point) s }
     ensures same { p.new ≡ record p.old { looks = p.new.looks } }
@@ -111,29 +109,28 @@ fn is_entered(p: &mut Parser<'_>, entry_point: TopEntryPoint, total: usize) -> b
     if takes_every_input(entry_point) {
         return true;
     }
-    at(p, false, rule_of(asked(entry_point)), false, total)
+    at(p, false, rule_of(asked(entry_point)), false)
 }
 
 /// Reads an input that no token was taken of.
-pub(crate) fn read_entry(p: &mut Parser<'_>, entry_point: TopEntryPoint, total: usize)
-    requires total { total ≡ length p.old.input }
-    requires short { length p.old.input < 2 ^ 64 }
+pub(crate) fn read_entry(p: &mut Parser<'_>, entry_point: TopEntryPoint)
+    requires short { length p.old.input < 2 ^ 58 }
     requires nodes { p.old.nodes ≡ Some (End ∷ []) }
     ensures tree { Holds p.new.nodes (marked (entry whole (production_of entry_point) (left p.old)) ∷ []) }
     ensures looks { p.new.looks ≤ p.old.looks + looks_per_token * (length (left p.old) + 1) }
 {
     let node = start(p);
-    if !is_entered(p, entry_point, total) {
-        stray(p, node, missing(entry_point), total);
+    if !is_entered(p, entry_point) {
+        stray(p, node, missing(entry_point));
         return;
     }
-    let node = production(p, node, asked(entry_point), false, 20, total);
+    let node = production(p, node, asked(entry_point), false, Caller::here(p));
     if takes_every_input(entry_point) {
         leave_out(p, node);
         return;
     }
-    if tokens_left(p, total) > 0 {
-        stray(p, node, Message::UnexpectedTokens, total);
+    if tokens_left(p) > 0 {
+        stray(p, node, Message::UnexpectedTokens);
         return;
     }
     leave_out(p, node);

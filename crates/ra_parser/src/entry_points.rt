@@ -65,12 +65,11 @@ impl TopEntryPoint {
         ensures short { IfOk result (λ output. length input.now ≤ most_tokens) }
         ensures refused { IfErr result (RefusesParse input.now) }
     {
-        let total = input.len();
-        if total > MOST_TOKENS {
+        if input.len() > MOST_TOKENS {
             return Err(ParseError::TooLong);
         }
         let mut parser = Parser::new(alloc, input);
-        read_entry(&mut parser, self, total);
+        read_entry(&mut parser, self);
         let output = parser.finish()?;
         Ok(output)
     }

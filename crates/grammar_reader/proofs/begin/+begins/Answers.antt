@@ -11,7 +11,7 @@ use Rattle.grammar_reader.specs.declared.rule.Rule as rows
 use Rattle.grammar_reader.specs.Looks.{asked}
 use Rattle.grammar_reader.proofs.Asking.{silent-cost, first-cost, second-cost, near-cost, mode-cost, call-cost, anew-cost}
 use Rattle.grammar_reader.proofs.Beginning.{silent-then, first-then, no-then, second-then, no-near, both-near, first-or, second-or, no-unless, unless, in-mode, no-rank, one-rank, inside, one-less, rest-short}
-use Rattle.grammar_reader.proofs.Looking.{still-at, still-short, still-total, fresh-at}
+use Rattle.grammar_reader.proofs.Looking.{still-at, still-short, fresh-at}
 use Rattle.grammar_reader.proofs.Sizes.{falls-in, below-measure}
 use Rattle.grammar_reader.proofs.Telling.{answered, next-there, still-next}
 use Rattle.grammar_reader.proofs.begin.+begins.Goals as goal
@@ -148,59 +148,59 @@ returns-in-LaterAtoms-clause-sees t c s at = rw (c.in-LaterAtoms.is, sym c.later
 
 pub begins-requires : goal.begins-requires
 unfolding size
-begins-requires t c = (below-measure c.decreases (falls-in c.in-Then.second.now c.args.rule.now c.args.ranks (omega (arith, ap (λ (d : rows.Rule). size (plain d)) c.in-Then.is))), (c.requires.total, (c.requires.short, c.requires.next)))
+begins-requires t c = (below-measure c.decreases (falls-in c.in-Then.second.now c.args.rule.now c.args.ranks (omega (arith, ap (λ (d : rows.Rule). size (plain d)) c.in-Then.is))), (c.requires.short, c.requires.next))
 
 pub begins-requires-in-Then : goal.begins-requires-in-Then
 unfolding size
-begins-requires-in-Then t c = (below-measure c.decreases (falls-in c.in-Then.first.now c.args.rule.now c.args.ranks (omega (arith, ap (λ (d : rows.Rule). size (plain d)) c.in-Then.is))), (c.requires.total, (c.requires.short, c.requires.next)))
+begins-requires-in-Then t c = (below-measure c.decreases (falls-in c.in-Then.first.now c.args.rule.now c.args.ranks (omega (arith, ap (λ (d : rows.Rule). size (plain d)) c.in-Then.is))), (c.requires.short, c.requires.next))
 
 pub begins-requires-in-Then-2 : goal.begins-requires-in-Then-2
 unfolding size
-begins-requires-in-Then-2 t c = (below-measure c.decreases (falls-in c.in-Then.second.now c.args.rule.now c.args.ranks (omega (arith, ap (λ (d : rows.Rule). size (plain d)) c.in-Then.is))), (still-total _ c.args.p.now c.begins-in-Then.new.p c.begins-in-Then.ensures.same c.requires.total, (still-short c.args.p.now c.begins-in-Then.new.p c.begins-in-Then.ensures.same c.requires.short, still-next _ c.args.p.now c.begins-in-Then.new.p c.begins-in-Then.ensures.same c.requires.next)))
+begins-requires-in-Then-2 t c = (below-measure c.decreases (falls-in c.in-Then.second.now c.args.rule.now c.args.ranks (omega (arith, ap (λ (d : rows.Rule). size (plain d)) c.in-Then.is))), (still-short c.args.p.now c.begins-in-Then.new.p c.begins-in-Then.ensures.same c.requires.short, still-next _ c.args.p.now c.begins-in-Then.new.p c.begins-in-Then.ensures.same c.requires.next))
 
 pub begins-requires-in-Near : goal.begins-requires-in-Near
 unfolding size
-begins-requires-in-Near t c = (below-measure c.decreases (falls-in c.in-Near.first.now c.args.rule.now c.args.ranks (omega (arith, ap (λ (d : rows.Rule). size (plain d)) c.in-Near.is))), (c.requires.total, (c.requires.short, c.requires.next)))
+begins-requires-in-Near t c = (below-measure c.decreases (falls-in c.in-Near.first.now c.args.rule.now c.args.ranks (omega (arith, ap (λ (d : rows.Rule). size (plain d)) c.in-Near.is))), (c.requires.short, c.requires.next))
 
 pub begins-requires-in-Near-2 : goal.begins-requires-in-Near-2
 unfolding size
-begins-requires-in-Near-2 t c = (below-measure c.decreases (falls-in c.in-Near.second.now c.args.rule.now c.args.ranks (omega (arith, ap (λ (d : rows.Rule). size (plain d)) c.in-Near.is))), (still-total _ c.args.p.now c.begins-in-Near.new.p c.begins-in-Near.ensures.same c.requires.total, (still-short c.args.p.now c.begins-in-Near.new.p c.begins-in-Near.ensures.same c.requires.short, still-next _ c.args.p.now c.begins-in-Near.new.p c.begins-in-Near.ensures.same c.requires.next)))
+begins-requires-in-Near-2 t c = (below-measure c.decreases (falls-in c.in-Near.second.now c.args.rule.now c.args.ranks (omega (arith, ap (λ (d : rows.Rule). size (plain d)) c.in-Near.is))), (still-short c.args.p.now c.begins-in-Near.new.p c.begins-in-Near.ensures.same c.requires.short, still-next _ c.args.p.now c.begins-in-Near.new.p c.begins-in-Near.ensures.same c.requires.next))
 
 pub begins-requires-in-Or : goal.begins-requires-in-Or
 unfolding size
-begins-requires-in-Or t c = (below-measure c.decreases (falls-in c.in-Or.first.now c.args.rule.now c.args.ranks (omega (arith, ap (λ (d : rows.Rule). size (plain d)) c.in-Or.is))), (c.requires.total, (c.requires.short, c.requires.next)))
+begins-requires-in-Or t c = (below-measure c.decreases (falls-in c.in-Or.first.now c.args.rule.now c.args.ranks (omega (arith, ap (λ (d : rows.Rule). size (plain d)) c.in-Or.is))), (c.requires.short, c.requires.next))
 
 pub begins-requires-in-Or-2 : goal.begins-requires-in-Or-2
 unfolding size
-begins-requires-in-Or-2 t c = (below-measure c.decreases (falls-in c.in-Or.second.now c.args.rule.now c.args.ranks (omega (arith, ap (λ (d : rows.Rule). size (plain d)) c.in-Or.is))), (still-total _ c.args.p.now c.begins-in-Or.new.p c.begins-in-Or.ensures.same c.requires.total, (still-short c.args.p.now c.begins-in-Or.new.p c.begins-in-Or.ensures.same c.requires.short, still-next _ c.args.p.now c.begins-in-Or.new.p c.begins-in-Or.ensures.same c.requires.next)))
+begins-requires-in-Or-2 t c = (below-measure c.decreases (falls-in c.in-Or.second.now c.args.rule.now c.args.ranks (omega (arith, ap (λ (d : rows.Rule). size (plain d)) c.in-Or.is))), (still-short c.args.p.now c.begins-in-Or.new.p c.begins-in-Or.ensures.same c.requires.short, still-next _ c.args.p.now c.begins-in-Or.new.p c.begins-in-Or.ensures.same c.requires.next))
 
 pub begins-requires-in-Unless : goal.begins-requires-in-Unless
 unfolding size
-begins-requires-in-Unless t c = (below-measure c.decreases (falls-in c.in-Unless.inner.now c.args.rule.now c.args.ranks (omega (arith, ap (λ (d : rows.Rule). size (plain d)) c.in-Unless.is))), (still-total _ c.args.p.now c.is_there-in-Unless.new.p c.is_there-in-Unless.ensures.same c.requires.total, (still-short c.args.p.now c.is_there-in-Unless.new.p c.is_there-in-Unless.ensures.same c.requires.short, still-next _ c.args.p.now c.is_there-in-Unless.new.p c.is_there-in-Unless.ensures.same c.requires.next)))
+begins-requires-in-Unless t c = (below-measure c.decreases (falls-in c.in-Unless.inner.now c.args.rule.now c.args.ranks (omega (arith, ap (λ (d : rows.Rule). size (plain d)) c.in-Unless.is))), (still-short c.args.p.now c.is_there-in-Unless.new.p c.is_there-in-Unless.ensures.same c.requires.short, still-next _ c.args.p.now c.is_there-in-Unless.new.p c.is_there-in-Unless.ensures.same c.requires.next))
 
 pub begins-requires-in-Opt : goal.begins-requires-in-Opt
 unfolding size
-begins-requires-in-Opt t c = (below-measure c.decreases (falls-in c.in-Opt.inner.now c.args.rule.now c.args.ranks (omega (arith, ap (λ (d : rows.Rule). size (plain d)) c.in-Opt.is))), (c.requires.total, (c.requires.short, c.requires.next)))
+begins-requires-in-Opt t c = (below-measure c.decreases (falls-in c.in-Opt.inner.now c.args.rule.now c.args.ranks (omega (arith, ap (λ (d : rows.Rule). size (plain d)) c.in-Opt.is))), (c.requires.short, c.requires.next))
 
 pub begins-requires-in-Star : goal.begins-requires-in-Star
 unfolding size
-begins-requires-in-Star t c = (below-measure c.decreases (falls-in c.in-Star.inner.now c.args.rule.now c.args.ranks (omega (arith, ap (λ (d : rows.Rule). size (plain d)) c.in-Star.is))), (c.requires.total, (c.requires.short, c.requires.next)))
+begins-requires-in-Star t c = (below-measure c.decreases (falls-in c.in-Star.inner.now c.args.rule.now c.args.ranks (omega (arith, ap (λ (d : rows.Rule). size (plain d)) c.in-Star.is))), (c.requires.short, c.requires.next))
 
 pub begins-requires-in-Node : goal.begins-requires-in-Node
 unfolding size
-begins-requires-in-Node t c = (below-measure c.decreases (falls-in c.in-Node.inner.now c.args.rule.now c.args.ranks (omega (arith, ap (λ (d : rows.Rule). size (plain d)) c.in-Node.is))), (c.requires.total, (c.requires.short, c.requires.next)))
+begins-requires-in-Node t c = (below-measure c.decreases (falls-in c.in-Node.inner.now c.args.rule.now c.args.ranks (omega (arith, ap (λ (d : rows.Rule). size (plain d)) c.in-Node.is))), (c.requires.short, c.requires.next))
 
 pub begins-requires-in-Wrap : goal.begins-requires-in-Wrap
 unfolding size
-begins-requires-in-Wrap t c = (below-measure c.decreases (falls-in c.in-Wrap.inner.now c.args.rule.now c.args.ranks (omega (arith, ap (λ (d : rows.Rule). size (plain d)) c.in-Wrap.is))), (c.requires.total, (c.requires.short, c.requires.next)))
+begins-requires-in-Wrap t c = (below-measure c.decreases (falls-in c.in-Wrap.inner.now c.args.rule.now c.args.ranks (omega (arith, ap (λ (d : rows.Rule). size (plain d)) c.in-Wrap.is))), (c.requires.short, c.requires.next))
 
 pub begins-requires-in-Want : goal.begins-requires-in-Want
 unfolding size
-begins-requires-in-Want t c = (below-measure c.decreases (falls-in c.in-Want.inner.now c.args.rule.now c.args.ranks (omega (arith, ap (λ (d : rows.Rule). size (plain d)) c.in-Want.is))), (c.requires.total, (c.requires.short, c.requires.next)))
+begins-requires-in-Want t c = (below-measure c.decreases (falls-in c.in-Want.inner.now c.args.rule.now c.args.ranks (omega (arith, ap (λ (d : rows.Rule). size (plain d)) c.in-Want.is))), (c.requires.short, c.requires.next))
 
 pub begins-requires-in-Mode : goal.begins-requires-in-Mode
 unfolding size
-begins-requires-in-Mode t c = (below-measure c.decreases (falls-in c.in-Mode.inner.now c.args.rule.now c.args.ranks (omega (arith, ap (λ (d : rows.Rule). size (plain d)) c.in-Mode.is))), (c.requires.total, (c.requires.short, c.requires.next)))
+begins-requires-in-Mode t c = (below-measure c.decreases (falls-in c.in-Mode.inner.now c.args.rule.now c.args.ranks (omega (arith, ap (λ (d : rows.Rule). size (plain d)) c.in-Mode.is))), (c.requires.short, c.requires.next))
 
 pub returns-then-is_silent-clause-looks : goal.returns-then-is_silent-clause-looks
 unfolding begins

@@ -11,14 +11,14 @@ use Rattle.rust_grammar.specs.Whole.{rank, rule, whole}
 use Rattle.rust_grammar.specs.Begun.{IsBegun}
 use Rattle.rust_grammar.specs.Laws.{reads}
 use Rattle.rust_grammar.proofs.WholeTable.{whole-means}
-use Rattle.grammar_reader.specs.CanRead.{HasRank, is_begun}
+use Rattle.grammar_reader.specs.CanRead.{Calling, HasRank, is_begun}
 use Rattle.grammar_reader.proofs.Below.{row-can-read}
 use Rattle.grammar_reader.specs.Data.{plain, named}
 use Rattle.grammar_reader.specs.Size.{size}
 use Rattle.grammar_reader.specs.Stands.{Stands, left}
 use Rattle.grammar_reader.specs.declared.rule.Rule as rows
 use Rattle.grammar_reader.proofs.Sizes.{falls-read, falls-turns, falls-call, below-measure}
-use Rattle.grammar_reader.proofs.Standing.{inside, stands-still, stands-opened, stands-closed, stands-left-out, nothing-given, after-nothing, still-innermost, total-still, short-still}
+use Rattle.grammar_reader.proofs.Standing.{inside, stands-still, stands-opened, stands-closed, stands-left-out, nothing-given, after-nothing, still-innermost, short-still}
 use Rattle.grammar_reader.specs.Looks.{begin_looks, Costs}
 use Rattle.grammar_reader.specs.Prices.{in_turn, idle, debt, idle_of, debt_of}
 use Rattle.grammar_reader.proofs.Spending.{same-length, tested, within, as-priced, rule-paid, turn-taken, tail-passed-by, turn-is-paid, turns-are-paid}
@@ -30,21 +30,21 @@ use Rattle.grammar_reader.proofs.reader.+reader.Answers.Climbing as climbing
 
 pub call-returns-in_default-clause-reads : goal.call-returns-in_default-clause-reads
 call-returns-in_default-clause-reads t c = λ x s below low h b e.
-    absurd (subst (λ (o : Option ℕ). HasRank (rank (named c.args.called)) o) c.in_default.is (c.ranks_below.ensures.some x (named c.args.called) s h.at.rest low b))
+    absurd (subst (λ (o : Option Calling). HasRank (rank (named c.args.called)) o) c.in_default.is (c.callee.ensures.some x (named c.args.called) s h.at.rest low b))
 
 pub go_on-returns-in_default-clause-reads : goal.go_on-returns-in_default-clause-reads
 go_on-returns-in_default-clause-reads t c = λ x s below low h b e.
-    absurd (subst (λ (o : Option ℕ). HasRank (rank (named c.args.called)) o) c.in_default.is (c.ranks_below.ensures.some x (named c.args.called) s h.at.rest low b))
+    absurd (subst (λ (o : Option Calling). HasRank (rank (named c.args.called)) o) c.in_default.is (c.callee.ensures.some x (named c.args.called) s h.at.rest low b))
 
 pub go_on-returns-clause-reads : goal.go_on-returns-clause-reads
 go_on-returns-clause-reads t c = λ x s below low h b e.
-    let ok : rank (named c.args.called) ≤ c.in-Some.ranks = subst (λ (o : Option ℕ). HasRank (rank (named c.args.called)) o) c.in-Some.is (c.ranks_below.ensures.some x (named c.args.called) s h.at.rest low b) in
+    let ok : rank (named c.args.called) ≤ c.in-Some.now.ranks = subst (λ (o : Option Calling). HasRank (rank (named c.args.called)) o) c.in-Some.is (c.callee.ensures.some x (named c.args.called) s h.at.rest low b) in
     c.production.ensures.reads s below ok h e
 
 pub call-returns-clause-reads : goal.call-returns-clause-reads
 unfolding fresh
 call-returns-clause-reads t c = λ x s below low h b e.
-    let ok : rank (named c.args.called) ≤ c.in-Some.ranks = subst (λ (o : Option ℕ). HasRank (rank (named c.args.called)) o) c.in-Some.is (c.ranks_below.ensures.some x (named c.args.called) s h.at.rest low b) in
+    let ok : rank (named c.args.called) ≤ c.in-Some.now.ranks = subst (λ (o : Option Calling). HasRank (rank (named c.args.called)) o) c.in-Some.is (c.callee.ensures.some x (named c.args.called) s h.at.rest low b) in
     let inner = c.production-inner.ensures.reads (fresh s) (inside below (marked s.given)) ok (stands-opened c.start-inner.ensures.opens c.start-inner.ensures.given h) e in
     let out = stands-left-out s _ c.leave_out-gave.ensures.leaves h inner in
     let both : Bool → Bool = λ g. if g then true else c.production-inner.result.given in
@@ -56,7 +56,7 @@ call-returns-clause-reads t c = λ x s below low h b e.
 pub call-returns-then-not-given-clause-reads : goal.call-returns-then-not-given-clause-reads
 call-returns-then-not-given-clause-reads t c = λ x s below low h b e.
     let y = named c.args.called in
-    let ok : rank y ≤ c.in-Some.ranks = subst (λ (o : Option ℕ). HasRank (rank y) o) c.in-Some.is (c.ranks_below.ensures.some x y s h.at.rest low b) in
+    let ok : rank y ≤ c.in-Some.now.ranks = subst (λ (o : Option Calling). HasRank (rank y) o) c.in-Some.is (c.callee.ensures.some x y s h.at.rest low b) in
     let anew = nothing-given s (subst (λ (g : Bool). Stands g c.args.p.now s below) c.if-not-given.true h) in
     let begun = subst (λ (r : Reading). IsBegun y c.args.condition r) (sym anew) e in
     subst (λ (r : Reading). Stands c.production.result.given c.production.new.p r below)
@@ -65,7 +65,7 @@ call-returns-then-not-given-clause-reads t c = λ x s below low h b e.
 pub call-returns-then-not-given-clause-looks : goal.call-returns-then-not-given-clause-looks
 call-returns-then-not-given-clause-looks t c = λ x s below low h b e.
     let y = named c.args.called in
-    let ok : rank y ≤ c.in-Some.ranks = subst (λ (o : Option ℕ). HasRank (rank y) o) c.in-Some.is (c.ranks_below.ensures.some x y s h.at.rest low b) in
+    let ok : rank y ≤ c.in-Some.now.ranks = subst (λ (o : Option Calling). HasRank (rank y) o) c.in-Some.is (c.callee.ensures.some x y s h.at.rest low b) in
     let anew = nothing-given s (subst (λ (g : Bool). Stands g c.args.p.now s below) c.if-not-given.true h) in
     c.production.ensures.looks s below ok h (subst (λ (r : Reading). IsBegun y c.args.condition r) (sym anew) e)
 
@@ -83,7 +83,7 @@ production-returns-2-clause-reads t c = λ s below low h b.
     let still = stands-still c.passes_by.ensures.same h in
     let stood = stands-still c.row_before-row.ensures.same still in
     let part = c.row_before-row.ensures.part in
-    let can = part.can x c.tokens_left-began.result c.args.condition s still.at.rest (row-can-read x c.args.condition s (c.tokens_left-began.ensures ∙ same-length stood.at.rest) refl b) in
+    let can = part.can x c.args.caller.began c.args.condition s still.at.rest (row-can-read x c.args.condition s (c.requires.here ∙ same-length h.at.rest) refl b) in
     subst (λ (u : Reading). Stands c.read.result.given c.read.new.p u below)
     (sym (part.means c.args.condition s still.at.rest) ∙ sym (whole-means x c.args.condition s))
     (c.read.ensures.reads x s below low stood can)
@@ -92,13 +92,13 @@ pub production-returns-clause-reads : goal.production-returns-clause-reads
 production-returns-clause-reads t c = λ s below low h b.
     let e = c.in-Some.ensures.layer in
     subst (λ (x : Production). Stands c.layers.result.given c.layers.new.p (meaning whole x c.args.condition s) below) (sym e)
-    (c.layers.ensures.reads s below (subst (λ (x : Production). rank x ≤ c.args.ranks) e low) h (subst (λ (x : Production). IsBegun x c.args.condition s) e b))
+    (c.layers.ensures.reads s below (subst (λ (x : Production). rank x ≤ c.args.caller.ranks) e low) h (subst (λ (x : Production). IsBegun x c.args.condition s) e b))
 
 pub production-returns-clause-looks : goal.production-returns-clause-looks
 production-returns-clause-looks t c = λ s below low h b.
     let e = c.in-Some.ensures.layer in
     subst (λ (x : Production). Costs (idle_of x) (debt_of x) c.args.p.now c.layers.new.p) (sym e)
-    (c.layers.ensures.looks s below (subst (λ (x : Production). rank x ≤ c.args.ranks) e low) h (subst (λ (x : Production). IsBegun x c.args.condition s) e b))
+    (c.layers.ensures.looks s below (subst (λ (x : Production). rank x ≤ c.args.caller.ranks) e low) h (subst (λ (x : Production). IsBegun x c.args.condition s) e b))
 
 pub climb-read-node-requires : goal.climb-read-node-requires
 climb-read-node-requires = climbing.climb-read-node-requires
@@ -136,82 +136,82 @@ climb-returns-clause-looks = climbing.climb-returns-clause-looks
 pub read-read-node-requires : goal.read-read-node-requires
 unfolding size
 read-read-node-requires t c =
-    (below-measure c.decreases (falls-read c.in-Then.first.now c.args.rule.now (32 * c.args.caller.now.began + c.args.caller.now.ranks) (omega (arith, ap (λ (d : rows.Rule). size (plain d)) c.in-Then.is))), (c.requires.total, (c.requires.short, (c.requires.few, c.requires.marker))))
+    (below-measure c.decreases (falls-read c.in-Then.first.now c.args.rule.now (32 * c.args.caller.began + c.args.caller.ranks) (omega (arith, ap (λ (d : rows.Rule). size (plain d)) c.in-Then.is))), (c.requires.short, (c.requires.few, c.requires.marker)))
 
 pub read-read-requires : goal.read-read-requires
 unfolding size
 read-read-requires t c =
-    (below-measure c.decreases (falls-read c.in-Then.second.now c.args.rule.now (32 * c.args.caller.now.began + c.args.caller.now.ranks) (omega (arith, ap (λ (d : rows.Rule). size (plain d)) c.in-Then.is))), (total-still _ _ _ c.read-node.ensures.input c.requires.total, (short-still _ _ c.read-node.ensures.input c.requires.short, (c.requires.few, c.read-node.ensures.marker))))
+    (below-measure c.decreases (falls-read c.in-Then.second.now c.args.rule.now (32 * c.args.caller.began + c.args.caller.ranks) (omega (arith, ap (λ (d : rows.Rule). size (plain d)) c.in-Then.is))), (short-still _ _ c.read-node.ensures.input c.requires.short, (c.requires.few, c.read-node.ensures.marker)))
 
 pub read-read-node-requires-in-Near : goal.read-read-node-requires-in-Near
 unfolding size
 read-read-node-requires-in-Near t c =
-    (below-measure c.decreases (falls-read c.in-Near.first.now c.args.rule.now (32 * c.args.caller.now.began + c.args.caller.now.ranks) (omega (arith, ap (λ (d : rows.Rule). size (plain d)) c.in-Near.is))), (c.requires.total, (c.requires.short, (c.requires.few, c.requires.marker))))
+    (below-measure c.decreases (falls-read c.in-Near.first.now c.args.rule.now (32 * c.args.caller.began + c.args.caller.ranks) (omega (arith, ap (λ (d : rows.Rule). size (plain d)) c.in-Near.is))), (c.requires.short, (c.requires.few, c.requires.marker)))
 
 pub read-read-requires-in-Near : goal.read-read-requires-in-Near
 unfolding size
 read-read-requires-in-Near t c =
-    (below-measure c.decreases (falls-read c.in-Near.second.now c.args.rule.now (32 * c.args.caller.now.began + c.args.caller.now.ranks) (omega (arith, ap (λ (d : rows.Rule). size (plain d)) c.in-Near.is))), (total-still _ _ _ c.read-node-in-Near.ensures.input c.requires.total, (short-still _ _ c.read-node-in-Near.ensures.input c.requires.short, (c.requires.few, c.read-node-in-Near.ensures.marker))))
+    (below-measure c.decreases (falls-read c.in-Near.second.now c.args.rule.now (32 * c.args.caller.began + c.args.caller.ranks) (omega (arith, ap (λ (d : rows.Rule). size (plain d)) c.in-Near.is))), (short-still _ _ c.read-node-in-Near.ensures.input c.requires.short, (c.requires.few, c.read-node-in-Near.ensures.marker)))
 
 pub read-read-requires-then-at : goal.read-read-requires-then-at
 unfolding size
 read-read-requires-then-at t c =
-    (below-measure c.decreases (falls-read c.in-Or.first.now c.args.rule.now (32 * c.args.caller.now.began + c.args.caller.now.ranks) (omega (arith, ap (λ (d : rows.Rule). size (plain d)) c.in-Or.is))), (total-still _ _ _ (ap (λ (v : View). v.input) c.at.ensures.same) c.requires.total, (short-still _ _ (ap (λ (v : View). v.input) c.at.ensures.same) c.requires.short, (c.requires.few, still-innermost _ c.args.p.now c.at.new.p c.at.ensures.same c.requires.marker))))
+    (below-measure c.decreases (falls-read c.in-Or.first.now c.args.rule.now (32 * c.args.caller.began + c.args.caller.ranks) (omega (arith, ap (λ (d : rows.Rule). size (plain d)) c.in-Or.is))), (short-still _ _ (ap (λ (v : View). v.input) c.at.ensures.same) c.requires.short, (c.requires.few, still-innermost _ c.args.p.now c.at.new.p c.at.ensures.same c.requires.marker)))
 
 pub read-read-requires-in-Or : goal.read-read-requires-in-Or
 unfolding size
 read-read-requires-in-Or t c =
-    (below-measure c.decreases (falls-read c.in-Or.second.now c.args.rule.now (32 * c.args.caller.now.began + c.args.caller.now.ranks) (omega (arith, ap (λ (d : rows.Rule). size (plain d)) c.in-Or.is))), (total-still _ _ _ (ap (λ (v : View). v.input) c.at.ensures.same) c.requires.total, (short-still _ _ (ap (λ (v : View). v.input) c.at.ensures.same) c.requires.short, (c.requires.few, still-innermost _ c.args.p.now c.at.new.p c.at.ensures.same c.requires.marker))))
+    (below-measure c.decreases (falls-read c.in-Or.second.now c.args.rule.now (32 * c.args.caller.began + c.args.caller.ranks) (omega (arith, ap (λ (d : rows.Rule). size (plain d)) c.in-Or.is))), (short-still _ _ (ap (λ (v : View). v.input) c.at.ensures.same) c.requires.short, (c.requires.few, still-innermost _ c.args.p.now c.at.new.p c.at.ensures.same c.requires.marker)))
 
 pub read-read-requires-in-When : goal.read-read-requires-in-When
 unfolding size
 read-read-requires-in-When t c =
-    (below-measure c.decreases (falls-read c.in-When.inner.now c.args.rule.now (32 * c.args.caller.now.began + c.args.caller.now.ranks) (omega (arith, ap (λ (d : rows.Rule). size (plain d)) c.in-When.is))), (c.requires.total, (c.requires.short, (c.requires.few, c.requires.marker))))
+    (below-measure c.decreases (falls-read c.in-When.inner.now c.args.rule.now (32 * c.args.caller.began + c.args.caller.ranks) (omega (arith, ap (λ (d : rows.Rule). size (plain d)) c.in-When.is))), (c.requires.short, (c.requires.few, c.requires.marker)))
 
 pub read-read-requires-in-Unless : goal.read-read-requires-in-Unless
 unfolding size
 read-read-requires-in-Unless t c =
-    (below-measure c.decreases (falls-read c.in-Unless.inner.now c.args.rule.now (32 * c.args.caller.now.began + c.args.caller.now.ranks) (omega (arith, ap (λ (d : rows.Rule). size (plain d)) c.in-Unless.is))), (c.requires.total, (c.requires.short, (c.requires.few, c.requires.marker))))
+    (below-measure c.decreases (falls-read c.in-Unless.inner.now c.args.rule.now (32 * c.args.caller.began + c.args.caller.ranks) (omega (arith, ap (λ (d : rows.Rule). size (plain d)) c.in-Unless.is))), (c.requires.short, (c.requires.few, c.requires.marker)))
 
 pub read-read-requires-then-at-2 : goal.read-read-requires-then-at-2
 unfolding size
 read-read-requires-then-at-2 t c =
-    (below-measure c.decreases (falls-read c.in-Opt.inner.now c.args.rule.now (32 * c.args.caller.now.began + c.args.caller.now.ranks) (omega (arith, ap (λ (d : rows.Rule). size (plain d)) c.in-Opt.is))), (total-still _ _ _ (ap (λ (v : View). v.input) c.at-in-Opt.ensures.same) c.requires.total, (short-still _ _ (ap (λ (v : View). v.input) c.at-in-Opt.ensures.same) c.requires.short, (c.requires.few, still-innermost _ c.args.p.now c.at-in-Opt.new.p c.at-in-Opt.ensures.same c.requires.marker))))
+    (below-measure c.decreases (falls-read c.in-Opt.inner.now c.args.rule.now (32 * c.args.caller.began + c.args.caller.ranks) (omega (arith, ap (λ (d : rows.Rule). size (plain d)) c.in-Opt.is))), (short-still _ _ (ap (λ (v : View). v.input) c.at-in-Opt.ensures.same) c.requires.short, (c.requires.few, still-innermost _ c.args.p.now c.at-in-Opt.new.p c.at-in-Opt.ensures.same c.requires.marker)))
 
 pub read-turns-requires : goal.read-turns-requires
 unfolding size
 read-turns-requires t c =
-    (below-measure c.decreases (falls-turns c.in-Star.inner.now c.args.rule.now (32 * c.args.caller.now.began + c.args.caller.now.ranks) (omega (arith, ap (λ (d : rows.Rule). size (plain d)) c.in-Star.is))), (c.requires.total, (c.requires.short, (c.requires.few, c.requires.marker))))
+    (below-measure c.decreases (falls-turns c.in-Star.inner.now c.args.rule.now (32 * c.args.caller.began + c.args.caller.ranks) (omega (arith, ap (λ (d : rows.Rule). size (plain d)) c.in-Star.is))), (c.requires.short, (c.requires.few, c.requires.marker)))
 
 pub read-read-child-requires : goal.read-read-child-requires
 unfolding size
 read-read-child-requires t c =
-    (below-measure c.decreases (falls-read c.in-Node.inner.now c.args.rule.now (32 * c.args.caller.now.began + c.args.caller.now.ranks) (omega (arith, ap (λ (d : rows.Rule). size (plain d)) c.in-Node.is))), (total-still _ _ _ c.start-child.ensures.input c.requires.total, (short-still _ _ c.start-child.ensures.input c.requires.short, (c.requires.few, c.start-child.ensures.marker))))
+    (below-measure c.decreases (falls-read c.in-Node.inner.now c.args.rule.now (32 * c.args.caller.began + c.args.caller.ranks) (omega (arith, ap (λ (d : rows.Rule). size (plain d)) c.in-Node.is))), (short-still _ _ c.start-child.ensures.input c.requires.short, (c.requires.few, c.start-child.ensures.marker)))
 
 pub read-read-node-requires-in-Wrap : goal.read-read-node-requires-in-Wrap
 unfolding size
 read-read-node-requires-in-Wrap t c =
-    (below-measure c.decreases (falls-read c.in-Wrap.inner.now c.args.rule.now (32 * c.args.caller.now.began + c.args.caller.now.ranks) (omega (arith, ap (λ (d : rows.Rule). size (plain d)) c.in-Wrap.is))), (c.requires.total, (c.requires.short, (c.requires.few, c.requires.marker))))
+    (below-measure c.decreases (falls-read c.in-Wrap.inner.now c.args.rule.now (32 * c.args.caller.began + c.args.caller.ranks) (omega (arith, ap (λ (d : rows.Rule). size (plain d)) c.in-Wrap.is))), (c.requires.short, (c.requires.few, c.requires.marker)))
 
 pub read-read-requires-then-at-3 : goal.read-read-requires-then-at-3
 unfolding size
 read-read-requires-then-at-3 t c =
-    (below-measure c.decreases (falls-read c.in-Want.inner.now c.args.rule.now (32 * c.args.caller.now.began + c.args.caller.now.ranks) (omega (arith, ap (λ (d : rows.Rule). size (plain d)) c.in-Want.is))), (total-still _ _ _ (ap (λ (v : View). v.input) c.at-in-Want.ensures.same) c.requires.total, (short-still _ _ (ap (λ (v : View). v.input) c.at-in-Want.ensures.same) c.requires.short, (c.requires.few, still-innermost _ c.args.p.now c.at-in-Want.new.p c.at-in-Want.ensures.same c.requires.marker))))
+    (below-measure c.decreases (falls-read c.in-Want.inner.now c.args.rule.now (32 * c.args.caller.began + c.args.caller.ranks) (omega (arith, ap (λ (d : rows.Rule). size (plain d)) c.in-Want.is))), (short-still _ _ (ap (λ (v : View). v.input) c.at-in-Want.ensures.same) c.requires.short, (c.requires.few, still-innermost _ c.args.p.now c.at-in-Want.new.p c.at-in-Want.ensures.same c.requires.marker)))
 
 pub read-call-requires : goal.read-call-requires
 unfolding size
 read-call-requires t c =
-    (below-measure c.decreases (falls-call c.args.rule.now (32 * c.args.caller.now.began + c.args.caller.now.ranks) (omega (arith, ap (λ (d : rows.Rule). size (plain d)) c.in-Call.is))), (c.requires.total, (c.requires.short, (c.requires.few, c.requires.marker))))
+    (below-measure c.decreases (falls-call c.args.rule.now (32 * c.args.caller.began + c.args.caller.ranks) (omega (arith, ap (λ (d : rows.Rule). size (plain d)) c.in-Call.is))), (c.requires.short, (c.requires.few, c.requires.marker)))
 
 pub read-go_on-requires : goal.read-go_on-requires
 unfolding size
 read-go_on-requires t c =
-    (below-measure c.decreases (falls-call c.args.rule.now (32 * c.args.caller.now.began + c.args.caller.now.ranks) (omega (arith, ap (λ (d : rows.Rule). size (plain d)) c.in-Continue.is))), (c.requires.total, (c.requires.short, (c.requires.few, c.requires.marker))))
+    (below-measure c.decreases (falls-call c.args.rule.now (32 * c.args.caller.began + c.args.caller.ranks) (omega (arith, ap (λ (d : rows.Rule). size (plain d)) c.in-Continue.is))), (c.requires.short, (c.requires.few, c.requires.marker)))
 
 pub read-read-requires-in-Mode : goal.read-read-requires-in-Mode
 unfolding size
 read-read-requires-in-Mode t c =
-    (below-measure c.decreases (falls-read c.in-Mode.inner.now c.args.rule.now (32 * c.args.caller.now.began + c.args.caller.now.ranks) (omega (arith, ap (λ (d : rows.Rule). size (plain d)) c.in-Mode.is))), (c.requires.total, (c.requires.short, (c.requires.few, c.requires.marker))))
+    (below-measure c.decreases (falls-read c.in-Mode.inner.now c.args.rule.now (32 * c.args.caller.began + c.args.caller.ranks) (omega (arith, ap (λ (d : rows.Rule). size (plain d)) c.in-Mode.is))), (c.requires.short, (c.requires.few, c.requires.marker)))
 
 pub read-returns-in-Nothing-clause-reads : goal.read-returns-in-Nothing-clause-reads
 unfolding read
@@ -386,21 +386,21 @@ turns-returns-clause-reads t c = λ x s below low h can.
 
 pub call-returns-in_default-clause-looks : goal.call-returns-in_default-clause-looks
 call-returns-in_default-clause-looks t c = λ x s below low h b e.
-    absurd (subst (λ (o : Option ℕ). HasRank (rank (named c.args.called)) o) c.in_default.is (c.ranks_below.ensures.some x (named c.args.called) s h.at.rest low b))
+    absurd (subst (λ (o : Option Calling). HasRank (rank (named c.args.called)) o) c.in_default.is (c.callee.ensures.some x (named c.args.called) s h.at.rest low b))
 
 pub go_on-returns-in_default-clause-looks : goal.go_on-returns-in_default-clause-looks
 go_on-returns-in_default-clause-looks t c = λ x s below low h b e.
-    absurd (subst (λ (o : Option ℕ). HasRank (rank (named c.args.called)) o) c.in_default.is (c.ranks_below.ensures.some x (named c.args.called) s h.at.rest low b))
+    absurd (subst (λ (o : Option Calling). HasRank (rank (named c.args.called)) o) c.in_default.is (c.callee.ensures.some x (named c.args.called) s h.at.rest low b))
 
 pub go_on-returns-clause-looks : goal.go_on-returns-clause-looks
 go_on-returns-clause-looks t c = λ x s below low h b e.
-    let ok : rank (named c.args.called) ≤ c.in-Some.ranks = subst (λ (o : Option ℕ). HasRank (rank (named c.args.called)) o) c.in-Some.is (c.ranks_below.ensures.some x (named c.args.called) s h.at.rest low b) in
+    let ok : rank (named c.args.called) ≤ c.in-Some.now.ranks = subst (λ (o : Option Calling). HasRank (rank (named c.args.called)) o) c.in-Some.is (c.callee.ensures.some x (named c.args.called) s h.at.rest low b) in
     c.production.ensures.looks s below ok h e
 
 pub call-returns-clause-looks : goal.call-returns-clause-looks
 unfolding fresh
 call-returns-clause-looks t c = λ x s below low h b e.
-    let ok : rank (named c.args.called) ≤ c.in-Some.ranks = subst (λ (o : Option ℕ). HasRank (rank (named c.args.called)) o) c.in-Some.is (c.ranks_below.ensures.some x (named c.args.called) s h.at.rest low b) in
+    let ok : rank (named c.args.called) ≤ c.in-Some.now.ranks = subst (λ (o : Option Calling). HasRank (rank (named c.args.called)) o) c.in-Some.is (c.callee.ensures.some x (named c.args.called) s h.at.rest low b) in
     let inner = c.production-inner.ensures.looks (fresh s) (inside below (marked s.given)) ok (stands-opened c.start-inner.ensures.opens c.start-inner.ensures.given h) e in
     within (same-length c.start-inner.ensures.opens.rest) c.start-inner.ensures.looks (same-length c.leave_out-gave.ensures.leaves.rest) c.leave_out-gave.ensures.looks inner
 
@@ -410,7 +410,7 @@ production-returns-2-clause-looks t c = λ s below low h b.
     let still = stands-still c.passes_by.ensures.same h in
     let stood = stands-still c.row_before-row.ensures.same still in
     let part = c.row_before-row.ensures.part in
-    let can = part.can x c.tokens_left-began.result c.args.condition s still.at.rest (row-can-read x c.args.condition s (c.tokens_left-began.ensures ∙ same-length stood.at.rest) refl b) in
+    let can = part.can x c.args.caller.began c.args.condition s still.at.rest (row-can-read x c.args.condition s (c.requires.here ∙ same-length h.at.rest) refl b) in
     as-priced x (rule x) refl
     (tested 1 (in_turn (Some 1) (idle (rule x))) (1 + debt (rule x)) {old = c.args.p.now} {mid = c.passes_by.new.p} (same-length (ap left c.passes_by.ensures.same)) c.passes_by.ensures.looks
     (tested 1 (idle (rule x)) (debt (rule x)) {old = c.passes_by.new.p} {mid = c.row_before-row.new.p} (same-length (ap left c.row_before-row.ensures.same)) c.row_before-row.ensures.looks

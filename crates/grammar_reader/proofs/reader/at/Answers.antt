@@ -1,12 +1,11 @@
 use Rattle.grammar_reader.specs.Data.{plain}
 use Rattle.grammar_reader.proofs.Asking.{begin-cost}
 use Rattle.grammar_reader.proofs.Beginning.{begun-here}
-use Rattle.grammar_reader.proofs.Looking.{still-at, still-short, still-total}
+use Rattle.grammar_reader.proofs.Looking.{still-at, still-short}
 use Rattle.grammar_reader.proofs.reader.at.Goals as goal
 
 pub begins-requires : goal.begins-requires
 begins-requires c = record {
-  total = still-total _ c.args.p.now _ c.next_kind-next.ensures.same c.requires.total;
   short = still-short c.args.p.now _ c.next_kind-next.ensures.same c.requires.short;
   next = c.next_kind-next.ensures.next;
 }

@@ -1,8 +1,8 @@
 -- How layers of operators are climbed.
-use Rattle.std.proofs.Common.{◌≡◌, ℕ, ◌+◌, ◌-◌, ◌*◌, ◌<◌, ◌≤◌, Bool, true, false, sym, ap, subst, ◌∙◌, arith}
+use Rattle.std.proofs.Common.{◌≡◌, ℕ, ◌+◌, ◌-◌, ◌*◌, ◌<◌, ◌≤◌, Bool, sym, ap, subst, ◌∙◌, arith}
 use Rattle.parser_events.specs.View.{View}
 use Rattle.rust_grammar.specs.Rule.{Production, Rule}
-use Rattle.rust_grammar.specs.Meaning.{Reading, read, meaning}
+use Rattle.rust_grammar.specs.Meaning.{Reading, meaning}
 use Rattle.rust_grammar.specs.Whole.{rank, rule, whole}
 use Rattle.rust_grammar.specs.Begun.{IsBegun}
 use Rattle.rust_grammar.specs.Laws.{reads}
@@ -11,7 +11,7 @@ use Rattle.grammar_reader.specs.Layers.{layer_at, turns_of}
 use Rattle.grammar_reader.specs.Size.{size}
 use Rattle.grammar_reader.specs.Stands.{Stands, left}
 use Rattle.grammar_reader.proofs.Sizes.{falls-climb, below-measure}
-use Rattle.grammar_reader.proofs.Standing.{stands-still, nothing-given, still-innermost, total-still, short-still}
+use Rattle.grammar_reader.proofs.Standing.{stands-still, nothing-given, still-innermost, short-still}
 use Rattle.grammar_reader.specs.Looks.{Costs}
 use Rattle.grammar_reader.specs.Prices.{idle, debt, is_paid, idle_of, debt_of}
 use Rattle.grammar_reader.proofs.Spending.{same-length}
@@ -28,7 +28,7 @@ climb-read-node-requires t c =
     let turned = c.turns_in.ensures ∙ ap (λ (n : ℕ). turns_of (rule (layer_at n))) c.layer_of.ensures in
     let few = subst (λ (r : Rule). size r < 2048) (sym turned) (upper-few (u - 1) u (omega (arith, above)) (omega (arith, above, high))) in
     let input = ap (λ (v : View). v.input) c.next_kind-next.ensures.same in
-    (below-measure c.decreases (falls-climb c.turns_in.result.now (32 * c.args.caller.now.began + c.args.caller.now.ranks) c.args.height few (omega (arith, above, high))), (total-still _ _ _ input c.requires.total, (short-still _ _ input c.requires.short, (c.requires.few, still-innermost _ c.args.p.now c.next_kind-next.new.p c.next_kind-next.ensures.same c.requires.marker))))
+    (below-measure c.decreases (falls-climb c.turns_in.result.now (32 * c.args.caller.began + c.args.caller.ranks) c.args.height few (omega (arith, above, high))), (short-still _ _ input c.requires.short, (c.requires.few, still-innermost _ c.args.p.now c.next_kind-next.new.p c.next_kind-next.ensures.same c.requires.marker)))
 
 pub layers-returns-then-ranks-eq0-clause-reads : goal.layers-returns-then-ranks-eq0-clause-reads
 layers-returns-then-ranks-eq0-clause-reads t c = λ s below low h b. absurd (omega (arith, low, rank-at c.args.height c.requires.high, c.if-ranks-eq0.true))
@@ -41,7 +41,7 @@ layers-returns-clause-reads t c = λ s below low h b.
     let anew = nothing-given s (subst (λ (g : Bool). Stands g c.args.p.now s below) c.requires.nothing h) in
     let begun = subst (λ (x : Production). IsBegun x c.args.condition s) operands (begun-under 0 c.args.height (omega arith) c.requires.high c.args.condition s anew b) in
     let operand = c.production-node.ensures.reads s below (omega (arith, operands-rank, rank-at c.args.height c.requires.high, low, c.requires.low)) h begun in
-    c.climb.ensures.reads s below (record { few = low; here = c.tokens_left-began.ensures ∙ same-length h.at.rest; anew = anew; begun = b })
+    c.climb.ensures.reads s below (record { few = low; here = c.requires.here ∙ same-length h.at.rest; anew = anew; begun = b })
     (subst (λ (x : Production). Stands c.production-node.result.given c.production-node.new.p (meaning whole x c.args.condition s) below) (sym operands) operand)
 
 pub layers-returns-clause-looks : goal.layers-returns-clause-looks
@@ -50,7 +50,7 @@ layers-returns-clause-looks t c = λ s below low h b.
     let begun = subst (λ (x : Production). IsBegun x c.args.condition s) operands (begun-under 0 c.args.height (omega arith) c.requires.high c.args.condition s anew b) in
     let operand = c.production-node.ensures.reads s below (omega (arith, operands-rank, rank-at c.args.height c.requires.high, low, c.requires.low)) h begun in
     let spent = c.production-node.ensures.looks s below (omega (arith, operands-rank, rank-at c.args.height c.requires.high, low, c.requires.low)) h begun in
-    c.climb.ensures.looks c.args.p.now s below (record { few = low; here = c.tokens_left-began.ensures ∙ same-length h.at.rest; anew = anew; begun = b })
+    c.climb.ensures.looks c.args.p.now s below (record { few = low; here = c.requires.here ∙ same-length h.at.rest; anew = anew; begun = b })
     (subst (λ (x : Production). Stands c.production-node.result.given c.production-node.new.p (meaning whole x c.args.condition s) below) (sym operands) operand)
     (subst (λ (x : Production). Costs (idle_of x) (debt_of x) c.args.p.now c.production-node.new.p) (sym operands) spent)
 
@@ -89,10 +89,10 @@ climb-returns-clause-reads t c = λ s below can h.
     let m = meaning whole (layer_at (u - 1)) c.args.condition s in
     let begun = begun-under u c.args.top (omega (arith, c.if-upper-top.false)) c.requires.high c.args.condition s can.anew can.begun in
     let readable = subst (λ (n : ℕ). CanRead (layer_at u) n c.args.condition (turns_of (rule (layer_at u))) m) (sym can.here) (upper-read (u - 1) u one low c.args.condition s can.anew begun) in
-    let few : rank (layer_at u) ≤ c.args.caller.now.ranks = omega (arith, can.few, rank-at c.args.top c.requires.high, rank-at u high, c.if-upper-top.false) in
+    let few : rank (layer_at u) ≤ c.args.caller.ranks = omega (arith, can.few, rank-at c.args.top c.requires.high, rank-at u high, c.if-upper-top.false) in
     let turned = c.turns_in.ensures ∙ ap (λ (n : ℕ). turns_of (rule (layer_at n))) c.layer_of.ensures in
     let read = c.read-node.ensures.reads (layer_at u) m below few (subst (λ (r : Reading). Stands c.args.node.given c.next_kind-next.new.p r below) (sym passed) stood)
-    (subst (λ (r : Rule). CanRead (layer_at u) c.args.caller.now.began c.args.condition r m) (sym turned) readable) in
+    (subst (λ (r : Rule). CanRead (layer_at u) c.args.caller.began c.args.condition r m) (sym turned) readable) in
     c.climb.ensures.reads s below can
     (subst (λ (r : Reading). Stands c.read-node.result.given c.read-node.new.p r below)
     (ap (λ (r : Rule). reads c.args.condition r m) turned ∙ sym (upper-means (u - 1) u one low c.args.condition s can.anew)) read)
@@ -111,10 +111,10 @@ climb-returns-clause-looks t c = λ entry s below can h spent.
     let m = meaning whole (layer_at (u - 1)) c.args.condition s in
     let begun = begun-under u c.args.top (omega (arith, c.if-upper-top.false)) c.requires.high c.args.condition s can.anew can.begun in
     let readable = subst (λ (n : ℕ). CanRead (layer_at u) n c.args.condition (turns_of (rule (layer_at u))) m) (sym can.here) (upper-read (u - 1) u one low c.args.condition s can.anew begun) in
-    let few : rank (layer_at u) ≤ c.args.caller.now.ranks = omega (arith, can.few, rank-at c.args.top c.requires.high, rank-at u high, c.if-upper-top.false) in
+    let few : rank (layer_at u) ≤ c.args.caller.ranks = omega (arith, can.few, rank-at c.args.top c.requires.high, rank-at u high, c.if-upper-top.false) in
     let turned = c.turns_in.ensures ∙ ap (λ (n : ℕ). turns_of (rule (layer_at n))) c.layer_of.ensures in
     let there = subst (λ (r : Reading). Stands c.args.node.given c.next_kind-next.new.p r below) (sym passed) stood in
-    let can_turn = subst (λ (r : Rule). CanRead (layer_at u) c.args.caller.now.began c.args.condition r m) (sym turned) readable in
+    let can_turn = subst (λ (r : Rule). CanRead (layer_at u) c.args.caller.began c.args.condition r m) (sym turned) readable in
     let read = c.read-node.ensures.reads (layer_at u) m below few there can_turn in
     let looked = c.read-node.ensures.looks (layer_at u) m below few there can_turn (ap is_paid turned ∙ turns-paid (u - 1) u one low) in
     let idled = passed-idle c.args.height (u - 1) (omega (arith, above)) (omega (arith, high)) c.next_kind-next.result over spent in

@@ -1,9 +1,7 @@
 -- What reading by a rule costs in looks, form by form.
-use Rattle.std.proofs.Common.{◌≡◌, ◌+◌, ◌-◌, ◌<◌, ◌≤◌, max, true, false, None, refl, sym, ap, ◌∙◌, arith, length, if◌then◌else◌}
+use Rattle.std.proofs.Common.{◌≡◌, ◌+◌, ◌<◌, ◌≤◌, max, true, false, None, refl, sym, ap, ◌∙◌, arith, length}
 use Rattle.parser_events.specs.Marked.{marked}
 use Rattle.rust_grammar.specs.Meaning.{read, fresh, leaf, say, skip, split, wrapped}
-use Rattle.rust_grammar.specs.Whole.{rule}
-use Rattle.rust_grammar.specs.Laws.{reads}
 use Rattle.grammar_reader.specs.CanRead.{is_begun}
 use Rattle.grammar_reader.specs.Data.{plain}
 use Rattle.grammar_reader.specs.Stands.{left}
