@@ -12,5 +12,6 @@ pub mod Beginning
 pub mod Moves
 pub mod Standing
 pub mod Layering
-pub mod Passing
+pub mod Parts
+mod Passing
 pub mod Alternatives

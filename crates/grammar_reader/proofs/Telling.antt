@@ -114,6 +114,27 @@ told-there place kind m ranks x None e f g h = tt
 told-there place kind m ranks x (Some b) e f g h = λ c s next.
     first-seen c s m ranks (raw_of kind) x b e f (subst (λ (q : Option SyntaxKind). IfSome q (λ k. IsNext (raw_of k) s.rest)) g next) h
 
+-- the same of a part of a row
+part-seen : (c : Bool) (s : Reading) (m ranks k : ℕ) (r : Rule) (b : Bool) → m ≡ 0 → ranks ≡ 20 → IsNext k s.rest → known_answer k (begins (begins_below whole 20) r) ≡ Some b → b ≡ sees c s (shift m (begins (begins_below whole ranks) r))
+part-seen c s m ranks k r b e f next h =
+    let l = begins (begins_below whole 20) r in
+    subst (λ (i : ℕ). b ≡ sees c s (shift i (begins (begins_below whole ranks) r))) (sym e)
+    (subst (λ (n : ℕ). b ≡ sees c s (shift 0 (begins (begins_below whole n) r))) (sym f)
+    (sym (ap (λ (x : Look). sees c s x) (shift-none l) ∙ subst (λ (o : Option Bool). Right o (sees c s l)) h (right c s k next l))))
+
+pub part-told-there :
+    (place : Option SyntaxKind) (kind : SyntaxKind) (m ranks : ℕ) (r : Rule) (o : Option Bool)
+    → m ≡ 0 → ranks ≡ 20 → place ≡ Some kind → IfSome o (λ b. known_answer (raw_of kind) (begins (begins_below whole 20) r) ≡ Some b)
+    → IfSome o (λ b. (c : Bool) (s : Reading) → IfSome place (λ k. IsNext (raw_of k) s.rest) → b ≡ sees c s (shift m (begins (begins_below whole ranks) r)))
+part-told-there place kind m ranks r None e f g h = tt
+part-told-there place kind m ranks r (Some b) e f g h = λ c s next.
+    part-seen c s m ranks (raw_of kind) r b e f (subst (λ (q : Option SyntaxKind). IfSome q (λ k. IsNext (raw_of k) s.rest)) g next) h
+
+-- what sets tell of a look that they are right for
+pub told-of : (k sure unsure : ℕ) (o : Option Bool) (l : Look) → IfSome o (λ b. (x : Look) → are_right 128 sure unsure x ≡ true → known_answer k x ≡ Some b) → are_right 128 sure unsure l ≡ true → IfSome o (λ b. known_answer k l ≡ Some b)
+told-of k sure unsure None l h e = tt
+told-of k sure unsure (Some b) l h e = h l e
+
 pub answered : (P : Bool → Type 0) {o : Option Bool} {b : Bool} → o ≡ Some b → IfSome o P → P b
 answered P e h = subst (λ (o : Option Bool). IfSome o P) e h
 

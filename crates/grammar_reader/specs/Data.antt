@@ -4,6 +4,8 @@ use Rattle.parser_input.specs.Kind.{raw_of}
 use Rattle.parser_events.specs.Seen.{message_of}
 use Rattle.rust_grammar.specs.Rule as rules
 use Rattle.rust_grammar.specs.Whole as whole
+use Rattle.grammar_reader.specs.declared.part.Part.{Part}
+use Rattle.grammar_reader.specs.declared.part.Part.TheVariants as parts
 use Rattle.grammar_reader.specs.declared.production.Production.{Production}
 use Rattle.grammar_reader.specs.declared.production.Production.TheVariants as names
 use Rattle.grammar_reader.specs.declared.rule.Spelling.{Spelling}
@@ -106,13 +108,42 @@ later zero r = r
 later (suc n) (rules.Or a b) = later n b
 later (suc n) r = r
 
--- the alternatives of an item's body that stand in a row of their own
-abbrev pub later_bodies : rules.Rule
-later_bodies = later 5 (whole.rule rules.body)
+-- what a form that stands around one rule has inside
+unfoldable pub inner : rules.Rule → rules.Rule
+inner (rules.Node k a) = a
+inner (rules.Opt a) = a
+inner (rules.Star a) = a
+inner (rules.Mode c a) = a
+inner r = r
 
--- and those of an atom
-abbrev pub later_atoms : rules.Rule
-later_atoms = later 4 (whole.rule rules.atom)
+-- the first of two, and the other
+unfoldable pub front : rules.Rule → rules.Rule
+front (rules.Then a b) = a
+front (rules.Or a b) = a
+front r = r
+
+unfoldable pub rest : rules.Rule → rules.Rule
+rest (rules.Then a b) = b
+rest r = r
+
+-- The parts that the data has apart, as the rows have them.
+abbrev pub row_part : Part → rules.Rule
+row_part parts.LaterBodies = later 5 (whole.rule rules.body)
+row_part parts.Function = front (later 4 (whole.rule rules.body))
+row_part parts.Implementation = front (later 8 (whole.rule rules.body))
+row_part parts.Trait = front (later 9 (whole.rule rules.body))
+row_part parts.FileItem = inner (rest (rest (inner (whole.rule rules.source_file))))
+row_part parts.ItemInBraces = inner (inner (front (rest (inner (whole.rule rules.assoc_items)))))
+row_part parts.TokenTreeItem = inner (front (rest (inner (front (whole.rule rules.token_tree)))))
+row_part parts.PathSegment = inner (rest (whole.rule rules.path))
+row_part parts.TypePathSegment = inner (rest (whole.rule rules.type_path))
+row_part parts.TypePathArgs = inner (rest (rest (inner (inner (front (whole.rule rules.type_path))))))
+row_part parts.ExprPathSegment = inner (rest (whole.rule rules.expr_path))
+row_part parts.ExprPathArgs = inner (rest (rest (inner (inner (front (whole.rule rules.expr_path))))))
+row_part parts.LaterAtoms = later 4 (whole.rule rules.atom)
+row_part parts.MacroAfterPath = front (rest (front (later 2 (whole.rule rules.atom))))
+row_part parts.Argument = inner (inner (front (rest (inner (whole.rule rules.arguments)))))
+row_part parts.StatementInBlock = inner (inner (front (rest (inner (whole.rule rules.statement_list)))))
 
 abbrev pub plain : rule.Rule → rules.Rule
 plain rule.Nothing = rules.Nothing
@@ -134,11 +165,9 @@ plain rule.Split = rules.Split
 plain (rule.Call x) = rules.Call (named x)
 plain (rule.Continue x) = rules.Continue (named x)
 plain (rule.Mode' condition p a) = rules.Mode condition (plain a)
-plain rule.LaterBodies = later_bodies
-plain rule.LaterAtoms = later_atoms
+plain (rule.Part x) = row_part x
 
--- whether it stands for another row
+-- whether it stands for a part that is apart
 abbrev pub is_reference : rule.Rule → Bool
-is_reference rule.LaterBodies = true
-is_reference rule.LaterAtoms = true
+is_reference (rule.Part x) = true
 is_reference r = false

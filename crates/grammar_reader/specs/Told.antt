@@ -5,8 +5,10 @@ use Rattle.parser_input.specs.Input.{Token}
 use Rattle.parser_input.specs.Kind.{raw_of}
 use Rattle.parser_input.specs.declared.syntax_kind.SyntaxKind.{SyntaxKind}
 use Rattle.rust_grammar.specs.Rule.{Look, Always, Never, Kind, Contextual, Joint, Left, InCondition, Given, Both, Either, Not, Rule, Nothing, Or, Star, Then, begins}
-use Rattle.rust_grammar.specs.Meaning.{ahead, look_of}
+use Rattle.rust_grammar.specs.Meaning.{ahead, begins_below, look_of}
 use Rattle.rust_grammar.specs.Whole.{whole}
+use Rattle.grammar_reader.specs.Data.{row_part}
+use Rattle.grammar_reader.specs.declared.part.Part.{Part}
 
 -- no word that is a contextual keyword has this as its contextual kind
 unfoldable pub is_plain : ℕ → Bool
@@ -51,6 +53,10 @@ known_answer k Given = None
 known_answer k (Both a b) = known_both (known_answer k a) (known_answer k b)
 known_answer k (Either a b) = known_either (known_answer k a) (known_answer k b)
 known_answer k (Not a) = known_not (known_answer k a)
+
+-- what a part of a row that stands apart asks of a place
+abbrev pub part_look : Part → Look
+part_look x = begins (begins_below whole 20) (row_part x)
 
 -- whether a kind is in a set, which is a number with a bit for each kind that is in it
 unfoldable pub is_in : (set kind : ℕ) → Bool

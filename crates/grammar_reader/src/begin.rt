@@ -6,16 +6,18 @@ ghost use Rattle.rust_grammar.specs.Rule as rules;
 ghost use Rattle.rust_grammar.specs.Rule.{shift};
 ghost use Rattle.rust_grammar.specs.Meaning.{Reading, sees, begins_below};
 ghost use Rattle.rust_grammar.specs.Whole.{whole};
-ghost use Rattle.grammar_reader.specs.Data.{named, plain};
+ghost use Rattle.grammar_reader.specs.Data.{named, plain, row_part};
 ghost use Rattle.grammar_reader.specs.Looks.{asked};
 ghost use Rattle.grammar_reader.specs.Stands.{IsAt, left};
 ghost use Rattle.grammar_reader.specs.Told.{IsNext};
 
 use crate::first::begins_before;
 use crate::look::{Place, is_spelled, is_there, tokens_left};
+use crate::part::Part;
+use crate::part_first::part_begins_before;
 use crate::production::Production;
 use crate::rule::Rule;
-use crate::table::{later_atoms, later_bodies, rule_of};
+use crate::table::{rule_of, rule_of_part};
 use parser_events::parser::Parser;
 
 /// Whether a production begins here, if the kind of the next token alone tells.
@@ -32,6 +34,22 @@ fn told_here(place: Place, production: Production, ahead: usize, ranks: u8) -> O
     }
     let kind = place.next?;
     begins_before(production, kind)
+}
+
+/// Whether a part of a row begins here, if the kind of the next token alone tells.
+fn part_told_here(place: Place, part: Part, ahead: usize, ranks: u8) -> Option<bool>
+    ensures { IfSome result (λ answer. (c : Bool) (s : Reading)
+        → IfSome place.next (λ kind. IsNext (raw_of kind) s.rest)
+        → answer ≡ sees c s (shift ahead (rules.begins (begins_below whole ranks) (row_part part)))) }
+{
+    if ahead != 0 {
+        return None;
+    }
+    if ranks != 20 {
+        return None;
+    }
+    let kind = place.next?;
+    part_begins_before(part, kind)
 }
 
 /// Whether the rule begins so many tokens ahead. Of a production that is asked so many calls deep
@@ -126,7 +144,9 @@ pub fn begins(
             };
             begins(p, there, inner, ahead, ranks)
         }
-        Rule::LaterBodies => begins(p, place, later_bodies(), ahead, ranks),
-        Rule::LaterAtoms => begins(p, place, later_atoms(), ahead, ranks),
+        Rule::Part(part) => match part_told_here(place, *part, ahead, ranks) {
+            Some(answer) => answer,
+            None => begins(p, place, rule_of_part(*part), ahead, ranks),
+        },
     }
 }

@@ -4,7 +4,7 @@ ghost use Rattle.std.specs.Prelude.{◌≡◌, ◌<◌, ◌≤◌, ◌+◌, ℕ,
 ghost use Rattle.parser_input.specs.Kind.{raw_of};
 ghost use Rattle.rust_grammar.specs.Meaning.{look_of};
 ghost use Rattle.rust_grammar.specs.Rule as rules;
-ghost use Rattle.rust_grammar.specs.Rule.{Rule};
+ghost use Rattle.rust_grammar.specs.Rule.{Look, Rule};
 ghost use Rattle.rust_grammar.specs.Whole.{rule, whole};
 ghost use Rattle.grammar_reader.specs.Data.{named};
 ghost use Rattle.grammar_reader.specs.Layers.{layer_at};
@@ -63,11 +63,11 @@ pub(crate) use single_patterns;
 /// Before which kinds of the next token a production surely begins, and before which more tokens
 /// tell; before others it does not.
 pub struct First {
-    sure: u128,
-    unsure: u128,
+    pub(crate) sure: u128,
+    pub(crate) unsure: u128,
 }
 
-static ANY_TOKEN: First = First {
+pub(crate) static ANY_TOKEN: First = First {
     sure: u128::MAX - kinds!(EOF),
     unsure: kinds!(EOF),
 };
@@ -321,24 +321,34 @@ pub(crate) fn has(set: u128, kind: u16) -> bool
     (set >> kind) % 2 == 1
 }
 
+impl First {
+    /// Whether what these sets are right for begins before a token of this kind that is no
+    /// contextual keyword, if that alone tells.
+    pub(crate) fn tells(&self, kind: SyntaxKind) -> Option<bool>
+        ensures { IfSome result (λ answer. (l : Look) → are_right 128 self.now.sure self.now.unsure l ≡ true
+            → known_answer (raw_of kind) l ≡ Some answer) }
+    {
+        let kind = kind.to_raw();
+        if kind >= 128 {
+            return None;
+        }
+        if has(self.sure, kind) {
+            return Some(true);
+        }
+        if has(self.unsure, kind) {
+            return None;
+        }
+        Some(false)
+    }
+}
+
 /// Whether a production begins before a token of this kind that is no contextual keyword, if that
 /// alone tells.
 pub fn begins_before(production: Production, kind: SyntaxKind) -> Option<bool>
     ensures { IfSome result (λ answer. known_answer (raw_of kind) (look_of whole (named production))
         ≡ Some answer) }
 {
-    let kind = kind.to_raw();
-    if kind >= 128 {
-        return None;
-    }
-    let first = first_of(production);
-    if has(first.sure, kind) {
-        return Some(true);
-    }
-    if has(first.unsure, kind) {
-        return None;
-    }
-    Some(false)
+    first_of(production).tells(kind)
 }
 
 /// The kinds before which an operation may go on, by a range or an assignment.

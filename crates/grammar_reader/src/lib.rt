@@ -12,6 +12,8 @@ pub mod layer;
 pub mod look;
 mod notation;
 pub mod open;
+pub mod part;
+pub mod part_first;
 pub mod passed;
 pub mod production;
 pub mod reader;

@@ -158,6 +158,9 @@ macro_rules! call { ($name:ident) => { Rule::Call(Production::$name) }; }
 
 macro_rules! more { ($name:ident) => { Rule::Continue(Production::$name) }; }
 
+/// A part that stands apart.
+macro_rules! part { ($name:ident) => { Rule::Part(Part::$name) }; }
+
 /// A part that is expected, with what is said where it is missing.
 macro_rules! want { ($a:expr, $message:expr) => { Rule::Want(&$a, $message) }; }
 
@@ -177,20 +180,25 @@ macro_rules! want_expression { ($name:ident) => { want!(call!($name), Message::E
 
 macro_rules! want_condition { () => { want!(on!(call!(Operation)), Message::ExpectedExpression) }; }
 
-/// The rest of a list after its opening spelling.
-macro_rules! rest_listed {
+/// What a list repeats: an element with what stands after it, or a token that has no place there.
+macro_rules! element {
     ($list:ident, $element:expr, $close:ident) => {
-        then!(
-            off!(star!(unless!(
-                until!($close),
-                or!(
-                    then!($element, or!(one!(COMMA), when!(next!($close), Rule::Nothing), Rule::Say(expected!(COMMA)))),
-                    when!(both!(Look::Left, not!(one_of!(0; SEMICOLON L_CURLY R_CURLY R_PAREN R_BRACK))), Rule::Skip(Message::UnexpectedIn(SyntaxKind::$list)))
-                )
-            ))),
-            want_one!($close)
+        unless!(
+            until!($close),
+            or!(
+                then!($element, or!(one!(COMMA), when!(next!($close), Rule::Nothing), Rule::Say(expected!(COMMA)))),
+                when!(both!(Look::Left, not!(one_of!(0; SEMICOLON L_CURLY R_CURLY R_PAREN R_BRACK))), Rule::Skip(Message::UnexpectedIn(SyntaxKind::$list)))
+            )
         )
     };
+}
+
+/// The rest of a list after its opening spelling, by what it repeats.
+macro_rules! rest_of_list { ($turn:expr, $close:ident) => { then!(off!(star!($turn)), want_one!($close)) }; }
+
+/// The rest of a list after its opening spelling.
+macro_rules! rest_listed {
+    ($list:ident, $element:expr, $close:ident) => { rest_of_list!(element!($list, $element, $close), $close) };
 }
 
 macro_rules! listed { ($list:ident, $open:ident, $element:expr, $close:ident) => { then!(one!($open), rest_listed!($list, $element, $close)) }; }
@@ -243,6 +251,7 @@ pub(crate) use both;
 pub(crate) use call;
 pub(crate) use colons_before_more;
 pub(crate) use either;
+pub(crate) use element;
 pub(crate) use expected;
 pub(crate) use field_name;
 pub(crate) use joined;
@@ -262,8 +271,10 @@ pub(crate) use op;
 pub(crate) use op_but;
 pub(crate) use opt;
 pub(crate) use or;
+pub(crate) use part;
 pub(crate) use prefixed;
 pub(crate) use rest_listed;
+pub(crate) use rest_of_list;
 pub(crate) use row;
 pub(crate) use star;
 pub(crate) use then;

@@ -26,7 +26,7 @@ use crate::open::{Open, close, leave_out, skip, split, start, take, take_any, te
 use crate::passed::row_before;
 use crate::production::Production;
 use crate::rule::Rule;
-use crate::table::{later_atoms, later_bodies, turns_in};
+use crate::table::{rule_of_part, turns_in};
 use parser_events::parser::Parser;
 
 /// Whether the rule begins here.
@@ -380,7 +380,6 @@ fn read(
         Rule::Call(called) => call(p, node, *called, condition, caller),
         Rule::Continue(called) => go_on(p, node, *called, condition, caller),
         Rule::Mode(mode, inner) => read(p, node, inner, *mode, caller),
-        Rule::LaterBodies => read(p, node, later_bodies(), condition, caller),
-        Rule::LaterAtoms => read(p, node, later_atoms(), condition, caller),
+        Rule::Part(part) => read(p, node, rule_of_part(*part), condition, caller),
     }
 }

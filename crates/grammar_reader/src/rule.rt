@@ -5,6 +5,7 @@ ghost use Rattle.parser_input.specs.Kind.{raw_of};
 ghost use Rattle.rust_grammar.specs.Rule as rules;
 ghost use Rattle.grammar_reader.specs.Data.{plain, spelled};
 
+use crate::part::Part;
 use crate::production::Production;
 use parser_events::message::Message;
 use parser_input::syntax_kind::SyntaxKind;
@@ -58,10 +59,8 @@ pub enum Rule {
     Call(Production),
     Continue(Production),
     Mode(bool, &'static Rule),
-    /// The later alternatives of an item's body: its row is kept as two.
-    LaterBodies,
-    /// The later alternatives of an atom, in the same way.
-    LaterAtoms,
+    /// A part that stands apart.
+    Part(Part),
 }
 
 impl Spelling {
@@ -116,8 +115,7 @@ impl Rule {
             Rule::Call(_) => false,
             Rule::Continue(_) => false,
             Rule::Mode(_, _) => false,
-            Rule::LaterBodies => false,
-            Rule::LaterAtoms => false,
+            Rule::Part(_) => false,
         }
     }
 
@@ -145,8 +143,7 @@ impl Rule {
             Rule::Call(_) => false,
             Rule::Continue(_) => false,
             Rule::Mode(_, inner) => inner.is_passed(),
-            Rule::LaterBodies => false,
-            Rule::LaterAtoms => false,
+            Rule::Part(_) => false,
         }
     }
 }

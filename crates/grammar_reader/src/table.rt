@@ -3,12 +3,11 @@
 ghost use Rattle.std.specs.Prelude.{◌≡◌, ◌<◌, false};
 ghost use Rattle.rust_grammar.specs.Whole.{rule};
 ghost use Rattle.grammar_reader.specs.Size.{size};
-ghost use Rattle.grammar_reader.specs.Data.{plain, named, is_reference};
+ghost use Rattle.grammar_reader.specs.Data.{plain, named, is_reference, row_part};
 
+use crate::part::Part;
 use crate::production::Production;
 use crate::rule::Rule;
-pub(crate) use expressions::later_atoms;
-pub(crate) use items::later_bodies;
 pub(crate) use operators::turns_in;
 
 mod attributes;
@@ -98,5 +97,30 @@ pub fn rule_of(production: Production) -> &'static Rule
         Production::IfExpr => control::if_expr(),
         Production::MatchArms => control::match_arms(),
         Production::MatchArm => control::match_arm(),
+    }
+}
+
+/// The rule of a part that stands apart.
+pub fn rule_of_part(part: Part) -> &'static Rule
+    ensures rule { plain result.now ≡ row_part part }
+    ensures row { is_reference result.now ≡ false }
+{
+    match part {
+        Part::LaterBodies => items::later_bodies(),
+        Part::Function => items::function_body(),
+        Part::Implementation => items::implementation_body(),
+        Part::Trait => items::trait_body(),
+        Part::FileItem => items::file_item(),
+        Part::ItemInBraces => items::item_in_braces(),
+        Part::TokenTreeItem => attributes::token_tree_item(),
+        Part::PathSegment => paths::path_segment(),
+        Part::TypePathSegment => paths::type_path_segment(),
+        Part::TypePathArgs => paths::type_path_args(),
+        Part::ExprPathSegment => paths::expr_path_segment(),
+        Part::ExprPathArgs => paths::expr_path_args(),
+        Part::LaterAtoms => expressions::later_atoms(),
+        Part::MacroAfterPath => expressions::macro_after_path(),
+        Part::Argument => expressions::argument(),
+        Part::StatementInBlock => statements::statement_in_block(),
     }
 }

@@ -3,9 +3,11 @@
 ghost use Rattle.std.specs.Prelude.{◌≡◌, false};
 ghost use Rattle.rust_grammar.specs.Rule as rules;
 ghost use Rattle.rust_grammar.specs.Whole.{rule};
-ghost use Rattle.grammar_reader.specs.Data.{plain, is_reference};
+ghost use Rattle.grammar_reader.specs.Data.{plain, is_reference, row_part};
+ghost use Rattle.grammar_reader.specs.declared.part.Part.TheVariants as parts;
 
 use crate::notation::*;
+use crate::part::Part;
 use crate::production::Production;
 use crate::rule::{Look, Rule, Spelling};
 use parser_events::message::Message;
@@ -20,16 +22,6 @@ macro_rules! visibility_goes_on {
             next!(L_PAREN SELF_KW R_PAREN),
             next!(L_PAREN SUPER_KW R_PAREN),
         )
-    };
-}
-
-/// Inside a token tree: token trees, and any token but a closing bracket.
-macro_rules! tokens {
-    () => {
-        star!(or!(
-            call!(TokenTree),
-            when!(both!(Look::Left, not!(one_of!(0; R_PAREN R_CURLY R_BRACK))), Rule::Any)
-        ))
     };
 }
 
@@ -92,18 +84,46 @@ pub(crate) fn meta() -> &'static Rule
     &META
 }
 
+/// Inside a token tree: token trees, and any token but a closing bracket.
+static TOKEN_TREE_ITEM: Rule = or!(
+    call!(TokenTree),
+    when!(
+        both!(Look::Left, not!(one_of!(0; R_PAREN R_CURLY R_BRACK))),
+        Rule::Any
+    )
+);
+
+pub(crate) fn token_tree_item() -> &'static Rule
+    ensures rule { plain result.now ≡ row_part parts.TokenTreeItem }
+    ensures row { is_reference result.now ≡ false }
+{
+    &TOKEN_TREE_ITEM
+}
+
 static TOKEN_TREE: Rule = or!(
     node!(
         TOKEN_TREE,
-        then!(one!(L_PAREN), tokens!(), want_one!(R_PAREN))
+        then!(
+            one!(L_PAREN),
+            star!(part!(TokenTreeItem)),
+            want_one!(R_PAREN)
+        )
     ),
     node!(
         TOKEN_TREE,
-        then!(one!(L_BRACK), tokens!(), want_one!(R_BRACK))
+        then!(
+            one!(L_BRACK),
+            star!(part!(TokenTreeItem)),
+            want_one!(R_BRACK)
+        )
     ),
     node!(
         TOKEN_TREE,
-        then!(one!(L_CURLY), tokens!(), want_one!(R_CURLY))
+        then!(
+            one!(L_CURLY),
+            star!(part!(TokenTreeItem)),
+            want_one!(R_CURLY)
+        )
     ),
 );
 

@@ -3,9 +3,11 @@
 ghost use Rattle.std.specs.Prelude.{◌≡◌, false};
 ghost use Rattle.rust_grammar.specs.Rule as rules;
 ghost use Rattle.rust_grammar.specs.Whole.{rule};
-ghost use Rattle.grammar_reader.specs.Data.{plain, is_reference, later_atoms};
+ghost use Rattle.grammar_reader.specs.Data.{plain, is_reference, row_part};
+ghost use Rattle.grammar_reader.specs.declared.part.Part.TheVariants as parts;
 
 use crate::notation::*;
+use crate::part::Part;
 use crate::production::Production;
 use crate::rule::{Look, Rule, Spelling};
 use parser_events::message::Message;
@@ -70,7 +72,7 @@ pub(crate) fn after_dot() -> &'static Rule
 
 static ARGUMENTS: Rule = node!(
     ARG_LIST,
-    listed!(ARG_LIST, L_PAREN, call!(Expression), R_PAREN)
+    then!(one!(L_PAREN), rest_of_list!(part!(Argument), R_PAREN))
 );
 
 pub(crate) fn arguments() -> &'static Rule
@@ -80,15 +82,21 @@ pub(crate) fn arguments() -> &'static Rule
     &ARGUMENTS
 }
 
+static ARGUMENT: Rule = element!(ARG_LIST, call!(Expression), R_PAREN);
+
+pub(crate) fn argument() -> &'static Rule
+    ensures rule { plain result.now ≡ row_part parts.Argument }
+    ensures row { is_reference result.now ≡ false }
+{
+    &ARGUMENT
+}
+
 /// What stands after a path: the rest of a macro call, the fields of a record, or nothing; `!=` is
 /// an operator.
 macro_rules! after_path {
     () => {
         or!(
-            unless!(
-                next!(NEQ),
-                then!(wrap!(MACRO_CALL, then!(one!(BANG), want_call!(TokenTree, TOKEN_TREE))), wrap!(MACRO_EXPR, Rule::Nothing))
-            ),
+            part!(MacroAfterPath),
             unless!(Look::InCondition, wrap!(RECORD_EXPR, call!(FieldValues))),
             wrap!(PATH_EXPR, Rule::Nothing),
         )
@@ -126,12 +134,30 @@ macro_rules! in_brackets {
     };
 }
 
+static MACRO_AFTER_PATH: Rule = unless!(
+    next!(NEQ),
+    then!(
+        wrap!(
+            MACRO_CALL,
+            then!(one!(BANG), want_call!(TokenTree, TOKEN_TREE))
+        ),
+        wrap!(MACRO_EXPR, Rule::Nothing)
+    )
+);
+
+pub(crate) fn macro_after_path() -> &'static Rule
+    ensures rule { plain result.now ≡ row_part parts.MacroAfterPath }
+    ensures row { is_reference result.now ≡ false }
+{
+    &MACRO_AFTER_PATH
+}
+
 static ATOM: Rule = or!(
     call!(Literal),
     call!(BlockLike),
     then!(call!(ExprPath), after_path!()),
     then!(one!(L_PAREN), in_parens!()),
-    Rule::LaterAtoms,
+    part!(LaterAtoms),
 );
 
 static LATER_ATOMS: Rule = or!(
@@ -174,7 +200,7 @@ pub(crate) fn atom() -> &'static Rule
 }
 
 pub(crate) fn later_atoms() -> &'static Rule
-    ensures rule { plain result.now ≡ later_atoms }
+    ensures rule { plain result.now ≡ row_part parts.LaterAtoms }
     ensures row { is_reference result.now ≡ false }
 {
     &LATER_ATOMS

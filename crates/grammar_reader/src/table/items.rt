@@ -3,22 +3,24 @@
 ghost use Rattle.std.specs.Prelude.{◌≡◌, false};
 ghost use Rattle.rust_grammar.specs.Rule as rules;
 ghost use Rattle.rust_grammar.specs.Whole.{rule};
-ghost use Rattle.grammar_reader.specs.Data.{plain, later_bodies, is_reference};
+ghost use Rattle.grammar_reader.specs.Data.{plain, is_reference, row_part};
+ghost use Rattle.grammar_reader.specs.declared.part.Part.TheVariants as parts;
 
 use crate::notation::*;
+use crate::part::Part;
 use crate::production::Production;
 use crate::rule::{Look, Rule, Spelling};
 use parser_events::message::Message;
 use parser_input::syntax_kind::SyntaxKind;
 
-/// Items until the list ends; an attribute of what they stand in is no part of an item.
-macro_rules! items_until {
-    ($ends:expr) => { star!(unless!($ends, or!(when!(next!(POUND BANG), call!(Attribute)), call!(Item)))) };
+/// An item, until the list ends; an attribute of what they stand in is no part of an item.
+macro_rules! item_until {
+    ($ends:expr) => { unless!($ends, or!(when!(next!(POUND BANG), call!(Attribute)), call!(Item))) };
 }
 
 /// Items in braces.
 macro_rules! items_in_braces {
-    () => { then!(one!(L_CURLY), off!(items_until!(until!(R_CURLY))), want_one!(R_CURLY)) };
+    () => { then!(one!(L_CURLY), off!(star!(part!(ItemInBraces))), want_one!(R_CURLY)) };
 }
 
 macro_rules! fn_begins {
@@ -178,7 +180,7 @@ static SOURCE_FILE: Rule = node!(
     then!(
         opt!(one!(SHEBANG)),
         opt!(one!(FRONTMATTER)),
-        items_until!(at_end!())
+        star!(part!(FileItem))
     )
 );
 
@@ -189,7 +191,25 @@ pub(crate) fn source_file() -> &'static Rule
     &SOURCE_FILE
 }
 
-static MACRO_ITEMS: Rule = node!(MACRO_ITEMS, items_until!(at_end!()));
+static FILE_ITEM: Rule = item_until!(at_end!());
+
+pub(crate) fn file_item() -> &'static Rule
+    ensures rule { plain result.now ≡ row_part parts.FileItem }
+    ensures row { is_reference result.now ≡ false }
+{
+    &FILE_ITEM
+}
+
+static ITEM_IN_BRACES: Rule = item_until!(until!(R_CURLY));
+
+pub(crate) fn item_in_braces() -> &'static Rule
+    ensures rule { plain result.now ≡ row_part parts.ItemInBraces }
+    ensures row { is_reference result.now ≡ false }
+{
+    &ITEM_IN_BRACES
+}
+
+static MACRO_ITEMS: Rule = node!(MACRO_ITEMS, star!(part!(FileItem)));
 
 pub(crate) fn macro_items() -> &'static Rule
     ensures rule { plain result.now ≡ rule rules.macro_items }
@@ -220,22 +240,49 @@ static BODY: Rule = or!(
     ),
     structure!(),
     enumeration!(),
-    when!(fn_begins!(), function!()),
-    Rule::LaterBodies,
+    part!(Function),
+    part!(LaterBodies),
 );
+
+static FUNCTION: Rule = when!(fn_begins!(), function!());
+
+pub(crate) fn function_body() -> &'static Rule
+    ensures rule { plain result.now ≡ row_part parts.Function }
+    ensures row { is_reference result.now ≡ false }
+{
+    &FUNCTION
+}
+
+static IMPLEMENTATION: Rule = when!(
+    either!(next!(IMPL_KW), next!(UNSAFE_KW IMPL_KW)),
+    implementation!()
+);
+
+pub(crate) fn implementation_body() -> &'static Rule
+    ensures rule { plain result.now ≡ row_part parts.Implementation }
+    ensures row { is_reference result.now ≡ false }
+{
+    &IMPLEMENTATION
+}
+
+static TRAIT: Rule = when!(
+    either!(next!(TRAIT_KW), next!(UNSAFE_KW TRAIT_KW)),
+    trait_item!()
+);
+
+pub(crate) fn trait_body() -> &'static Rule
+    ensures rule { plain result.now ≡ row_part parts.Trait }
+    ensures row { is_reference result.now ≡ false }
+{
+    &TRAIT
+}
 
 static LATER_BODIES: Rule = or!(
     constant!(),
     static_item!(),
     type_alias!(),
-    when!(
-        either!(next!(IMPL_KW), next!(UNSAFE_KW IMPL_KW)),
-        implementation!()
-    ),
-    when!(
-        either!(next!(TRAIT_KW), next!(UNSAFE_KW TRAIT_KW)),
-        trait_item!()
-    ),
+    part!(Implementation),
+    part!(Trait),
     macro_call!(),
     when!(Look::Given, wrap!(ERROR, Rule::Say(Message::ExpectedItem))),
     Rule::Skip(Message::ExpectedItem),
@@ -249,7 +296,7 @@ pub(crate) fn body() -> &'static Rule
 }
 
 pub(crate) fn later_bodies() -> &'static Rule
-    ensures rule { plain result.now ≡ later_bodies }
+    ensures rule { plain result.now ≡ row_part parts.LaterBodies }
     ensures row { is_reference result.now ≡ false }
 {
     &LATER_BODIES

@@ -3,20 +3,32 @@
 ghost use Rattle.std.specs.Prelude.{◌≡◌, false};
 ghost use Rattle.rust_grammar.specs.Rule as rules;
 ghost use Rattle.rust_grammar.specs.Whole.{rule};
-ghost use Rattle.grammar_reader.specs.Data.{plain, is_reference};
+ghost use Rattle.grammar_reader.specs.Data.{plain, is_reference, row_part};
+ghost use Rattle.grammar_reader.specs.declared.part.Part.TheVariants as parts;
 
 use crate::notation::*;
+use crate::part::Part;
 use crate::production::Production;
 use crate::rule::{Look, Rule, Spelling};
 use parser_events::message::Message;
 use parser_input::syntax_kind::SyntaxKind;
 
-/// Segments, each with these arguments; a path ends before `::*` and `::{`.
+/// Segments, the first with these arguments, and what is repeated after it.
 macro_rules! path_with {
-    ($args:expr) => {
+    ($args:expr, $segment:ident) => {
         then!(
             node!(PATH, node!(PATH_SEGMENT, then!(opt!(one!(COLON2)), want_call!(NameRef, NAME_REF), $args))),
-            star!(unless!(colons_before_more!(), wrap!(PATH, then!(one!(COLON2), want_node!(PATH_SEGMENT, then!(call!(NameRef), $args))))))
+            star!(part!($segment))
+        )
+    };
+}
+
+/// A further segment with these arguments; a path ends before `::*` and `::{`.
+macro_rules! segment_with {
+    ($args:expr) => {
+        unless!(
+            colons_before_more!(),
+            wrap!(PATH, then!(one!(COLON2), want_node!(PATH_SEGMENT, then!(call!(NameRef), $args))))
         )
     };
 }
@@ -57,7 +69,7 @@ pub(crate) fn name_ref() -> &'static Rule
     &NAME_REF
 }
 
-static PATH: Rule = path_with!(Rule::Nothing);
+static PATH: Rule = path_with!(Rule::Nothing, PathSegment);
 
 pub(crate) fn path() -> &'static Rule
     ensures rule { plain result.now ≡ rule rules.path }
@@ -66,10 +78,16 @@ pub(crate) fn path() -> &'static Rule
     &PATH
 }
 
-static TYPE_PATH: Rule = path_with!(opt!(when!(
-    either!(next!(COLON2 L_ANGLE), not_before!(L_ANGLE; EQ)),
-    call!(GenericArgs)
-)));
+static PATH_SEGMENT: Rule = segment_with!(Rule::Nothing);
+
+pub(crate) fn path_segment() -> &'static Rule
+    ensures rule { plain result.now ≡ row_part parts.PathSegment }
+    ensures row { is_reference result.now ≡ false }
+{
+    &PATH_SEGMENT
+}
+
+static TYPE_PATH: Rule = path_with!(opt!(part!(TypePathArgs)), TypePathSegment);
 
 pub(crate) fn type_path() -> &'static Rule
     ensures rule { plain result.now ≡ rule rules.type_path }
@@ -78,13 +96,52 @@ pub(crate) fn type_path() -> &'static Rule
     &TYPE_PATH
 }
 
-static EXPR_PATH: Rule = path_with!(opt!(when!(next!(COLON2 L_ANGLE), call!(GenericArgs))));
+static TYPE_PATH_SEGMENT: Rule = segment_with!(opt!(part!(TypePathArgs)));
+
+pub(crate) fn type_path_segment() -> &'static Rule
+    ensures rule { plain result.now ≡ row_part parts.TypePathSegment }
+    ensures row { is_reference result.now ≡ false }
+{
+    &TYPE_PATH_SEGMENT
+}
+
+static TYPE_PATH_ARGS: Rule = when!(
+    either!(next!(COLON2 L_ANGLE), not_before!(L_ANGLE; EQ)),
+    call!(GenericArgs)
+);
+
+pub(crate) fn type_path_args() -> &'static Rule
+    ensures rule { plain result.now ≡ row_part parts.TypePathArgs }
+    ensures row { is_reference result.now ≡ false }
+{
+    &TYPE_PATH_ARGS
+}
+
+static EXPR_PATH: Rule = path_with!(opt!(part!(ExprPathArgs)), ExprPathSegment);
 
 pub(crate) fn expr_path() -> &'static Rule
     ensures rule { plain result.now ≡ rule rules.expr_path }
     ensures row { is_reference result.now ≡ false }
 {
     &EXPR_PATH
+}
+
+static EXPR_PATH_SEGMENT: Rule = segment_with!(opt!(part!(ExprPathArgs)));
+
+pub(crate) fn expr_path_segment() -> &'static Rule
+    ensures rule { plain result.now ≡ row_part parts.ExprPathSegment }
+    ensures row { is_reference result.now ≡ false }
+{
+    &EXPR_PATH_SEGMENT
+}
+
+static EXPR_PATH_ARGS: Rule = when!(next!(COLON2 L_ANGLE), call!(GenericArgs));
+
+pub(crate) fn expr_path_args() -> &'static Rule
+    ensures rule { plain result.now ≡ row_part parts.ExprPathArgs }
+    ensures row { is_reference result.now ≡ false }
+{
+    &EXPR_PATH_ARGS
 }
 
 static GENERIC_ARGS: Rule = when!(

@@ -3,9 +3,11 @@
 ghost use Rattle.std.specs.Prelude.{◌≡◌, false};
 ghost use Rattle.rust_grammar.specs.Rule as rules;
 ghost use Rattle.rust_grammar.specs.Whole.{rule};
-ghost use Rattle.grammar_reader.specs.Data.{plain, is_reference};
+ghost use Rattle.grammar_reader.specs.Data.{plain, is_reference, row_part};
+ghost use Rattle.grammar_reader.specs.declared.part.Part.TheVariants as parts;
 
 use crate::notation::*;
+use crate::part::Part;
 use crate::production::Production;
 use crate::rule::{Look, Rule, Spelling};
 use parser_events::message::Message;
@@ -71,7 +73,7 @@ static STATEMENT_LIST: Rule = node!(
     STMT_LIST,
     then!(
         one!(L_CURLY),
-        off!(star!(unless!(until!(R_CURLY), call!(Statement)))),
+        off!(star!(part!(StatementInBlock))),
         want_one!(R_CURLY)
     )
 );
@@ -81,6 +83,15 @@ pub(crate) fn statement_list() -> &'static Rule
     ensures row { is_reference result.now ≡ false }
 {
     &STATEMENT_LIST
+}
+
+static STATEMENT_IN_BLOCK: Rule = unless!(until!(R_CURLY), call!(Statement));
+
+pub(crate) fn statement_in_block() -> &'static Rule
+    ensures rule { plain result.now ≡ row_part parts.StatementInBlock }
+    ensures row { is_reference result.now ≡ false }
+{
+    &STATEMENT_IN_BLOCK
 }
 
 static BLOCK: Rule = node!(BLOCK_EXPR, call!(StatementList));

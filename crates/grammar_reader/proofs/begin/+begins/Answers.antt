@@ -5,7 +5,7 @@ use Rattle.parser_input.specs.Kind.{raw_of}
 use Rattle.rust_grammar.specs.Meaning.{Reading, sees, fresh, begins_below}
 use Rattle.grammar_reader.specs.Told.{IsNext}
 use Rattle.rust_grammar.specs.Whole.{whole}
-use Rattle.grammar_reader.specs.Data.{plain, plain_look, named}
+use Rattle.grammar_reader.specs.Data.{plain, plain_look, named, row_part}
 use Rattle.grammar_reader.specs.Size.{size}
 use Rattle.grammar_reader.specs.declared.rule.Rule as rows
 use Rattle.grammar_reader.specs.Looks.{asked}
@@ -138,13 +138,13 @@ pub returns-in-Mode-clause-sees : goal.returns-in-Mode-clause-sees
 unfolding begins
 returns-in-Mode-clause-sees t c s at = rw c.in-Mode.is (in-mode c.args.place.condition s c.args.ahead c.args.ranks c.in-Mode.condition (plain c.in-Mode.inner.now) (c.begins-in-Mode.ensures.sees s (record { rest = at.rest; gave = at.gave })))
 
-pub returns-in-LaterBodies-clause-sees : goal.returns-in-LaterBodies-clause-sees
-unfolding begins
-returns-in-LaterBodies-clause-sees t c s at = rw (c.in-LaterBodies.is, sym c.later_bodies.ensures.rule) (c.begins-in-LaterBodies.ensures.sees s at)
+pub returns-in-Some-part_told_here-clause-sees : goal.returns-in-Some-part_told_here-clause-sees
+returns-in-Some-part_told_here-clause-sees t c s at =
+    rw c.in-Part.is
+    (answered (λ (b : Bool). (d : Bool) (u : Reading) → IfSome c.args.place.next (λ k. IsNext (raw_of k) u.rest) → b ≡ sees d u (shift c.args.ahead (begins (begins_below whole c.args.ranks) (row_part c.in-Part.part)))) c.in-Some-part_told_here.is c.part_told_here.ensures c.args.place.condition s (next-there c.args.place.next at.rest c.requires.next))
 
-pub returns-in-LaterAtoms-clause-sees : goal.returns-in-LaterAtoms-clause-sees
-unfolding begins
-returns-in-LaterAtoms-clause-sees t c s at = rw (c.in-LaterAtoms.is, sym c.later_atoms.ensures.rule) (c.begins-in-LaterAtoms.ensures.sees s at)
+pub returns-in-None-part_told_here-clause-sees : goal.returns-in-None-part_told_here-clause-sees
+returns-in-None-part_told_here-clause-sees t c s at = rw (c.in-Part.is, sym c.rule_of_part.ensures.rule) (c.begins-in-None-part_told_here.ensures.sees s at)
 
 pub begins-requires : goal.begins-requires
 unfolding size
@@ -282,10 +282,5 @@ pub returns-in-Mode-clause-looks : goal.returns-in-Mode-clause-looks
 unfolding begins
 returns-in-Mode-clause-looks t c = rw c.in-Mode.is (mode-cost c.args.ranks c.args.p.now.looks c.in-Mode.condition (plain c.in-Mode.inner.now) c.begins-in-Mode.ensures.looks)
 
-pub returns-in-LaterBodies-clause-looks : goal.returns-in-LaterBodies-clause-looks
-unfolding begins
-returns-in-LaterBodies-clause-looks t c = rw (c.in-LaterBodies.is, sym c.later_bodies.ensures.rule) c.begins-in-LaterBodies.ensures.looks
-
-pub returns-in-LaterAtoms-clause-looks : goal.returns-in-LaterAtoms-clause-looks
-unfolding begins
-returns-in-LaterAtoms-clause-looks t c = rw (c.in-LaterAtoms.is, sym c.later_atoms.ensures.rule) c.begins-in-LaterAtoms.ensures.looks
+pub returns-in-None-part_told_here-clause-looks : goal.returns-in-None-part_told_here-clause-looks
+returns-in-None-part_told_here-clause-looks t c = rw (c.in-Part.is, sym c.rule_of_part.ensures.rule) c.begins-in-None-part_told_here.ensures.looks

@@ -317,13 +317,9 @@ pub read-returns-in-Continue-clause-reads : goal.read-returns-in-Continue-clause
 unfolding read
 read-returns-in-Continue-clause-reads t c = rw c.in-Continue.is (λ x s below low h can. c.go_on.ensures.reads x s below low h can.0 can.1)
 
-pub read-returns-in-LaterBodies-clause-reads : goal.read-returns-in-LaterBodies-clause-reads
+pub read-returns-in-Part-clause-reads : goal.read-returns-in-Part-clause-reads
 unfolding read
-read-returns-in-LaterBodies-clause-reads t c = rw (c.in-LaterBodies.is, sym c.later_bodies.ensures.rule) (λ x s below low h can. c.read-in-LaterBodies.ensures.reads x s below low h can)
-
-pub read-returns-in-LaterAtoms-clause-reads : goal.read-returns-in-LaterAtoms-clause-reads
-unfolding read
-read-returns-in-LaterAtoms-clause-reads t c = rw (c.in-LaterAtoms.is, sym c.later_atoms.ensures.rule) (λ x s below low h can. c.read-in-LaterAtoms.ensures.reads x s below low h can)
+read-returns-in-Part-clause-reads t c = rw (c.in-Part.is, sym c.rule_of_part.ensures.rule) (λ x s below low h can. c.read-in-Part.ensures.reads x s below low h can)
 
 pub turns-returns-then-not-at-clause-reads : goal.turns-returns-then-not-at-clause-reads
 unfolding read
@@ -482,11 +478,8 @@ read-returns-in-Call-clause-looks = looks.read-returns-in-Call-clause-looks
 pub read-returns-in-Continue-clause-looks : goal.read-returns-in-Continue-clause-looks
 read-returns-in-Continue-clause-looks = looks.read-returns-in-Continue-clause-looks
 
-pub read-returns-in-LaterBodies-clause-looks : goal.read-returns-in-LaterBodies-clause-looks
-read-returns-in-LaterBodies-clause-looks = looks.read-returns-in-LaterBodies-clause-looks
-
-pub read-returns-in-LaterAtoms-clause-looks : goal.read-returns-in-LaterAtoms-clause-looks
-read-returns-in-LaterAtoms-clause-looks = looks.read-returns-in-LaterAtoms-clause-looks
+pub read-returns-in-Part-clause-looks : goal.read-returns-in-Part-clause-looks
+read-returns-in-Part-clause-looks = looks.read-returns-in-Part-clause-looks
 
 pub turns-returns-then-not-at-clause-looks : goal.turns-returns-then-not-at-clause-looks
 turns-returns-then-not-at-clause-looks = looks.turns-returns-then-not-at-clause-looks

@@ -143,13 +143,9 @@ pub read-returns-in-Continue-clause-looks : goal.read-returns-in-Continue-clause
 unfolding read idle debt
 read-returns-in-Continue-clause-looks t c = rw c.in-Continue.is (λ x s below low h can paid. c.go_on.ensures.looks x s below low h can.0 can.1)
 
-pub read-returns-in-LaterBodies-clause-looks : goal.read-returns-in-LaterBodies-clause-looks
+pub read-returns-in-Part-clause-looks : goal.read-returns-in-Part-clause-looks
 unfolding read idle debt is_paid
-read-returns-in-LaterBodies-clause-looks t c = rw (c.in-LaterBodies.is, sym c.later_bodies.ensures.rule) (λ x s below low h can paid. c.read-in-LaterBodies.ensures.looks x s below low h can paid)
-
-pub read-returns-in-LaterAtoms-clause-looks : goal.read-returns-in-LaterAtoms-clause-looks
-unfolding read idle debt is_paid
-read-returns-in-LaterAtoms-clause-looks t c = rw (c.in-LaterAtoms.is, sym c.later_atoms.ensures.rule) (λ x s below low h can paid. c.read-in-LaterAtoms.ensures.looks x s below low h can paid)
+read-returns-in-Part-clause-looks t c = rw (c.in-Part.is, sym c.rule_of_part.ensures.rule) (λ x s below low h can paid. c.read-in-Part.ensures.looks x s below low h can paid)
 
 pub turns-returns-then-not-at-clause-looks : goal.turns-returns-then-not-at-clause-looks
 unfolding idle debt

@@ -8,10 +8,10 @@ use Rattle.rust_grammar.specs.Rule.{there_at}
 use Rattle.rust_grammar.specs.Statements.{statements}
 use Rattle.rust_grammar.specs.Types.{types}
 use Rattle.rust_grammar.specs.Whole.{rule}
-use Rattle.grammar_reader.specs.Data.{later}
+use Rattle.grammar_reader.specs.Data.{later, inner, front, rest}
 use Rattle.grammar_reader.proofs.Choices.{alike}
 use Rattle.grammar_reader.proofs.table.expressions.later_atoms.Goals as goal
 
 pub returns-clause-rule : goal.returns-clause-rule
-unfolding later rule items statements expressions patterns types paths there_at row one_of any_of no_longer longest is_longer
+unfolding later inner front rest rule items statements expressions patterns types paths there_at row one_of any_of no_longer longest is_longer
 returns-clause-rule c = alike refl (alike refl (alike refl (alike refl (alike refl refl))))

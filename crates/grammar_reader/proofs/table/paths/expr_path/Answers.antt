@@ -8,8 +8,9 @@ use Rattle.rust_grammar.specs.Rule.{there_at}
 use Rattle.rust_grammar.specs.Statements.{statements}
 use Rattle.rust_grammar.specs.Types.{types}
 use Rattle.rust_grammar.specs.Whole.{rule}
+use Rattle.grammar_reader.specs.Data.{later, inner, front, rest}
 use Rattle.grammar_reader.proofs.table.paths.expr_path.Goals as goal
 
 pub returns-clause-rule : goal.returns-clause-rule
-unfolding rule items statements expressions patterns types paths there_at row one_of any_of no_longer longest is_longer
+unfolding later inner front rest rule items statements expressions patterns types paths there_at row one_of any_of no_longer longest is_longer
 returns-clause-rule c = refl
