@@ -1,86 +1,20 @@
 //! Reads texts over and over, stage by stage, and prints how many tokens the parser sees.
 //!
-//! Standard input is a list of texts, each ended by the character U+001E; the edition is 2021. For each round a line goes to
-//! standard error: the bytes; the raw tokens and the time that cutting them took; the leaves, the tokens that the parser sees, and
-//! the time that both took. What is made of a text is dropped outside of the time.
+//! Standard input is a list of texts, each ended by the character U+001E; the edition is 2021. With no text, white space and
+//! comments are put between the steps of an output of a million tokens instead. What is printed for each round, [`stages`] and
+//! [`events`] say.
 #![tactic(auto)]
 
-use parser_input::edition::Edition;
-use parser_input::lexed_str::LexedStr;
-use rustc_lexer::tokenize;
+use events::measure_events;
+use stages::measure_stages;
 use std::alloc::{AllocError, Global};
 use std::io;
-use std::time::Instant;
+
+mod events;
+mod stages;
 
 /// The rounds that are timed.
 const ROUNDS: u32 = 5;
-
-// What was read so far.
-#[derive(Clone, Copy)]
-struct Sum {
-    bytes: usize,
-    raw_tokens: usize,
-    lexing_nanos: u128,
-    leaves: usize,
-    input_tokens: usize,
-    leaves_nanos: u128,
-}
-
-impl Sum {
-    fn new() -> Sum {
-        Sum {
-            bytes: 0,
-            raw_tokens: 0,
-            lexing_nanos: 0,
-            leaves: 0,
-            input_tokens: 0,
-            leaves_nanos: 0,
-        }
-    }
-
-    // This and the text, which is read here.
-    fn with(self, rt: &HostRuntime, text: &str) -> io::Result<Sum> {
-        let start = Instant::now(rt)?;
-        let (raw_tokens, bytes) = lexed(text);
-        let lexing_nanos = start.elapsed(rt)?.as_nanos();
-        let start = Instant::now(rt)?;
-        let lexed = LexedStr::new(rt.alloc(), Edition::Edition2021, text)?;
-        let input = lexed.to_input(rt.alloc())?;
-        let leaves_nanos = start.elapsed(rt)?.as_nanos();
-        Ok(Sum {
-            bytes: self.bytes.wrapping_add(bytes),
-            raw_tokens: self.raw_tokens.wrapping_add(raw_tokens),
-            lexing_nanos: self.lexing_nanos.wrapping_add(lexing_nanos),
-            leaves: self.leaves.wrapping_add(lexed.len()),
-            input_tokens: self.input_tokens.wrapping_add(input.len()),
-            leaves_nanos: self.leaves_nanos.wrapping_add(leaves_nanos),
-        })
-    }
-
-    fn print(self, rt: &HostRuntime) -> io::Result<()> {
-        let (bytes, raw_tokens, leaves, input_tokens) = (
-            self.bytes,
-            self.raw_tokens,
-            self.leaves,
-            self.input_tokens,
-        );
-        let (lexing, leaving) = (self.lexing_nanos / 1000, self.leaves_nanos / 1000);
-        eprintln!(rt;
-            "{bytes} bytes, {raw_tokens} raw tokens in {lexing}, {leaves} leaves and {input_tokens} input tokens in {leaving} microseconds"
-        )
-    }
-}
-
-// The raw tokens of a text, and the sum of their lengths.
-fn lexed(text: &str) -> (usize, usize) {
-    let mut count: usize = 0;
-    let mut sum: usize = 0;
-    for token in tokenize(text) {
-        count = count.wrapping_add(1);
-        sum = sum.wrapping_add(token.len);
-    }
-    (count, sum)
-}
 
 fn split(alloc: Global, texts: &str) -> Result<Vec<&str>, AllocError> {
     let mut all = Vec::new(alloc);
@@ -90,22 +24,11 @@ fn split(alloc: Global, texts: &str) -> Result<Vec<&str>, AllocError> {
     Ok(all)
 }
 
-fn measure(rt: &HostRuntime, texts: &[&str]) -> io::Result<Sum> {
-    let mut sum = Sum::new();
-    for text in texts {
-        sum = sum.with(rt, text)?;
-    }
-    Ok(sum)
-}
-
 fn main(rt: HostRuntime) -> io::Result<()> {
     let read = io::read_to_string(rt.alloc(), rt.reader())?;
     let texts = split(rt.alloc(), read.as_str())?;
-    let mut last = 0;
-    for _ in 0..ROUNDS {
-        let sum = measure(&rt, &texts)?;
-        sum.print(&rt)?;
-        last = sum.input_tokens;
+    if texts.is_empty() {
+        return measure_events(&rt, ROUNDS);
     }
-    println!(rt; "{last}")
+    measure_stages(&rt, &texts, ROUNDS)
 }

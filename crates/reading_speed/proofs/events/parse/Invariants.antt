@@ -1,6 +1,6 @@
 use Rattle.std.proofs.Common.{◌≡◌}
 use Rattle.parser_events.specs.Stack.{IsInnermost}
-use Rattle.events_speed.proofs.parse.Given as goal
+use Rattle.reading_speed.proofs.events.parse.Given as goal
 
 -- the root is open, and no other node
 abbrev pub invariant-items : goal.invariant-items

@@ -1,9 +1,7 @@
-//! Puts white space and comments between the steps of a parser's output of a million tokens, over and over.
+//! Puts white space and comments between the steps of a parser's output of a million tokens.
 //!
-//! Before every third token stands a comment. The counts of steps, of leaves that the parser did not see, and of bytes go to
-//! standard output. For each round a line goes to standard error: the steps, those leaves, the bytes, and the microseconds that
-//! recording the output took, looking whether it fits, and putting it.
-#![tactic(auto)]
+//! Before every third token stands a comment. For each round a line goes to standard error: the steps, the leaves that the parser
+//! did not see, the bytes, and the microseconds that recording the output took, looking whether it fits, and putting it.
 
 ghost use Rattle.std.specs.Prelude.{◌≡◌, ◌≤◌, ◌+◌, ℕ, length, IfOk};
 ghost use Rattle.parser_events.specs.Stack.{IsInnermost};
@@ -23,9 +21,6 @@ use std::time::Instant;
 
 /// How many structs the text has, of three tokens each.
 const STRUCTS: u32 = 333_334;
-
-/// The rounds that are timed.
-const ROUNDS: u32 = 5;
 
 /// Counts what it takes.
 #[derive(Clone, Copy, PartialEq, Eq)]
@@ -122,7 +117,8 @@ fn measure(rt: &HostRuntime, lexed: &LexedStr<'_>, input: &Input) -> io::Result<
     Ok(counts)
 }
 
-fn main(rt: HostRuntime) -> io::Result<()> {
+/// Puts the text so often, and prints the counts of steps, of leaves that the parser did not see, and of bytes.
+pub(crate) fn measure_events(rt: &HostRuntime, rounds: u32) -> io::Result<()> {
     let text = source(rt.alloc())?;
     let lexed = LexedStr::new(rt.alloc(), Edition::Edition2021, text.as_str())?;
     let input = lexed.to_input(rt.alloc())?;
@@ -131,8 +127,8 @@ fn main(rt: HostRuntime) -> io::Result<()> {
         trivia: 0,
         bytes: 0,
     };
-    for _ in 0..ROUNDS {
-        last = measure(&rt, &lexed, &input)?;
+    for _ in 0..rounds {
+        last = measure(rt, &lexed, &input)?;
     }
     let Counts {
         steps,
