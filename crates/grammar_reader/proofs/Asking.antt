@@ -1,8 +1,9 @@
 -- How many looks tell whether a rule begins, form by form.
-use Rattle.std.proofs.Common.{◌≡◌, ℕ, suc, ◌+◌, ◌≤◌, Bool, true, false, refl, sym, subst, arith, if◌then◌else◌}
-use Rattle.rust_grammar.specs.Rule.{Production, Rule, Look, Always, Never, Kind, Contextual, Joint, Left, InCondition, Given, Both, Either, Not, Then, Near, Mode, begins, shift, passes, is_silent, in_mode, anew}
-use Rattle.rust_grammar.specs.Meaning.{begins_below, look_of}
+use Rattle.std.proofs.Common.{◌≡◌, ℕ, ◌+◌, ◌≤◌, Bool, true, false, refl, ap, arith, if◌then◌else◌}
+use Rattle.rust_grammar.specs.Rule.{Production, Rule, Look, Always, Never, Kind, Contextual, Joint, Left, InCondition, Given, Both, Either, Not, Then, Near, Or, Mode, begins, shift, passes, is_silent, in_mode, anew}
+use Rattle.rust_grammar.specs.Meaning.{look_of}
 use Rattle.rust_grammar.specs.Whole.{rule, whole}
+use Rattle.rust_grammar.proofs.WholeTable.{whole-begins}
 use Rattle.grammar_reader.specs.Looks.{asked, begin_looks}
 
 asked-shift : (m : ℕ) (l : Look) → asked (shift m l) ≡ asked l
@@ -55,10 +56,10 @@ asked-anew (Not a) = asked-anew a
 pub anew-cost : (old : ℕ) (l : Look) {new : ℕ} → new ≤ old + asked l → new ≤ old + asked (anew l)
 anew-cost old l h = omega (arith, h, asked-anew l)
 
-module _ (k old : ℕ) where
+module _ (old : ℕ) where
   -- so many looks tell at most whether a rule begins
   abbrev pub cost : Rule → ℕ
-  cost r = asked (begins (begins_below whole k) r)
+  cost r = asked (begins (look_of whole) r)
 
   pub silent-cost : (a b : Rule) {new : ℕ} → is_silent a ≡ true → new ≤ old + cost b → new ≤ old + cost (Then a b)
   unfolding begins
@@ -68,7 +69,7 @@ module _ (k old : ℕ) where
   unfolding begins asked
   first-cost a b {new} e h = rw e (both (passes a))
     where
-      both : (p : Bool) → new ≤ old + asked (if p then Either (begins (begins_below whole k) a) (begins (begins_below whole k) b) else begins (begins_below whole k) a)
+      both : (p : Bool) → new ≤ old + asked (if p then Either (begins (look_of whole) a) (begins (look_of whole) b) else begins (look_of whole) a)
       both true = omega (arith, h)
       both false = h
 
@@ -78,21 +79,21 @@ module _ (k old : ℕ) where
 
   pub near-cost : (w : ℕ) (a b : Rule) {mid new : ℕ} → mid ≤ old + cost a → new ≤ mid + cost b → new ≤ old + cost (Near w a b)
   unfolding begins asked
-  near-cost w a b h i = omega (arith, h, i, asked-shift w (begins (begins_below whole k) b))
+  near-cost w a b h i = omega (arith, h, i, asked-shift w (begins (look_of whole) b))
 
   pub mode-cost : (d : Bool) (a : Rule) {new : ℕ} → new ≤ old + cost a → new ≤ old + cost (Mode d a)
   unfolding begins
-  mode-cost d a h = omega (arith, h, asked-mode d (begins (begins_below whole k) a))
+  mode-cost d a h = omega (arith, h, asked-mode d (begins (look_of whole) a))
 
--- a production, of which is asked one call less deep
-pub call-cost : (k j old new : ℕ) (x : Production) (row : Rule) → k ≡ suc j → row ≡ rule x → new ≤ old + cost j old row → new ≤ old + asked (begins_below whole k x)
-unfolding begins_below whole
-call-cost k j old new x row e i h = subst (λ (n : ℕ). new ≤ old + asked (begins_below whole n x)) (sym e) deeper
-  where
-    deeper : new ≤ old + asked (begins_below whole (suc j) x)
-    deeper = subst (λ (q : Rule). new ≤ old + asked (begins (begins_below whole j) q)) i h
+pub or-asked : (a b : Rule) → asked (begins (look_of whole) b) ≤ asked (begins (look_of whole) (Or a b))
+unfolding asked begins
+or-asked a b = omega arith
+
+-- a production costs no less than a part of its rule that asks no more
+pub rule-cost : (old new : ℕ) (x : Production) (part : Rule) → asked (begins (look_of whole) part) ≤ asked (begins (look_of whole) (rule x)) → new ≤ old + cost old part → new ≤ old + asked (look_of whole x)
+rule-cost old new x part e h = omega (arith, h, e, ap asked (whole-begins x))
 
 -- after one look at the next token
-pub begin-cost : (old mid new : ℕ) (r : Rule) → mid ≤ old + 1 → new ≤ mid + cost 20 mid r → new ≤ old + begin_looks r
-unfolding begin_looks look_of whole
+pub begin-cost : (old mid new : ℕ) (r : Rule) → mid ≤ old + 1 → new ≤ mid + cost mid r → new ≤ old + begin_looks r
+unfolding begin_looks
 begin-cost old mid new r first h = omega (arith, first, h)

@@ -1,17 +1,18 @@
 -- Where a rule begins, form by form, so many tokens ahead.
-use Rattle.std.proofs.Common.{◌≡◌, ℕ, zero, suc, ◌+◌, ◌-◌, ◌^◌, ◌<◌, Bool, true, false, not, length, min, refl, sym, ap, subst, ◌∙◌, arith, if◌then◌else◌}
+use Rattle.std.proofs.Common.{◌≡◌, ℕ, ◌+◌, ◌-◌, ◌^◌, ◌<◌, Bool, true, false, not, length, min, refl, sym, ap, ◌∙◌, arith, if◌then◌else◌}
 use Rattle.std.proofs.lemmas.List.{length-drop}
 use Rattle.parser_events.specs.View.{View}
-use Rattle.grammar_reader.specs.Stands.{IsAt}
+use Rattle.rust_productions.specs.Stands.{IsAt}
 use Rattle.rust_grammar.specs.Rule.{Production, Rule, Look, Always, Never, Kind, Contextual, Joint, Left, InCondition, Given, Not, Then, Near, Or, Unless, Mode, Both, Either, begins, shift, passes, is_silent, anew}
-use Rattle.rust_grammar.specs.Meaning.{Reading, sees, fresh, begins_below, look_of}
+use Rattle.rust_grammar.specs.Meaning.{Reading, sees, fresh, look_of}
 use Rattle.rust_grammar.specs.Whole.{rule, whole}
+use Rattle.rust_grammar.proofs.WholeTable.{whole-begins}
 use Rattle.grammar_reader.proofs.Looking.{shift-shift, far-shift, mode-shift, anew-shift, both-on, none-on, either-off, all-on}
 
-module _ (c : Bool) (s : Reading) (m k : ℕ) where
+module _ (c : Bool) (s : Reading) (m : ℕ) where
   -- whether a rule begins there
   abbrev pub at : Rule → Bool
-  at r = sees c s (shift m (begins (begins_below whole k) r))
+  at r = sees c s (shift m (begins (look_of whole) r))
 
   pub silent-then : (a b : Rule) {r : Bool} → is_silent a ≡ true → r ≡ at b → r ≡ at (Then a b)
   unfolding begins
@@ -21,7 +22,7 @@ module _ (c : Bool) (s : Reading) (m k : ℕ) where
   unfolding begins sees shift
   first-then a b e f t = rw e (both (passes a))
     where
-      both : (p : Bool) → true ≡ sees c s (shift m (if p then Either (begins (begins_below whole k) a) (begins (begins_below whole k) b) else begins (begins_below whole k) a))
+      both : (p : Bool) → true ≡ sees c s (shift m (if p then Either (begins (look_of whole) a) (begins (look_of whole) b) else begins (look_of whole) a))
       both true = all-on (at b) f t
       both false = sym t ∙ f
 
@@ -33,16 +34,16 @@ module _ (c : Bool) (s : Reading) (m k : ℕ) where
   unfolding begins sees shift
   second-then a b {r} {q} e f t p g = rw (e, p) either
     where
-      either : q ≡ sees c s (shift m (Either (begins (begins_below whole k) a) (begins (begins_below whole k) b)))
+      either : q ≡ sees c s (shift m (Either (begins (look_of whole) a) (begins (look_of whole) b)))
       either = either-off f t g
 
   pub no-near : (w : ℕ) (a b : Rule) {r : Bool} → r ≡ at a → r ≡ false → false ≡ at (Near w a b)
   unfolding begins sees shift
-  no-near w a b f t = none-on (sees c s (shift m (shift w (begins (begins_below whole k) b)))) f t
+  no-near w a b f t = none-on (sees c s (shift m (shift w (begins (look_of whole) b)))) f t
 
-  pub both-near : (w : ℕ) (a b : Rule) {r q : Bool} (n : ℕ) → length s.rest < 2 ^ 58 → n ≡ min (m + w) (2 ^ 64 - 1) → r ≡ at a → r ≡ true → q ≡ sees c s (shift n (begins (begins_below whole k) b)) → q ≡ at (Near w a b)
+  pub both-near : (w : ℕ) (a b : Rule) {r q : Bool} (n : ℕ) → length s.rest < 2 ^ 64 → n ≡ min (m + w) (2 ^ 64 - 1) → r ≡ at a → r ≡ true → q ≡ sees c s (shift n (begins (look_of whole) b)) → q ≡ at (Near w a b)
   unfolding begins sees shift
-  both-near w a b {r} {q} n short is f t g = both-on f t (g ∙ further (begins (begins_below whole k) b))
+  both-near w a b {r} {q} n short is f t g = both-on f t (g ∙ further (begins (look_of whole) b))
     where
       further : (l : Look) → sees c s (shift n l) ≡ sees c s (shift m (shift w l))
       further l =
@@ -65,34 +66,19 @@ module _ (c : Bool) (s : Reading) (m k : ℕ) where
   unfolding begins sees shift
   unless l a f t g = both-on (ap not f) (ap not t) g
 
-  pub in-mode : (d : Bool) (a : Rule) {r : Bool} → r ≡ sees d s (shift m (begins (begins_below whole k) a)) → r ≡ at (Mode d a)
+  pub in-mode : (d : Bool) (a : Rule) {r : Bool} → r ≡ sees d s (shift m (begins (look_of whole) a)) → r ≡ at (Mode d a)
   unfolding begins
-  in-mode d a f = f ∙ sym (mode-shift c d s m (begins (begins_below whole k) a))
+  in-mode d a f = f ∙ sym (mode-shift c d s m (begins (look_of whole) a))
 
--- a production, of which is asked one call less deep
-pub no-rank : (c : Bool) (s : Reading) (m k : ℕ) (x : Production) → k ≡ 0 → false ≡ sees c s (shift m (begins_below whole k x))
-unfolding begins_below sees shift
-no-rank c s m k x e = subst (λ (i : ℕ). false ≡ sees c s (shift m (begins_below whole i x))) (sym e) zero-rank
-  where
-    zero-rank : false ≡ sees c s (shift m (begins_below whole 0 x))
-    zero-rank = refl
-
-pub one-rank : (c : Bool) (s : Reading) (m k j : ℕ) (x : Production) (row : Rule) {r : Bool} → k ≡ suc j → row ≡ rule x → r ≡ sees c s (shift m (begins (begins_below whole j) row)) → r ≡ sees c s (shift m (begins_below whole k x))
-unfolding begins_below whole
-one-rank c s m k j x row {r} e i f = subst (λ (n : ℕ). r ≡ sees c s (shift m (begins_below whole n x))) (sym e) deeper
-  where
-    deeper : r ≡ sees c s (shift m (begins_below whole (suc j) x))
-    deeper = f ∙ ap (λ (q : Rule). sees c s (shift m (begins (begins_below whole j) q))) i
+-- a production begins as its rule does
+pub as-rule : (c : Bool) (s : Reading) (m : ℕ) (x : Production) (row : Rule) {r : Bool} → row ≡ rule x → r ≡ sees c s (shift m (begins (look_of whole) row)) → r ≡ sees c s (shift m (look_of whole x))
+as-rule c s m x row e f = f ∙ ap (λ (q : Rule). sees c s (shift m (begins (look_of whole) q))) e ∙ sym (ap (λ (l : Look). sees c s (shift m l)) (whole-begins x))
 
 -- in a node, and in a production that is called anew
 pub inside : (c : Bool) (s : Reading) (m : ℕ) (l : Look) {r : Bool} → r ≡ sees c (fresh s) (shift m l) → r ≡ sees c s (shift m (anew l))
 inside c s m l e = e ∙ sym (anew-shift c s m l)
 
-pub one-less : (k : ℕ) → (k ≡ 0 → ⊥) → k ≡ suc (k - 1)
-one-less zero e = absurd (e refl)
-one-less (suc k) e = omega arith
-
-pub rest-short : {given : Bool} {v : View} {s : Reading} → IsAt given v s → length v.input < 2 ^ 58 → length s.rest < 2 ^ 58
+pub rest-short : {given : Bool} {v : View} {s : Reading} → IsAt given v s → length v.input < 2 ^ 64 → length s.rest < 2 ^ 64
 rest-short {given} {v} {s} at h = omega (arith, h, ap length at.rest, length-drop v.position v.input)
 
 -- no further ahead
@@ -110,6 +96,5 @@ shift-none (Both a b) = rw (shift-none a, shift-none b) refl
 shift-none (Either a b) = rw (shift-none a, shift-none b) refl
 shift-none (Not a) = rw (shift-none a) refl
 
-pub begun-here : (c : Bool) (s : Reading) (r : Rule) {b : Bool} → b ≡ sees c s (shift 0 (begins (begins_below whole 20) r)) → b ≡ sees c s (begins (look_of whole) r)
-unfolding look_of whole
-begun-here c s r e = e ∙ ap (λ (l : Look). sees c s l) (shift-none (begins (begins_below whole 20) r))
+pub begun-here : (c : Bool) (s : Reading) (r : Rule) {b : Bool} → b ≡ sees c s (shift 0 (begins (look_of whole) r)) → b ≡ sees c s (begins (look_of whole) r)
+begun-here c s r e = e ∙ ap (λ (l : Look). sees c s l) (shift-none (begins (look_of whole) r))

@@ -1,5 +1,5 @@
 -- Layers of operators, one above the other.
-use Rattle.std.proofs.Common.{◌≡◌, ℕ, zero, suc, ◌+◌, ◌-◌, ◌<◌, ◌≤◌, Bool, true, Some, length, refl, sym, ap, subst, ◌∙◌, arith}
+use Rattle.std.proofs.Common.{◌≡◌, ℕ, zero, suc, ◌+◌, ◌-◌, ◌<◌, ◌≤◌, Bool, true, length, refl, sym, ap, subst, ◌∙◌, arith}
 use Rattle.parser_events.specs.View.{View}
 use Rattle.rust_grammar.specs.Rule.{prefixed, Rule, Then, Call}
 use Rattle.rust_grammar.specs.Meaning.{Reading, read, fresh, after, meaning}
@@ -16,12 +16,12 @@ use Rattle.rust_grammar.proofs.WholeTable.{whole-means}
 use Rattle.grammar_reader.specs.CanRead.{CanRead}
 use Rattle.grammar_reader.specs.Layers.{layers, layer_at, turns_of}
 use Rattle.grammar_reader.specs.Looks.{Costs}
-use Rattle.grammar_reader.specs.Prices.{in_turn, idle, debt, is_paid, idle_of, debt_of}
+use Rattle.grammar_reader.specs.Prices.{idle, debt, is_paid, idle_of, debt_of}
 use Rattle.grammar_reader.specs.Size.{size}
-use Rattle.grammar_reader.specs.Stands.{left}
+use Rattle.rust_productions.specs.Stands.{left}
 use Rattle.grammar_reader.proofs.Below.{can-read}
 use Rattle.grammar_reader.proofs.Sizes.{few-forms}
-use Rattle.grammar_reader.proofs.Spending.{as-priced, tested, after-each-other-look, rule-paid, second-few, second-paid}
+use Rattle.grammar_reader.proofs.Spending.{as-priced, after-each-other-look, rule-paid, second-few, second-paid}
 use Rattle.grammar_reader.proofs.Standing.{after-nothing}
 
 -- a layer reads an operand of the one below, and its turns
@@ -138,8 +138,7 @@ module _ (h u : ℕ) (one_more : u ≡ h + 1) (low : h < 10) where
       let row = Then (Call (layer_at h)) (Turns u) in
       let few = second-few (Call (layer_at h)) (Turns u) (rule-paid (layer_at u) row (sym upper-row)) in
       as-priced (layer_at u) row (sym upper-row)
-      (tested 1 (in_turn (Some 1) (idle row)) (1 + debt row) {old = entry} {mid = entry} refl (omega arith)
-      (after-each-other-look (idle_of (layer_at h)) (idle (Turns u)) (debt_of (layer_at h)) (debt (Turns u)) few spent same one turned))
+      (after-each-other-look (idle_of (layer_at h)) (idle (Turns u)) (debt_of (layer_at h)) (debt (Turns u)) few spent same one turned)
 
   pub turns-paid : is_paid (Turns u) ≡ true
   unfolding is_paid

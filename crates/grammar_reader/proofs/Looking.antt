@@ -8,7 +8,7 @@ use Rattle.parser_input.specs.Recorded.{token_at, plain}
 use Rattle.parser_events.specs.View.{View}
 use Rattle.rust_grammar.specs.Rule.{Look, Always, Never, Kind, Contextual, Joint, Left, InCondition, Given, Both, Either, Not, shift, in_mode, anew}
 use Rattle.rust_grammar.specs.Meaning.{Reading, ahead, sees, fresh, is_end}
-use Rattle.grammar_reader.specs.Stands.{left, IsAt}
+use Rattle.rust_productions.specs.Stands.{left, IsAt}
 
 ahead-past : (n : ℕ) (ts : List Token) → length ts ≤ n → ahead n ts ≡ record { kind = EOF; contextual = EOF; joint = false }
 unfolding ahead
@@ -17,7 +17,7 @@ ahead-past zero (t ∷ ts) h = absurd (omega arith)
 ahead-past (suc n) (t ∷ ts) h = ahead-past n ts (omega arith)
 
 -- So far ahead that no number goes further, no token stands.
-pub far : (n m : ℕ) (ts : List Token) → length ts < 2 ^ 58 → n ≡ min m (2 ^ 64 - 1) → ahead n ts ≡ ahead m ts
+pub far : (n m : ℕ) (ts : List Token) → length ts < 2 ^ 64 → n ≡ min m (2 ^ 64 - 1) → ahead n ts ≡ ahead m ts
 far n m ts h e = elim (cases_lt m (2 ^ 64 - 1)) [
   | inl p ↦ ap (λ (k : ℕ). ahead k ts) (omega (arith, e, p))
   | inr p ↦ ahead-past n ts (omega (arith, e, h, p)) ∙ sym (ahead-past m ts (omega (arith, h, p)))
@@ -34,10 +34,10 @@ token-ahead v n = sym (get_or-drop v.position v.input n (plain EOF)) ∙ look n 
     look (suc n) (t ∷ ts) = look n ts
 
 -- what is left of an input that is no longer than this
-few-left : (v : View) → length v.input < 2 ^ 58 → length (left v) < 2 ^ 58
+few-left : (v : View) → length v.input < 2 ^ 64 → length (left v) < 2 ^ 64
 few-left v h = omega (arith, h, length-drop v.position v.input)
 
-module _ (v : View) (given : Bool) (s : Reading) (at : IsAt given v s) (short : length v.input < 2 ^ 58) where
+module _ (v : View) (given : Bool) (s : Reading) (at : IsAt given v s) (short : length v.input < 2 ^ 64) where
   token-there : (n m : ℕ) → n ≡ min m (2 ^ 64 - 1) → token_at v.input (v.position + n) ≡ ahead m s.rest
   token-there n m e = token-ahead v n ∙ far n m (left v) (few-left v short) e ∙ ap (λ (ts : List Token). ahead m ts) at.rest
 
@@ -105,8 +105,8 @@ pub all-on : {a x : Bool} (y : Bool) → a ≡ x → a ≡ true → true ≡ (if
 all-on y e t = rw (sym e ∙ t) refl
 
 -- A look leaves the input as it is.
-pub still-short : (old new : View) {looks : ℕ} → new ≡ record old { looks = looks } → length old.input < 2 ^ 58 → length new.input < 2 ^ 58
-still-short old new same h = subst (λ (v : View). length v.input < 2 ^ 58) (sym same) h
+pub still-short : (old new : View) {looks : ℕ} → new ≡ record old { looks = looks } → length old.input < 2 ^ 64 → length new.input < 2 ^ 64
+still-short old new same h = subst (λ (v : View). length v.input < 2 ^ 64) (sym same) h
 
 -- Looks further ahead.
 pub shift-shift : (m w : ℕ) (l : Look) → shift m (shift w l) ≡ shift (w + m) l
@@ -123,7 +123,7 @@ shift-shift m w (Both a b) = rw (shift-shift m w a, shift-shift m w b) refl
 shift-shift m w (Either a b) = rw (shift-shift m w a, shift-shift m w b) refl
 shift-shift m w (Not a) = rw (shift-shift m w a) refl
 
-module _ (c : Bool) (s : Reading) (m n : ℕ) (short : length s.rest < 2 ^ 58) (is : m ≡ min n (2 ^ 64 - 1)) where
+module _ (c : Bool) (s : Reading) (m n : ℕ) (short : length s.rest < 2 ^ 64) (is : m ≡ min n (2 ^ 64 - 1)) where
   same-far : (k : ℕ) → ahead (k + m) s.rest ≡ ahead (k + n) s.rest
   same-far k = elim (cases_lt n (2 ^ 64 - 1)) [
     | inl p ↦ ap (λ (i : ℕ). ahead i s.rest) (omega (arith, is, p))

@@ -9,7 +9,7 @@ use Rattle.rust_grammar.specs.Whole.{rule, whole}
 use Rattle.grammar_reader.specs.Layers.{layer_at, turns_of}
 use Rattle.grammar_reader.specs.Looks.{Costs}
 use Rattle.grammar_reader.specs.Prices.{idle, debt, idle_of, debt_of}
-use Rattle.grammar_reader.specs.Stands.{left}
+use Rattle.rust_productions.specs.Stands.{left}
 use Rattle.grammar_reader.specs.Told.{IsNext, IsOver, ends_before}
 use Rattle.grammar_reader.proofs.Layering.{row-at, layer-means, upper-costs}
 use Rattle.grammar_reader.proofs.Telling.{layer-ended, layer-idle}

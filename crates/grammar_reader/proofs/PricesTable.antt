@@ -19,9 +19,9 @@ no_more None b = true
 no_more (Some m) None = false
 no_more (Some m) (Some n) = nat_le m n
 
--- one look may tell that a production is passed by, and one that a layer ends
+-- one look tells what the next token is
 unfoldable pub is_priced : Production → Bool
-is_priced x = is_paid (rule x) && no_more (in_turn (Some 1) (in_turn (Some 1) (idle (rule x)))) (idle_of x) && nat_le (1 + (1 + debt (rule x))) (debt_of x)
+is_priced x = is_paid (rule x) && no_more (in_turn (Some 1) (idle (rule x))) (idle_of x) && nat_le (1 + debt (rule x)) (debt_of x)
 
 pub all_priced : (x : Production) → is_priced x ≡ true
 unfolding is_priced no_more asked begin_looks surely_takes idle_of debt_of in_turn either most idle debt is_paid look_of begins_below begins passes is_silent shift in_mode anew there_at rule rank whole row one_of any_of is_longer no_longer longest paths types patterns expressions statements items

@@ -6,7 +6,7 @@ use Rattle.rust_grammar.specs.Items.{items}
 use Rattle.rust_grammar.specs.Notation.{any_of, is_longer, no_longer, longest, one_of, row}
 use Rattle.rust_grammar.specs.Paths.{paths}
 use Rattle.rust_grammar.specs.Patterns.{patterns}
-use Rattle.rust_grammar.specs.Rule.{Production, Rule, there_at, source_file, macro_items, macro_statements, item, body, assoc_items, variants, record_fields, tuple_fields, visibility, attribute, meta, token_tree, use_tree, use_list, params, param, name, lifetime, name_ref, path, type_path, expr_path, generic_args, generic_arg, generic_params, generic_param, bounds, bound, where_clause, where_pred, any_type, ret_type, pattern, single_pattern, pattern_fields, pattern_field, literal, statement_list, block, statement, macro_statement, statement_end, macro_statement_end, expression, operation, operation_tail, disjunction, conjunction, comparison, bit_or, bit_xor, bit_and, bit_shift, sum, product, cast, prefixed, postfix, after_dot, arguments, atom, field_values, field_value, block_like, if_expr, match_arms, match_arm}
+use Rattle.rust_grammar.specs.Rule.{Production, Rule, there_at, source_file, macro_items, macro_statements, item, body, assoc_items, variants, record_fields, tuple_fields, visibility, attribute, meta, token_tree, use_tree, use_list, params, param, name, lifetime, name_ref, path, type_path, expr_path, generic_args, generic_arg, generic_params, generic_param, bounds, bound, where_clause, where_pred, any_type, ret_type, pattern, single_pattern, pattern_fields, pattern_field, literal, statement_list, block, statement, macro_statement, statement_end, macro_statement_end, expression, operation, operation_tail, disjunction, conjunction, comparison, bit_or, bit_xor, bit_and, bit_shift, sum, product, cast, prefixed, postfix, after_dot, arguments, atom, field_values, field_value, block_like, if_expr, match_arms, match_arm, Or}
 use Rattle.rust_grammar.specs.Statements.{statements}
 use Rattle.rust_grammar.specs.Types.{types}
 use Rattle.rust_grammar.specs.Whole.{rule, rank}
@@ -173,8 +173,9 @@ falls a b h = omega (arith, h, least (is_reference a))
     least true = omega arith
     least false = omega arith
 
-pub falls-in : (small large : rows.Rule) (n : ℕ) → size (plain small) < size (plain large) → 8192 * n + weight small < 8192 * n + weight large
-falls-in a b n h = omega (arith, falls a b h)
+pub or-size : (a b : Rule) → size b ≤ size (Or a b)
+unfolding size
+or-size a b = omega arith
 
 pub below-measure : {a b m : ℕ} → b ≡ m → a < b → a < m
 below-measure e h = omega (arith, e, h)
@@ -188,6 +189,14 @@ falls-turns a b n h = omega (arith, falls a b h)
 
 pub falls-call : (large : rows.Rule) (n : ℕ) → 0 < size (plain large) → 16384 * n + 1 < 16384 * n + 2 * weight large
 falls-call b n h = omega (arith, h)
+
+-- the row of a production, below the production
+pub falls-row : (small : rows.Rule) (n m : ℕ) → n ≡ m → size (plain small) < 2048 → 16384 * n + 2 * weight small < 16384 * m + 16383
+falls-row a n m e h = omega (arith, e, h, least (is_reference a))
+  where
+    least : (b : Bool) → (if b then 1 else 0) ≤ 1
+    least true = omega arith
+    least false = omega arith
 
 -- the turns of a layer, below the reading of that and of those above it
 pub falls-climb : (small : rows.Rule) (n height : ℕ) → size (plain small) < 2048 → height ≤ 10 → 16384 * n + 2 * weight small < 16384 * n + (16381 - height)

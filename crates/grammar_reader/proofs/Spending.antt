@@ -11,7 +11,7 @@ use Rattle.rust_grammar.specs.Meaning.{Reading}
 use Rattle.rust_grammar.specs.Whole.{rank, rule}
 use Rattle.rust_grammar.proofs.Plain.{and_l, and_r}
 use Rattle.grammar_reader.specs.CanRead.{CanRead}
-use Rattle.grammar_reader.specs.Stands.{left, Stands}
+use Rattle.rust_productions.specs.Stands.{left, Stands}
 use Rattle.grammar_reader.specs.Looks.{begin_looks, AtMost, Costs}
 use Rattle.grammar_reader.specs.Prices.{surely_takes, in_turn, either, most, idle, debt, is_paid, idle_of, debt_of}
 use Rattle.grammar_reader.proofs.PricesTable.{no_more, all_priced, is_priced}
@@ -141,18 +141,18 @@ within {i} {d} {old} {first} {last} {new} same e same2 f (inl h) = inl (record {
 })
 within {i} {d} {old} {first} {last} {new} same e same2 f (inr h) = inr (record { some = omega (arith, same, same2, h.some); looks = omega (arith, same, e, same2, f, h.looks) })
 
--- a production, by the table, after two looks at most
-pub as-priced : (x : Production) (r : Rule) {old new : View} → r ≡ rule x → Costs (in_turn (Some 1) (in_turn (Some 1) (idle r))) (1 + (1 + debt r)) old new → Costs (idle_of x) (debt_of x) old new
+-- a production, by the table, after one look at most
+pub as-priced : (x : Production) (r : Rule) {old new : View} → r ≡ rule x → Costs (in_turn (Some 1) (idle r)) (1 + debt r) old new → Costs (idle_of x) (debt_of x) old new
 unfolding is_priced
-as-priced x r {old} {new} e h = priced (subst (λ (q : Rule). Costs (in_turn (Some 1) (in_turn (Some 1) (idle q))) (1 + (1 + debt q)) old new) e h)
+as-priced x r {old} {new} e h = priced (subst (λ (q : Rule). Costs (in_turn (Some 1) (idle q)) (1 + debt q) old new) e h)
   where
-    priced : Costs (in_turn (Some 1) (in_turn (Some 1) (idle (rule x)))) (1 + (1 + debt (rule x))) old new → Costs (idle_of x) (debt_of x) old new
-    priced (inl g) = inl (record { none = g.none; looks = more-at-most (in_turn (Some 1) (in_turn (Some 1) (idle (rule x)))) (idle_of x) _ _ (and_r (is_paid (rule x)) _ (and_l _ (nat_le (1 + (1 + debt (rule x))) (debt_of x)) (all_priced x))) g.looks })
-    priced (inr g) = let le = leb-true (1 + (1 + debt (rule x))) (debt_of x) (and_r (is_paid (rule x) && no_more (in_turn (Some 1) (in_turn (Some 1) (idle (rule x)))) (idle_of x)) _ (all_priced x)) in inr (record { some = g.some; looks = omega (arith, g.looks, le) })
+    priced : Costs (in_turn (Some 1) (idle (rule x))) (1 + debt (rule x)) old new → Costs (idle_of x) (debt_of x) old new
+    priced (inl g) = inl (record { none = g.none; looks = more-at-most (in_turn (Some 1) (idle (rule x))) (idle_of x) _ _ (and_r (is_paid (rule x)) _ (and_l _ (nat_le (1 + debt (rule x)) (debt_of x)) (all_priced x))) g.looks })
+    priced (inr g) = let le = leb-true (1 + debt (rule x)) (debt_of x) (and_r (is_paid (rule x) && no_more (in_turn (Some 1) (idle (rule x))) (idle_of x)) _ (all_priced x)) in inr (record { some = g.some; looks = omega (arith, g.looks, le) })
 
 pub rule-paid : (x : Production) (r : Rule) → r ≡ rule x → is_paid r ≡ true
 unfolding is_priced
-rule-paid x r e = ap is_paid e ∙ and_l (is_paid (rule x)) _ (and_l _ (nat_le (1 + (1 + debt (rule x))) (debt_of x)) (all_priced x))
+rule-paid x r e = ap is_paid e ∙ and_l (is_paid (rule x)) _ (and_l _ (nat_le (1 + debt (rule x)) (debt_of x)) (all_priced x))
 
 -- an operation's tail that is passed by
 pub tail-passed-by : (x : Production) {old new : View} → x ≡ operation_tail → length (left new) ≡ length (left old) → new.looks ≤ old.looks + 1 → Costs (idle_of x) (debt_of x) old new

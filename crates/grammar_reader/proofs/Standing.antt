@@ -6,7 +6,7 @@ use Rattle.parser_input.specs.Kinds.{ERROR, FIELD_EXPR}
 use Rattle.parser_events.specs.Marked as marks
 use Rattle.parser_events.specs.Stack as stack
 use Rattle.parser_events.specs.Stack.{Becomes, IsInnermost}
-use Rattle.grammar_reader.proofs.Moves.{becomes, around-closed}
+use Rattle.rust_productions.proofs.Moves.{becomes, around-closed}
 use Rattle.parser_events.specs.Forest as forest
 use Rattle.parser_events.specs.Forest.{Forest, Message, ◌then◌}
 use Rattle.parser_events.specs.Marked.{Marked, End, ◌beside◌, marked}
@@ -14,8 +14,8 @@ use Rattle.parser_events.specs.View.{View}
 use Rattle.parser_events.proofs.Forests.{marked-then}
 use Rattle.rust_grammar.specs.Meaning.{Reading, ahead, is_end, fresh, leaf, say, skip, split, node, after}
 use Rattle.rust_grammar.proofs.Spelled.{then-some}
-use Rattle.grammar_reader.specs.Stands.{left, Holds, HasTrees, Stands}
-use Rattle.grammar_reader.specs.Moves.{Does, Opens, Closes, Leaves}
+use Rattle.rust_productions.specs.Stands.{left, Holds, HasTrees, Stands}
+use Rattle.rust_productions.specs.Moves.{Does, Opens, Closes, Leaves}
 
 pub stands-after : {f : Reading → Reading} {old new : View} {given : Bool} {s : Reading} {below : Option (List Marked)} (gave : Bool) → Does f old new → is_end (f s).given ≡ not gave → Stands given old s below → Stands gave new (f s) below
 stands-after {f} {old} {new} {given} {s} {below} gave d e h = record { at = record { rest = d.rest s h.at.rest; gave = e }; trees = trees below h.trees }
@@ -191,5 +191,5 @@ pub still-innermost : (around : ℕ) (old new : View) {looks : ℕ} → new ≡ 
 still-innermost around old new same i = subst (λ (n : Option (List Marked)). IsInnermost around n) (sym (ap (λ (v : View). v.nodes) same)) i
 
 -- the same input, as long as before
-pub short-still : (old new : List Token) → new ≡ old → length old < 2 ^ 58 → length new < 2 ^ 58
-short-still old new e h = subst (λ (ts : List Token). length ts < 2 ^ 58) (sym e) h
+pub short-still : (old new : List Token) → new ≡ old → length old < 2 ^ 64 → length new < 2 ^ 64
+short-still old new e h = subst (λ (ts : List Token). length ts < 2 ^ 64) (sym e) h

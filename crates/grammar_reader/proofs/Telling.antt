@@ -1,22 +1,24 @@
 -- What the kind of the next token tells is so.
-use Rattle.std.proofs.Common.{◌≡◌, ◌⊎◌, ◌+◌, ℕ, zero, suc, ◌<◌, ◌==◌, ◌||◌, Bool, true, false, not, nat_lt, List, [], ◌∷◌, length, Option, Some, None, IfSome, IsTrue, refl, sym, ap, subst, ◌∙◌, arith, inl, inr, if◌then◌else◌, true≢false}
-use Rattle.std.proofs.lemmas.Bool.{eqb-true, cases_lt, lt-ltb, or_cases}
-use Rattle.parser_input.specs.Kinds.{EOF}
+use Rattle.std.proofs.Common.{◌≡◌, ◌⊎◌, ◌+◌, ℕ, zero, suc, ◌<◌, ◌≤◌, ◌==◌, ◌||◌, ◌&&◌, slice_get, Bool, true, false, not, nat_lt, List, [], ◌∷◌, length, Option, Some, None, IfSome, refl, sym, ap, subst, ◌∙◌, arith, inl, inr, if◌then◌else◌, true≢false}
+use Rattle.std.proofs.lemmas.Bool.{eqb-true, cases_lt, lt-ltb, le-ltb}
+use Rattle.parser_input.specs.Kinds.{EOF, IDENT}
 use Rattle.parser_input.specs.Input.{Token}
+use Rattle.parser_input.specs.KindTable.{all_kinds}
+use Rattle.parser_input.proofs.KindTable.{slice_get-kinds}
 use Rattle.parser_input.specs.Kind.{raw_of}
 use Rattle.parser_input.specs.declared.syntax_kind.SyntaxKind.{SyntaxKind}
 use Rattle.parser_input.specs.declared.syntax_kind.SyntaxKind.TheVariants as words
 use Rattle.parser_input.specs.Recorded.{token_at}
 use Rattle.parser_events.specs.Forest as forest
 use Rattle.parser_events.specs.View.{View}
-use Rattle.grammar_reader.specs.Stands.{left}
-use Rattle.rust_grammar.specs.Rule.{Production, operation_tail, Rule, Nothing, One, Any, Then, Near, Or, Opt, Star, Node, Wrap, Want, Say, Skip, Split, When, Unless, Call, Continue, Mode, begins, Look, Always, Never, Kind, Contextual, Joint, Left, InCondition, Given, Both, Either, Not, shift}
-use Rattle.rust_grammar.specs.Meaning.{Reading, ahead, sees, read, meaning, look_of, begins_below}
+use Rattle.rust_productions.specs.Stands.{left}
+use Rattle.rust_grammar.specs.Rule.{operation_tail, Rule, Nothing, One, Any, Then, Near, Or, Opt, Star, Node, Wrap, Want, Say, Skip, Split, When, Unless, Call, Continue, Mode, begins, Look, Always, Never, Kind, Contextual, Joint, Left, InCondition, Given, Both, Either, Not, shift}
+use Rattle.rust_grammar.specs.Meaning.{Reading, ahead, sees, read, meaning, look_of}
 use Rattle.rust_grammar.specs.Whole.{rule, whole}
 use Rattle.rust_grammar.specs.Laws.{reads}
 use Rattle.rust_grammar.proofs.Plain.{and_l, and_r}
 use Rattle.rust_grammar.proofs.WholeTable.{whole-means}
-use Rattle.grammar_reader.specs.Told.{IsNext, is_plain, known_not, known_both, known_either, known_answer, is_in, is_told, is_right_at, are_right, gives_nothing, all_give_nothing, ends_before, all_end_before}
+use Rattle.grammar_reader.specs.Told.{IsNext, is_plain, known_not, known_both, known_either, known_answer, is_in, is_told, same_told, told_by, are_right, has_bit, answer_before, gives_nothing, all_give_nothing, ends_before, all_end_before}
 use Rattle.grammar_reader.proofs.Beginning.{shift-none}
 use Rattle.grammar_reader.proofs.Looking.{next-kind, next-word}
 use Rattle.grammar_reader.proofs.Turning.{no-turn}
@@ -93,47 +95,37 @@ module _ (c : Bool) (s : Reading) (k : ℕ) (next : IsNext k s.rest) where
   right (Either a b) = right-one (known_answer k a) (known_answer k b) (sees c s a) (sees c s b) (right a) (right b)
   right (Not a) = right-denied (known_answer k a) (sees c s a) (right a)
 
-twenty-deep : (c : Bool) (s : Reading) (x : Production) (b : Bool) → sees c s (look_of whole x) ≡ b → sees c s (begins_below whole 20 x) ≡ b
-unfolding look_of whole
-twenty-deep c s x b e = e
+-- what is told before a kind is what it tells
+known-before : (k : ℕ) (l : Look) (b : Bool) → Some b ≡ answer_before k l → known_answer k l ≡ Some b
+unfolding answer_before
+known-before k l b e = within (has_bit k) (known_answer k l) e
+  where
+    within : (d : Bool) (o : Option Bool) → Some b ≡ (if d then o else None) → o ≡ Some b
+    within true o f = sym f
+    within false o f = absurd (cc f)
 
--- What is told of a production, of the place itself, is seen there.
-pub first-seen : (c : Bool) (s : Reading) (m ranks k : ℕ) (x : Production) (b : Bool) → m ≡ 0 → ranks ≡ 20 → IsNext k s.rest → known_answer k (look_of whole x) ≡ Some b → b ≡ sees c s (shift m (begins_below whole ranks x))
-first-seen c s m ranks k x b e f next h =
-    subst (λ (i : ℕ). b ≡ sees c s (shift i (begins_below whole ranks x))) (sym e)
-    (subst (λ (n : ℕ). b ≡ sees c s (shift 0 (begins_below whole n x))) (sym f)
-    (sym (ap (λ (l : Look). sees c s l) (shift-none (begins_below whole 20 x))
-    ∙ twenty-deep c s x b (subst (λ (o : Option Bool). Right o (sees c s (look_of whole x))) h (right c s k next (look_of whole x))))))
+-- What is told of a look, of the place itself, is seen there.
+seen-there : (c : Bool) (s : Reading) (m k : ℕ) (l : Look) (b : Bool) → m ≡ 0 → IsNext k s.rest → known_answer k l ≡ Some b → b ≡ sees c s (shift m l)
+seen-there c s m k l b e next h =
+    subst (λ (i : ℕ). b ≡ sees c s (shift i l)) (sym e)
+    (sym (ap (λ (x : Look). sees c s x) (shift-none l) ∙ subst (λ (o : Option Bool). Right o (sees c s l)) h (right c s k next l)))
 
 -- so it is of an answer that may be missing
 pub told-there :
-    (place : Option SyntaxKind) (kind : SyntaxKind) (m ranks : ℕ) (x : Production) (o : Option Bool)
-    → m ≡ 0 → ranks ≡ 20 → place ≡ Some kind → IfSome o (λ b. known_answer (raw_of kind) (look_of whole x) ≡ Some b)
-    → IfSome o (λ b. (c : Bool) (s : Reading) → IfSome place (λ k. IsNext (raw_of k) s.rest) → b ≡ sees c s (shift m (begins_below whole ranks x)))
-told-there place kind m ranks x None e f g h = tt
-told-there place kind m ranks x (Some b) e f g h = λ c s next.
-    first-seen c s m ranks (raw_of kind) x b e f (subst (λ (q : Option SyntaxKind). IfSome q (λ k. IsNext (raw_of k) s.rest)) g next) h
+    (place : Option SyntaxKind) (kind : SyntaxKind) (m : ℕ) (l : Look) (o : Option Bool)
+    → m ≡ 0 → place ≡ Some kind → o ≡ answer_before (raw_of kind) l
+    → IfSome o (λ b. (c : Bool) (s : Reading) → IfSome place (λ k. IsNext (raw_of k) s.rest) → b ≡ sees c s (shift m l))
+told-there place kind m l None e g h = tt
+told-there place kind m l (Some b) e g h = λ c s next.
+    seen-there c s m (raw_of kind) l b e (subst (λ (q : Option SyntaxKind). IfSome q (λ k. IsNext (raw_of k) s.rest)) g next) (known-before (raw_of kind) l b h)
 
--- the same of a part of a row
-part-seen : (c : Bool) (s : Reading) (m ranks k : ℕ) (r : Rule) (b : Bool) → m ≡ 0 → ranks ≡ 20 → IsNext k s.rest → known_answer k (begins (begins_below whole 20) r) ≡ Some b → b ≡ sees c s (shift m (begins (begins_below whole ranks) r))
-part-seen c s m ranks k r b e f next h =
-    let l = begins (begins_below whole 20) r in
-    subst (λ (i : ℕ). b ≡ sees c s (shift i (begins (begins_below whole ranks) r))) (sym e)
-    (subst (λ (n : ℕ). b ≡ sees c s (shift 0 (begins (begins_below whole n) r))) (sym f)
-    (sym (ap (λ (x : Look). sees c s x) (shift-none l) ∙ subst (λ (o : Option Bool). Right o (sees c s l)) h (right c s k next l))))
+pub sure : {A : Type 0} (P : A → Type 0) {o : Option A} {a : A} → o ≡ Some a → IfSome o P → P a
+sure {A} P e h = subst (λ (o : Option A). IfSome o P) e h
 
-pub part-told-there :
-    (place : Option SyntaxKind) (kind : SyntaxKind) (m ranks : ℕ) (r : Rule) (o : Option Bool)
-    → m ≡ 0 → ranks ≡ 20 → place ≡ Some kind → IfSome o (λ b. known_answer (raw_of kind) (begins (begins_below whole 20) r) ≡ Some b)
-    → IfSome o (λ b. (c : Bool) (s : Reading) → IfSome place (λ k. IsNext (raw_of k) s.rest) → b ≡ sees c s (shift m (begins (begins_below whole ranks) r)))
-part-told-there place kind m ranks r None e f g h = tt
-part-told-there place kind m ranks r (Some b) e f g h = λ c s next.
-    part-seen c s m ranks (raw_of kind) r b e f (subst (λ (q : Option SyntaxKind). IfSome q (λ k. IsNext (raw_of k) s.rest)) g next) h
-
--- what sets tell of a look that they are right for
-pub told-of : (k sure unsure : ℕ) (o : Option Bool) (l : Look) → IfSome o (λ b. (x : Look) → are_right 128 sure unsure x ≡ true → known_answer k x ≡ Some b) → are_right 128 sure unsure l ≡ true → IfSome o (λ b. known_answer k l ≡ Some b)
-told-of k sure unsure None l h e = tt
-told-of k sure unsure (Some b) l h e = h l e
+-- the kind that is asked for here is that of the next token
+pub known-next : (o place : Option SyntaxKind) (ts : List Token) → IfSome o (λ k. place ≡ Some k) → IfSome place (λ k. IsNext (raw_of k) ts) → IfSome o (λ k. IsNext (raw_of k) ts)
+known-next None place ts e h = tt
+known-next (Some k) place ts e h = subst (λ (q : Option SyntaxKind). IfSome q (λ i. IsNext (raw_of i) ts)) e h
 
 pub answered : (P : Bool → Type 0) {o : Option Bool} {b : Bool} → o ≡ Some b → IfSome o P → P b
 answered P e h = subst (λ (o : Option Bool). IfSome o P) e h
@@ -155,6 +147,27 @@ unfolding is_plain
 plain-word k (inl e) = ap (λ (w : SyntaxKind). is_plain (raw_of w)) e
 plain-word k (inr e) = ap (λ (w : SyntaxKind). is_plain (raw_of w)) e
 
+-- kinds of the same number are the same
+same-kind : (j k : SyntaxKind) → raw_of j ≡ raw_of k → j ≡ k
+same-kind j k e =
+    let both : Some j ≡ Some k = sym (slice_get-kinds j) ∙ ap (λ (i : ℕ). slice_get all_kinds i) e ∙ slice_get-kinds k in
+    cc both
+
+pub word-known : (k : SyntaxKind) → (k ≡ words.EOF → ⊥) → (k ≡ words.IDENT → ⊥) → is_plain (raw_of k) ≡ false
+unfolding is_plain
+word-known k no_end no_name = neither (raw_of k == EOF) (raw_of k == IDENT) refl refl
+  where
+    neither : (a b : Bool) → (raw_of k == EOF) ≡ a → (raw_of k == IDENT) ≡ b → (a || b) ≡ false
+    neither true b e f = absurd (no_end (same-kind k words.EOF (eqb-true (raw_of k) EOF e)))
+    neither false true e f = absurd (no_name (same-kind k words.IDENT (eqb-true (raw_of k) IDENT f)))
+    neither false false e f = refl
+
+-- the next token is a contextual keyword
+pub next-unknown : (v : View) (word : ℕ) → word ≡ (token_at v.input (v.position + 0)).contextual → is_plain word ≡ false → is_plain (ahead 0 (left v)).contextual ≡ false
+next-unknown v word w e =
+    let here : Reading = record { given = forest.End; rest = left v } in
+    ap is_plain (sym (next-word v here word refl w)) ∙ e
+
 -- The next token stays where only looks were made.
 pub still-next : (o : Option SyntaxKind) (old new : View) {looks : ℕ} → new ≡ record old { looks = looks } → IfSome o (λ k. IsNext (raw_of k) (left old)) → IfSome o (λ k. IsNext (raw_of k) (left new))
 still-next o old new same h = subst (λ (v : View). IfSome o (λ k. IsNext (raw_of k) (left v))) (sym same) h
@@ -163,12 +176,12 @@ pub next-there : (o : Option SyntaxKind) {us ts : List Token} → us ≡ ts → 
 next-there o e h = subst (λ (vs : List Token). IfSome o (λ k. IsNext (raw_of k) vs)) e h
 
 -- Sets that are right at each kind below a number are so at one of them.
-pub right-at : (n k sure unsure : ℕ) (l : Look) → k < n → are_right n sure unsure l ≡ true → is_right_at sure unsure k l ≡ true
+right-at : (n k sure unsure : ℕ) (l : Look) → k < n → are_right n sure unsure l ≡ true → same_told (told_by sure unsure k) (known_answer k l) ≡ true
 unfolding are_right
 right-at zero k sure unsure l h e = absurd (omega (arith, h))
 right-at (suc n) k sure unsure l h e = elim (cases_lt k n) [
-  | inl p ↦ right-at n k sure unsure l p (and_r (is_right_at sure unsure n l) (are_right n sure unsure l) e)
-  | inr p ↦ subst (λ (i : ℕ). is_right_at sure unsure i l ≡ true) (omega (arith, h, p)) (and_l (is_right_at sure unsure n l) (are_right n sure unsure l) e)
+  | inl p ↦ right-at n k sure unsure l p (and_r (same_told (told_by sure unsure n) (known_answer n l)) (are_right n sure unsure l) e)
+  | inr p ↦ subst (λ (i : ℕ). same_told (told_by sure unsure i) (known_answer i l) ≡ true) (omega (arith, h, p)) (and_l (same_told (told_by sure unsure n) (known_answer n l)) (are_right n sure unsure l) e)
 ]
 
 pub told-so : (o : Option Bool) (b : Bool) → is_told o b ≡ true → o ≡ Some b
@@ -179,21 +192,32 @@ told-so (Some true) false e = absurd (true≢false (sym e))
 told-so (Some false) true e = absurd (true≢false (sym e))
 told-so (Some false) false e = refl
 
-chosen : (b x y : Bool) → b ≡ true → (if b then x else y) ≡ true → x ≡ true
-chosen true x y e h = h
-chosen false x y e h = absurd (true≢false (sym e))
+same-so : (o p : Option Bool) → same_told o p ≡ true → o ≡ p
+unfolding same_told
+same-so None None e = refl
+same-so None (Some c) e = absurd (true≢false (sym e))
+same-so (Some b) p e = sym (told-so p b e)
 
-other : (b x y : Bool) → b ≡ false → (if b then x else y) ≡ true → y ≡ true
-other true x y e h = absurd (true≢false e)
-other false x y e h = h
+-- what the sets tell of a kind is what it tells
+pub told-right : (k sure unsure : ℕ) (l : Look) {o : Option Bool} → k < 128 → are_right 128 sure unsure l ≡ true → o ≡ told_by sure unsure k → o ≡ answer_before k l
+unfolding answer_before has_bit
+told-right k sure unsure l h e f = rw (lt-ltb k 128 h) (f ∙ same-so (told_by sure unsure k) (known_answer k l) (right-at 128 k sure unsure l h e))
 
-pub surely : (sure unsure k : ℕ) (l : Look) → k < 128 → are_right 128 sure unsure l ≡ true → is_in sure k ≡ true → known_answer k l ≡ Some true
-unfolding is_right_at
-surely sure unsure k l h e i = told-so (known_answer k l) true (chosen (is_in sure k) _ _ i (right-at 128 k sure unsure l h e))
+pub nothing-told : (k : ℕ) (l : Look) → 128 ≤ k → None ≡ answer_before k l
+unfolding answer_before has_bit
+nothing-told k l h = rw (le-ltb k 128 h) refl
 
-pub surely-not : (sure unsure k : ℕ) (l : Look) → k < 128 → are_right 128 sure unsure l ≡ true → is_in sure k ≡ false → is_in unsure k ≡ false → known_answer k l ≡ Some false
-unfolding is_right_at
-surely-not sure unsure k l h e i j = told-so (known_answer k l) false (other (is_in unsure k) _ _ j (other (is_in sure k) _ _ i (right-at 128 k sure unsure l h e)))
+pub told-sure : (k sure unsure : ℕ) → is_in sure k ≡ true → Some true ≡ told_by sure unsure k
+unfolding told_by
+told-sure k sure unsure e = rw e refl
+
+pub told-unsure : (k sure unsure : ℕ) → is_in sure k ≡ false → is_in unsure k ≡ true → None ≡ told_by sure unsure k
+unfolding told_by
+told-unsure k sure unsure e f = rw (e, f) refl
+
+pub told-not : (k sure unsure : ℕ) → is_in sure k ≡ false → is_in unsure k ≡ false → Some false ≡ told_by sure unsure k
+unfolding told_by
+told-not k sure unsure e f = rw (e, f) refl
 
 -- A choice that gives nothing before a kind.
 module _ (c : Bool) (s : Reading) (k : ℕ) (next : IsNext k s.rest) where
@@ -225,23 +249,34 @@ module _ (c : Bool) (s : Reading) (k : ℕ) (next : IsNext k s.rest) where
   pub tail-passed : gives_nothing k (rule operation_tail) ≡ true → meaning whole operation_tail c s ≡ s
   tail-passed e = whole-means operation_tail c s ∙ none-given (rule operation_tail) e
 
-pub not-so : (b : Bool) → IsTrue (not b) → b ≡ false
-not-so true h = absurd (true≢false (sym h))
-not-so false h = refl
+-- A set that has the kinds of which something is not so.
+module _ (others : ℕ) (is_so : ℕ → Bool) where
+  abbrev pub are_others : ℕ → Bool
+  are_others k = if is_in others k then not (is_so k) else is_so k
 
-nothing-at : (n k others : ℕ) (r : Rule) → k < n → all_give_nothing n others r ≡ true → (is_in others k || gives_nothing k r) ≡ true
+  pub as-set : (k : ℕ) → are_others k ≡ true → not (is_in others k) ≡ is_so k
+  as-set k e = told (is_in others k) (is_so k) e
+    where
+      told : (b d : Bool) → (if b then not d else d) ≡ true → not b ≡ d
+      told true true f = absurd (true≢false (sym f))
+      told true false f = refl
+      told false d f = sym f
+
+nothing-at : (n k others : ℕ) (r : Rule) → k < n → all_give_nothing n others r ≡ true → are_others others (λ i. gives_nothing i r) k ≡ true
 unfolding all_give_nothing
 nothing-at zero k others r h e = absurd (omega (arith, h))
 nothing-at (suc n) k others r h e = elim (cases_lt k n) [
-  | inl p ↦ nothing-at n k others r p (and_r (is_in others n || gives_nothing n r) (all_give_nothing n others r) e)
-  | inr p ↦ subst (λ (i : ℕ). (is_in others i || gives_nothing i r) ≡ true) (omega (arith, h, p)) (and_l (is_in others n || gives_nothing n r) (all_give_nothing n others r) e)
+  | inl p ↦ nothing-at n k others r p (and_r (are_others others (λ i. gives_nothing i r) n) (all_give_nothing n others r) e)
+  | inr p ↦ subst (λ (i : ℕ). are_others others (λ i. gives_nothing i r) i ≡ true) (omega (arith, h, p)) (and_l (are_others others (λ i. gives_nothing i r) n) (all_give_nothing n others r) e)
 ]
 
-pub nothing-before : (k others : ℕ) (r : Rule) → k < 128 → all_give_nothing 128 others r ≡ true → is_in others k ≡ false → gives_nothing k r ≡ true
-nothing-before k others r h e i = elim (or_cases (is_in others k) (gives_nothing k r) (nothing-at 128 k others r h e)) [
-  | inl f ↦ absurd (true≢false (sym f ∙ i))
-  | inr f ↦ f
-]
+pub nothing-before : (k others : ℕ) (r : Rule) → k < 128 → all_give_nothing 128 others r ≡ true → not (is_in others k) ≡ (has_bit k && gives_nothing k r)
+unfolding has_bit
+nothing-before k others r h e = rw (lt-ltb k 128 h) (as-set others (λ i. gives_nothing i r) k (nothing-at 128 k others r h e))
+
+pub no-bit : (k : ℕ) (b : Bool) → 128 ≤ k → false ≡ (has_bit k && b)
+unfolding has_bit
+no-bit k b h = rw (le-ltb k 128 h) refl
 
 -- A repetition that has no turn before a kind.
 module _ (c : Bool) (s : Reading) (k : ℕ) (next : IsNext k s.rest) (a : Rule) where
@@ -291,16 +326,14 @@ layer-idle k a (Call x) v e = absurd (true≢false (sym e))
 layer-idle k a (Continue x) v e = absurd (true≢false (sym e))
 layer-idle k a (Mode m d) v e = absurd (true≢false (sym e))
 
-end-at : (n k others : ℕ) (r : Rule) → k < n → all_end_before n others r ≡ true → (is_in others k || ends_before k r) ≡ true
+end-at : (n k others : ℕ) (r : Rule) → k < n → all_end_before n others r ≡ true → are_others others (λ i. ends_before i r) k ≡ true
 unfolding all_end_before
 end-at zero k others r h e = absurd (omega (arith, h))
 end-at (suc n) k others r h e = elim (cases_lt k n) [
-  | inl p ↦ end-at n k others r p (and_r (is_in others n || ends_before n r) (all_end_before n others r) e)
-  | inr p ↦ subst (λ (i : ℕ). (is_in others i || ends_before i r) ≡ true) (omega (arith, h, p)) (and_l (is_in others n || ends_before n r) (all_end_before n others r) e)
+  | inl p ↦ end-at n k others r p (and_r (are_others others (λ i. ends_before i r) n) (all_end_before n others r) e)
+  | inr p ↦ subst (λ (i : ℕ). are_others others (λ i. ends_before i r) i ≡ true) (omega (arith, h, p)) (and_l (are_others others (λ i. ends_before i r) n) (all_end_before n others r) e)
 ]
 
-pub end-before : (k others : ℕ) (r : Rule) → k < 128 → all_end_before 128 others r ≡ true → is_in others k ≡ false → ends_before k r ≡ true
-end-before k others r h e i = elim (or_cases (is_in others k) (ends_before k r) (end-at 128 k others r h e)) [
-  | inl f ↦ absurd (true≢false (sym f ∙ i))
-  | inr f ↦ f
-]
+pub end-before : (k others : ℕ) (r : Rule) → k < 128 → all_end_before 128 others r ≡ true → not (is_in others k) ≡ (has_bit k && ends_before k r)
+unfolding has_bit
+end-before k others r h e = rw (lt-ltb k 128 h) (as-set others (λ i. ends_before i r) k (end-at 128 k others r h e))

@@ -8,7 +8,7 @@ use Rattle.rust_grammar.specs.Meaning.{Reading, turns}
 use Rattle.rust_grammar.specs.Whole.{rank}
 use Rattle.rust_grammar.specs.Laws.{reads}
 use Rattle.grammar_reader.specs.CanRead.{CanRead, is_begun}
-use Rattle.grammar_reader.specs.Stands.{left, Stands}
+use Rattle.rust_productions.specs.Stands.{left, Stands}
 
 -- so many turns of a rule
 abbrev pub turned : ℕ → Bool → Rule → Reading → Reading

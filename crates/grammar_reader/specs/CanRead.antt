@@ -33,9 +33,9 @@ CanTake calls c (Call x) s = calls x c (fresh s)
 CanTake calls c (Continue x) s = calls x c s
 CanTake calls c (Mode d a) s = CanTake calls d a s
 
--- Where a production began, by how many tokens were left, and its rank at most.
-pub record Calling : Type 0 where
-  pub began : ℕ
+-- What a rule is read under: condition mode, and the rank at most of the production that it is read for.
+pub record Setting : Type 0 where
+  pub condition : Bool
   pub ranks : ℕ
 
 -- A call is made where tokens were taken since the caller began with so many left, or none were and its rank is lower.
@@ -43,7 +43,7 @@ abbrev pub IsBelow : Production → (began : ℕ) → Production → Reading →
 IsBelow x began y s = (length s.rest < began) ⊎ ((length s.rest ≤ began) × (rank y < rank x))
 
 -- a rank is given, and it is no lower than this one
-abbrev pub HasRank : ℕ → Option Calling → Type 0
+abbrev pub HasRank : ℕ → Option Setting → Type 0
 HasRank n None = ⊥
 HasRank n (Some now) = n ≤ now.ranks
 

@@ -1,3 +1,4 @@
+pub mod ByHand
 pub mod CanRead
 pub mod Data
 pub mod Layers
@@ -6,5 +7,3 @@ pub mod Told
 pub mod Prices
 pub mod Rows
 pub mod Size
-pub mod Stands
-pub mod Moves

@@ -4,7 +4,7 @@ use Rattle.parser_events.specs.View.{View}
 use Rattle.rust_grammar.specs.Rule.{Rule, Look, Always, Never, Kind, Contextual, Joint, Left, InCondition, Given, Both, Either, Not, begins}
 use Rattle.rust_grammar.specs.Meaning.{look_of}
 use Rattle.rust_grammar.specs.Whole.{whole}
-use Rattle.grammar_reader.specs.Stands.{left}
+use Rattle.rust_productions.specs.Stands.{left}
 
 -- how many kinds of tokens are asked for where all is asked: each is a look
 unfoldable pub asked : Look → ℕ

@@ -1,19 +1,20 @@
--- Which part of a row is read.
-use Rattle.std.specs.Prelude.{◌≡◌, ℕ, ◌≤◌, Bool, true, List}
-use Rattle.parser_input.specs.Input.{Token}
-use Rattle.parser_events.specs.View.{View}
-use Rattle.rust_grammar.specs.Rule.{Production, Rule}
-use Rattle.rust_grammar.specs.Meaning.{Reading}
-use Rattle.rust_grammar.specs.Laws.{reads}
-use Rattle.grammar_reader.specs.CanRead.{CanRead}
-use Rattle.grammar_reader.specs.Looks.{Costs}
-use Rattle.grammar_reader.specs.Prices.{idle, debt, is_paid}
-use Rattle.grammar_reader.specs.Size.{size}
+-- Which part of a row is left to be read or asked.
+use Rattle.std.specs.Prelude.{◌≡◌, ◌≤◌, ℕ, true, Option, None, IfSome}
+use Rattle.parser_input.specs.Kind.{raw_of}
+use Rattle.parser_input.specs.declared.syntax_kind.SyntaxKind.{SyntaxKind}
+use Rattle.rust_grammar.specs.Rule.{Rule}
+use Rattle.grammar_reader.specs.Data.{later}
+use Rattle.grammar_reader.specs.Told.{are_passed}
 
--- Before these tokens a part of a row is read for all of it: it means the same, can be read where the row can, and costs no more.
-pub record StandsFor (tokens : List Token) (part row : Rule) : Type 0 where
-  pub means : (c : Bool) (s : Reading) → tokens ≡ s.rest → reads c row s ≡ reads c part s
-  pub can : (x : Production) (began : ℕ) (c : Bool) (s : Reading) → tokens ≡ s.rest → CanRead x began c row s → CanRead x began c part s
-  pub paid : is_paid row ≡ true → is_paid part ≡ true
-  pub costs : (old new : View) → Costs (idle part) (debt part) old new → Costs (idle row) (debt row) old new
-  pub smaller : size part ≤ size row
+-- What is left of a row after first alternatives, at most so many.
+pub record IsLater (most : ℕ) (row part : Rule) : Type 0 where
+  pub count : ℕ
+  pub few : count ≤ most
+  pub rest : part ≡ later count row
+
+-- What is left of a row after first alternatives that do not begin before the next token, as its kind tells where that is known.
+pub record IsRest (row : Rule) (next : Option SyntaxKind) (part : Rule) : Type 0 where
+  pub count : ℕ
+  pub rest : part ≡ later count row
+  pub passed : IfSome next (λ kind. are_passed count (raw_of kind) row ≡ true)
+  pub none : next ≡ None → count ≡ 0

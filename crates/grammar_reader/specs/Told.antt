@@ -1,11 +1,11 @@
 -- What the kind of the next token tells of a look.
-use Rattle.std.specs.Prelude.{◌≡◌, ℕ, zero, suc, ◌/◌, ◌%◌, ◌^◌, ◌==◌, ◌||◌, ◌&&◌, Bool, true, false, not, List, Option, Some, None, if◌then◌else◌}
+use Rattle.std.specs.Prelude.{◌≡◌, ℕ, zero, suc, ◌/◌, ◌%◌, ◌^◌, ◌==◌, ◌||◌, ◌&&◌, nat_lt, Bool, true, false, not, List, Option, Some, None, if◌then◌else◌}
 use Rattle.parser_input.specs.Kinds.{EOF, IDENT}
 use Rattle.parser_input.specs.Input.{Token}
 use Rattle.parser_input.specs.Kind.{raw_of}
 use Rattle.parser_input.specs.declared.syntax_kind.SyntaxKind.{SyntaxKind}
 use Rattle.rust_grammar.specs.Rule.{Look, Always, Never, Kind, Contextual, Joint, Left, InCondition, Given, Both, Either, Not, Rule, Nothing, Or, Star, Then, begins}
-use Rattle.rust_grammar.specs.Meaning.{ahead, begins_below, look_of}
+use Rattle.rust_grammar.specs.Meaning.{ahead, look_of}
 use Rattle.rust_grammar.specs.Whole.{whole}
 use Rattle.grammar_reader.specs.Data.{row_part}
 use Rattle.grammar_reader.specs.declared.part.Part.{Part}
@@ -56,7 +56,7 @@ known_answer k (Not a) = known_not (known_answer k a)
 
 -- what a part of a row that stands apart asks of a place
 abbrev pub part_look : Part → Look
-part_look x = begins (begins_below whole 20) (row_part x)
+part_look x = begins (look_of whole) (row_part x)
 
 -- whether a kind is in a set, which is a number with a bit for each kind that is in it
 unfoldable pub is_in : (set kind : ℕ) → Bool
@@ -67,18 +67,30 @@ is_told None b = false
 is_told (Some true) b = b
 is_told (Some false) b = not b
 
--- At a kind of the first set the look is surely there, at one of the second it is open whether it is, at any other it surely is not.
-unfoldable pub is_right_at : (sure unsure kind : ℕ) → Look → Bool
-is_right_at sure unsure kind l =
-    let yes = is_told (known_answer kind l) true in
-    let no = is_told (known_answer kind l) false in
-    let other = if is_in unsure kind then true else no in
-    if is_in sure kind then yes else other
+-- whether two answers are the same
+unfoldable pub same_told : Option Bool → Option Bool → Bool
+same_told None None = true
+same_told None (Some c) = false
+same_told (Some b) o = is_told o b
 
--- so it is at each kind below this one
+-- what two sets tell of a kind: at one of the first a look is surely there, at one of the second more tokens tell, at any other it surely is not
+unfoldable pub told_by : (sure unsure kind : ℕ) → Option Bool
+told_by sure unsure kind =
+    let other = if is_in unsure kind then None else Some false in
+    if is_in sure kind then Some true else other
+
+-- of each kind below this one the sets tell what it tells of the look
 unfoldable pub are_right : ℕ → (sure unsure : ℕ) → Look → Bool
 are_right zero sure unsure l = true
-are_right (suc n) sure unsure l = is_right_at sure unsure n l && are_right n sure unsure l
+are_right (suc n) sure unsure l = same_told (told_by sure unsure n) (known_answer n l) && are_right n sure unsure l
+
+-- whether a set has a bit for the kind
+unfoldable pub has_bit : ℕ → Bool
+has_bit kind = nat_lt kind 128
+
+-- what such a kind tells of a look
+unfoldable pub answer_before : ℕ → Look → Option Bool
+answer_before kind l = if has_bit kind then known_answer kind l else None
 
 -- whether a choice that may give nothing gives nothing before a token of this kind
 unfoldable pub gives_nothing : ℕ → Rule → Bool
@@ -86,19 +98,20 @@ gives_nothing k Nothing = true
 gives_nothing k (Or a b) = is_told (known_answer k (begins (look_of whole) a)) false && gives_nothing k b
 gives_nothing k r = false
 
--- so it is at each kind below this one that is not in the set
+-- so it is at each kind below this one that is not in the set, and at no other
 unfoldable pub all_give_nothing : ℕ → (others : ℕ) → Rule → Bool
 all_give_nothing zero others r = true
-all_give_nothing (suc n) others r = (is_in others n || gives_nothing n r) && all_give_nothing n others r
+all_give_nothing (suc n) others r = (if is_in others n then not (gives_nothing n r) else gives_nothing n r) && all_give_nothing n others r
 
 -- whether a repetition after an operand has no turn before a token of this kind
 unfoldable pub ends_before : ℕ → Rule → Bool
 ends_before k (Then a (Star b)) = is_told (known_answer k (begins (look_of whole) b)) false
 ends_before k r = false
 
+-- so it is at each kind below this one that is not in the set, and at no other
 unfoldable pub all_end_before : ℕ → (others : ℕ) → Rule → Bool
 all_end_before zero others r = true
-all_end_before (suc n) others r = (is_in others n || ends_before n r) && all_end_before n others r
+all_end_before (suc n) others r = (if is_in others n then not (ends_before n r) else ends_before n r) && all_end_before n others r
 
 -- Before the next token, whose kind is known, a repetition after an operand has no turn.
 abbrev pub IsOver : (next : Option SyntaxKind) → Rule → Type 0

@@ -1,6 +1,6 @@
 //! Where productions begin, as far as the kind of the next token alone tells.
 
-ghost use Rattle.std.specs.Prelude.{◌≡◌, ◌<◌, ◌≤◌, ◌+◌, ℕ, IfSome, IsTrue, Some, true};
+ghost use Rattle.std.specs.Prelude.{◌≡◌, ◌<◌, ◌≤◌, ◌+◌, ◌&&◌, ℕ, IfSome, false, true};
 ghost use Rattle.parser_input.specs.Kind.{raw_of};
 ghost use Rattle.rust_grammar.specs.Meaning.{look_of};
 ghost use Rattle.rust_grammar.specs.Rule as rules;
@@ -8,7 +8,7 @@ ghost use Rattle.rust_grammar.specs.Rule.{Look, Rule};
 ghost use Rattle.rust_grammar.specs.Whole.{rule, whole};
 ghost use Rattle.grammar_reader.specs.Data.{named};
 ghost use Rattle.grammar_reader.specs.Layers.{layer_at};
-ghost use Rattle.grammar_reader.specs.Told.{IsOver, all_end_before, all_give_nothing, ends_before, are_right, gives_nothing, is_in, known_answer};
+ghost use Rattle.grammar_reader.specs.Told.{IsOver, all_end_before, all_give_nothing, answer_before, are_right, ends_before, gives_nothing, has_bit, is_in};
 
 use crate::production::Production;
 use parser_input::syntax_kind::SyntaxKind;
@@ -325,8 +325,8 @@ impl First {
     /// Whether what these sets are right for begins before a token of this kind that is no
     /// contextual keyword, if that alone tells.
     pub(crate) fn tells(&self, kind: SyntaxKind) -> Option<bool>
-        ensures { IfSome result (λ answer. (l : Look) → are_right 128 self.now.sure self.now.unsure l ≡ true
-            → known_answer (raw_of kind) l ≡ Some answer) }
+        ensures { (l : Look) → are_right 128 self.now.sure self.now.unsure l ≡ true
+            → result ≡ answer_before (raw_of kind) l }
     {
         let kind = kind.to_raw();
         if kind >= 128 {
@@ -345,8 +345,7 @@ impl First {
 /// Whether a production begins before a token of this kind that is no contextual keyword, if that
 /// alone tells.
 pub fn begins_before(production: Production, kind: SyntaxKind) -> Option<bool>
-    ensures { IfSome result (λ answer. known_answer (raw_of kind) (look_of whole (named production))
-        ≡ Some answer) }
+    ensures { result ≡ answer_before (raw_of kind) (look_of whole (named production)) }
 {
     first_of(production).tells(kind)
 }
@@ -363,7 +362,7 @@ fn operation_tail() -> u128
 
 /// Whether an operation ends before a token of this kind that is no contextual keyword.
 pub fn operation_ends_before(kind: SyntaxKind) -> bool
-    ensures { IsTrue result → gives_nothing (raw_of kind) (rule rules.operation_tail) ≡ true }
+    ensures { result ≡ (has_bit (raw_of kind) && gives_nothing (raw_of kind) (rule rules.operation_tail)) }
 {
     let kind = kind.to_raw();
     if kind >= 128 {
@@ -398,8 +397,8 @@ pub(crate) fn operators_at(height: u8) -> u128
 /// Whether a layer with these operators ends before a token of this kind that is no contextual
 /// keyword.
 pub fn layer_ends_before(operators: u128, kind: SyntaxKind) -> bool
-    ensures { IsTrue result → (r : Rule) → all_end_before 128 operators r ≡ true
-        → ends_before (raw_of kind) r ≡ true }
+    ensures { (r : Rule) → all_end_before 128 operators r ≡ true
+        → result ≡ (has_bit (raw_of kind) && ends_before (raw_of kind) r) }
 {
     let kind = kind.to_raw();
     if kind >= 128 {
@@ -417,6 +416,8 @@ pub(crate) fn next_layer(next: Option<SyntaxKind>, height: u8, top: u8) -> u8
     ensures above { height < result }
     ensures up { result ≤ top + 1 }
     ensures over { (h : ℕ) → height < h → h < result → IsOver next (rule (layer_at h)) }
+    ensures goes_on { result ≤ top → IfSome next (λ kind.
+        (has_bit (raw_of kind) && ends_before (raw_of kind) (rule (layer_at result))) ≡ false) }
 {
     let mut upper = height + 1;
     let Some(kind) = next else {

@@ -6,7 +6,8 @@
 #![tactic(auto)]
 
 pub mod begin;
-pub mod caller;
+pub mod by_hand;
+pub mod context;
 pub mod first;
 pub mod layer;
 pub mod look;

@@ -1,13 +1,13 @@
 //! Looks at the tokens ahead.
 
-ghost use Rattle.std.specs.Prelude.{◌≡◌, ◌<◌, ◌≤◌, ◌+◌, ◌^◌, IfSome, length};
+ghost use Rattle.std.specs.Prelude.{◌≡◌, ◌<◌, ◌≤◌, ◌+◌, ◌^◌, IfSome, None, false, length};
 ghost use Rattle.parser_input.specs.Kind.{raw_of};
 ghost use Rattle.rust_grammar.specs.Rule.{shift, there_at, Kind, Joint, Both};
-ghost use Rattle.rust_grammar.specs.Meaning.{Reading, sees};
+ghost use Rattle.rust_grammar.specs.Meaning.{Reading, ahead, sees};
 ghost use Rattle.grammar_reader.specs.Data.{plain_look, spelled};
 ghost use Rattle.grammar_reader.specs.Looks.{asked};
-ghost use Rattle.grammar_reader.specs.Stands.{IsAt, left};
-ghost use Rattle.grammar_reader.specs.Told.{IsNext};
+ghost use Rattle.rust_productions.specs.Stands.{IsAt, left};
+ghost use Rattle.grammar_reader.specs.Told.{IsNext, is_plain};
 
 use crate::rule::{Look, Spelling};
 use parser_events::parser::Parser;
@@ -27,6 +27,7 @@ pub struct Place {
 /// The kind of the next token, unless that is a contextual keyword.
 pub fn next_kind(p: &mut Parser<'_>) -> Option<SyntaxKind>
     ensures next { IfSome result (λ kind. IsNext (raw_of kind) (left p.new)) }
+    ensures unknown { result ≡ None → is_plain (ahead 0 (left p.new)).contextual ≡ false }
     ensures same { p.new ≡ record p.old { looks = p.new.looks } }
     ensures looks { p.new.looks ≤ p.old.looks + 1 }
 {
@@ -45,7 +46,7 @@ pub fn tokens_left(p: &Parser<'_>) -> usize
 
 /// Whether a token of this kind is the n-th, so many tokens further ahead.
 fn is_next(p: &mut Parser<'_>, place: Place, kind: SyntaxKind, n: u8, ahead: usize) -> bool
-    requires short { length p.old.input < 2 ^ 58 }
+    requires short { length p.old.input < 2 ^ 64 }
     ensures sees { (s : Reading) → IsAt place.given p.old s
         → result ≡ sees place.condition s (shift ahead (Kind n (raw_of kind))) }
     ensures same { p.new ≡ record p.old { looks = p.new.looks } }
@@ -58,7 +59,7 @@ fn is_next(p: &mut Parser<'_>, place: Place, kind: SyntaxKind, n: u8, ahead: usi
 /// Whether a token of this kind is the n-th, so many tokens further ahead, and touches the next
 /// one.
 fn is_joint(p: &mut Parser<'_>, place: Place, kind: SyntaxKind, n: u8, ahead: usize) -> bool
-    requires short { length p.old.input < 2 ^ 58 }
+    requires short { length p.old.input < 2 ^ 64 }
     ensures sees { (s : Reading) → IsAt place.given p.old s
         → result ≡ sees place.condition s (shift ahead (Both (Kind n (raw_of kind)) (Joint n))) }
     ensures same { p.new ≡ record p.old { looks = p.new.looks } }
@@ -72,7 +73,7 @@ fn is_joint(p: &mut Parser<'_>, place: Place, kind: SyntaxKind, n: u8, ahead: us
 
 /// Whether the look is there, so many tokens further ahead.
 pub fn is_there(p: &mut Parser<'_>, place: Place, look: &Look, ahead: usize) -> bool
-    requires short { length p.old.input < 2 ^ 58 }
+    requires short { length p.old.input < 2 ^ 64 }
     ensures sees { (s : Reading) → IsAt place.given p.old s
         → result ≡ sees place.condition s (shift ahead (plain_look look.now)) }
     ensures same { p.new ≡ record p.old { looks = p.new.looks } }
@@ -98,7 +99,7 @@ pub fn is_there(p: &mut Parser<'_>, place: Place, look: &Look, ahead: usize) -> 
 
 /// Whether a spelling stands so many tokens ahead.
 pub fn is_spelled(p: &mut Parser<'_>, place: Place, spelling: &Spelling, ahead: usize) -> bool
-    requires short { length p.old.input < 2 ^ 58 }
+    requires short { length p.old.input < 2 ^ 64 }
     ensures sees { (s : Reading) → IsAt place.given p.old s
         → result ≡ sees place.condition s (shift ahead (there_at 0 (spelled spelling.now).parts)) }
     ensures same { p.new ≡ record p.old { looks = p.new.looks } }

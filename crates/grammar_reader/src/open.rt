@@ -7,8 +7,8 @@ ghost use Rattle.parser_events.specs.Marked.{Marked};
 ghost use Rattle.parser_events.specs.Seen.{message_of};
 ghost use Rattle.parser_events.specs.Stack.{IsInnermost};
 ghost use Rattle.rust_grammar.specs.Meaning.{Reading, ahead, leaf, say, skip, split, wrapped};
-ghost use Rattle.grammar_reader.specs.Moves.{Opens, Closes, Leaves};
-ghost use Rattle.grammar_reader.specs.Stands.{Stands};
+ghost use Rattle.rust_productions.specs.Moves.{Opens, Closes, Leaves};
+ghost use Rattle.rust_productions.specs.Stands.{Stands};
 
 use crate::look::tokens_left;
 use parser_events::message::Message;

@@ -1,8 +1,8 @@
 //! Where the parts of rows begin that stand apart, as far as the kind of the next token alone tells.
 
-ghost use Rattle.std.specs.Prelude.{◌≡◌, IfSome, Some, true};
+ghost use Rattle.std.specs.Prelude.{◌≡◌, true};
 ghost use Rattle.parser_input.specs.Kind.{raw_of};
-ghost use Rattle.grammar_reader.specs.Told.{are_right, known_answer, part_look};
+ghost use Rattle.grammar_reader.specs.Told.{answer_before, are_right, part_look};
 
 use crate::first::{ANY_TOKEN, First, kinds};
 use crate::part::Part;
@@ -85,7 +85,7 @@ fn first_of_part(part: Part) -> &'static First
 /// Whether a part of a row that stands apart begins before a token of this kind that is no contextual
 /// keyword, if that alone tells.
 pub fn part_begins_before(part: Part, kind: SyntaxKind) -> Option<bool>
-    ensures { IfSome result (λ answer. known_answer (raw_of kind) (part_look part) ≡ Some answer) }
+    ensures { result ≡ answer_before (raw_of kind) (part_look part) }
 {
     first_of_part(part).tells(kind)
 }

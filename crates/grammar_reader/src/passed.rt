@@ -1,22 +1,17 @@
 //! Alternatives of a row that are passed by, as far as the kind of the next token alone tells.
 
-ghost use Rattle.std.specs.Prelude.{◌≡◌, ◌<◌, ◌≤◌, ◌+◌, ℕ, IfSome, List, true};
-ghost use Rattle.parser_input.specs.Input.{Token};
+ghost use Rattle.std.specs.Prelude.{◌≡◌, IfSome, false, true};
 ghost use Rattle.parser_input.specs.Kind.{raw_of};
 ghost use Rattle.rust_grammar.specs.Rule as rules;
 ghost use Rattle.rust_grammar.specs.Whole.{rule};
 ghost use Rattle.grammar_reader.specs.Data.{named, plain};
-ghost use Rattle.grammar_reader.specs.Rows.{StandsFor};
-ghost use Rattle.grammar_reader.specs.Size.{size};
-ghost use Rattle.grammar_reader.specs.Stands.{left};
-ghost use Rattle.grammar_reader.specs.Told.{IsNext, are_passed, all_passed};
+ghost use Rattle.grammar_reader.specs.Rows.{IsLater, IsRest};
+ghost use Rattle.grammar_reader.specs.Told.{are_passed, all_passed, has_bit, is_in};
 
 use crate::first::{atoms, block_likes, has, kinds, literals, operands, refs, single_patterns};
-use crate::look::next_kind;
 use crate::production::Production;
 use crate::rule::Rule;
-use crate::table::rule_of;
-use parser_events::parser::Parser;
+use crate::table::{rule_of, rule_of_part};
 use parser_input::syntax_kind::SyntaxKind;
 
 /// Before each kind of a set so many alternatives of a row are passed by, and before each kind of
@@ -28,10 +23,17 @@ pub struct Passed {
     few: u8,
 }
 
+/// The words that bodies of items begin with; other bodies are macro calls.
+macro_rules! bodies {
+    () => {
+        kinds!(MOD_KW USE_KW STRUCT_KW ENUM_KW FN_KW CONST_KW STATIC_KW TYPE_KW IMPL_KW TRAIT_KW UNSAFE_KW)
+    };
+}
+
 static BODY: Passed = Passed {
-    many_before: kinds!(STATIC_KW TYPE_KW IMPL_KW TRAIT_KW),
-    many: 5,
-    few_before: kinds!(FN_KW),
+    many_before: u128::MAX - bodies!(),
+    many: 10,
+    few_before: kinds!(FN_KW CONST_KW STATIC_KW TYPE_KW IMPL_KW TRAIT_KW UNSAFE_KW),
     few: 4,
 };
 
@@ -122,8 +124,12 @@ fn passed_of(production: Production) -> Option<&'static Passed>
 
 /// How many alternatives are passed by before a token of this kind that is no contextual keyword.
 fn passed_before(passed: &Passed, kind: SyntaxKind) -> u8
-    ensures { (r : rules.Rule) → all_passed 128 passed.now.many_before passed.now.many r ≡ true
+    ensures passed { (r : rules.Rule) → all_passed 128 passed.now.many_before passed.now.many r ≡ true
         → all_passed 128 passed.now.few_before passed.now.few r ≡ true → are_passed result (raw_of kind) r ≡ true }
+    ensures many { has_bit (raw_of kind) ≡ true → is_in passed.now.many_before (raw_of kind) ≡ true
+        → result ≡ passed.now.many }
+    ensures few { has_bit (raw_of kind) ≡ true → is_in passed.now.many_before (raw_of kind) ≡ false
+        → is_in passed.now.few_before (raw_of kind) ≡ true → result ≡ passed.now.few }
 {
     let kind = kind.to_raw();
     if kind >= 128 {
@@ -138,33 +144,30 @@ fn passed_before(passed: &Passed, kind: SyntaxKind) -> u8
     0
 }
 
-/// The rest of a row after so many alternatives, or after fewer, where the row is kept as two.
+/// What is left of a row after so many alternatives, or all that are.
 fn after(row: &'static Rule, count: u8) -> &'static Rule
-    ensures { (k : ℕ) (tokens : List Token) → IsNext k tokens → are_passed count k (plain row.now) ≡ true
-        → StandsFor tokens (plain result.now) (plain row.now) }
+    ensures { IsLater count (plain row.now) (plain result.now) }
 {
     if count == 0 {
         return row;
     }
     match row {
         Rule::Or(_, second) => after(second, count - 1),
+        Rule::Part(part) => after(rule_of_part(*part), count),
         _ => row,
     }
 }
 
-/// The part of a production's row that is read before the next token, as far as its kind alone
-/// tells.
-pub(crate) fn row_before(p: &mut Parser<'_>, production: Production) -> &'static Rule
-    ensures part { StandsFor (left p.old) (plain result.now) (rule (named production)) }
-    ensures few { size (plain result.now) < 2048 }
-    ensures same { p.new ≡ record p.old { looks = p.new.looks } }
-    ensures looks { p.new.looks ≤ p.old.looks + 1 }
+/// What is left of a production's row after alternatives that do not begin before the next token, as
+/// far as its kind tells. It is given where it is known and that is no contextual keyword.
+pub(crate) fn row_before(production: Production, next: Option<SyntaxKind>) -> &'static Rule
+    ensures { IsRest (rule (named production)) next (plain result.now) }
 {
     let row = rule_of(production);
-    let Some(passed) = passed_of(production) else {
+    let Some(kind) = next else {
         return row;
     };
-    let Some(kind) = next_kind(p) else {
+    let Some(passed) = passed_of(production) else {
         return row;
     };
     after(row, passed_before(passed, kind))

@@ -1,12 +1,13 @@
 //! Reads what a rule says: one function for all forms.
 
-ghost use Rattle.std.specs.Prelude.{◌≡◌, ◌≤◌, ◌<◌, ◌+◌, ◌*◌, ◌^◌, ℕ, Bool, List, Option, Some, IfSome, IsTrue, true, false, length};
+ghost use Rattle.std.specs.Prelude.{◌≡◌, ◌≤◌, ◌<◌, ◌+◌, ◌*◌, ◌^◌, ◌&&◌, ℕ, Bool, List, Option, Some, IfSome, IsTrue, true, false, length};
+ghost use Rattle.parser_input.specs.Kind.{raw_of};
 ghost use Rattle.parser_events.specs.Marked.{Marked};
 ghost use Rattle.parser_events.specs.Stack.{IsInnermost};
 ghost use Rattle.parser_events.specs.View.{View};
 ghost use Rattle.rust_grammar.specs.Rule as rules;
 ghost use Rattle.rust_grammar.specs.Meaning.{Reading, after, fresh, meaning};
-ghost use Rattle.rust_grammar.specs.Whole.{rank, whole};
+ghost use Rattle.rust_grammar.specs.Whole.{rank, rule, whole};
 ghost use Rattle.rust_grammar.specs.Begun.{IsBegun};
 ghost use Rattle.rust_grammar.specs.Laws.{reads};
 ghost use Rattle.grammar_reader.specs.CanRead.{CanRead, HasRank, IsBelow, is_begun};
@@ -15,10 +16,12 @@ ghost use Rattle.grammar_reader.specs.Layers.{layer_at, CanClimb};
 ghost use Rattle.grammar_reader.specs.Looks.{begin_looks, Costs};
 ghost use Rattle.grammar_reader.specs.Prices.{idle, idle_of, debt, debt_of, is_paid};
 ghost use Rattle.grammar_reader.specs.Size.{size};
-ghost use Rattle.grammar_reader.specs.Stands.{Stands, left};
+ghost use Rattle.rust_productions.specs.Stands.{Stands, left};
+ghost use Rattle.grammar_reader.specs.Told.{IsNext, gives_nothing, has_bit};
 
 use crate::begin::begins;
-use crate::caller::Caller;
+use crate::by_hand::{by_hand, read_by_hand};
+use crate::context::Context;
 use crate::first::{next_layer, operation_ends_before};
 use crate::layer::{height_of, layer_of};
 use crate::look::{Place, next_kind, tokens_left};
@@ -28,56 +31,57 @@ use crate::production::Production;
 use crate::rule::Rule;
 use crate::table::{rule_of_part, turns_in};
 use parser_events::parser::Parser;
+use parser_input::syntax_kind::SyntaxKind;
 
 /// Whether the rule begins here.
-pub fn at(p: &mut Parser<'_>, given: bool, rule: &'static Rule, condition: bool) -> bool
-    requires short { length p.old.input < 2 ^ 58 }
+pub fn at(p: &mut Parser<'_>, given: bool, rule: &'static Rule, context: Context) -> bool
+    requires short { length p.old.input < 2 ^ 64 }
     ensures sees { (s : Reading) (below : Option (List Marked)) → Stands given p.old s below
-        → result ≡ is_begun condition (plain rule.now) s }
+        → result ≡ is_begun context.condition (plain rule.now) s }
     ensures same { p.new ≡ record p.old { looks = p.new.looks } }
     ensures looks { p.new.looks ≤ p.old.looks + begin_looks (plain rule.now) }
 {
     let next = next_kind(p);
     let place = Place {
-        condition,
+        condition: context.condition(),
         given,
         next,
     };
-    begins(p, place, rule, 0, 20)
+    begins(p, place, rule, 0)
 }
 
-/// What is called now: of any rank where tokens were taken since the caller began, of a lower one
-/// where none were.
-fn callee(p: &Parser<'_>, caller: Caller) -> Option<Caller>
-    requires short { length p.now.input < 2 ^ 58 }
-    requires few { caller.ranks ≤ 20 }
+/// What a production is read under that is called now: any rank where tokens were taken since the
+/// present one began, a lower one where none were.
+fn callee(p: &Parser<'_>, began: usize, context: Context) -> Option<Context>
+    requires few { context.ranks ≤ 20 }
     ensures few { IfSome result (λ now. now.ranks ≤ 20) }
-    ensures here { IfSome result (λ now. now.began ≡ length (left p.now)) }
-    ensures falls { IfSome result (λ now. 32 * now.began + now.ranks < 32 * caller.began + caller.ranks) }
-    ensures some { (x y : rules.Production) (s : Reading) → left p.now ≡ s.rest → rank x ≤ caller.ranks
-        → IsBelow x caller.began y s → HasRank (rank y) result }
+    ensures condition { IfSome result (λ now. now.condition ≡ context.condition) }
+    ensures falls { IfSome result (λ now. 32 * length (left p.now) + now.ranks < 32 * began + context.ranks) }
+    ensures some { (x y : rules.Production) (s : Reading) → left p.now ≡ s.rest → rank x ≤ context.ranks
+        → IsBelow x began y s → HasRank (rank y) result }
 {
     let left = tokens_left(p);
-    if left < caller.began() {
-        return Some(Caller::new(left, 20));
+    if left < began {
+        return Some(Context::new(context.condition(), 20));
     }
-    if left > caller.began() || caller.ranks() == 0 {
+    if left > began || context.ranks() == 0 {
         return None;
     }
-    Some(Caller::new(left, caller.ranks() - 1))
+    Some(Context::new(context.condition(), context.ranks() - 1))
 }
 
-/// Whether a production is passed by here, as the next token tells: nothing is read of it.
-fn passes_by(p: &mut Parser<'_>, production: Production) -> bool
-    ensures nothing { IsTrue result → (c : Bool) (s : Reading) → left p.old ≡ s.rest
+/// Whether a production is passed by before the next token, as its kind tells: nothing is read of
+/// it.
+fn passes_by(production: Production, next: Option<SyntaxKind>) -> bool
+    ensures nothing { IsTrue result → (c : Bool) (s : Reading) → IfSome next (λ kind. IsNext (raw_of kind) s.rest)
         → meaning whole (named production) c s ≡ s }
     ensures tail { IsTrue result → named production ≡ rules.operation_tail }
-    ensures same { p.new ≡ record p.old { looks = p.new.looks } }
-    ensures looks { p.new.looks ≤ p.old.looks + 1 }
+    ensures tells { named production ≡ rules.operation_tail → IfSome next (λ kind.
+        result ≡ (has_bit (raw_of kind) && gives_nothing (raw_of kind) (rule rules.operation_tail))) }
 {
     match production {
         Production::OperationTail => {
-            let Some(kind) = next_kind(p) else {
+            let Some(kind) = next else {
                 return false;
             };
             operation_ends_before(kind)
@@ -89,46 +93,51 @@ fn passes_by(p: &mut Parser<'_>, production: Production) -> bool
 /// Reads a production as a continuation of the present one. How many looks it makes is bounded by
 /// its rank, and by 4,096 for each token that it takes.
 #[cycle(reader)]
-pub fn production(
-    p: &mut Parser<'_>,
-    node: Open,
-    production: Production,
-    condition: bool,
-    caller: Caller,
-) -> Open
-    requires short { length p.old.input < 2 ^ 58 }
-    requires few { caller.ranks ≤ 20 }
-    requires here { caller.began ≡ length (left p.old) }
+pub fn production(p: &mut Parser<'_>, node: Open, production: Production, context: Context) -> Open
+    requires short { length p.old.input < 2 ^ 64 }
+    requires few { context.ranks ≤ 20 }
     requires marker { IsInnermost node.marker p.old.nodes }
     ensures input { p.new.input ≡ p.old.input }
     ensures marker { IsInnermost result.marker p.new.nodes }
     ensures innermost { (n : ℕ) → IsInnermost n p.old.nodes → IsInnermost n p.new.nodes }
-    ensures reads { (s : Reading) (below : Option (List Marked)) → rank (named production) ≤ caller.ranks
-        → Stands node.given p.old s below → IsBegun (named production) condition s
-        → Stands result.given p.new (meaning whole (named production) condition s) below }
-    ensures looks { (s : Reading) (below : Option (List Marked)) → rank (named production) ≤ caller.ranks
-        → Stands node.given p.old s below → IsBegun (named production) condition s
+    ensures reads { (s : Reading) (below : Option (List Marked)) → rank (named production) ≤ context.ranks
+        → Stands node.given p.old s below → IsBegun (named production) context.condition s
+        → Stands result.given p.new (meaning whole (named production) context.condition s) below }
+    ensures looks { (s : Reading) (below : Option (List Marked)) → rank (named production) ≤ context.ranks
+        → Stands node.given p.old s below → IsBegun (named production) context.condition s
         → Costs (idle_of (named production)) (debt_of (named production)) p.old p.new }
 {
+    let began = tokens_left(p);
+    if !node.given
+        && began > 0
+        && let Some(hand) = by_hand(production)
+    {
+        read_by_hand(p, hand);
+        let Open { marker, given: _ } = node;
+        return Open {
+            marker,
+            given: true,
+        };
+    }
     if !node.given
         && let Some(height) = height_of(production)
     {
-        return layers(p, node, height, condition, caller);
+        return layers(p, node, height, began, context);
     }
-    if passes_by(p, production) {
+    let next = next_kind(p);
+    if passes_by(production, next) {
         return node;
     }
-    let row = row_before(p, production);
-    read(p, node, row, condition, caller)
+    read(p, node, row_before(production, next), began, context)
 }
 
 /// Reads an operand and the operators after it, up to the layer of this height, where the present
 /// production gave nothing yet.
 #[cycle(reader)]
-fn layers(p: &mut Parser<'_>, node: Open, height: u8, condition: bool, caller: Caller) -> Open
-    requires short { length p.old.input < 2 ^ 58 }
-    requires few { caller.ranks ≤ 20 }
-    requires here { caller.began ≡ length (left p.old) }
+fn layers(p: &mut Parser<'_>, node: Open, height: u8, began: usize, context: Context) -> Open
+    requires short { length p.old.input < 2 ^ 64 }
+    requires few { context.ranks ≤ 20 }
+    requires here { began ≡ length (left p.old) }
     requires marker { IsInnermost node.marker p.old.nodes }
     requires nothing { node.given ≡ false }
     requires low { 1 ≤ height }
@@ -136,19 +145,19 @@ fn layers(p: &mut Parser<'_>, node: Open, height: u8, condition: bool, caller: C
     ensures input { p.new.input ≡ p.old.input }
     ensures marker { IsInnermost result.marker p.new.nodes }
     ensures innermost { (n : ℕ) → IsInnermost n p.old.nodes → IsInnermost n p.new.nodes }
-    ensures reads { (s : Reading) (below : Option (List Marked)) → rank (layer_at height) ≤ caller.ranks
-        → Stands node.given p.old s below → IsBegun (layer_at height) condition s
-        → Stands result.given p.new (meaning whole (layer_at height) condition s) below }
-    ensures looks { (s : Reading) (below : Option (List Marked)) → rank (layer_at height) ≤ caller.ranks
-        → Stands node.given p.old s below → IsBegun (layer_at height) condition s
+    ensures reads { (s : Reading) (below : Option (List Marked)) → rank (layer_at height) ≤ context.ranks
+        → Stands node.given p.old s below → IsBegun (layer_at height) context.condition s
+        → Stands result.given p.new (meaning whole (layer_at height) context.condition s) below }
+    ensures looks { (s : Reading) (below : Option (List Marked)) → rank (layer_at height) ≤ context.ranks
+        → Stands node.given p.old s below → IsBegun (layer_at height) context.condition s
         → Costs (idle_of (layer_at height)) (debt_of (layer_at height)) p.old p.new }
 {
-    if caller.ranks() == 0 {
+    if context.ranks() == 0 {
         return node;
     }
-    let operand = Caller::new(caller.began(), caller.ranks() - 1);
-    let node = production(p, node, Production::Prefixed, condition, operand);
-    climb(p, node, 0, height, condition, caller)
+    let operand = Context::new(context.condition(), context.ranks() - 1);
+    let node = production(p, node, Production::Prefixed, operand);
+    climb(p, node, 0, height, began, context)
 }
 
 /// Reads on from a layer that was read, up to another: the turns of each layer between. The layers
@@ -159,11 +168,11 @@ fn climb(
     node: Open,
     height: u8,
     top: u8,
-    condition: bool,
-    caller: Caller,
+    began: usize,
+    context: Context,
 ) -> Open
-    requires short { length p.old.input < 2 ^ 58 }
-    requires few { caller.ranks ≤ 20 }
+    requires short { length p.old.input < 2 ^ 64 }
+    requires few { context.ranks ≤ 20 }
     requires marker { IsInnermost node.marker p.old.nodes }
     requires below { height ≤ top }
     requires high { top ≤ 10 }
@@ -171,12 +180,12 @@ fn climb(
     ensures marker { IsInnermost result.marker p.new.nodes }
     ensures innermost { (n : ℕ) → IsInnermost n p.old.nodes → IsInnermost n p.new.nodes }
     ensures reads { (s : Reading) (below : Option (List Marked))
-        → CanClimb caller.began caller.ranks top condition s
-        → Stands node.given p.old (meaning whole (layer_at height) condition s) below
-        → Stands result.given p.new (meaning whole (layer_at top) condition s) below }
+        → CanClimb began context.ranks top context.condition s
+        → Stands node.given p.old (meaning whole (layer_at height) context.condition s) below
+        → Stands result.given p.new (meaning whole (layer_at top) context.condition s) below }
     ensures looks { (entry : View) (s : Reading) (below : Option (List Marked))
-        → CanClimb caller.began caller.ranks top condition s
-        → Stands node.given p.old (meaning whole (layer_at height) condition s) below
+        → CanClimb began context.ranks top context.condition s
+        → Stands node.given p.old (meaning whole (layer_at height) context.condition s) below
         → Costs (idle_of (layer_at height)) (debt_of (layer_at height)) entry p.old
         → Costs (idle_of (layer_at top)) (debt_of (layer_at top)) entry p.new }
 {
@@ -188,40 +197,40 @@ fn climb(
     if upper > top {
         return node;
     }
-    let node = read(p, node, turns_in(layer_of(upper)), condition, caller);
-    climb(p, node, upper, top, condition, caller)
+    let node = read(p, node, turns_in(layer_of(upper)), began, context);
+    climb(p, node, upper, top, began, context)
 }
 
 /// Reads a production in a node that is left out in the end; in the present one, where that has
 /// nothing yet.
 #[cycle(reader)]
-fn call(p: &mut Parser<'_>, node: Open, called: Production, condition: bool, caller: Caller) -> Open
-    requires short { length p.old.input < 2 ^ 58 }
-    requires few { caller.ranks ≤ 20 }
+fn call(p: &mut Parser<'_>, node: Open, called: Production, began: usize, context: Context) -> Open
+    requires short { length p.old.input < 2 ^ 64 }
+    requires few { context.ranks ≤ 20 }
     requires marker { IsInnermost node.marker p.old.nodes }
     ensures input { p.new.input ≡ p.old.input }
     ensures marker { IsInnermost result.marker p.new.nodes }
     ensures innermost { (n : ℕ) → IsInnermost n p.old.nodes → IsInnermost n p.new.nodes }
     ensures reads { (x : rules.Production) (s : Reading) (below : Option (List Marked))
-        → rank x ≤ caller.ranks
-        → Stands node.given p.old s below → IsBelow x caller.began (named called) s
-        → IsBegun (named called) condition (fresh s)
-        → Stands result.given p.new (after s (meaning whole (named called) condition (fresh s))) below }
+        → rank x ≤ context.ranks
+        → Stands node.given p.old s below → IsBelow x began (named called) s
+        → IsBegun (named called) context.condition (fresh s)
+        → Stands result.given p.new (after s (meaning whole (named called) context.condition (fresh s))) below }
     ensures looks { (x : rules.Production) (s : Reading) (below : Option (List Marked))
-        → rank x ≤ caller.ranks
-        → Stands node.given p.old s below → IsBelow x caller.began (named called) s
-        → IsBegun (named called) condition (fresh s)
+        → rank x ≤ context.ranks
+        → Stands node.given p.old s below → IsBelow x began (named called) s
+        → IsBegun (named called) context.condition (fresh s)
         → Costs (idle_of (named called)) (debt_of (named called)) p.old p.new }
 {
-    let Some(now) = callee(p, caller) else {
+    let Some(now) = callee(p, began, context) else {
         return node;
     };
     let Open { marker, given } = node;
     if !given {
-        return production(p, Open { marker, given }, called, condition, now);
+        return production(p, Open { marker, given }, called, now);
     }
     let inner = start(p);
-    let inner = production(p, inner, called, condition, now);
+    let inner = production(p, inner, called, now);
     let gave = leave_out(p, inner);
     Open {
         marker,
@@ -231,34 +240,28 @@ fn call(p: &mut Parser<'_>, node: Open, called: Production, condition: bool, cal
 
 /// Reads a production as a continuation of the one that calls it.
 #[cycle(reader)]
-fn go_on(
-    p: &mut Parser<'_>,
-    node: Open,
-    called: Production,
-    condition: bool,
-    caller: Caller,
-) -> Open
-    requires short { length p.old.input < 2 ^ 58 }
-    requires few { caller.ranks ≤ 20 }
+fn go_on(p: &mut Parser<'_>, node: Open, called: Production, began: usize, context: Context) -> Open
+    requires short { length p.old.input < 2 ^ 64 }
+    requires few { context.ranks ≤ 20 }
     requires marker { IsInnermost node.marker p.old.nodes }
     ensures input { p.new.input ≡ p.old.input }
     ensures marker { IsInnermost result.marker p.new.nodes }
     ensures innermost { (n : ℕ) → IsInnermost n p.old.nodes → IsInnermost n p.new.nodes }
     ensures reads { (x : rules.Production) (s : Reading) (below : Option (List Marked))
-        → rank x ≤ caller.ranks
-        → Stands node.given p.old s below → IsBelow x caller.began (named called) s
-        → IsBegun (named called) condition s
-        → Stands result.given p.new (meaning whole (named called) condition s) below }
+        → rank x ≤ context.ranks
+        → Stands node.given p.old s below → IsBelow x began (named called) s
+        → IsBegun (named called) context.condition s
+        → Stands result.given p.new (meaning whole (named called) context.condition s) below }
     ensures looks { (x : rules.Production) (s : Reading) (below : Option (List Marked))
-        → rank x ≤ caller.ranks
-        → Stands node.given p.old s below → IsBelow x caller.began (named called) s
-        → IsBegun (named called) condition s
+        → rank x ≤ context.ranks
+        → Stands node.given p.old s below → IsBelow x began (named called) s
+        → IsBegun (named called) context.condition s
         → Costs (idle_of (named called)) (debt_of (named called)) p.old p.new }
 {
-    let Some(now) = callee(p, caller) else {
+    let Some(now) = callee(p, began, context) else {
         return node;
     };
-    production(p, node, called, condition, now)
+    production(p, node, called, now)
 }
 
 /// Reads turns of a rule, one for each token at most; a turn that takes no token is the last.
@@ -267,33 +270,33 @@ fn turns(
     p: &mut Parser<'_>,
     node: Open,
     rule: &'static Rule,
-    condition: bool,
-    caller: Caller,
+    began: usize,
+    context: Context,
 ) -> Open
-    requires short { length p.old.input < 2 ^ 58 }
-    requires few { caller.ranks ≤ 20 }
+    requires short { length p.old.input < 2 ^ 64 }
+    requires few { context.ranks ≤ 20 }
     requires marker { IsInnermost node.marker p.old.nodes }
     ensures input { p.new.input ≡ p.old.input }
     ensures marker { IsInnermost result.marker p.new.nodes }
     ensures innermost { (n : ℕ) → IsInnermost n p.old.nodes → IsInnermost n p.new.nodes }
     ensures reads { (x : rules.Production) (s : Reading) (below : Option (List Marked))
-        → rank x ≤ caller.ranks
-        → Stands node.given p.old s below → CanRead x caller.began condition (rules.Star (plain rule.now)) s
-        → Stands result.given p.new (reads condition (rules.Star (plain rule.now)) s) below }
+        → rank x ≤ context.ranks
+        → Stands node.given p.old s below → CanRead x began context.condition (rules.Star (plain rule.now)) s
+        → Stands result.given p.new (reads context.condition (rules.Star (plain rule.now)) s) below }
     ensures looks { (x : rules.Production) (s : Reading) (below : Option (List Marked))
-        → rank x ≤ caller.ranks
-        → Stands node.given p.old s below → CanRead x caller.began condition (rules.Star (plain rule.now)) s
+        → rank x ≤ context.ranks
+        → Stands node.given p.old s below → CanRead x began context.condition (rules.Star (plain rule.now)) s
         → is_paid (rules.Star (plain rule.now)) ≡ true
         → Costs (idle (rules.Star (plain rule.now))) (debt (rules.Star (plain rule.now))) p.old p.new }
 {
     let mut node = node;
     let mut turns = tokens_left(p);
     'turns: while turns > 0 {
-        if !at(p, node.given, rule, condition) {
+        if !at(p, node.given, rule, context) {
             return node;
         }
         let before = tokens_left(p);
-        node = read(p, node, rule, condition, caller);
+        node = read(p, node, rule, began, context);
         if tokens_left(p) >= before {
             return node;
         }
@@ -304,26 +307,20 @@ fn turns(
 
 /// Reads what a rule says.
 #[cycle(reader)]
-fn read(
-    p: &mut Parser<'_>,
-    node: Open,
-    rule: &'static Rule,
-    condition: bool,
-    caller: Caller,
-) -> Open
-    requires short { length p.old.input < 2 ^ 58 }
-    requires few { caller.ranks ≤ 20 }
+fn read(p: &mut Parser<'_>, node: Open, rule: &'static Rule, began: usize, context: Context) -> Open
+    requires short { length p.old.input < 2 ^ 64 }
+    requires few { context.ranks ≤ 20 }
     requires marker { IsInnermost node.marker p.old.nodes }
     ensures input { p.new.input ≡ p.old.input }
     ensures marker { IsInnermost result.marker p.new.nodes }
     ensures innermost { (n : ℕ) → IsInnermost n p.old.nodes → IsInnermost n p.new.nodes }
     ensures reads { (x : rules.Production) (s : Reading) (below : Option (List Marked))
-        → rank x ≤ caller.ranks
-        → Stands node.given p.old s below → CanRead x caller.began condition (plain rule.now) s
-        → Stands result.given p.new (reads condition (plain rule.now) s) below }
+        → rank x ≤ context.ranks
+        → Stands node.given p.old s below → CanRead x began context.condition (plain rule.now) s
+        → Stands result.given p.new (reads context.condition (plain rule.now) s) below }
     ensures looks { (x : rules.Production) (s : Reading) (below : Option (List Marked))
-        → rank x ≤ caller.ranks
-        → Stands node.given p.old s below → CanRead x caller.began condition (plain rule.now) s
+        → rank x ≤ context.ranks
+        → Stands node.given p.old s below → CanRead x began context.condition (plain rule.now) s
         → is_paid (plain rule.now) ≡ true
         → Costs (idle (plain rule.now)) (debt (plain rule.now)) p.old p.new }
 {
@@ -332,31 +329,31 @@ fn read(
         Rule::One(spelling) => take(p, node, spelling.kind(), spelling.count()),
         Rule::Any => take_any(p, node),
         Rule::Then(first, second) => {
-            let node = read(p, node, first, condition, caller);
-            read(p, node, second, condition, caller)
+            let node = read(p, node, first, began, context);
+            read(p, node, second, began, context)
         }
         Rule::Near(_, first, second) => {
-            let node = read(p, node, first, condition, caller);
-            read(p, node, second, condition, caller)
+            let node = read(p, node, first, began, context);
+            read(p, node, second, began, context)
         }
         Rule::Or(first, second) => {
-            if at(p, node.given, first, condition) {
-                return read(p, node, first, condition, caller);
+            if at(p, node.given, first, context) {
+                return read(p, node, first, began, context);
             }
-            read(p, node, second, condition, caller)
+            read(p, node, second, began, context)
         }
-        Rule::When(_, inner) => read(p, node, inner, condition, caller),
-        Rule::Unless(_, inner) => read(p, node, inner, condition, caller),
+        Rule::When(_, inner) => read(p, node, inner, began, context),
+        Rule::Unless(_, inner) => read(p, node, inner, began, context),
         Rule::Opt(inner) => {
-            if at(p, node.given, inner, condition) {
-                return read(p, node, inner, condition, caller);
+            if at(p, node.given, inner, context) {
+                return read(p, node, inner, began, context);
             }
             node
         }
-        Rule::Star(inner) => turns(p, node, inner, condition, caller),
+        Rule::Star(inner) => turns(p, node, inner, began, context),
         Rule::Node(kind, inner) => {
             let child = start(p);
-            let child = read(p, child, inner, condition, caller);
+            let child = read(p, child, inner, began, context);
             close(p, child, *kind);
             let Open { marker, given: _ } = node;
             Open {
@@ -365,21 +362,21 @@ fn read(
             }
         }
         Rule::Wrap(kind, inner) => {
-            let node = read(p, node, inner, condition, caller);
+            let node = read(p, node, inner, began, context);
             wrap(p, node, *kind)
         }
         Rule::Want(inner, message) => {
-            if at(p, node.given, inner, condition) {
-                return read(p, node, inner, condition, caller);
+            if at(p, node.given, inner, context) {
+                return read(p, node, inner, began, context);
             }
             tell(p, node, *message)
         }
         Rule::Say(message) => tell(p, node, *message),
         Rule::Skip(message) => skip(p, node, *message),
         Rule::Split => split(p, node),
-        Rule::Call(called) => call(p, node, *called, condition, caller),
-        Rule::Continue(called) => go_on(p, node, *called, condition, caller),
-        Rule::Mode(mode, inner) => read(p, node, inner, *mode, caller),
-        Rule::Part(part) => read(p, node, rule_of_part(*part), condition, caller),
+        Rule::Call(called) => call(p, node, *called, began, context),
+        Rule::Continue(called) => go_on(p, node, *called, began, context),
+        Rule::Mode(mode, inner) => read(p, node, inner, began, context.under(*mode)),
+        Rule::Part(part) => read(p, node, rule_of_part(*part), began, context),
     }
 }

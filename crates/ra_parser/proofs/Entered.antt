@@ -19,9 +19,9 @@ use Rattle.rust_grammar.specs.Whole.{whole}
 use Rattle.rust_grammar.specs.Begun.{asks_nothing, IsBegun}
 use Rattle.rust_grammar.proofs.EntriesInOrder.{lists-begin}
 use Rattle.rust_grammar.specs.Whole as all
-use Rattle.grammar_reader.specs.Stands.{Holds, Stands}
+use Rattle.rust_productions.specs.Stands.{Holds, Stands}
 use Rattle.grammar_reader.proofs.Sizes.{few-ranks}
-use Rattle.grammar_reader.specs.Moves.{Leaves}
+use Rattle.rust_productions.specs.Moves.{Leaves}
 use Rattle.ra_parser.specs.Entries.{can_enter, strayed}
 
 -- where a reading of all these tokens begins
@@ -83,13 +83,15 @@ holds-left-out f l h = l.nodes (marked f) marks.End [] h
 
 -- an entry's production is read
 pub read-there :
-    {gave given : Bool} {old new : View} {ranks : ℕ} (x y : Production) (ts : List Token)
-    → ranks ≡ 20
-    → ((s : Reading) (below : Option (List Marked)) → all.rank y ≤ ranks → Stands gave old s below → IsBegun y false s → Stands given new (meaning whole y false s) below)
+    {gave given mode : Bool} {old new : View} {ranks : ℕ} (x y : Production) (ts : List Token)
+    → ranks ≡ 20 → mode ≡ false
+    → ((s : Reading) (below : Option (List Marked)) → all.rank y ≤ ranks → Stands gave old s below → IsBegun y mode s → Stands given new (meaning whole y mode s) below)
     → y ≡ x → Stands gave old (from ts) (Some (marks.End ∷ [])) → can_enter x (from ts) ≡ true → Stands given new (read_from x ts) (Some (marks.End ∷ []))
-read-there {gave} {given} {old} {new} x y ts any reads e h b =
+read-there {gave} {given} {mode} {old} {new} x y ts any off reads e h b =
+    let begun = subst (λ (z : Production). IsBegun z false (from ts)) (sym e) (can-begin x (from ts) b) in
     subst (λ (z : Production). Stands given new (meaning whole z false (from ts)) (Some (marks.End ∷ []))) e
-    (reads (from ts) (Some (marks.End ∷ [])) (omega (arith, any, few-ranks y)) h (subst (λ (z : Production). IsBegun z false (from ts)) (sym e) (can-begin x (from ts) b)))
+    (subst (λ (d : Bool). Stands given new (meaning whole y d (from ts)) (Some (marks.End ∷ []))) off
+    (reads (from ts) (Some (marks.End ∷ [])) (omega (arith, any, few-ranks y)) h (subst (λ (d : Bool). IsBegun y d (from ts)) (sym off) begun)))
 
 -- the steps of all trees
 pub parsed-steps : (nodes : Option (List Marked)) (f : Forest) (steps : List Step) → Holds nodes (marked f ∷ []) → AreStepsOf nodes steps → steps ≡ walk.steps f

@@ -17,7 +17,7 @@ use Rattle.rust_grammar.specs.Whole.{rule, rank, whole}
 use Rattle.rust_grammar.specs.Begun.{IsBegun}
 use Rattle.grammar_reader.specs.Looks.{asked, begin_looks, Costs}
 use Rattle.grammar_reader.specs.Prices.{surely_takes, idle_of, debt_of, most}
-use Rattle.grammar_reader.specs.Stands.{left, Stands}
+use Rattle.rust_productions.specs.Stands.{left, Stands}
 use Rattle.grammar_reader.proofs.Sizes.{few-ranks}
 use Rattle.grammar_reader.proofs.Spending.{at-most}
 use Rattle.ra_parser.specs.Entries.{can_enter, production_of}
@@ -69,11 +69,12 @@ read-few e (inr h) =
 
 -- where an entry is read
 pub few-there :
-    {gave : Bool} {old new : View} {ranks : ℕ} (e : TopEntryPoint) (y : Production) (ts : List Token)
-    → ranks ≡ 20
-    → ((s : Reading) (below : Option (List Marked)) → rank y ≤ ranks → Stands gave old s below → IsBegun y false s → Costs (idle_of y) (debt_of y) old new)
+    {gave mode : Bool} {old new : View} {ranks : ℕ} (e : TopEntryPoint) (y : Production) (ts : List Token)
+    → ranks ≡ 20 → mode ≡ false
+    → ((s : Reading) (below : Option (List Marked)) → rank y ≤ ranks → Stands gave old s below → IsBegun y mode s → Costs (idle_of y) (debt_of y) old new)
     → y ≡ production_of e → Stands gave old (from ts) (Some (End ∷ [])) → can_enter (production_of e) (from ts) ≡ true → new.looks + length (left new) ≤ old.looks + 4096 * length (left old) + 3000
-few-there {gave} {old} {new} e y ts any reads same h b =
+few-there {gave} {mode} {old} {new} e y ts any off reads same h b =
+    let begun = subst (λ (z : Production). IsBegun z false (from ts)) (sym same) (can-begin (production_of e) (from ts) b) in
     read-few e
     (subst (λ (z : Production). Costs (idle_of z) (debt_of z) old new) same
-    (reads (from ts) (Some (End ∷ [])) (omega (arith, any, few-ranks y)) h (subst (λ (z : Production). IsBegun z false (from ts)) (sym same) (can-begin (production_of e) (from ts) b))))
+    (reads (from ts) (Some (End ∷ [])) (omega (arith, any, few-ranks y)) h (subst (λ (d : Bool). IsBegun y d (from ts)) (sym off) begun)))

@@ -1,13 +1,3 @@
-pub mod ByHand
-pub mod Turns
-pub mod Prefixes
-pub mod Looking
-pub mod Facts
-pub mod Choices
-pub mod Seen
-pub mod Begins
-pub mod Powers
-pub mod Sums
 pub mod Taking
 pub mod Entered
 pub mod EntryLooks

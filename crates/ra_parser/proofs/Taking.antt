@@ -10,25 +10,10 @@ use Rattle.parser_events.specs.Forest.{Forest, Message, UnexpectedTokens, ◌the
 use Rattle.parser_events.specs.View.{View}
 use Rattle.rust_grammar.specs.Entry.{leaves}
 use Rattle.rust_grammar.specs.Meaning.{Reading, ahead, is_end, leaf, say}
-use Rattle.grammar_reader.specs.Stands.{left, Holds, Stands}
-use Rattle.grammar_reader.specs.Moves.{Opens}
+use Rattle.rust_productions.specs.Stands.{left, Holds, Stands}
+use Rattle.rust_productions.specs.Moves.{Opens}
+use Rattle.rust_productions.proofs.Forests.{then-end, then-assoc}
 use Rattle.ra_parser.specs.Entries.{with_leaves, strayed}
-
-pub then-end : (f : Forest) → (f then forest.End) ≡ f
-then-end forest.End = refl
-then-end (forest.Leaf k n f) = ap (λ (x : Forest). forest.Leaf k n x) (then-end f)
-then-end (forest.Said m f) = ap (λ (x : Forest). forest.Said m x) (then-end f)
-then-end (forest.ErrorLeaf m k f) = ap (λ (x : Forest). forest.ErrorLeaf m k x) (then-end f)
-then-end (forest.Node k c f) = ap (λ (x : Forest). forest.Node k c x) (then-end f)
-then-end (forest.Float e c f) = ap (λ (x : Forest). forest.Float e c x) (then-end f)
-
-pub then-assoc : (f g h : Forest) → ((f then g) then h) ≡ (f then (g then h))
-then-assoc forest.End g h = refl
-then-assoc (forest.Leaf k n f) g h = ap (λ (x : Forest). forest.Leaf k n x) (then-assoc f g h)
-then-assoc (forest.Said m f) g h = ap (λ (x : Forest). forest.Said m x) (then-assoc f g h)
-then-assoc (forest.ErrorLeaf m k f) g h = ap (λ (x : Forest). forest.ErrorLeaf m k x) (then-assoc f g h)
-then-assoc (forest.Node k c f) g h = ap (λ (x : Forest). forest.Node k c x) (then-assoc f g h)
-then-assoc (forest.Float e c f) g h = ap (λ (x : Forest). forest.Float e c x) (then-assoc f g h)
 
 -- Between two tokens: what is taken all in all is known.
 pub record Taking (given : Bool) (v : View) (s : Reading) (below : Option (List Marked)) : Type 0 where

@@ -1,4 +1,1 @@
-pub mod Stands
-pub mod Layers
-pub mod Looks
 pub mod Entries

@@ -9,12 +9,12 @@ ghost use Rattle.rust_grammar.specs.Meaning.{Reading};
 ghost use Rattle.rust_grammar.specs.Notation.{wanted};
 ghost use Rattle.rust_grammar.specs.Whole.{whole};
 ghost use Rattle.grammar_reader.specs.Data.{named};
-ghost use Rattle.grammar_reader.specs.Stands.{Holds, Stands, left};
+ghost use Rattle.rust_productions.specs.Stands.{Holds, Stands, left};
 ghost use Rattle.ra_parser.specs.Entries.{can_enter, production_of, strayed, with_leaves};
-ghost use Rattle.ra_parser.specs.Looks.{looks_per_token};
+ghost use Rattle.rust_productions.specs.Looks.{looks_per_token};
 
 use crate::entry_points::TopEntryPoint;
-use grammar_reader::caller::Caller;
+use grammar_reader::context::Context;
 use grammar_reader::look::tokens_left;
 use grammar_reader::open::{Open, close, leave_out, start, take_any, tell};
 use grammar_reader::production::Production;
@@ -100,7 +100,7 @@ fn missing(entry_point: TopEntryPoint) -> Message
 
 /// Whether an entry can be read.
 fn is_entered(p: &mut Parser<'_>, entry_point: TopEntryPoint) -> bool
-    requires short { length p.old.input < 2 ^ 58 }
+    requires short { length p.old.input < 2 ^ 64 }
     ensures sees { (s : Reading) (below : Option (List Marked)) → Stands false p.old s below
         → result ≡ can_enter (production_of entry_point) s }
     ensures same { p.new ≡ record p.old { looks = p.new.looks } }
@@ -109,12 +109,17 @@ fn is_entered(p: &mut Parser<'_>, entry_point: TopEntryPoint) -> bool
     if takes_every_input(entry_point) {
         return true;
     }
-    at(p, false, rule_of(asked(entry_point)), false)
+    at(
+        p,
+        false,
+        rule_of(asked(entry_point)),
+        Context::new(false, 20),
+    )
 }
 
 /// Reads an input that no token was taken of.
 pub(crate) fn read_entry(p: &mut Parser<'_>, entry_point: TopEntryPoint)
-    requires short { length p.old.input < 2 ^ 58 }
+    requires short { length p.old.input < 2 ^ 64 }
     requires nodes { p.old.nodes ≡ Some (End ∷ []) }
     ensures tree { Holds p.new.nodes (marked (entry whole (production_of entry_point) (left p.old)) ∷ []) }
     ensures looks { p.new.looks ≤ p.old.looks + looks_per_token * (length (left p.old) + 1) }
@@ -124,7 +129,7 @@ pub(crate) fn read_entry(p: &mut Parser<'_>, entry_point: TopEntryPoint)
         stray(p, node, missing(entry_point));
         return;
     }
-    let node = production(p, node, asked(entry_point), false, Caller::here(p));
+    let node = production(p, node, asked(entry_point), Context::new(false, 20));
     if takes_every_input(entry_point) {
         leave_out(p, node);
         return;

@@ -1,13 +1,11 @@
-//! The functions that read by the grammar of Rust: its table, and what a rule means on an input,
-//! are `rust_grammar`'s.
+//! The entries of the grammar of Rust: its table, and what a rule means on an input, are
+//! `rust_grammar`'s.
 //!
-//! An input is read as what is asked of it: [`TopEntryPoint::parse`]. The rules are read one by one
-//! as the table has them, by `grammar_reader`; the functions of `grammar`, one for each production,
-//! are to take its place.
+//! An input is read as what is asked of it: [`TopEntryPoint::parse`]. What reads is
+//! `grammar_reader`: a production by its own function, where it has one, else as the table has it.
 #![tactic(auto)]
 
 mod entries;
 pub mod entry_points;
-mod grammar;
 
 pub use entry_points::{ParseError, TopEntryPoint};

@@ -32,11 +32,11 @@ sequence true pass a b c d p q = q refl
 sequence false true a b c d p q = rw (p refl, q refl) refl
 sequence false false a b c d p q = p refl
 
-unless : (b d : Bool) → (b || d) ≡ true → b ≡ false → d ≡ true
+pub unless : (b d : Bool) → (b || d) ≡ true → b ≡ false → d ≡ true
 unless true d e f = absurd (true≢false f)
 unless false d e f = e
 
-wherever : (b d : Bool) → (not b || d) ≡ true → b ≡ true → d ≡ true
+pub wherever : (b d : Bool) → (not b || d) ≡ true → b ≡ true → d ≡ true
 wherever true d e f = e
 wherever false d e f = absurd (true≢false (sym f))
 

@@ -18,7 +18,7 @@ use Rattle.rust_grammar.proofs.Only.{only-meaning}
 use Rattle.rust_grammar.proofs.OnlyLooks.{asks_less, asks_only, reaches_second, only-looks}
 
 -- A rank will do, but after the mark of a range the looks of an operand are asked.
-unfoldable depth : Production → ℕ
+unfoldable pub depth : Production → ℕ
 depth operation_tail = 15
 depth x = rank x
 
@@ -27,7 +27,7 @@ unfolding depth rank whole
 depth-below operation_tail = omega arith
 depth-below x = fine-rank whole claim all_fine x
 
-all_asked : (x : Production) → asks_less depth whole x ≡ true
+pub all_asked : (x : Production) → asks_less depth whole x ≡ true
 unfolding asks_less depth asks_only reaches_second passes is_silent rule rank whole row one_of any_of is_longer no_longer longest paths types patterns expressions statements items
 all_asked source_file = refl
 all_asked macro_items = refl

@@ -1,7 +1,6 @@
--- Rows are asked to a depth, and shrink within a row.
-use Rattle.std.specs.Prelude.{◌+◌, ◌*◌}
-use Rattle.grammar_reader.proofs.Sizes.{weight}
+-- What is asked shrinks: how deep, then how large the rule is as data.
+use Rattle.grammar_reader.proofs.Depths.{to_ask}
 use Rattle.grammar_reader.proofs.begin.+begins.Given as goal
 
 abbrev pub decreases-begins : goal.decreases-begins
-decreases-begins l = 8192 * l.ranks + weight l.rule.now
+decreases-begins l = to_ask l.rule.now

@@ -1,10 +1,12 @@
--- Of the place itself, at the full depth, what the sets tell is so.
-use Rattle.std.proofs.Common.{arith}
-use Rattle.grammar_reader.specs.Data.{row_part}
-use Rattle.grammar_reader.proofs.Telling.{part-told-there}
+-- Of the place itself, what the sets tell is so.
+use Rattle.grammar_reader.specs.Told.{part_look}
+use Rattle.std.proofs.Common.{◌≡◌, Some}
+use Rattle.parser_input.specs.declared.syntax_kind.SyntaxKind.{SyntaxKind}
+use Rattle.grammar_reader.proofs.Telling.{told-there, sure}
 use Rattle.grammar_reader.proofs.begin.part_told_here.Goals as goal
 
-pub returns : goal.returns
-returns c =
-    part-told-there c.args.place.next c.in_ok-kind.kind c.args.ahead c.args.ranks (row_part c.args.part) c.part_begins_before.result
-    (omega (arith, c.if-ahead-ne0.false)) (omega (arith, c.if-ranks-ne20.false)) c.in_ok-kind.was c.part_begins_before.ensures
+pub returns-clause-sees : goal.returns-clause-sees
+returns-clause-sees c =
+    told-there c.args.place.next c.in_ok-kind_here.field-0 c.args.ahead (part_look c.args.part) c.part_begins_before.result
+    (sure (λ (k : SyntaxKind). c.args.ahead ≡ 0) c.in_ok-kind_here.was c.kind_here.ensures.here)
+    (sure (λ (k : SyntaxKind). c.args.place.next ≡ Some k) c.in_ok-kind_here.was c.kind_here.ensures.next) c.part_begins_before.ensures

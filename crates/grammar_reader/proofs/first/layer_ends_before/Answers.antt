@@ -1,9 +1,14 @@
 -- The set tells.
-use Rattle.std.proofs.Common.{◌≡◌, ℕ, true, sym, subst, ◌∙◌, arith}
-use Rattle.grammar_reader.specs.Told.{ends_before}
-use Rattle.grammar_reader.proofs.Telling.{not-so, end-before}
+use Rattle.std.proofs.Common.{◌≡◌, ℕ, Bool, false, not, ◌&&◌, ap, subst, ◌∙◌, arith}
+use Rattle.grammar_reader.specs.Told.{ends_before, has_bit}
+use Rattle.grammar_reader.proofs.Telling.{no-bit, end-before}
 use Rattle.grammar_reader.proofs.first.layer_ends_before.Goals as goal
 
+pub returns-then-kind-ge128 : goal.returns-then-kind-ge128
+returns-then-kind-ge128 c = λ r e.
+    subst (λ (k : ℕ). false ≡ (has_bit k && ends_before k r)) c.to_raw-kind.ensures.number (no-bit _ _ c.if-kind-ge128.true)
+
 pub returns : goal.returns
-returns c = λ h r e.
-    subst (λ (k : ℕ). ends_before k r ≡ true) c.to_raw-kind.ensures.number (end-before _ _ r (omega (arith, c.if-kind-ge128.false)) e (sym c.has.ensures ∙ not-so c.has.result h))
+returns c = λ r e.
+    subst (λ (k : ℕ). not c.has.result ≡ (has_bit k && ends_before k r)) c.to_raw-kind.ensures.number
+    (ap (λ (b : Bool). not b) c.has.ensures ∙ end-before _ _ r (omega (arith, c.if-kind-ge128.false)) e)

@@ -1,12 +1,16 @@
 -- The set tells.
-use Rattle.std.proofs.Common.{◌≡◌, ℕ, true, sym, subst, ◌∙◌, arith}
+use Rattle.std.proofs.Common.{◌≡◌, ℕ, Bool, false, not, ◌&&◌, ap, subst, ◌∙◌, arith}
 use Rattle.rust_grammar.specs.Rule as rules
 use Rattle.rust_grammar.specs.Whole.{rule}
-use Rattle.grammar_reader.specs.Told.{gives_nothing}
-use Rattle.grammar_reader.proofs.Telling.{not-so, nothing-before}
+use Rattle.grammar_reader.specs.Told.{gives_nothing, has_bit}
+use Rattle.grammar_reader.proofs.Telling.{no-bit, nothing-before}
 use Rattle.grammar_reader.proofs.first.operation_ends_before.Goals as goal
 
+pub returns-then-kind-ge128 : goal.returns-then-kind-ge128
+returns-then-kind-ge128 c =
+    subst (λ (k : ℕ). false ≡ (has_bit k && gives_nothing k (rule rules.operation_tail))) c.to_raw-kind.ensures.number (no-bit _ _ c.if-kind-ge128.true)
+
 pub returns : goal.returns
-returns c = λ h.
-    subst (λ (k : ℕ). gives_nothing k (rule rules.operation_tail) ≡ true) c.to_raw-kind.ensures.number
-    (nothing-before _ _ _ (omega (arith, c.if-kind-ge128.false)) c.operation_tail.ensures (sym c.has.ensures ∙ not-so c.has.result h))
+returns c =
+    subst (λ (k : ℕ). not c.has.result ≡ (has_bit k && gives_nothing k (rule rules.operation_tail))) c.to_raw-kind.ensures.number
+    (ap (λ (b : Bool). not b) c.has.ensures ∙ nothing-before _ _ _ (omega (arith, c.if-kind-ge128.false)) c.operation_tail.ensures)

@@ -1,6 +1,6 @@
 use Rattle.std.proofs.Common.{ℕ, subst}
 use Rattle.rust_grammar.specs.Meaning.{leaf}
-use Rattle.grammar_reader.specs.Stands.{Stands}
+use Rattle.rust_productions.specs.Stands.{Stands}
 use Rattle.grammar_reader.proofs.Looking.{next-kind}
 use Rattle.grammar_reader.proofs.Standing.{stands-still}
 use Rattle.grammar_reader.proofs.open.take_any.Goals as goal

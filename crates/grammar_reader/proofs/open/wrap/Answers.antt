@@ -1,6 +1,6 @@
 use Rattle.std.proofs.Common.{refl}
 use Rattle.rust_grammar.specs.Meaning.{is_end, leaf, say, wrapped}
-use Rattle.grammar_reader.proofs.Moves.{does-wrap}
+use Rattle.rust_productions.proofs.Moves.{does-wrap}
 use Rattle.grammar_reader.proofs.Standing.{stands-after}
 use Rattle.grammar_reader.proofs.open.wrap.Goals as goal
 

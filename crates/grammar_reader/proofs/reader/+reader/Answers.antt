@@ -1,7 +1,7 @@
 -- Form by form.
 mod Looks
 mod Climbing
-use Rattle.std.proofs.Common.{◌≡◌, Some, ℕ, ◌+◌, ◌-◌, ◌*◌, ◌<◌, ◌≤◌, Bool, true, false, List, Option, refl, sym, ap, subst, ◌∙◌, arith, length, if◌then◌else◌}
+use Rattle.std.proofs.Common.{◌≡◌, Some, ℕ, ◌+◌, ◌-◌, ◌*◌, ◌<◌, ◌≤◌, Bool, true, false, List, Option, refl, sym, ap, subst, ◌∙◌, arith, inr, length, if◌then◌else◌}
 use Rattle.parser_events.specs.Marked.{marked}
 use Rattle.parser_events.specs.View.{View}
 use Rattle.parser_input.specs.Input.{Token}
@@ -11,17 +11,22 @@ use Rattle.rust_grammar.specs.Whole.{rank, rule, whole}
 use Rattle.rust_grammar.specs.Begun.{IsBegun}
 use Rattle.rust_grammar.specs.Laws.{reads}
 use Rattle.rust_grammar.proofs.WholeTable.{whole-means}
-use Rattle.grammar_reader.specs.CanRead.{Calling, HasRank, is_begun}
+use Rattle.grammar_reader.specs.CanRead.{CanRead, Setting, HasRank, is_begun}
 use Rattle.grammar_reader.proofs.Below.{row-can-read}
 use Rattle.grammar_reader.specs.Data.{plain, named}
 use Rattle.grammar_reader.specs.Size.{size}
-use Rattle.grammar_reader.specs.Stands.{Stands, left}
+use Rattle.rust_productions.specs.Looks.{tokens}
+use Rattle.rust_productions.specs.Stands.{Stands, left}
 use Rattle.grammar_reader.specs.declared.rule.Rule as rows
-use Rattle.grammar_reader.proofs.Sizes.{falls-read, falls-turns, falls-call, below-measure}
+use Rattle.grammar_reader.proofs.Sizes.{falls-read, falls-turns, falls-call, falls-row, below-measure, few-forms, or-size}
 use Rattle.grammar_reader.proofs.Standing.{inside, stands-still, stands-opened, stands-closed, stands-left-out, nothing-given, after-nothing, still-innermost, short-still}
 use Rattle.grammar_reader.specs.Looks.{begin_looks, Costs}
 use Rattle.grammar_reader.specs.Prices.{in_turn, idle, debt, idle_of, debt_of}
 use Rattle.grammar_reader.proofs.Spending.{same-length, tested, within, as-priced, rule-paid, turn-taken, tail-passed-by, turn-is-paid, turns-are-paid}
+use Rattle.grammar_reader.proofs.Alternatives.{rest-stands, rest-less}
+use Rattle.grammar_reader.proofs.Telling.{next-there}
+use Rattle.grammar_reader.proofs.Hands.{hand-stands}
+use Rattle.grammar_reader.proofs.Calling.{Reads, Spends, called-under}
 use Rattle.grammar_reader.proofs.Turning.{no-turn, last-turn, next-turn, zero-turns}
 use Rattle.grammar_reader.proofs.reader.+reader.Goals as goal
 use Rattle.grammar_reader.proofs.reader.+reader.Goals.{call-then-given, call-else-given}
@@ -30,75 +35,113 @@ use Rattle.grammar_reader.proofs.reader.+reader.Answers.Climbing as climbing
 
 pub call-returns-in_default-clause-reads : goal.call-returns-in_default-clause-reads
 call-returns-in_default-clause-reads t c = λ x s below low h b e.
-    absurd (subst (λ (o : Option Calling). HasRank (rank (named c.args.called)) o) c.in_default.is (c.callee.ensures.some x (named c.args.called) s h.at.rest low b))
+    absurd (subst (λ (o : Option Setting). HasRank (rank (named c.args.called)) o) c.in_default.is (c.callee.ensures.some x (named c.args.called) s h.at.rest low b))
 
 pub go_on-returns-in_default-clause-reads : goal.go_on-returns-in_default-clause-reads
 go_on-returns-in_default-clause-reads t c = λ x s below low h b e.
-    absurd (subst (λ (o : Option Calling). HasRank (rank (named c.args.called)) o) c.in_default.is (c.callee.ensures.some x (named c.args.called) s h.at.rest low b))
+    absurd (subst (λ (o : Option Setting). HasRank (rank (named c.args.called)) o) c.in_default.is (c.callee.ensures.some x (named c.args.called) s h.at.rest low b))
 
 pub go_on-returns-clause-reads : goal.go_on-returns-clause-reads
 go_on-returns-clause-reads t c = λ x s below low h b e.
-    let ok : rank (named c.args.called) ≤ c.in-Some.now.ranks = subst (λ (o : Option Calling). HasRank (rank (named c.args.called)) o) c.in-Some.is (c.callee.ensures.some x (named c.args.called) s h.at.rest low b) in
+    let ok : rank (named c.args.called) ≤ c.in-Some.now.ranks = subst (λ (o : Option Setting). HasRank (rank (named c.args.called)) o) c.in-Some.is (c.callee.ensures.some x (named c.args.called) s h.at.rest low b) in
+    let same = called-under c.callee.result c.in-Some.now c.args.context.condition c.in-Some.is c.callee.ensures.condition in
+    subst (λ (d : Bool). Reads (named c.args.called) c.in-Some.now.ranks d c.args.node.given c.args.p.now c.production.result.given c.production.new.p) same
     c.production.ensures.reads s below ok h e
 
 pub call-returns-clause-reads : goal.call-returns-clause-reads
 unfolding fresh
 call-returns-clause-reads t c = λ x s below low h b e.
-    let ok : rank (named c.args.called) ≤ c.in-Some.now.ranks = subst (λ (o : Option Calling). HasRank (rank (named c.args.called)) o) c.in-Some.is (c.callee.ensures.some x (named c.args.called) s h.at.rest low b) in
-    let inner = c.production-inner.ensures.reads (fresh s) (inside below (marked s.given)) ok (stands-opened c.start-inner.ensures.opens c.start-inner.ensures.given h) e in
+    let ok : rank (named c.args.called) ≤ c.in-Some.now.ranks = subst (λ (o : Option Setting). HasRank (rank (named c.args.called)) o) c.in-Some.is (c.callee.ensures.some x (named c.args.called) s h.at.rest low b) in
+    let same = called-under c.callee.result c.in-Some.now c.args.context.condition c.in-Some.is c.callee.ensures.condition in
+    let inner = subst (λ (d : Bool). Reads (named c.args.called) c.in-Some.now.ranks d c.start-inner.result.given c.start-inner.new.p c.production-inner.result.given c.production-inner.new.p) same
+    c.production-inner.ensures.reads (fresh s) (inside below (marked s.given)) ok (stands-opened c.start-inner.ensures.opens c.start-inner.ensures.given h) e in
     let out = stands-left-out s _ c.leave_out-gave.ensures.leaves h inner in
     let both : Bool → Bool = λ g. if g then true else c.production-inner.result.given in
     elim c.if-given.branch [
-      | call-then-given w ↦ subst (λ (g : Bool). Stands g c.leave_out-gave.new.p (after s (meaning whole (named c.args.called) c.args.condition (fresh s))) below) (ap both w.if-given.true ∙ sym w.if-given.true ∙ sym w.result-is) out
-      | call-else-given w ↦ subst (λ (g : Bool). Stands g c.leave_out-gave.new.p (after s (meaning whole (named c.args.called) c.args.condition (fresh s))) below) (ap both w.if-given.false ∙ sym c.leave_out-gave.ensures.given ∙ sym w.result-is) out
+      | call-then-given w ↦ subst (λ (g : Bool). Stands g c.leave_out-gave.new.p (after s (meaning whole (named c.args.called) c.args.context.condition (fresh s))) below) (ap both w.if-given.true ∙ sym w.if-given.true ∙ sym w.result-is) out
+      | call-else-given w ↦ subst (λ (g : Bool). Stands g c.leave_out-gave.new.p (after s (meaning whole (named c.args.called) c.args.context.condition (fresh s))) below) (ap both w.if-given.false ∙ sym c.leave_out-gave.ensures.given ∙ sym w.result-is) out
     ]
 
 pub call-returns-then-not-given-clause-reads : goal.call-returns-then-not-given-clause-reads
 call-returns-then-not-given-clause-reads t c = λ x s below low h b e.
     let y = named c.args.called in
-    let ok : rank y ≤ c.in-Some.now.ranks = subst (λ (o : Option Calling). HasRank (rank y) o) c.in-Some.is (c.callee.ensures.some x y s h.at.rest low b) in
+    let ok : rank y ≤ c.in-Some.now.ranks = subst (λ (o : Option Setting). HasRank (rank y) o) c.in-Some.is (c.callee.ensures.some x y s h.at.rest low b) in
+    let same = called-under c.callee.result c.in-Some.now c.args.context.condition c.in-Some.is c.callee.ensures.condition in
     let anew = nothing-given s (subst (λ (g : Bool). Stands g c.args.p.now s below) c.if-not-given.true h) in
-    let begun = subst (λ (r : Reading). IsBegun y c.args.condition r) (sym anew) e in
+    let begun = subst (λ (r : Reading). IsBegun y c.args.context.condition r) (sym anew) e in
     subst (λ (r : Reading). Stands c.production.result.given c.production.new.p r below)
-    (ap (λ (r : Reading). meaning whole y c.args.condition r) anew ∙ sym (after-nothing s _ anew)) (c.production.ensures.reads s below ok h begun)
+    (ap (λ (r : Reading). meaning whole y c.args.context.condition r) anew ∙ sym (after-nothing s _ anew))
+    (subst (λ (d : Bool). Reads y c.in-Some.now.ranks d c.args.node.given c.args.p.now c.production.result.given c.production.new.p) same c.production.ensures.reads s below ok h begun)
 
 pub call-returns-then-not-given-clause-looks : goal.call-returns-then-not-given-clause-looks
 call-returns-then-not-given-clause-looks t c = λ x s below low h b e.
     let y = named c.args.called in
-    let ok : rank y ≤ c.in-Some.now.ranks = subst (λ (o : Option Calling). HasRank (rank y) o) c.in-Some.is (c.callee.ensures.some x y s h.at.rest low b) in
+    let ok : rank y ≤ c.in-Some.now.ranks = subst (λ (o : Option Setting). HasRank (rank y) o) c.in-Some.is (c.callee.ensures.some x y s h.at.rest low b) in
+    let same = called-under c.callee.result c.in-Some.now c.args.context.condition c.in-Some.is c.callee.ensures.condition in
     let anew = nothing-given s (subst (λ (g : Bool). Stands g c.args.p.now s below) c.if-not-given.true h) in
-    c.production.ensures.looks s below ok h (subst (λ (r : Reading). IsBegun y c.args.condition r) (sym anew) e)
+    subst (λ (d : Bool). Spends y c.in-Some.now.ranks d c.args.node.given c.args.p.now c.production.new.p) same
+    c.production.ensures.looks s below ok h (subst (λ (r : Reading). IsBegun y c.args.context.condition r) (sym anew) e)
 
-pub production-returns-then-passes_by-clause-reads : goal.production-returns-then-passes_by-clause-reads
-production-returns-then-passes_by-clause-reads t c = λ s below low h b.
-    subst (λ (u : Reading). Stands c.args.node.given c.passes_by.new.p u below) (sym (c.passes_by.ensures.nothing c.if-passes_by.true c.args.condition s h.at.rest)) (stands-still c.passes_by.ensures.same h)
+pub production-read_by_hand-requires : goal.production-read_by_hand-requires
+unfolding tokens
+production-read_by_hand-requires t c = omega (arith, c.if-began-gt0.true, c.tokens_left-began.ensures)
 
-pub production-returns-then-passes_by-clause-looks : goal.production-returns-then-passes_by-clause-looks
-production-returns-then-passes_by-clause-looks t c = λ s below low h b.
-    tail-passed-by (named c.args.production) (c.passes_by.ensures.tail c.if-passes_by.true) (same-length (ap left c.passes_by.ensures.same)) c.passes_by.ensures.looks
+pub production-returns-clause-input : goal.production-returns-clause-input
+production-returns-clause-input t c = (c.read_by_hand.ensures.gives false).does.input
 
-pub production-returns-2-clause-reads : goal.production-returns-2-clause-reads
-production-returns-2-clause-reads t c = λ s below low h b.
-    let x = named c.args.production in
-    let still = stands-still c.passes_by.ensures.same h in
-    let stood = stands-still c.row_before-row.ensures.same still in
-    let part = c.row_before-row.ensures.part in
-    let can = part.can x c.args.caller.began c.args.condition s still.at.rest (row-can-read x c.args.condition s (c.requires.here ∙ same-length h.at.rest) refl b) in
-    subst (λ (u : Reading). Stands c.read.result.given c.read.new.p u below)
-    (sym (part.means c.args.condition s still.at.rest) ∙ sym (whole-means x c.args.condition s))
-    (c.read.ensures.reads x s below low stood can)
+pub production-returns-clause-marker : goal.production-returns-clause-marker
+production-returns-clause-marker t c = (c.read_by_hand.ensures.gives false).does.innermost _ c.requires.marker
+
+pub production-returns-clause-innermost : goal.production-returns-clause-innermost
+production-returns-clause-innermost t c = λ n i. (c.read_by_hand.ensures.gives false).does.innermost n i
 
 pub production-returns-clause-reads : goal.production-returns-clause-reads
 production-returns-clause-reads t c = λ s below low h b.
-    let e = c.in-Some.ensures.layer in
-    subst (λ (x : Production). Stands c.layers.result.given c.layers.new.p (meaning whole x c.args.condition s) below) (sym e)
-    (c.layers.ensures.reads s below (subst (λ (x : Production). rank x ≤ c.args.caller.ranks) e low) h (subst (λ (x : Production). IsBegun x c.args.condition s) e b))
+    hand-stands c.in-Some.hand (named c.args.production) c.args.context.condition s below c.in-Some.ensures c.if-not-node.true c.read_by_hand.ensures.gives h
 
 pub production-returns-clause-looks : goal.production-returns-clause-looks
 production-returns-clause-looks t c = λ s below low h b.
-    let e = c.in-Some.ensures.layer in
+    subst (λ (x : Production). Costs (idle_of x) (debt_of x) c.args.p.now c.read_by_hand.new.p) c.in-Some.ensures (inr c.read_by_hand.ensures.looks)
+
+pub production-read-requires : goal.production-read-requires
+production-read-requires t c =
+    let x = named c.args.production in
+    let few : size (plain c.row_before.result.now) < 2048 = omega (arith, rest-less size or-size (rule x) _ c.next_kind-next.result c.row_before.ensures, few-forms (rule x) x refl) in
+    let here = 32 * c.tokens_left-began.result + c.args.context.ranks in
+    let same = c.next_kind-next.ensures.same in
+    (below-measure c.decreases (falls-row c.row_before.result.now here _ (omega (arith, c.tokens_left-began.ensures)) few), (short-still _ _ (ap (λ (v : View). v.input) same) c.requires.short, (c.requires.few, still-innermost _ c.args.p.now c.next_kind-next.new.p same c.requires.marker)))
+
+pub production-returns-then-passes_by-clause-reads : goal.production-returns-then-passes_by-clause-reads
+production-returns-then-passes_by-clause-reads t c = λ s below low h b.
+    let still = stands-still c.next_kind-next.ensures.same h in
+    let next = next-there c.next_kind-next.result still.at.rest c.next_kind-next.ensures.next in
+    subst (λ (u : Reading). Stands c.args.node.given c.next_kind-next.new.p u below) (sym (c.passes_by.ensures.nothing c.if-passes_by.true c.args.context.condition s next)) still
+
+pub production-returns-then-passes_by-clause-looks : goal.production-returns-then-passes_by-clause-looks
+production-returns-then-passes_by-clause-looks t c = λ s below low h b.
+    tail-passed-by (named c.args.production) (c.passes_by.ensures.tail c.if-passes_by.true) (same-length (ap left c.next_kind-next.ensures.same)) c.next_kind-next.ensures.looks
+
+pub production-returns-3-clause-reads : goal.production-returns-3-clause-reads
+production-returns-3-clause-reads t c = λ s below low h b.
+    let x = named c.args.production in
+    let still = stands-still c.next_kind-next.ensures.same h in
+    let part = rest-stands (rule x) _ c.next_kind-next.result (left c.next_kind-next.new.p) c.row_before.ensures c.next_kind-next.ensures.next in
+    let can = part.can x c.tokens_left-began.result c.args.context.condition s still.at.rest (row-can-read x c.args.context.condition s (c.tokens_left-began.ensures ∙ same-length h.at.rest) refl b) in
+    subst (λ (u : Reading). Stands c.read.result.given c.read.new.p u below)
+    (sym (part.means c.args.context.condition s still.at.rest) ∙ sym (whole-means x c.args.context.condition s))
+    (c.read.ensures.reads x s below low still can)
+
+pub production-returns-2-clause-reads : goal.production-returns-2-clause-reads
+production-returns-2-clause-reads t c = λ s below low h b.
+    let e = c.in-Some-height_of.ensures.layer in
+    subst (λ (x : Production). Stands c.layers.result.given c.layers.new.p (meaning whole x c.args.context.condition s) below) (sym e)
+    (c.layers.ensures.reads s below (subst (λ (x : Production). rank x ≤ c.args.context.ranks) e low) h (subst (λ (x : Production). IsBegun x c.args.context.condition s) e b))
+
+pub production-returns-2-clause-looks : goal.production-returns-2-clause-looks
+production-returns-2-clause-looks t c = λ s below low h b.
+    let e = c.in-Some-height_of.ensures.layer in
     subst (λ (x : Production). Costs (idle_of x) (debt_of x) c.args.p.now c.layers.new.p) (sym e)
-    (c.layers.ensures.looks s below (subst (λ (x : Production). rank x ≤ c.args.caller.ranks) e low) h (subst (λ (x : Production). IsBegun x c.args.condition s) e b))
+    (c.layers.ensures.looks s below (subst (λ (x : Production). rank x ≤ c.args.context.ranks) e low) h (subst (λ (x : Production). IsBegun x c.args.context.condition s) e b))
 
 pub climb-read-node-requires : goal.climb-read-node-requires
 climb-read-node-requires = climbing.climb-read-node-requires
@@ -136,82 +179,83 @@ climb-returns-clause-looks = climbing.climb-returns-clause-looks
 pub read-read-node-requires : goal.read-read-node-requires
 unfolding size
 read-read-node-requires t c =
-    (below-measure c.decreases (falls-read c.in-Then.first.now c.args.rule.now (32 * c.args.caller.began + c.args.caller.ranks) (omega (arith, ap (λ (d : rows.Rule). size (plain d)) c.in-Then.is))), (c.requires.short, (c.requires.few, c.requires.marker)))
+    (below-measure c.decreases (falls-read c.in-Then.first.now c.args.rule.now (32 * c.args.began + c.args.context.ranks) (omega (arith, ap (λ (d : rows.Rule). size (plain d)) c.in-Then.is))), (c.requires.short, (c.requires.few, c.requires.marker)))
 
 pub read-read-requires : goal.read-read-requires
 unfolding size
 read-read-requires t c =
-    (below-measure c.decreases (falls-read c.in-Then.second.now c.args.rule.now (32 * c.args.caller.began + c.args.caller.ranks) (omega (arith, ap (λ (d : rows.Rule). size (plain d)) c.in-Then.is))), (short-still _ _ c.read-node.ensures.input c.requires.short, (c.requires.few, c.read-node.ensures.marker)))
+    (below-measure c.decreases (falls-read c.in-Then.second.now c.args.rule.now (32 * c.args.began + c.args.context.ranks) (omega (arith, ap (λ (d : rows.Rule). size (plain d)) c.in-Then.is))), (short-still _ _ c.read-node.ensures.input c.requires.short, (c.requires.few, c.read-node.ensures.marker)))
 
 pub read-read-node-requires-in-Near : goal.read-read-node-requires-in-Near
 unfolding size
 read-read-node-requires-in-Near t c =
-    (below-measure c.decreases (falls-read c.in-Near.first.now c.args.rule.now (32 * c.args.caller.began + c.args.caller.ranks) (omega (arith, ap (λ (d : rows.Rule). size (plain d)) c.in-Near.is))), (c.requires.short, (c.requires.few, c.requires.marker)))
+    (below-measure c.decreases (falls-read c.in-Near.first.now c.args.rule.now (32 * c.args.began + c.args.context.ranks) (omega (arith, ap (λ (d : rows.Rule). size (plain d)) c.in-Near.is))), (c.requires.short, (c.requires.few, c.requires.marker)))
 
 pub read-read-requires-in-Near : goal.read-read-requires-in-Near
 unfolding size
 read-read-requires-in-Near t c =
-    (below-measure c.decreases (falls-read c.in-Near.second.now c.args.rule.now (32 * c.args.caller.began + c.args.caller.ranks) (omega (arith, ap (λ (d : rows.Rule). size (plain d)) c.in-Near.is))), (short-still _ _ c.read-node-in-Near.ensures.input c.requires.short, (c.requires.few, c.read-node-in-Near.ensures.marker)))
+    (below-measure c.decreases (falls-read c.in-Near.second.now c.args.rule.now (32 * c.args.began + c.args.context.ranks) (omega (arith, ap (λ (d : rows.Rule). size (plain d)) c.in-Near.is))), (short-still _ _ c.read-node-in-Near.ensures.input c.requires.short, (c.requires.few, c.read-node-in-Near.ensures.marker)))
 
 pub read-read-requires-then-at : goal.read-read-requires-then-at
 unfolding size
 read-read-requires-then-at t c =
-    (below-measure c.decreases (falls-read c.in-Or.first.now c.args.rule.now (32 * c.args.caller.began + c.args.caller.ranks) (omega (arith, ap (λ (d : rows.Rule). size (plain d)) c.in-Or.is))), (short-still _ _ (ap (λ (v : View). v.input) c.at.ensures.same) c.requires.short, (c.requires.few, still-innermost _ c.args.p.now c.at.new.p c.at.ensures.same c.requires.marker)))
+    (below-measure c.decreases (falls-read c.in-Or.first.now c.args.rule.now (32 * c.args.began + c.args.context.ranks) (omega (arith, ap (λ (d : rows.Rule). size (plain d)) c.in-Or.is))), (short-still _ _ (ap (λ (v : View). v.input) c.at.ensures.same) c.requires.short, (c.requires.few, still-innermost _ c.args.p.now c.at.new.p c.at.ensures.same c.requires.marker)))
 
 pub read-read-requires-in-Or : goal.read-read-requires-in-Or
 unfolding size
 read-read-requires-in-Or t c =
-    (below-measure c.decreases (falls-read c.in-Or.second.now c.args.rule.now (32 * c.args.caller.began + c.args.caller.ranks) (omega (arith, ap (λ (d : rows.Rule). size (plain d)) c.in-Or.is))), (short-still _ _ (ap (λ (v : View). v.input) c.at.ensures.same) c.requires.short, (c.requires.few, still-innermost _ c.args.p.now c.at.new.p c.at.ensures.same c.requires.marker)))
+    (below-measure c.decreases (falls-read c.in-Or.second.now c.args.rule.now (32 * c.args.began + c.args.context.ranks) (omega (arith, ap (λ (d : rows.Rule). size (plain d)) c.in-Or.is))), (short-still _ _ (ap (λ (v : View). v.input) c.at.ensures.same) c.requires.short, (c.requires.few, still-innermost _ c.args.p.now c.at.new.p c.at.ensures.same c.requires.marker)))
 
 pub read-read-requires-in-When : goal.read-read-requires-in-When
 unfolding size
 read-read-requires-in-When t c =
-    (below-measure c.decreases (falls-read c.in-When.inner.now c.args.rule.now (32 * c.args.caller.began + c.args.caller.ranks) (omega (arith, ap (λ (d : rows.Rule). size (plain d)) c.in-When.is))), (c.requires.short, (c.requires.few, c.requires.marker)))
+    (below-measure c.decreases (falls-read c.in-When.inner.now c.args.rule.now (32 * c.args.began + c.args.context.ranks) (omega (arith, ap (λ (d : rows.Rule). size (plain d)) c.in-When.is))), (c.requires.short, (c.requires.few, c.requires.marker)))
 
 pub read-read-requires-in-Unless : goal.read-read-requires-in-Unless
 unfolding size
 read-read-requires-in-Unless t c =
-    (below-measure c.decreases (falls-read c.in-Unless.inner.now c.args.rule.now (32 * c.args.caller.began + c.args.caller.ranks) (omega (arith, ap (λ (d : rows.Rule). size (plain d)) c.in-Unless.is))), (c.requires.short, (c.requires.few, c.requires.marker)))
+    (below-measure c.decreases (falls-read c.in-Unless.inner.now c.args.rule.now (32 * c.args.began + c.args.context.ranks) (omega (arith, ap (λ (d : rows.Rule). size (plain d)) c.in-Unless.is))), (c.requires.short, (c.requires.few, c.requires.marker)))
 
 pub read-read-requires-then-at-2 : goal.read-read-requires-then-at-2
 unfolding size
 read-read-requires-then-at-2 t c =
-    (below-measure c.decreases (falls-read c.in-Opt.inner.now c.args.rule.now (32 * c.args.caller.began + c.args.caller.ranks) (omega (arith, ap (λ (d : rows.Rule). size (plain d)) c.in-Opt.is))), (short-still _ _ (ap (λ (v : View). v.input) c.at-in-Opt.ensures.same) c.requires.short, (c.requires.few, still-innermost _ c.args.p.now c.at-in-Opt.new.p c.at-in-Opt.ensures.same c.requires.marker)))
+    (below-measure c.decreases (falls-read c.in-Opt.inner.now c.args.rule.now (32 * c.args.began + c.args.context.ranks) (omega (arith, ap (λ (d : rows.Rule). size (plain d)) c.in-Opt.is))), (short-still _ _ (ap (λ (v : View). v.input) c.at-in-Opt.ensures.same) c.requires.short, (c.requires.few, still-innermost _ c.args.p.now c.at-in-Opt.new.p c.at-in-Opt.ensures.same c.requires.marker)))
 
 pub read-turns-requires : goal.read-turns-requires
 unfolding size
 read-turns-requires t c =
-    (below-measure c.decreases (falls-turns c.in-Star.inner.now c.args.rule.now (32 * c.args.caller.began + c.args.caller.ranks) (omega (arith, ap (λ (d : rows.Rule). size (plain d)) c.in-Star.is))), (c.requires.short, (c.requires.few, c.requires.marker)))
+    (below-measure c.decreases (falls-turns c.in-Star.inner.now c.args.rule.now (32 * c.args.began + c.args.context.ranks) (omega (arith, ap (λ (d : rows.Rule). size (plain d)) c.in-Star.is))), (c.requires.short, (c.requires.few, c.requires.marker)))
 
 pub read-read-child-requires : goal.read-read-child-requires
 unfolding size
 read-read-child-requires t c =
-    (below-measure c.decreases (falls-read c.in-Node.inner.now c.args.rule.now (32 * c.args.caller.began + c.args.caller.ranks) (omega (arith, ap (λ (d : rows.Rule). size (plain d)) c.in-Node.is))), (short-still _ _ c.start-child.ensures.input c.requires.short, (c.requires.few, c.start-child.ensures.marker)))
+    (below-measure c.decreases (falls-read c.in-Node.inner.now c.args.rule.now (32 * c.args.began + c.args.context.ranks) (omega (arith, ap (λ (d : rows.Rule). size (plain d)) c.in-Node.is))), (short-still _ _ c.start-child.ensures.input c.requires.short, (c.requires.few, c.start-child.ensures.marker)))
 
 pub read-read-node-requires-in-Wrap : goal.read-read-node-requires-in-Wrap
 unfolding size
 read-read-node-requires-in-Wrap t c =
-    (below-measure c.decreases (falls-read c.in-Wrap.inner.now c.args.rule.now (32 * c.args.caller.began + c.args.caller.ranks) (omega (arith, ap (λ (d : rows.Rule). size (plain d)) c.in-Wrap.is))), (c.requires.short, (c.requires.few, c.requires.marker)))
+    (below-measure c.decreases (falls-read c.in-Wrap.inner.now c.args.rule.now (32 * c.args.began + c.args.context.ranks) (omega (arith, ap (λ (d : rows.Rule). size (plain d)) c.in-Wrap.is))), (c.requires.short, (c.requires.few, c.requires.marker)))
 
 pub read-read-requires-then-at-3 : goal.read-read-requires-then-at-3
 unfolding size
 read-read-requires-then-at-3 t c =
-    (below-measure c.decreases (falls-read c.in-Want.inner.now c.args.rule.now (32 * c.args.caller.began + c.args.caller.ranks) (omega (arith, ap (λ (d : rows.Rule). size (plain d)) c.in-Want.is))), (short-still _ _ (ap (λ (v : View). v.input) c.at-in-Want.ensures.same) c.requires.short, (c.requires.few, still-innermost _ c.args.p.now c.at-in-Want.new.p c.at-in-Want.ensures.same c.requires.marker)))
+    (below-measure c.decreases (falls-read c.in-Want.inner.now c.args.rule.now (32 * c.args.began + c.args.context.ranks) (omega (arith, ap (λ (d : rows.Rule). size (plain d)) c.in-Want.is))), (short-still _ _ (ap (λ (v : View). v.input) c.at-in-Want.ensures.same) c.requires.short, (c.requires.few, still-innermost _ c.args.p.now c.at-in-Want.new.p c.at-in-Want.ensures.same c.requires.marker)))
 
 pub read-call-requires : goal.read-call-requires
 unfolding size
 read-call-requires t c =
-    (below-measure c.decreases (falls-call c.args.rule.now (32 * c.args.caller.began + c.args.caller.ranks) (omega (arith, ap (λ (d : rows.Rule). size (plain d)) c.in-Call.is))), (c.requires.short, (c.requires.few, c.requires.marker)))
+    (below-measure c.decreases (falls-call c.args.rule.now (32 * c.args.began + c.args.context.ranks) (omega (arith, ap (λ (d : rows.Rule). size (plain d)) c.in-Call.is))), (c.requires.short, (c.requires.few, c.requires.marker)))
 
 pub read-go_on-requires : goal.read-go_on-requires
 unfolding size
 read-go_on-requires t c =
-    (below-measure c.decreases (falls-call c.args.rule.now (32 * c.args.caller.began + c.args.caller.ranks) (omega (arith, ap (λ (d : rows.Rule). size (plain d)) c.in-Continue.is))), (c.requires.short, (c.requires.few, c.requires.marker)))
+    (below-measure c.decreases (falls-call c.args.rule.now (32 * c.args.began + c.args.context.ranks) (omega (arith, ap (λ (d : rows.Rule). size (plain d)) c.in-Continue.is))), (c.requires.short, (c.requires.few, c.requires.marker)))
 
 pub read-read-requires-in-Mode : goal.read-read-requires-in-Mode
 unfolding size
 read-read-requires-in-Mode t c =
-    (below-measure c.decreases (falls-read c.in-Mode.inner.now c.args.rule.now (32 * c.args.caller.began + c.args.caller.ranks) (omega (arith, ap (λ (d : rows.Rule). size (plain d)) c.in-Mode.is))), (c.requires.short, (c.requires.few, c.requires.marker)))
+    let less = falls-read c.in-Mode.inner.now c.args.rule.now (32 * c.args.began + c.args.context.ranks) (omega (arith, ap (λ (d : rows.Rule). size (plain d)) c.in-Mode.is)) in
+    (omega (arith, less, c.decreases, c.under.ensures.ranks), (c.requires.short, (omega (arith, c.requires.few, c.under.ensures.ranks), c.requires.marker)))
 
 pub read-returns-in-Nothing-clause-reads : goal.read-returns-in-Nothing-clause-reads
 unfolding read
@@ -238,37 +282,37 @@ read-returns-in-Near-clause-reads t c = rw c.in-Near.is (λ x s below low h can.
 pub read-returns-then-at-clause-reads : goal.read-returns-then-at-clause-reads
 unfolding read
 read-returns-then-at-clause-reads t c = rw c.in-Or.is (λ x s below low h can.
-    let e : is_begun c.args.condition (plain c.in-Or.first.now) s ≡ true = sym (c.at.ensures.sees s below h) ∙ c.if-at.true in
+    let e : is_begun c.args.context.condition (plain c.in-Or.first.now) s ≡ true = sym (c.at.ensures.sees s below h) ∙ c.if-at.true in
     rw e (c.read-then-at.ensures.reads x s below low (stands-still c.at.ensures.same h) (can.0 e)))
 
 pub read-returns-else-at-clause-reads : goal.read-returns-else-at-clause-reads
 unfolding read
 read-returns-else-at-clause-reads t c = rw c.in-Or.is (λ x s below low h can.
-    let e : is_begun c.args.condition (plain c.in-Or.first.now) s ≡ false = sym (c.at.ensures.sees s below h) ∙ c.if-at.false in
+    let e : is_begun c.args.context.condition (plain c.in-Or.first.now) s ≡ false = sym (c.at.ensures.sees s below h) ∙ c.if-at.false in
     rw e (c.read-in-Or.ensures.reads x s below low (stands-still c.at.ensures.same h) (can.1 e)))
 
 pub read-returns-then-at-2-clause-reads : goal.read-returns-then-at-2-clause-reads
 unfolding read
 read-returns-then-at-2-clause-reads t c = rw c.in-Opt.is (λ x s below low h can.
-    let e : is_begun c.args.condition (plain c.in-Opt.inner.now) s ≡ true = sym (c.at-in-Opt.ensures.sees s below h) ∙ c.if-at-2.true in
+    let e : is_begun c.args.context.condition (plain c.in-Opt.inner.now) s ≡ true = sym (c.at-in-Opt.ensures.sees s below h) ∙ c.if-at-2.true in
     rw e (c.read-then-at-2.ensures.reads x s below low (stands-still c.at-in-Opt.ensures.same h) (can e)))
 
 pub read-returns-else-at-2-clause-reads : goal.read-returns-else-at-2-clause-reads
 unfolding read
 read-returns-else-at-2-clause-reads t c = rw c.in-Opt.is (λ x s below low h can.
-    let e : is_begun c.args.condition (plain c.in-Opt.inner.now) s ≡ false = sym (c.at-in-Opt.ensures.sees s below h) ∙ c.if-at-2.false in
+    let e : is_begun c.args.context.condition (plain c.in-Opt.inner.now) s ≡ false = sym (c.at-in-Opt.ensures.sees s below h) ∙ c.if-at-2.false in
     rw e (stands-still c.at-in-Opt.ensures.same h))
 
 pub read-returns-then-at-3-clause-reads : goal.read-returns-then-at-3-clause-reads
 unfolding read
 read-returns-then-at-3-clause-reads t c = rw c.in-Want.is (λ x s below low h can.
-    let e : is_begun c.args.condition (plain c.in-Want.inner.now) s ≡ true = sym (c.at-in-Want.ensures.sees s below h) ∙ c.if-at-3.true in
+    let e : is_begun c.args.context.condition (plain c.in-Want.inner.now) s ≡ true = sym (c.at-in-Want.ensures.sees s below h) ∙ c.if-at-3.true in
     rw e (c.read-then-at-3.ensures.reads x s below low (stands-still c.at-in-Want.ensures.same h) (can e)))
 
 pub read-returns-else-at-3-clause-reads : goal.read-returns-else-at-3-clause-reads
 unfolding read
 read-returns-else-at-3-clause-reads t c = rw c.in-Want.is (λ x s below low h can.
-    let e : is_begun c.args.condition (plain c.in-Want.inner.now) s ≡ false = sym (c.at-in-Want.ensures.sees s below h) ∙ c.if-at-3.false in
+    let e : is_begun c.args.context.condition (plain c.in-Want.inner.now) s ≡ false = sym (c.at-in-Want.ensures.sees s below h) ∙ c.if-at-3.false in
     rw e (c.tell.ensures.does s below (stands-still c.at-in-Want.ensures.same h)))
 
 pub read-returns-in-When-clause-reads : goal.read-returns-in-When-clause-reads
@@ -281,7 +325,11 @@ read-returns-in-Unless-clause-reads t c = rw c.in-Unless.is (λ x s below low h 
 
 pub read-returns-in-Mode-clause-reads : goal.read-returns-in-Mode-clause-reads
 unfolding read
-read-returns-in-Mode-clause-reads t c = rw c.in-Mode.is (λ x s below low h can. c.read-in-Mode.ensures.reads x s below low h can)
+read-returns-in-Mode-clause-reads t c = rw c.in-Mode.is (λ x s below low h can.
+    let a = plain c.in-Mode.inner.now in
+    let same = c.under.ensures.condition in
+    subst (λ (d : Bool). Stands c.read-in-Mode.result.given c.read-in-Mode.new.p (reads d a s) below) same
+    (c.read-in-Mode.ensures.reads x s below (omega (arith, low, c.under.ensures.ranks)) h (subst (λ (d : Bool). CanRead x c.args.began d a s) (sym same) can)))
 
 pub read-returns-in-Star-clause-reads : goal.read-returns-in-Star-clause-reads
 unfolding read
@@ -325,21 +373,21 @@ pub turns-returns-then-not-at-clause-reads : goal.turns-returns-then-not-at-clau
 unfolding read
 turns-returns-then-not-at-clause-reads t c = λ x s below low h can.
     let b = c.turns.invariant.between x s below low h can in
-    let e : is_begun c.args.condition (plain c.args.rule.now) b.now ≡ false = sym (c.at.ensures.sees b.now below b.stands) ∙ c.if-not-at.true in
-    subst (λ (u : Reading). Stands c.turns.node.given c.at.new.p u below) (sym (no-turn c.turns.turns c.args.condition (plain c.args.rule.now) b.now e) ∙ b.same) (stands-still c.at.ensures.same b.stands)
+    let e : is_begun c.args.context.condition (plain c.args.rule.now) b.now ≡ false = sym (c.at.ensures.sees b.now below b.stands) ∙ c.if-not-at.true in
+    subst (λ (u : Reading). Stands c.turns.node.given c.at.new.p u below) (sym (no-turn c.turns.turns c.args.context.condition (plain c.args.rule.now) b.now e) ∙ b.same) (stands-still c.at.ensures.same b.stands)
 
 pub turns-returns-then-tokens_left-before-clause-reads : goal.turns-returns-then-tokens_left-before-clause-reads
 unfolding read
 turns-returns-then-tokens_left-before-clause-reads t c = λ x s below low h can.
     let b = c.turns.invariant.between x s below low h can in
-    let e : is_begun c.args.condition (plain c.args.rule.now) b.now ≡ true = sym (c.at.ensures.sees b.now below b.stands) ∙ c.if-not-at.false in
+    let e : is_begun c.args.context.condition (plain c.args.rule.now) b.now ≡ true = sym (c.at.ensures.sees b.now below b.stands) ∙ c.if-not-at.false in
     let some : 0 < length s.rest = omega (arith, c.turns-test.true, b.most) in
     let stood = stands-still c.at.ensures.same b.stands in
     let turn = c.read-node.ensures.reads x b.now below low stood (can b.now some b.shorter e) in
     let first : c.tokens_left-before.result ≡ length b.now.rest = c.tokens_left-before.ensures ∙ ap (λ (ts : List Token). length ts) stood.at.rest in
-    let then_left : c.tokens_left.result ≡ length (reads c.args.condition (plain c.args.rule.now) b.now).rest = c.tokens_left.ensures ∙ ap (λ (ts : List Token). length ts) turn.at.rest in
+    let then_left : c.tokens_left.result ≡ length (reads c.args.context.condition (plain c.args.rule.now) b.now).rest = c.tokens_left.ensures ∙ ap (λ (ts : List Token). length ts) turn.at.rest in
     subst (λ (u : Reading). Stands c.read-node.result.given c.read-node.new.p u below)
-    (sym (last-turn c.turns.turns c.args.condition (plain c.args.rule.now) b.now c.turns-test.true e (omega (arith, first, then_left, c.if-tokens_left-before.true))) ∙ b.same) turn
+    (sym (last-turn c.turns.turns c.args.context.condition (plain c.args.rule.now) b.now c.turns-test.true e (omega (arith, first, then_left, c.if-tokens_left-before.true))) ∙ b.same) turn
 
 pub turns-turns-preserved : goal.turns-turns-preserved
 turns-turns-preserved t c =
@@ -349,24 +397,24 @@ turns-turns-preserved t c =
       innermost = λ n i. c.read-node.ensures.innermost n (still-innermost n c.turns.p c.at.new.p c.at.ensures.same (c.turns.invariant.innermost n i));
       between = λ x s below low h can.
           let b = c.turns.invariant.between x s below low h can in
-          let e : is_begun c.args.condition (plain c.args.rule.now) b.now ≡ true = sym (c.at.ensures.sees b.now below b.stands) ∙ c.if-not-at.false in
+          let e : is_begun c.args.context.condition (plain c.args.rule.now) b.now ≡ true = sym (c.at.ensures.sees b.now below b.stands) ∙ c.if-not-at.false in
           let some : 0 < length s.rest = omega (arith, c.turns-test.true, b.most) in
           let stood = stands-still c.at.ensures.same b.stands in
           let turn = c.read-node.ensures.reads x b.now below low stood (can b.now some b.shorter e) in
           let first : c.tokens_left-before.result ≡ length b.now.rest = c.tokens_left-before.ensures ∙ ap (λ (ts : List Token). length ts) stood.at.rest in
-          let then_left : c.tokens_left.result ≡ length (reads c.args.condition (plain c.args.rule.now) b.now).rest = c.tokens_left.ensures ∙ ap (λ (ts : List Token). length ts) turn.at.rest in
-          let fewer : length (reads c.args.condition (plain c.args.rule.now) b.now).rest < length b.now.rest = omega (arith, first, then_left, c.if-tokens_left-before.false) in
+          let then_left : c.tokens_left.result ≡ length (reads c.args.context.condition (plain c.args.rule.now) b.now).rest = c.tokens_left.ensures ∙ ap (λ (ts : List Token). length ts) turn.at.rest in
+          let fewer : length (reads c.args.context.condition (plain c.args.rule.now) b.now).rest < length b.now.rest = omega (arith, first, then_left, c.if-tokens_left-before.false) in
           record {
-            now = reads c.args.condition (plain c.args.rule.now) b.now;
+            now = reads c.args.context.condition (plain c.args.rule.now) b.now;
             stands = turn;
             shorter = omega (arith, fewer, b.shorter);
             most = omega (arith, b.most);
-            same = next-turn c.turns.turns c.args.condition (plain c.args.rule.now) b.now c.turns-test.true e fewer ∙ b.same;
+            same = next-turn c.turns.turns c.args.context.condition (plain c.args.rule.now) b.now c.turns-test.true e fewer ∙ b.same;
           };
       spending = λ x s below low h can paid.
           let r = plain c.args.rule.now in
           let b = c.turns.invariant.between x s below low h can in
-          let e : is_begun c.args.condition r b.now ≡ true = sym (c.at.ensures.sees b.now below b.stands) ∙ c.if-not-at.false in
+          let e : is_begun c.args.context.condition r b.now ≡ true = sym (c.at.ensures.sees b.now below b.stands) ∙ c.if-not-at.false in
           let some : 0 < length s.rest = omega (arith, c.turns-test.true, b.most) in
           let stood = stands-still c.at.ensures.same b.stands in
           let read = c.read-node.ensures.looks x b.now below low stood (can b.now some b.shorter e) (turn-is-paid r paid) in
@@ -378,39 +426,41 @@ pub turns-returns-clause-reads : goal.turns-returns-clause-reads
 unfolding read
 turns-returns-clause-reads t c = λ x s below low h can.
     let b = c.turns.invariant.between x s below low h can in
-    subst (λ (u : Reading). Stands c.turns.node.given c.turns.p u below) (sym (zero-turns c.turns.turns c.args.condition (plain c.args.rule.now) b.now (omega (arith, c.turns-test.false))) ∙ b.same) b.stands
+    subst (λ (u : Reading). Stands c.turns.node.given c.turns.p u below) (sym (zero-turns c.turns.turns c.args.context.condition (plain c.args.rule.now) b.now (omega (arith, c.turns-test.false))) ∙ b.same) b.stands
 
 pub call-returns-in_default-clause-looks : goal.call-returns-in_default-clause-looks
 call-returns-in_default-clause-looks t c = λ x s below low h b e.
-    absurd (subst (λ (o : Option Calling). HasRank (rank (named c.args.called)) o) c.in_default.is (c.callee.ensures.some x (named c.args.called) s h.at.rest low b))
+    absurd (subst (λ (o : Option Setting). HasRank (rank (named c.args.called)) o) c.in_default.is (c.callee.ensures.some x (named c.args.called) s h.at.rest low b))
 
 pub go_on-returns-in_default-clause-looks : goal.go_on-returns-in_default-clause-looks
 go_on-returns-in_default-clause-looks t c = λ x s below low h b e.
-    absurd (subst (λ (o : Option Calling). HasRank (rank (named c.args.called)) o) c.in_default.is (c.callee.ensures.some x (named c.args.called) s h.at.rest low b))
+    absurd (subst (λ (o : Option Setting). HasRank (rank (named c.args.called)) o) c.in_default.is (c.callee.ensures.some x (named c.args.called) s h.at.rest low b))
 
 pub go_on-returns-clause-looks : goal.go_on-returns-clause-looks
 go_on-returns-clause-looks t c = λ x s below low h b e.
-    let ok : rank (named c.args.called) ≤ c.in-Some.now.ranks = subst (λ (o : Option Calling). HasRank (rank (named c.args.called)) o) c.in-Some.is (c.callee.ensures.some x (named c.args.called) s h.at.rest low b) in
+    let ok : rank (named c.args.called) ≤ c.in-Some.now.ranks = subst (λ (o : Option Setting). HasRank (rank (named c.args.called)) o) c.in-Some.is (c.callee.ensures.some x (named c.args.called) s h.at.rest low b) in
+    let same = called-under c.callee.result c.in-Some.now c.args.context.condition c.in-Some.is c.callee.ensures.condition in
+    subst (λ (d : Bool). Spends (named c.args.called) c.in-Some.now.ranks d c.args.node.given c.args.p.now c.production.new.p) same
     c.production.ensures.looks s below ok h e
 
 pub call-returns-clause-looks : goal.call-returns-clause-looks
 unfolding fresh
 call-returns-clause-looks t c = λ x s below low h b e.
-    let ok : rank (named c.args.called) ≤ c.in-Some.now.ranks = subst (λ (o : Option Calling). HasRank (rank (named c.args.called)) o) c.in-Some.is (c.callee.ensures.some x (named c.args.called) s h.at.rest low b) in
-    let inner = c.production-inner.ensures.looks (fresh s) (inside below (marked s.given)) ok (stands-opened c.start-inner.ensures.opens c.start-inner.ensures.given h) e in
+    let ok : rank (named c.args.called) ≤ c.in-Some.now.ranks = subst (λ (o : Option Setting). HasRank (rank (named c.args.called)) o) c.in-Some.is (c.callee.ensures.some x (named c.args.called) s h.at.rest low b) in
+    let same = called-under c.callee.result c.in-Some.now c.args.context.condition c.in-Some.is c.callee.ensures.condition in
+    let inner = subst (λ (d : Bool). Spends (named c.args.called) c.in-Some.now.ranks d c.start-inner.result.given c.start-inner.new.p c.production-inner.new.p) same
+    c.production-inner.ensures.looks (fresh s) (inside below (marked s.given)) ok (stands-opened c.start-inner.ensures.opens c.start-inner.ensures.given h) e in
     within (same-length c.start-inner.ensures.opens.rest) c.start-inner.ensures.looks (same-length c.leave_out-gave.ensures.leaves.rest) c.leave_out-gave.ensures.looks inner
 
-pub production-returns-2-clause-looks : goal.production-returns-2-clause-looks
-production-returns-2-clause-looks t c = λ s below low h b.
+pub production-returns-3-clause-looks : goal.production-returns-3-clause-looks
+production-returns-3-clause-looks t c = λ s below low h b.
     let x = named c.args.production in
-    let still = stands-still c.passes_by.ensures.same h in
-    let stood = stands-still c.row_before-row.ensures.same still in
-    let part = c.row_before-row.ensures.part in
-    let can = part.can x c.args.caller.began c.args.condition s still.at.rest (row-can-read x c.args.condition s (c.requires.here ∙ same-length h.at.rest) refl b) in
+    let still = stands-still c.next_kind-next.ensures.same h in
+    let part = rest-stands (rule x) _ c.next_kind-next.result (left c.next_kind-next.new.p) c.row_before.ensures c.next_kind-next.ensures.next in
+    let can = part.can x c.tokens_left-began.result c.args.context.condition s still.at.rest (row-can-read x c.args.context.condition s (c.tokens_left-began.ensures ∙ same-length h.at.rest) refl b) in
     as-priced x (rule x) refl
-    (tested 1 (in_turn (Some 1) (idle (rule x))) (1 + debt (rule x)) {old = c.args.p.now} {mid = c.passes_by.new.p} (same-length (ap left c.passes_by.ensures.same)) c.passes_by.ensures.looks
-    (tested 1 (idle (rule x)) (debt (rule x)) {old = c.passes_by.new.p} {mid = c.row_before-row.new.p} (same-length (ap left c.row_before-row.ensures.same)) c.row_before-row.ensures.looks
-    (part.costs c.row_before-row.new.p c.read.new.p (c.read.ensures.looks x s below low stood can (part.paid (rule-paid x (rule x) refl))))))
+    (tested 1 (idle (rule x)) (debt (rule x)) {old = c.args.p.now} {mid = c.next_kind-next.new.p} (same-length (ap left c.next_kind-next.ensures.same)) c.next_kind-next.ensures.looks
+    (part.costs c.next_kind-next.new.p c.read.new.p (c.read.ensures.looks x s below low still can (part.paid (rule-paid x (rule x) refl)))))
 
 pub read-returns-in-Nothing-clause-looks : goal.read-returns-in-Nothing-clause-looks
 read-returns-in-Nothing-clause-looks = looks.read-returns-in-Nothing-clause-looks

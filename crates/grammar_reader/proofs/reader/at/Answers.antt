@@ -1,3 +1,5 @@
+use Rattle.std.proofs.Common.{◌≡◌, Bool, subst}
+use Rattle.grammar_reader.specs.CanRead.{is_begun}
 use Rattle.grammar_reader.specs.Data.{plain}
 use Rattle.grammar_reader.proofs.Asking.{begin-cost}
 use Rattle.grammar_reader.proofs.Beginning.{begun-here}
@@ -11,7 +13,9 @@ begins-requires c = record {
 }
 
 pub returns-clause-sees : goal.returns-clause-sees
-returns-clause-sees c s below h = begun-here _ s _ (c.begins.ensures.sees s (still-at {old = c.args.p.now} c.next_kind-next.ensures.same (record { rest = h.at.rest; gave = h.at.gave })))
+returns-clause-sees c s below h =
+    subst (λ (d : Bool). c.begins.result ≡ is_begun d (plain c.args.rule.now) s) c.condition.ensures
+    (begun-here _ s _ (c.begins.ensures.sees s (still-at {old = c.args.p.now} c.next_kind-next.ensures.same (record { rest = h.at.rest; gave = h.at.gave }))))
 
 pub returns-clause-looks : goal.returns-clause-looks
 returns-clause-looks c = begin-cost _ _ _ (plain c.args.rule.now) c.next_kind-next.ensures.looks c.begins.ensures.looks

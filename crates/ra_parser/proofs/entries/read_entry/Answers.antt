@@ -4,9 +4,9 @@ use Rattle.parser_events.specs.Forest.{Forest}
 use Rattle.parser_events.specs.Marked.{End, marked}
 use Rattle.parser_events.specs.Seen.{message_of}
 use Rattle.grammar_reader.specs.Data.{named}
-use Rattle.grammar_reader.specs.Stands.{Holds, left}
+use Rattle.rust_productions.specs.Stands.{Holds, left}
 use Rattle.grammar_reader.proofs.Standing.{stands-still}
-use Rattle.ra_parser.specs.Entries.{can_enter, production_of, strayed}
+use Rattle.ra_parser.specs.Entries.{can_enter, production_of}
 use Rattle.grammar_reader.proofs.Spending.{same-length}
 use Rattle.ra_parser.proofs.EntryLooks.{few-there}
 use Rattle.ra_parser.proofs.Taking.{stands-first}
@@ -29,7 +29,7 @@ returns-then-takes_every_input-clause-tree c =
     let ts = left c.args.p.now in
     let first = stands-first c.start-node.ensures.opens c.start-node.ensures.given c.requires.nodes in
     let entered : c.is_entered.result ≡ can_enter x (from ts) = c.is_entered.ensures.sees (from ts) (Some (End ∷ [])) (stands-first c.start-node.ensures.opens refl c.requires.nodes) in
-    let t = read-there x (named c.asked.result) ts c.here.ensures.ranks c.production-node.ensures.reads c.asked.ensures (stands-still c.is_entered.ensures.same first) (sym entered ∙ c.if-not-is_entered.false) in
+    let t = read-there x (named c.asked.result) ts c.new.ensures.ranks c.new.ensures.condition c.production-node.ensures.reads c.asked.ensures (stands-still c.is_entered.ensures.same first) (sym entered ∙ c.if-not-is_entered.false) in
     subst (λ (f : Forest). Holds c.leave_out.new.p.nodes (marked f ∷ [])) (sym (entry-every x ts (sym c.takes_every_input.ensures ∙ c.if-takes_every_input.true)))
     (holds-left-out (read_from x ts).given c.leave_out.ensures.leaves t.trees)
 
@@ -40,7 +40,7 @@ returns-then-tokens_left-gt0-clause-tree c =
     let first = stands-first c.start-node.ensures.opens c.start-node.ensures.given c.requires.nodes in
     let entered : c.is_entered.result ≡ can_enter x (from ts) = c.is_entered.ensures.sees (from ts) (Some (End ∷ [])) (stands-first c.start-node.ensures.opens refl c.requires.nodes) in
     let begun = sym entered ∙ c.if-not-is_entered.false in
-    let t = read-there x (named c.asked.result) ts c.here.ensures.ranks c.production-node.ensures.reads c.asked.ensures (stands-still c.is_entered.ensures.same first) begun in
+    let t = read-there x (named c.asked.result) ts c.new.ensures.ranks c.new.ensures.condition c.production-node.ensures.reads c.asked.ensures (stands-still c.is_entered.ensures.same first) begun in
     let some : 1 ≤ length (read_from x ts).rest = omega (arith, c.if-tokens_left-gt0.true, c.tokens_left.ensures, ap (λ (us : List Token). length us) t.at.rest) in
     subst (λ (f : Forest). Holds c.stray-then-tokens_left-gt0.new.p.nodes (marked f ∷ [])) (sym (entry-over x ts (sym c.takes_every_input.ensures ∙ c.if-takes_every_input.false) begun some))
     (c.stray-then-tokens_left-gt0.ensures.tree (read_from x ts) t)
@@ -52,7 +52,7 @@ returns-clause-tree c =
     let first = stands-first c.start-node.ensures.opens c.start-node.ensures.given c.requires.nodes in
     let entered : c.is_entered.result ≡ can_enter x (from ts) = c.is_entered.ensures.sees (from ts) (Some (End ∷ [])) (stands-first c.start-node.ensures.opens refl c.requires.nodes) in
     let begun = sym entered ∙ c.if-not-is_entered.false in
-    let t = read-there x (named c.asked.result) ts c.here.ensures.ranks c.production-node.ensures.reads c.asked.ensures (stands-still c.is_entered.ensures.same first) begun in
+    let t = read-there x (named c.asked.result) ts c.new.ensures.ranks c.new.ensures.condition c.production-node.ensures.reads c.asked.ensures (stands-still c.is_entered.ensures.same first) begun in
     let none : length (read_from x ts).rest ≤ 0 = omega (arith, c.if-tokens_left-gt0.false, c.tokens_left.ensures, ap (λ (us : List Token). length us) t.at.rest) in
     subst (λ (f : Forest). Holds c.leave_out-2.new.p.nodes (marked f ∷ [])) (sym (entry-whole x ts (sym c.takes_every_input.ensures ∙ c.if-takes_every_input.false) begun none))
     (holds-left-out (read_from x ts).given c.leave_out-2.ensures.leaves t.trees)
@@ -68,7 +68,7 @@ returns-then-takes_every_input-clause-looks c =
     let first = stands-first c.start-node.ensures.opens c.start-node.ensures.given c.requires.nodes in
     let entered : c.is_entered.result ≡ can_enter (production_of c.args.entry_point) (from ts) = c.is_entered.ensures.sees (from ts) (Some (End ∷ [])) (stands-first c.start-node.ensures.opens refl c.requires.nodes) in
     let there = stands-still c.is_entered.ensures.same first in
-    let few = few-there c.args.entry_point _ ts c.here.ensures.ranks c.production-node.ensures.looks c.asked.ensures there (sym entered ∙ c.if-not-is_entered.false) in
+    let few = few-there c.args.entry_point _ ts c.new.ensures.ranks c.new.ensures.condition c.production-node.ensures.looks c.asked.ensures there (sym entered ∙ c.if-not-is_entered.false) in
     omega (arith, few, c.leave_out.ensures.looks, same-length there.at.rest, c.is_entered.ensures.looks, c.start-node.ensures.looks)
 
 pub returns-then-tokens_left-gt0-clause-looks : goal.returns-then-tokens_left-gt0-clause-looks
@@ -77,7 +77,7 @@ returns-then-tokens_left-gt0-clause-looks c =
     let first = stands-first c.start-node.ensures.opens c.start-node.ensures.given c.requires.nodes in
     let entered : c.is_entered.result ≡ can_enter (production_of c.args.entry_point) (from ts) = c.is_entered.ensures.sees (from ts) (Some (End ∷ [])) (stands-first c.start-node.ensures.opens refl c.requires.nodes) in
     let there = stands-still c.is_entered.ensures.same first in
-    let few = few-there c.args.entry_point _ ts c.here.ensures.ranks c.production-node.ensures.looks c.asked.ensures there (sym entered ∙ c.if-not-is_entered.false) in
+    let few = few-there c.args.entry_point _ ts c.new.ensures.ranks c.new.ensures.condition c.production-node.ensures.looks c.asked.ensures there (sym entered ∙ c.if-not-is_entered.false) in
     omega (arith, few, c.stray-then-tokens_left-gt0.ensures.looks, same-length there.at.rest, c.is_entered.ensures.looks, c.start-node.ensures.looks)
 
 pub returns-clause-looks : goal.returns-clause-looks
@@ -86,5 +86,5 @@ returns-clause-looks c =
     let first = stands-first c.start-node.ensures.opens c.start-node.ensures.given c.requires.nodes in
     let entered : c.is_entered.result ≡ can_enter (production_of c.args.entry_point) (from ts) = c.is_entered.ensures.sees (from ts) (Some (End ∷ [])) (stands-first c.start-node.ensures.opens refl c.requires.nodes) in
     let there = stands-still c.is_entered.ensures.same first in
-    let few = few-there c.args.entry_point _ ts c.here.ensures.ranks c.production-node.ensures.looks c.asked.ensures there (sym entered ∙ c.if-not-is_entered.false) in
+    let few = few-there c.args.entry_point _ ts c.new.ensures.ranks c.new.ensures.condition c.production-node.ensures.looks c.asked.ensures there (sym entered ∙ c.if-not-is_entered.false) in
     omega (arith, few, c.leave_out-2.ensures.looks, same-length there.at.rest, c.is_entered.ensures.looks, c.start-node.ensures.looks)

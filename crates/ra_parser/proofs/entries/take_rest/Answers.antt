@@ -1,7 +1,7 @@
 use Rattle.std.proofs.Common.{◌≤◌, List, length, None, sym, ap, subst, ◌∙◌, arith}
 use Rattle.parser_input.specs.Input.{Token}
 use Rattle.rust_grammar.specs.Meaning.{Reading, ahead, leaf}
-use Rattle.grammar_reader.specs.Stands.{Stands}
+use Rattle.rust_productions.specs.Stands.{Stands}
 use Rattle.ra_parser.proofs.Taking.{somewhere, stands-somewhere, fewer-left, token-taken, all-taken}
 use Rattle.ra_parser.proofs.entries.take_rest.Goals as goal
 

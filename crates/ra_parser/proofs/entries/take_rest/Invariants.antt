@@ -1,6 +1,6 @@
 use Rattle.std.specs.Prelude.{◌≡◌, ◌+◌, ◌≤◌, length}
 use Rattle.parser_events.specs.Stack.{IsInnermost}
-use Rattle.grammar_reader.specs.Stands.{left}
+use Rattle.rust_productions.specs.Stands.{left}
 use Rattle.ra_parser.proofs.Taking.{Midway}
 use Rattle.ra_parser.proofs.entries.take_rest.Given as goal
 

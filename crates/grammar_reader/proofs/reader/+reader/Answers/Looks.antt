@@ -1,10 +1,10 @@
 -- What reading by a rule costs in looks, form by form.
-use Rattle.std.proofs.Common.{◌≡◌, ◌+◌, ◌<◌, ◌≤◌, max, true, false, None, refl, sym, ap, ◌∙◌, arith, length}
+use Rattle.std.proofs.Common.{◌≡◌, ◌+◌, ◌<◌, ◌≤◌, max, Bool, true, false, None, refl, sym, ap, subst, ◌∙◌, arith, length}
 use Rattle.parser_events.specs.Marked.{marked}
 use Rattle.rust_grammar.specs.Meaning.{read, fresh, leaf, say, skip, split, wrapped}
-use Rattle.grammar_reader.specs.CanRead.{is_begun}
+use Rattle.grammar_reader.specs.CanRead.{CanRead, is_begun}
 use Rattle.grammar_reader.specs.Data.{plain}
-use Rattle.grammar_reader.specs.Stands.{left}
+use Rattle.rust_productions.specs.Stands.{left}
 use Rattle.grammar_reader.proofs.Standing.{inside, stands-still, stands-opened}
 use Rattle.rust_grammar.proofs.Plain.{and_l, and_r}
 use Rattle.grammar_reader.specs.Looks.{begin_looks}
@@ -49,7 +49,7 @@ unfolding read idle debt is_paid
 read-returns-then-at-clause-looks t c = rw c.in-Or.is (λ x s below low h can paid.
     let a = plain c.in-Or.first.now in
     let b = plain c.in-Or.second.now in
-    let e : is_begun c.args.condition a s ≡ true = sym (c.at.ensures.sees s below h) ∙ c.if-at.true in
+    let e : is_begun c.args.context.condition a s ≡ true = sym (c.at.ensures.sees s below h) ∙ c.if-at.true in
     tested (begin_looks a) (either (idle a) (idle b)) (max (debt a) (debt b)) (same-length (ap left c.at.ensures.same)) c.at.ensures.looks
     (first-of (idle a) (idle b) (debt a) (debt b) (c.read-then-at.ensures.looks x s below low (stands-still c.at.ensures.same h) (can.0 e) (and_l (is_paid a) (is_paid b) paid))))
 
@@ -58,7 +58,7 @@ unfolding read idle debt is_paid
 read-returns-else-at-clause-looks t c = rw c.in-Or.is (λ x s below low h can paid.
     let a = plain c.in-Or.first.now in
     let b = plain c.in-Or.second.now in
-    let e : is_begun c.args.condition a s ≡ false = sym (c.at.ensures.sees s below h) ∙ c.if-at.false in
+    let e : is_begun c.args.context.condition a s ≡ false = sym (c.at.ensures.sees s below h) ∙ c.if-at.false in
     tested (begin_looks a) (either (idle a) (idle b)) (max (debt a) (debt b)) (same-length (ap left c.at.ensures.same)) c.at.ensures.looks
     (second-of (idle a) (idle b) (debt a) (debt b) (c.read-in-Or.ensures.looks x s below low (stands-still c.at.ensures.same h) (can.1 e) (and_r (is_paid a) (is_paid b) paid))))
 
@@ -66,7 +66,7 @@ pub read-returns-then-at-2-clause-looks : goal.read-returns-then-at-2-clause-loo
 unfolding read idle debt is_paid
 read-returns-then-at-2-clause-looks t c = rw c.in-Opt.is (λ x s below low h can paid.
     let a = plain c.in-Opt.inner.now in
-    let e : is_begun c.args.condition a s ≡ true = sym (c.at-in-Opt.ensures.sees s below h) ∙ c.if-at-2.true in
+    let e : is_begun c.args.context.condition a s ≡ true = sym (c.at-in-Opt.ensures.sees s below h) ∙ c.if-at-2.true in
     tested-read (begin_looks a) (idle a) (debt a) (same-length (ap left c.at-in-Opt.ensures.same)) c.at-in-Opt.ensures.looks
     (c.read-then-at-2.ensures.looks x s below low (stands-still c.at-in-Opt.ensures.same h) (can e) paid))
 
@@ -74,7 +74,7 @@ pub read-returns-then-at-3-clause-looks : goal.read-returns-then-at-3-clause-loo
 unfolding read idle debt is_paid
 read-returns-then-at-3-clause-looks t c = rw c.in-Want.is (λ x s below low h can paid.
     let a = plain c.in-Want.inner.now in
-    let e : is_begun c.args.condition a s ≡ true = sym (c.at-in-Want.ensures.sees s below h) ∙ c.if-at-3.true in
+    let e : is_begun c.args.context.condition a s ≡ true = sym (c.at-in-Want.ensures.sees s below h) ∙ c.if-at-3.true in
     tested-read (begin_looks a) (idle a) (debt a) (same-length (ap left c.at-in-Want.ensures.same)) c.at-in-Want.ensures.looks
     (c.read-then-at-3.ensures.looks x s below low (stands-still c.at-in-Want.ensures.same h) (can e) paid))
 
@@ -101,7 +101,9 @@ read-returns-in-Unless-clause-looks t c = rw c.in-Unless.is (λ x s below low h 
 
 pub read-returns-in-Mode-clause-looks : goal.read-returns-in-Mode-clause-looks
 unfolding read idle debt is_paid
-read-returns-in-Mode-clause-looks t c = rw c.in-Mode.is (λ x s below low h can paid. c.read-in-Mode.ensures.looks x s below low h can paid)
+read-returns-in-Mode-clause-looks t c = rw c.in-Mode.is (λ x s below low h can paid.
+    c.read-in-Mode.ensures.looks x s below (omega (arith, low, c.under.ensures.ranks)) h
+    (subst (λ (d : Bool). CanRead x c.args.began d (plain c.in-Mode.inner.now) s) (sym c.under.ensures.condition) can) paid)
 
 pub read-returns-in-Star-clause-looks : goal.read-returns-in-Star-clause-looks
 unfolding read
@@ -158,7 +160,7 @@ unfolding idle debt
 turns-returns-then-tokens_left-before-clause-looks t c = λ x s below low h can paid.
     let r = plain c.args.rule.now in
     let b = c.turns.invariant.between x s below low h can in
-    let e : is_begun c.args.condition r b.now ≡ true = sym (c.at.ensures.sees b.now below b.stands) ∙ c.if-not-at.false in
+    let e : is_begun c.args.context.condition r b.now ≡ true = sym (c.at.ensures.sees b.now below b.stands) ∙ c.if-not-at.false in
     let some : 0 < length s.rest = omega (arith, c.turns-test.true, b.most) in
     let stood = stands-still c.at.ensures.same b.stands in
     let read = c.read-node.ensures.looks x b.now below low stood (can b.now some b.shorter e) (turn-is-paid r paid) in

@@ -3,7 +3,7 @@ use Rattle.parser_input.specs.Input.{Token}
 use Rattle.parser_events.specs.Steps.{steps}
 use Rattle.rust_grammar.specs.Entry.{entry}
 use Rattle.rust_grammar.specs.Whole.{whole}
-use Rattle.grammar_reader.specs.Stands.{left}
+use Rattle.rust_productions.specs.Stands.{left}
 use Rattle.ra_parser.specs.Entries.{production_of}
 use Rattle.grammar_reader.proofs.Spending.{same-length}
 use Rattle.ra_parser.proofs.Entered.{parsed-steps}

@@ -1,0 +1,32 @@
+-- Paths with and without arguments begin alike.
+use Rattle.std.proofs.Common.{◌≡◌, Bool, refl, sym, subst}
+use Rattle.parser_events.specs.View.{View}
+use Rattle.rust_grammar.specs.Expressions.{expressions}
+use Rattle.rust_grammar.specs.Items.{items}
+use Rattle.rust_grammar.specs.Meaning.{begins_below, look_of}
+use Rattle.rust_grammar.specs.Notation.{any_of, is_longer, no_longer, longest, one_of, row}
+use Rattle.rust_grammar.specs.Paths.{paths}
+use Rattle.rust_grammar.specs.Patterns.{patterns}
+use Rattle.rust_grammar.specs.Rule as rules
+use Rattle.rust_grammar.specs.Rule.{Look, begins, in_mode, anew, is_silent, passes, shift, there_at}
+use Rattle.rust_grammar.specs.Statements.{statements}
+use Rattle.rust_productions.specs.Reads.{looks, Saw}
+use Rattle.rust_grammar.specs.Types.{types}
+use Rattle.rust_grammar.specs.Whole.{rule, whole}
+
+type_path-begins : looks rules.type_path ≡ looks rules.path
+unfolding look_of begins_below whole rule items statements expressions patterns types paths there_at shift passes is_silent begins in_mode anew row one_of any_of no_longer longest is_longer
+type_path-begins = refl
+
+expr_path-begins : looks rules.expr_path ≡ looks rules.path
+unfolding look_of begins_below whole rule items statements expressions patterns types paths there_at shift passes is_silent begins in_mode anew row one_of any_of no_longer longest is_longer
+expr_path-begins = refl
+
+alike : {c : Bool} {l m : Look} {v : View} {b : Bool} → m ≡ l → Saw c l v b → Saw c m v b
+alike {c} {l} {m} {v} {b} e saw = subst (λ (k : Look). Saw c k v b) (sym e) saw
+
+pub saw-type-path : {c : Bool} {v : View} {b : Bool} → Saw c (looks rules.path) v b → Saw c (looks rules.type_path) v b
+saw-type-path = alike type_path-begins
+
+pub saw-expr-path : {c : Bool} {v : View} {b : Bool} → Saw c (looks rules.path) v b → Saw c (looks rules.expr_path) v b
+saw-expr-path = alike expr_path-begins

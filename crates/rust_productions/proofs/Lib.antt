@@ -1,0 +1,12 @@
+pub mod Forests
+pub mod Moves
+pub mod ByHand
+pub mod Turns
+pub mod Prefixes
+pub mod Looking
+pub mod Facts
+pub mod Choices
+pub mod Seen
+pub mod Begins
+pub mod Powers
+pub mod Sums

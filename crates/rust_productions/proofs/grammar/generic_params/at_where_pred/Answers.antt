@@ -1,0 +1,35 @@
+-- Each path reads what the rule comes to there.
+use Rattle.std.proofs.Common.{refl}
+use Rattle.rust_grammar.specs.Expressions.{expressions}
+use Rattle.rust_grammar.specs.Items.{items}
+use Rattle.rust_grammar.specs.Meaning.{begins_below, look_of}
+use Rattle.rust_grammar.specs.Notation.{any_of, is_longer, no_longer, longest, one_of, row}
+use Rattle.rust_grammar.specs.Paths.{paths}
+use Rattle.rust_grammar.specs.Patterns.{patterns}
+use Rattle.rust_grammar.specs.Rule.{begins, in_mode, anew, is_silent, passes, shift, there_at}
+use Rattle.rust_grammar.specs.Statements.{statements}
+use Rattle.rust_grammar.specs.Types.{types}
+use Rattle.rust_grammar.specs.Whole.{rule, whole}
+use Rattle.rust_grammar.specs.Rule as rules
+use Rattle.rust_productions.proofs.ByHand.{does-then}
+use Rattle.rust_productions.proofs.Facts.{begun, nothing, saw-so, ◌and◌}
+use Rattle.rust_productions.proofs.Seen.{begins-row, saw-before}
+use Rattle.rust_productions.proofs.grammar.generic_params.at_where_pred.Goals as goal
+
+pub returns-then-at-clause-sees : goal.returns-then-at-clause-sees
+unfolding look_of begins_below whole rule items statements expressions patterns types paths there_at shift passes is_silent begins in_mode anew row one_of any_of no_longer longest is_longer
+returns-then-at-clause-sees c cond = begins-row rules.where_pred (saw-so (c.at.ensures.sees cond) c.if-at.true and nothing) refl
+
+pub returns-then-at_type-clause-sees : goal.returns-then-at_type-clause-sees
+unfolding look_of begins_below whole rule items statements expressions patterns types paths there_at shift passes is_silent begins in_mode anew row one_of any_of no_longer longest is_longer
+returns-then-at_type-clause-sees c cond = begins-row rules.where_pred (saw-so (c.at.ensures.sees cond) c.if-at.false and begun rules.any_type (saw-before c.at.ensures.same (saw-so (c.at_type.ensures.sees cond) c.if-at_type.true)) (nothing)) refl
+
+pub returns-then-at_type-clause-same : goal.returns-then-at_type-clause-same
+returns-then-at_type-clause-same c = does-then c.at.ensures.same (c.at_type.ensures.same)
+
+pub returns-clause-sees : goal.returns-clause-sees
+unfolding look_of begins_below whole rule items statements expressions patterns types paths there_at shift passes is_silent begins in_mode anew row one_of any_of no_longer longest is_longer
+returns-clause-sees c cond = begins-row rules.where_pred (saw-so (c.at.ensures.sees cond) c.if-at.false and begun rules.any_type (saw-before c.at.ensures.same (saw-so (c.at_type.ensures.sees cond) c.if-at_type.false)) (nothing)) refl
+
+pub returns-clause-same : goal.returns-clause-same
+returns-clause-same c = does-then c.at.ensures.same (c.at_type.ensures.same)

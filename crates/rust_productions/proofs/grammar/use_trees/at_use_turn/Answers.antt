@@ -1,0 +1,42 @@
+-- Each path reads what the rule comes to there.
+use Rattle.std.proofs.Common.{refl}
+use Rattle.rust_grammar.specs.Expressions.{expressions}
+use Rattle.rust_grammar.specs.Items.{items}
+use Rattle.rust_grammar.specs.Meaning.{begins_below, look_of}
+use Rattle.rust_grammar.specs.Notation.{any_of, is_longer, no_longer, longest, one_of, row}
+use Rattle.rust_grammar.specs.Paths.{paths}
+use Rattle.rust_grammar.specs.Patterns.{patterns}
+use Rattle.rust_grammar.specs.Rule.{begins, in_mode, anew, is_silent, passes, shift, there_at}
+use Rattle.rust_grammar.specs.Statements.{statements}
+use Rattle.rust_grammar.specs.Types.{types}
+use Rattle.rust_grammar.specs.Whole.{rule, whole}
+use Rattle.rust_grammar.specs.Rule as rules
+use Rattle.rust_productions.proofs.ByHand.{does-then}
+use Rattle.rust_productions.proofs.Facts.{begun, nothing, saw-so, ◌and◌}
+use Rattle.rust_productions.proofs.Seen.{saw-before, saw-told}
+use Rattle.rust_productions.proofs.grammar.use_trees.at_use_turn.Goals as goal
+
+pub returns-then-at_list_end-clause-sees : goal.returns-then-at_list_end-clause-sees
+unfolding look_of begins_below whole rule items statements expressions patterns types paths there_at shift passes is_silent begins in_mode anew row one_of any_of no_longer longest is_longer
+returns-then-at_list_end-clause-sees c cond = saw-told (saw-so (c.at_list_end.ensures.sees cond) c.if-at_list_end.true and nothing) refl
+
+pub returns-then-at_use_tree-clause-sees : goal.returns-then-at_use_tree-clause-sees
+unfolding look_of begins_below whole rule items statements expressions patterns types paths there_at shift passes is_silent begins in_mode anew row one_of any_of no_longer longest is_longer
+returns-then-at_use_tree-clause-sees c cond = saw-told (saw-so (c.at_list_end.ensures.sees cond) c.if-at_list_end.false and begun rules.use_tree (saw-before c.at_list_end.ensures.same (saw-so (c.at_use_tree.ensures.sees cond) c.if-at_use_tree.true)) (saw-before c.at_list_end.ensures.same (saw-so (c.at_use_tree.ensures.sees cond) c.if-at_use_tree.true) and nothing)) refl
+
+pub returns-then-at_use_tree-clause-same : goal.returns-then-at_use_tree-clause-same
+returns-then-at_use_tree-clause-same c = does-then c.at_list_end.ensures.same (c.at_use_tree.ensures.same)
+
+pub returns-then-at_unexpected-clause-sees : goal.returns-then-at_unexpected-clause-sees
+unfolding look_of begins_below whole rule items statements expressions patterns types paths there_at shift passes is_silent begins in_mode anew row one_of any_of no_longer longest is_longer
+returns-then-at_unexpected-clause-sees c cond = saw-told (saw-so (c.at_list_end.ensures.sees cond) c.if-at_list_end.false and begun rules.use_tree (saw-before c.at_list_end.ensures.same (saw-so (c.at_use_tree.ensures.sees cond) c.if-at_use_tree.false)) (saw-before c.at_list_end.ensures.same (saw-so (c.at_use_tree.ensures.sees cond) c.if-at_use_tree.false) and saw-before c.at_list_end.ensures.same (saw-before c.at_use_tree.ensures.same (saw-so (c.at_unexpected.ensures.sees cond) c.if-at_unexpected.true)) and nothing)) refl
+
+pub returns-then-at_unexpected-clause-same : goal.returns-then-at_unexpected-clause-same
+returns-then-at_unexpected-clause-same c = does-then c.at_list_end.ensures.same (does-then c.at_use_tree.ensures.same (c.at_unexpected.ensures.same))
+
+pub returns-clause-sees : goal.returns-clause-sees
+unfolding look_of begins_below whole rule items statements expressions patterns types paths there_at shift passes is_silent begins in_mode anew row one_of any_of no_longer longest is_longer
+returns-clause-sees c cond = saw-told (saw-so (c.at_list_end.ensures.sees cond) c.if-at_list_end.false and begun rules.use_tree (saw-before c.at_list_end.ensures.same (saw-so (c.at_use_tree.ensures.sees cond) c.if-at_use_tree.false)) (saw-before c.at_list_end.ensures.same (saw-so (c.at_use_tree.ensures.sees cond) c.if-at_use_tree.false) and saw-before c.at_list_end.ensures.same (saw-before c.at_use_tree.ensures.same (saw-so (c.at_unexpected.ensures.sees cond) c.if-at_unexpected.false)) and nothing)) refl
+
+pub returns-clause-same : goal.returns-clause-same
+returns-clause-same c = does-then c.at_list_end.ensures.same (does-then c.at_use_tree.ensures.same (c.at_unexpected.ensures.same))

@@ -1,0 +1,17 @@
+-- The node is closed, and one is opened around it.
+use Rattle.std.proofs.Common.{◌∙◌}
+use Rattle.rust_productions.proofs.Looking.{same-left, same-spent}
+use Rattle.rust_productions.proofs.Moves.{does-wrap, child}
+use Rattle.rust_productions.proofs.grammar.wrap.Goals as goal
+
+pub precede-requires : goal.precede-requires
+precede-requires c = child _ _ _ _ _ c.requires c.complete-closed.ensures.nodes c.complete-closed.ensures.place
+
+pub returns-clause-wraps : goal.returns-clause-wraps
+returns-clause-wraps c = does-wrap _ _ _ _ _ _ c.requires c.complete-closed.ensures.nodes c.complete-closed.ensures.same c.complete-closed.ensures.place c.precede.ensures.nodes c.precede.ensures.same
+
+pub returns-clause-left : goal.returns-clause-left
+returns-clause-left c = same-left _ _ _ c.precede.ensures.same ∙ same-left _ _ _ c.complete-closed.ensures.same
+
+pub returns-clause-looks : goal.returns-clause-looks
+returns-clause-looks c = same-spent _ _ _ c.precede.ensures.same ∙ same-spent _ _ _ c.complete-closed.ensures.same

@@ -1,0 +1,5 @@
+pub mod Stands
+pub mod Moves
+pub mod Reads
+pub mod Layers
+pub mod Looks

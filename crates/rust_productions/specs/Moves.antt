@@ -1,0 +1,36 @@
+-- What the calls of a parser make of it. The input stays as it is.
+use Rattle.std.specs.Prelude.{◌≡◌, ℕ, suc, List, ◌∷◌}
+use Rattle.parser_events.specs.Marked.{Marked, End, Node, ◌beside◌, marked}
+use Rattle.parser_events.specs.Stack.{IsInnermost}
+use Rattle.parser_events.specs.View.{View}
+use Rattle.rust_grammar.specs.Meaning.{Reading}
+use Rattle.rust_productions.specs.Stands.{left, Holds}
+
+-- The tokens left, and the trees of the innermost node unless a growth was refused, become what this makes of them. The node
+-- that was the innermost is so again.
+pub record Does (f : Reading → Reading) (old new : View) : Type 0 where
+  pub input : new.input ≡ old.input
+  pub rest : (s : Reading) → left old ≡ s.rest → left new ≡ (f s).rest
+  pub nodes : (s : Reading) (below : List Marked) → left old ≡ s.rest → Holds old.nodes (marked s.given ∷ below) → Holds new.nodes (marked (f s).given ∷ below)
+  pub innermost : (around : ℕ) → IsInnermost around old.nodes → IsInnermost around new.nodes
+
+-- a node is opened in the innermost one
+pub record Opens (old new : View) : Type 0 where
+  pub input : new.input ≡ old.input
+  pub rest : left new ≡ left old
+  pub nodes : (given : Marked) (below : List Marked) → Holds old.nodes (given ∷ below) → Holds new.nodes (End ∷ given ∷ below)
+  pub innermost : (around : ℕ) → IsInnermost around old.nodes → IsInnermost (suc around) new.nodes
+
+-- the innermost node is closed as one of this kind
+pub record Closes (kind : ℕ) (old new : View) : Type 0 where
+  pub input : new.input ≡ old.input
+  pub rest : left new ≡ left old
+  pub nodes : (inside given : Marked) (below : List Marked) → Holds old.nodes (inside ∷ given ∷ below) → Holds new.nodes ((given beside Node kind inside End) ∷ below)
+  pub innermost : (around : ℕ) → IsInnermost (suc around) old.nodes → IsInnermost around new.nodes
+
+-- the innermost node is left out
+pub record Leaves (old new : View) : Type 0 where
+  pub input : new.input ≡ old.input
+  pub rest : left new ≡ left old
+  pub nodes : (inside given : Marked) (below : List Marked) → Holds old.nodes (inside ∷ given ∷ below) → Holds new.nodes ((given beside inside) ∷ below)
+  pub innermost : (around : ℕ) → IsInnermost (suc around) old.nodes → IsInnermost around new.nodes

@@ -1,0 +1,237 @@
+//! The productions, each as a function that reads by a parser and marks its nodes.
+//!
+//! A contract names the production, or the rule, that the function reads, and says how many looks
+//! it makes at most: where it takes tokens these pay for the looks.
+
+ghost use Rattle.std.specs.Prelude.{◌≡◌, ◌≢◌, ◌+◌, ◌≤◌, ◌==◌, Bool, not, ℕ, IsTrue, [], ◌∷◌};
+ghost use Rattle.parser_input.specs.Kind.{raw_of};
+ghost use Rattle.parser_input.specs.Kinds as kinds;
+ghost use Rattle.parser_events.specs.Forest.{Expected};
+ghost use Rattle.parser_events.specs.Seen.{message_of};
+ghost use Rattle.parser_events.specs.Stack.{IsInnermost};
+ghost use Rattle.rust_productions.specs.Looks.{tokens, spent};
+ghost use Rattle.rust_grammar.specs.Rule.{Kind, Contextual, Left, Say, Skip, Any, Want, Opt, there_at, One};
+ghost use Rattle.rust_grammar.specs.Meaning.{wrapped};
+ghost use Rattle.rust_grammar.specs.Words.{one, joined};
+ghost use Rattle.rust_productions.specs.Reads.{Opens, Closes, Leaves, Does, Reads, Saw};
+
+use parser_events::message::Message;
+use parser_events::parser::{Marker, Parser};
+use parser_input::syntax_kind::SyntaxKind;
+
+pub(crate) mod expressions;
+pub(crate) mod generic_params;
+pub(crate) mod lists;
+pub mod names;
+pub(crate) mod params;
+pub(crate) mod paths;
+pub(crate) mod patterns;
+pub mod token_trees;
+pub(crate) mod types;
+pub mod use_trees;
+pub mod visibility;
+
+/// The kind of the next token.
+fn current(p: &mut Parser<'_>) -> SyntaxKind
+    ensures sees { (c : Bool) (kind : ℕ) → Saw c (Kind 0 kind) p.old (raw_of result == kind) }
+    ensures end { (c : Bool) → Saw c Left p.old (not (raw_of result == kinds.EOF)) }
+    ensures some { raw_of result ≢ kinds.EOF → 1 ≤ tokens p.old }
+    ensures same { Does (λ s. s) p.old p.new }
+    ensures left { tokens p.new ≡ tokens p.old }
+    ensures looks { spent p.new ≤ spent p.old + 1 }
+{
+    p.kind_at(0)
+}
+
+/// The kind of the token so far ahead.
+fn nth(p: &mut Parser<'_>, n: usize) -> SyntaxKind
+    ensures sees { (c : Bool) (kind : ℕ) → Saw c (Kind n kind) p.old (raw_of result == kind) }
+    ensures same { Does (λ s. s) p.old p.new }
+    ensures left { tokens p.new ≡ tokens p.old }
+    ensures looks { spent p.new ≤ spent p.old + 1 }
+{
+    p.kind_at(n)
+}
+
+/// Whether the next token is of this kind.
+fn at(p: &mut Parser<'_>, kind: SyntaxKind) -> bool
+    ensures sees { (c : Bool) → Saw c (Kind 0 (raw_of kind)) p.old result }
+    ensures some { IsTrue result → raw_of kind ≢ kinds.EOF → 1 ≤ tokens p.old }
+    ensures same { Does (λ s. s) p.old p.new }
+    ensures left { tokens p.new ≡ tokens p.old }
+    ensures looks { spent p.new ≤ spent p.old + 1 }
+{
+    p.kind_at(0).to_raw() == kind.to_raw()
+}
+
+/// Whether the token after the next one is of this kind.
+fn at_second(p: &mut Parser<'_>, kind: SyntaxKind) -> bool
+    ensures sees { (c : Bool) → Saw c (Kind 1 (raw_of kind)) p.old result }
+    ensures some { IsTrue result → raw_of kind ≢ kinds.EOF → 2 ≤ tokens p.old }
+    ensures same { Does (λ s. s) p.old p.new }
+    ensures left { tokens p.new ≡ tokens p.old }
+    ensures looks { spent p.new ≤ spent p.old + 1 }
+{
+    p.kind_at(1).to_raw() == kind.to_raw()
+}
+
+/// Whether the third token from here is of this kind.
+fn at_third(p: &mut Parser<'_>, kind: SyntaxKind) -> bool
+    ensures sees { (c : Bool) → Saw c (Kind 2 (raw_of kind)) p.old result }
+    ensures some { IsTrue result → raw_of kind ≢ kinds.EOF → 3 ≤ tokens p.old }
+    ensures same { Does (λ s. s) p.old p.new }
+    ensures left { tokens p.new ≡ tokens p.old }
+    ensures looks { spent p.new ≤ spent p.old + 1 }
+{
+    p.kind_at(2).to_raw() == kind.to_raw()
+}
+
+/// Whether the next token is a word that is of this kind as a contextual keyword.
+fn at_contextual(p: &mut Parser<'_>, kind: SyntaxKind) -> bool
+    ensures sees { (c : Bool) → Saw c (Contextual 0 (raw_of kind)) p.old result }
+    ensures some { IsTrue result → raw_of kind ≢ kinds.EOF → 1 ≤ tokens p.old }
+    ensures same { Does (λ s. s) p.old p.new }
+    ensures left { tokens p.new ≡ tokens p.old }
+    ensures looks { spent p.new ≡ spent p.old }
+{
+    p.contextual_at(0).to_raw() == kind.to_raw()
+}
+
+/// Whether tokens of these kinds are next, which touch each other.
+fn at_pair(p: &mut Parser<'_>, first: SyntaxKind, second: SyntaxKind) -> bool
+    ensures sees { (c : Bool) → Saw c (there_at 0 (raw_of first ∷ raw_of second ∷ [])) p.old result }
+    ensures some { IsTrue result → raw_of second ≢ kinds.EOF → 2 ≤ tokens p.old }
+    ensures same { Does (λ s. s) p.old p.new }
+    ensures left { tokens p.new ≡ tokens p.old }
+    ensures looks { spent p.new ≤ spent p.old + 2 }
+{
+    if !at(p, first) {
+        return false;
+    }
+    if !p.joint_at(0) {
+        return false;
+    }
+    at_second(p, second)
+}
+
+/// Opens a node in the innermost one.
+fn start(p: &mut Parser<'_>) -> Marker
+    ensures opens { Opens p.old p.new }
+    ensures marker { IsInnermost result p.new.nodes }
+    ensures left { tokens p.new ≡ tokens p.old }
+    ensures looks { spent p.new ≡ spent p.old }
+{
+    p.start()
+}
+
+/// Closes the marker's node as one of this kind.
+fn complete(p: &mut Parser<'_>, marker: Marker, kind: SyntaxKind)
+    requires { IsInnermost marker p.old.nodes }
+    ensures closes { Closes (raw_of kind) p.old p.new }
+    ensures left { tokens p.new ≡ tokens p.old }
+    ensures looks { spent p.new ≡ spent p.old }
+{
+    marker.complete(p, kind);
+}
+
+/// Leaves the marker's node out.
+fn abandon(p: &mut Parser<'_>, marker: Marker)
+    requires { IsInnermost marker p.old.nodes }
+    ensures leaves { Leaves p.old p.new }
+    ensures left { tokens p.new ≡ tokens p.old }
+    ensures looks { spent p.new ≡ spent p.old }
+{
+    marker.abandon(p);
+}
+
+/// Adds a message.
+fn error(p: &mut Parser<'_>, message: Message)
+    ensures reads { (c : Bool) → Reads c (Say (message_of message)) p.old p.new }
+    ensures left { tokens p.new ≡ tokens p.old }
+    ensures looks { spent p.new ≡ spent p.old }
+{
+    p.error(message);
+}
+
+/// Takes the next token, as a leaf of this kind.
+fn take(p: &mut Parser<'_>, kind: SyntaxKind)
+    requires { 1 ≤ tokens p.old }
+    ensures reads { (c : Bool) → Reads c (One (one (raw_of kind))) p.old p.new }
+    ensures left { tokens p.new + 1 ≡ tokens p.old }
+    ensures looks { spent p.new + 4096 ≡ spent p.old }
+{
+    p.token(kind, 1);
+}
+
+/// Takes the next two tokens, as one leaf of this kind.
+fn take_pair(p: &mut Parser<'_>, kind: SyntaxKind)
+    requires { 2 ≤ tokens p.old }
+    ensures reads { (c : Bool) (first second : ℕ)
+        → Reads c (One (joined (raw_of kind) (first ∷ second ∷ []))) p.old p.new }
+    ensures left { tokens p.new + 2 ≡ tokens p.old }
+    ensures looks { spent p.new + 8192 ≡ spent p.old }
+{
+    p.token(kind, 2);
+}
+
+/// Takes the next token, whatever it is.
+fn take_any(p: &mut Parser<'_>)
+    requires { 1 ≤ tokens p.old }
+    ensures reads { (c : Bool) → Reads c Any p.old p.new }
+    ensures left { tokens p.new + 1 ≡ tokens p.old }
+    ensures looks { spent p.new + 4095 ≤ spent p.old }
+{
+    let kind = current(p);
+    take(p, kind);
+}
+
+/// Takes the next token where it is of this kind.
+fn eat(p: &mut Parser<'_>, kind: SyntaxKind)
+    requires { raw_of kind ≢ kinds.EOF }
+    ensures reads { (c : Bool) → Reads c (Opt (One (one (raw_of kind)))) p.old p.new }
+    ensures left { tokens p.new ≤ tokens p.old }
+    ensures looks { spent p.new ≤ spent p.old + 1 }
+{
+    if at(p, kind) {
+        take(p, kind);
+    }
+}
+
+/// Takes the next token, or says that one of this kind is missing.
+fn expect(p: &mut Parser<'_>, kind: SyntaxKind)
+    requires { raw_of kind ≢ kinds.EOF }
+    ensures reads { (c : Bool) → Reads c (Want (One (one (raw_of kind))) (Expected (raw_of kind))) p.old p.new }
+    ensures left { tokens p.new ≤ tokens p.old }
+    ensures looks { spent p.new ≤ spent p.old + 1 }
+{
+    if at(p, kind) {
+        take(p, kind);
+        return;
+    }
+    error(p, Message::Expected(kind));
+}
+
+/// Takes the next token into an error, after the message.
+fn skip(p: &mut Parser<'_>, message: Message)
+    requires { 1 ≤ tokens p.old }
+    ensures reads { (c : Bool) → Reads c (Skip (message_of message)) p.old p.new }
+    ensures left { tokens p.new + 1 ≡ tokens p.old }
+    ensures looks { spent p.new + 4095 ≤ spent p.old }
+{
+    let node = start(p);
+    error(p, message);
+    take_any(p);
+    complete(p, node, SyntaxKind::ERROR);
+}
+
+/// Closes the node as one of this kind, and opens one around it.
+fn wrap(p: &mut Parser<'_>, marker: Marker, kind: SyntaxKind) -> Marker
+    requires { IsInnermost marker p.old.nodes }
+    ensures wraps { Does (wrapped (raw_of kind)) p.old p.new }
+    ensures marker { IsInnermost result p.new.nodes }
+    ensures left { tokens p.new ≡ tokens p.old }
+    ensures looks { spent p.new ≡ spent p.old }
+{
+    let closed = marker.complete(p, kind);
+    closed.precede(p)
+}

@@ -1,0 +1,80 @@
+//! What all lists of elements with commas between them share.
+
+ghost use Rattle.std.specs.Prelude.{◌≡◌, ◌≢◌, ◌+◌, ◌*◌, ◌≤◌, Bool, IsTrue};
+ghost use Rattle.parser_input.specs.Kind.{raw_of};
+ghost use Rattle.parser_input.specs.Kinds as kinds;
+ghost use Rattle.parser_input.specs.Kinds.{COMMA};
+ghost use Rattle.parser_events.specs.Forest.{Expected};
+ghost use Rattle.rust_productions.specs.Looks.{tokens, spent};
+ghost use Rattle.rust_grammar.specs.Notation.{◌or◌, next, until, stops, one_of};
+ghost use Rattle.rust_grammar.specs.Words.{one, 'comma'};
+ghost use Rattle.rust_grammar.specs.Rule.{Left, Both, Not, Nothing, One, Say, When};
+ghost use Rattle.rust_productions.specs.Reads.{Does, Reads, Saw};
+
+use crate::grammar::{at, current, error, take};
+use parser_events::message::Message;
+use parser_events::parser::Parser;
+use parser_input::syntax_kind::SyntaxKind;
+
+/// Whether no token is left.
+pub(crate) fn at_end(p: &mut Parser<'_>) -> bool
+    ensures sees { (c : Bool) → Saw c (Not Left) p.old result }
+    ensures same { Does (λ s. s) p.old p.new }
+    ensures left { tokens p.new ≡ tokens p.old }
+    ensures looks { spent p.new ≤ spent p.old + 1 }
+{
+    match current(p) {
+        SyntaxKind::EOF => true,
+        _ => false,
+    }
+}
+
+/// Whether a list ends here: at its closing token, or with the input.
+pub(crate) fn at_list_end(p: &mut Parser<'_>, closing: SyntaxKind) -> bool
+    ensures sees { (c : Bool) → Saw c (until (one (raw_of closing))) p.old result }
+    ensures same { Does (λ s. s) p.old p.new }
+    ensures left { tokens p.new ≡ tokens p.old }
+    ensures looks { spent p.new ≤ spent p.old + 2 }
+{
+    if at_end(p) {
+        return true;
+    }
+    at(p, closing)
+}
+
+/// Whether a token is next that a list takes into an error: none at which it gives up.
+pub(crate) fn at_unexpected(p: &mut Parser<'_>) -> bool
+    ensures sees { (c : Bool) → Saw c (Both Left (Not (one_of 0 stops))) p.old result }
+    ensures some { IsTrue result → 1 ≤ tokens p.old }
+    ensures same { Does (λ s. s) p.old p.new }
+    ensures left { tokens p.new ≡ tokens p.old }
+    ensures looks { spent p.new ≤ spent p.old + 1 }
+{
+    match current(p) {
+        SyntaxKind::SEMICOLON
+        | SyntaxKind::L_CURLY
+        | SyntaxKind::R_CURLY
+        | SyntaxKind::R_PAREN
+        | SyntaxKind::R_BRACK
+        | SyntaxKind::EOF => false,
+        _ => true,
+    }
+}
+
+/// The comma after an element, or the message that it is missing; none is wanted before the closing
+/// token.
+pub(crate) fn comma(p: &mut Parser<'_>, closing: SyntaxKind)
+    ensures reads { (c : Bool) → Reads c
+        (One 'comma' or When (next (one (raw_of closing))) Nothing or Say (Expected COMMA)) p.old p.new }
+    ensures left { tokens p.new ≤ tokens p.old }
+    ensures looks { spent p.new ≤ spent p.old + 2 }
+{
+    if at(p, SyntaxKind::COMMA) {
+        take(p, SyntaxKind::COMMA);
+        return;
+    }
+    if at(p, closing) {
+        return;
+    }
+    error(p, Message::Expected(SyntaxKind::COMMA));
+}

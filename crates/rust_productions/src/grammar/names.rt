@@ -1,0 +1,193 @@
+//! Names, lifetimes and literals.
+
+ghost use Rattle.std.specs.Prelude.{◌≡◌, ◌+◌, ◌*◌, ◌≤◌, Bool, IsTrue};
+ghost use Rattle.parser_input.specs.Kinds as kinds;
+ghost use Rattle.parser_events.specs.Forest.{Expected};
+ghost use Rattle.rust_productions.specs.Looks.{tokens, spent};
+ghost use Rattle.rust_grammar.specs.Notation.{◌or◌, ⁅◌⁆, ◌! };
+ghost use Rattle.rust_grammar.specs.Patterns.{literal_token};
+ghost use Rattle.rust_grammar.specs.Words.{'crate', 'self', 'Self', 'super', 'ident'};
+ghost use Rattle.rust_grammar.specs.Calls.{Name, Lifetime, Ref, Literal};
+ghost use Rattle.rust_grammar.specs.Rule as rules;
+ghost use Rattle.rust_grammar.specs.Rule.{One};
+ghost use Rattle.rust_productions.specs.Reads.{looks, Does, Gives, Reads, Saw};
+
+use crate::grammar::{at, complete, current, error, start, take};
+use parser_events::message::Message;
+use parser_events::parser::Parser;
+use parser_input::syntax_kind::SyntaxKind;
+
+/// A name.
+pub fn name(p: &mut Parser<'_>)
+    requires { 1 ≤ tokens p.old }
+    ensures gives { (c : Bool) → Gives rules.name c p.old p.new }
+    ensures left { tokens p.new + 1 ≡ tokens p.old }
+    ensures looks { spent p.new + 4096 ≡ spent p.old }
+{
+    let name = start(p);
+    take(p, SyntaxKind::IDENT);
+    complete(p, name, SyntaxKind::NAME);
+}
+
+/// A name, or the message that it is missing.
+pub(crate) fn expect_name(p: &mut Parser<'_>)
+    ensures reads { (c : Bool) → Reads c (Name !) p.old p.new }
+    ensures left { tokens p.new ≤ tokens p.old }
+    ensures looks { spent p.new ≤ spent p.old + 1 }
+{
+    if at(p, SyntaxKind::IDENT) {
+        name(p);
+        return;
+    }
+    error(p, Message::Expected(SyntaxKind::NAME));
+}
+
+/// A lifetime.
+pub fn lifetime(p: &mut Parser<'_>)
+    requires { 1 ≤ tokens p.old }
+    ensures gives { (c : Bool) → Gives rules.lifetime c p.old p.new }
+    ensures left { tokens p.new + 1 ≡ tokens p.old }
+    ensures looks { spent p.new + 4096 ≡ spent p.old }
+{
+    let lifetime = start(p);
+    take(p, SyntaxKind::LIFETIME_IDENT);
+    complete(p, lifetime, SyntaxKind::LIFETIME);
+}
+
+/// A lifetime, where there is one.
+pub(crate) fn opt_lifetime(p: &mut Parser<'_>)
+    ensures reads { (c : Bool) → Reads c ⁅ Lifetime ⁆ p.old p.new }
+    ensures left { tokens p.new ≤ tokens p.old }
+    ensures looks { spent p.new ≤ spent p.old + 1 }
+{
+    if at(p, SyntaxKind::LIFETIME_IDENT) {
+        lifetime(p);
+    }
+}
+
+/// The word of a path's segment.
+fn take_word(p: &mut Parser<'_>)
+    requires { 1 ≤ tokens p.old }
+    ensures reads { (c : Bool) → Reads c
+        (One 'ident' or One 'self' or One 'super' or One 'crate' or One 'Self') p.old p.new }
+    ensures left { tokens p.new + 1 ≡ tokens p.old }
+    ensures looks { spent p.new + 4095 ≤ spent p.old }
+{
+    match current(p) {
+        SyntaxKind::IDENT => take(p, SyntaxKind::IDENT),
+        SyntaxKind::SELF_KW => take(p, SyntaxKind::SELF_KW),
+        SyntaxKind::SUPER_KW => take(p, SyntaxKind::SUPER_KW),
+        SyntaxKind::CRATE_KW => take(p, SyntaxKind::CRATE_KW),
+        _ => take(p, SyntaxKind::SELF_TYPE_KW),
+    }
+}
+
+/// The use of a name.
+pub fn name_ref(p: &mut Parser<'_>)
+    requires { 1 ≤ tokens p.old }
+    ensures gives { (c : Bool) → Gives rules.name_ref c p.old p.new }
+    ensures left { tokens p.new + 1 ≡ tokens p.old }
+    ensures looks { spent p.new + 4095 ≤ spent p.old }
+{
+    let name = start(p);
+    take_word(p);
+    complete(p, name, SyntaxKind::NAME_REF);
+}
+
+/// Whether a use of a name begins here.
+pub fn at_name_ref(p: &mut Parser<'_>) -> bool
+    ensures sees { (c : Bool) → Saw c (looks rules.name_ref) p.old result }
+    ensures some { IsTrue result → 1 ≤ tokens p.old }
+    ensures same { Does (λ s. s) p.old p.new }
+    ensures left { tokens p.new ≡ tokens p.old }
+    ensures looks { spent p.new ≤ spent p.old + 1 }
+{
+    match current(p) {
+        SyntaxKind::IDENT
+        | SyntaxKind::SELF_KW
+        | SyntaxKind::SUPER_KW
+        | SyntaxKind::CRATE_KW
+        | SyntaxKind::SELF_TYPE_KW => true,
+        _ => false,
+    }
+}
+
+/// The use of a name, or the message that it is missing.
+pub(crate) fn expect_name_ref(p: &mut Parser<'_>)
+    ensures reads { (c : Bool) → Reads c (Ref !) p.old p.new }
+    ensures left { tokens p.new ≤ tokens p.old }
+    ensures looks { spent p.new ≤ spent p.old + 1 }
+{
+    if at_name_ref(p) {
+        name_ref(p);
+        return;
+    }
+    error(p, Message::Expected(SyntaxKind::NAME_REF));
+}
+
+/// The token of a literal.
+fn take_literal(p: &mut Parser<'_>)
+    requires { 1 ≤ tokens p.old }
+    ensures reads { (c : Bool) → Reads c literal_token p.old p.new }
+    ensures left { tokens p.new + 1 ≡ tokens p.old }
+    ensures looks { spent p.new + 4095 ≤ spent p.old }
+{
+    match current(p) {
+        SyntaxKind::INT_NUMBER => take(p, SyntaxKind::INT_NUMBER),
+        SyntaxKind::FLOAT_NUMBER => take(p, SyntaxKind::FLOAT_NUMBER),
+        SyntaxKind::CHAR => take(p, SyntaxKind::CHAR),
+        SyntaxKind::BYTE => take(p, SyntaxKind::BYTE),
+        SyntaxKind::STRING => take(p, SyntaxKind::STRING),
+        SyntaxKind::BYTE_STRING => take(p, SyntaxKind::BYTE_STRING),
+        SyntaxKind::C_STRING => take(p, SyntaxKind::C_STRING),
+        SyntaxKind::TRUE_KW => take(p, SyntaxKind::TRUE_KW),
+        _ => take(p, SyntaxKind::FALSE_KW),
+    }
+}
+
+/// A literal.
+pub fn literal(p: &mut Parser<'_>)
+    requires { 1 ≤ tokens p.old }
+    ensures gives { (c : Bool) → Gives rules.literal c p.old p.new }
+    ensures left { tokens p.new + 1 ≡ tokens p.old }
+    ensures looks { spent p.new + 4095 ≤ spent p.old }
+{
+    let literal = start(p);
+    take_literal(p);
+    complete(p, literal, SyntaxKind::LITERAL);
+}
+
+/// Whether a literal begins here.
+pub fn at_literal(p: &mut Parser<'_>) -> bool
+    ensures sees { (c : Bool) → Saw c (looks rules.literal) p.old result }
+    ensures some { IsTrue result → 1 ≤ tokens p.old }
+    ensures same { Does (λ s. s) p.old p.new }
+    ensures left { tokens p.new ≡ tokens p.old }
+    ensures looks { spent p.new ≤ spent p.old + 1 }
+{
+    match current(p) {
+        SyntaxKind::INT_NUMBER
+        | SyntaxKind::FLOAT_NUMBER
+        | SyntaxKind::CHAR
+        | SyntaxKind::BYTE
+        | SyntaxKind::STRING
+        | SyntaxKind::BYTE_STRING
+        | SyntaxKind::C_STRING
+        | SyntaxKind::TRUE_KW
+        | SyntaxKind::FALSE_KW => true,
+        _ => false,
+    }
+}
+
+/// A literal, or the message that it is missing.
+pub(crate) fn expect_literal(p: &mut Parser<'_>)
+    ensures reads { (c : Bool) → Reads c (Literal !) p.old p.new }
+    ensures left { tokens p.new ≤ tokens p.old }
+    ensures looks { spent p.new ≤ spent p.old + 1 }
+{
+    if at_literal(p) {
+        literal(p);
+        return;
+    }
+    error(p, Message::Expected(SyntaxKind::LITERAL));
+}

@@ -1,0 +1,172 @@
+//! Paths.
+
+ghost use Rattle.std.specs.Prelude.{◌≡◌, ◌+◌, ◌*◌, ◌≤◌, Bool, true, false, IsTrue};
+ghost use Rattle.parser_input.specs.Kinds as kinds;
+ghost use Rattle.parser_input.specs.Kinds.{PATH, PATH_SEGMENT};
+ghost use Rattle.parser_events.specs.Stack.{IsInnermost};
+ghost use Rattle.rust_productions.specs.Looks.{tokens, spent};
+ghost use Rattle.rust_grammar.specs.Notation.{◌▸◌, ⁅◌⁆, ◌*, ◌!, ◌⟨◌⟩, ◌<⟨◌⟩};
+ghost use Rattle.rust_grammar.specs.Words.{'::'};
+ghost use Rattle.rust_grammar.specs.Calls.{Ref, Path};
+ghost use Rattle.rust_grammar.specs.Shared.{colons_before_more, path_goes_on};
+ghost use Rattle.rust_grammar.specs.Rule as rules;
+ghost use Rattle.rust_grammar.specs.Rule.{Kind, Joint, Both, Nothing, One, Unless};
+ghost use Rattle.rust_productions.specs.Reads.{looks, Does, Gives, Reads, Saw};
+
+use crate::grammar::names::{at_name_ref, expect_name_ref, name_ref};
+use crate::grammar::{abandon, at_pair, complete, error, nth, start, take_pair, wrap};
+use parser_events::message::Message;
+use parser_events::parser::{Marker, Parser};
+use parser_input::syntax_kind::SyntaxKind;
+
+/// Whether `::` is next.
+pub(crate) fn at_colons(p: &mut Parser<'_>) -> bool
+    ensures sees { (c : Bool) → Saw c (Both (Kind 0 kinds.COLON)
+        (Both (Joint 0) (Kind 1 kinds.COLON))) p.old result }
+    ensures some { IsTrue result → 2 ≤ tokens p.old }
+    ensures same { Does (λ s. s) p.old p.new }
+    ensures left { tokens p.new ≡ tokens p.old }
+    ensures looks { spent p.new ≤ spent p.old + 2 }
+{
+    at_pair(p, SyntaxKind::COLON, SyntaxKind::COLON)
+}
+
+/// Whether a path begins here.
+pub(crate) fn at_path(p: &mut Parser<'_>) -> bool
+    ensures sees { (c : Bool) → Saw c (looks rules.path) p.old result }
+    ensures some { IsTrue result → 1 ≤ tokens p.old }
+    ensures same { Does (λ s. s) p.old p.new }
+    ensures left { tokens p.new ≡ tokens p.old }
+    ensures looks { spent p.new ≤ spent p.old + 3 }
+{
+    if at_name_ref(p) {
+        return true;
+    }
+    if at_colons(p) {
+        return true;
+    }
+    false
+}
+
+/// The word that a path begins with, and the `::` before it.
+pub(crate) fn first_word(p: &mut Parser<'_>)
+    requires begins { (c : Bool) → Saw c (looks rules.path) p.old true }
+    requires some { 1 ≤ tokens p.old }
+    ensures reads { (c : Bool) → Reads c (⁅ One '::' ⁆ ▸ Ref ! ▸ Nothing) p.old p.new }
+    ensures left { tokens p.new + 1 ≤ tokens p.old }
+    ensures looks { spent p.new + 4090 ≤ spent p.old }
+{
+    if at_colons(p) {
+        take_pair(p, SyntaxKind::COLON2);
+        expect_name_ref(p);
+        return;
+    }
+    name_ref(p);
+}
+
+/// The first segment of a path without arguments.
+fn first_segment(p: &mut Parser<'_>)
+    requires begins { (c : Bool) → Saw c (looks rules.path) p.old true }
+    requires some { 1 ≤ tokens p.old }
+    ensures reads { (c : Bool) → Reads c
+        (PATH ⟨ PATH_SEGMENT ⟨ ⁅ One '::' ⁆ ▸ Ref ! ▸ Nothing ⟩ ⟩) p.old p.new }
+    ensures left { tokens p.new + 1 ≤ tokens p.old }
+    ensures looks { spent p.new + 4090 ≤ spent p.old }
+{
+    let path = start(p);
+    let segment = start(p);
+    first_word(p);
+    complete(p, segment, SyntaxKind::PATH_SEGMENT);
+    complete(p, path, SyntaxKind::PATH);
+}
+
+/// Whether a path goes on here: at a `::` with neither `*` nor `{` after it.
+pub(crate) fn at_next_segment(p: &mut Parser<'_>) -> bool
+    ensures sees { (c : Bool) → Saw c path_goes_on p.old result }
+    ensures some { IsTrue result → 2 ≤ tokens p.old }
+    ensures same { Does (λ s. s) p.old p.new }
+    ensures left { tokens p.new ≡ tokens p.old }
+    ensures looks { spent p.new ≤ spent p.old + 3 }
+{
+    if !at_colons(p) {
+        return false;
+    }
+    match nth(p, 2) {
+        SyntaxKind::STAR | SyntaxKind::L_CURLY => false,
+        _ => true,
+    }
+}
+
+/// A segment without arguments, or the message that it is missing.
+fn expect_segment(p: &mut Parser<'_>)
+    ensures reads { (c : Bool) → Reads c ((PATH_SEGMENT ⟨ Ref ▸ Nothing ⟩) !) p.old p.new }
+    ensures left { tokens p.new ≤ tokens p.old }
+    ensures looks { spent p.new ≤ spent p.old + 1 }
+{
+    if at_name_ref(p) {
+        let segment = start(p);
+        name_ref(p);
+        complete(p, segment, SyntaxKind::PATH_SEGMENT);
+        return;
+    }
+    error(p, Message::Expected(SyntaxKind::PATH_SEGMENT));
+}
+
+/// One more segment of a path, around which the node is closed.
+fn next_segment(p: &mut Parser<'_>, path: Marker) -> Marker
+    requires innermost { IsInnermost path p.old.nodes }
+    requires some { 2 ≤ tokens p.old }
+    ensures reads { (c : Bool) → Reads c (PATH <⟨ One '::' ▸ (PATH_SEGMENT ⟨ Ref ▸ Nothing ⟩) ! ⟩) p.old p.new }
+    ensures marker { IsInnermost result p.new.nodes }
+    ensures left { tokens p.new + 2 ≤ tokens p.old }
+    ensures looks { spent p.new + 8000 ≤ spent p.old }
+{
+    take_pair(p, SyntaxKind::COLON2);
+    expect_segment(p);
+    wrap(p, path, SyntaxKind::PATH)
+}
+
+/// The further segments of a path.
+fn next_segments(p: &mut Parser<'_>, path: Marker) -> Marker
+    requires { IsInnermost path p.old.nodes }
+    ensures reads { (c : Bool) → Reads c
+        ((Unless colons_before_more (PATH <⟨ One '::' ▸ (PATH_SEGMENT ⟨ Ref ▸ Nothing ⟩) ! ⟩)) *) p.old p.new }
+    ensures ends { (c : Bool) → Saw c path_goes_on p.new false }
+    ensures marker { IsInnermost result p.new.nodes }
+    ensures left { tokens p.new ≤ tokens p.old }
+    ensures looks { spent p.new ≤ spent p.old + 3 }
+{
+    let mut path = path;
+    'turns: while at_next_segment(p) {
+        path = next_segment(p, path);
+    }
+    path
+}
+
+/// A path without arguments.
+pub(crate) fn path(p: &mut Parser<'_>)
+    requires begins { (c : Bool) → Saw c (looks rules.path) p.old true }
+    requires some { 1 ≤ tokens p.old }
+    ensures gives { (c : Bool) → Gives rules.path c p.old p.new }
+    ensures ends { (c : Bool) → Saw c path_goes_on p.new false }
+    ensures left { tokens p.new + 1 ≤ tokens p.old }
+    ensures looks { spent p.new + 4000 ≤ spent p.old }
+{
+    let frame = start(p);
+    first_segment(p);
+    let frame = next_segments(p, frame);
+    abandon(p, frame);
+}
+
+/// A path without arguments, or the message that it is missing.
+pub(crate) fn expect_path(p: &mut Parser<'_>)
+    ensures reads { (c : Bool) → Reads c (Path !) p.old p.new }
+    ensures left { tokens p.new ≤ tokens p.old }
+    ensures looks { spent p.new ≤ spent p.old + 3 }
+{
+    if at_path(p) {
+        path(p);
+        return;
+    }
+    error(p, Message::Expected(SyntaxKind::PATH));
+}

@@ -1,0 +1,103 @@
+//! Patterns.
+
+ghost use Rattle.std.specs.Prelude.{◌≡◌, ◌+◌, ◌*◌, ◌≤◌, Bool, IsTrue, [], ◌∷◌};
+ghost use Rattle.parser_input.specs.Kinds as kinds;
+ghost use Rattle.rust_productions.specs.Looks.{tokens, spent};
+ghost use Rattle.rust_grammar.specs.Shared.{field_name};
+ghost use Rattle.rust_grammar.specs.Words.{':'};
+ghost use Rattle.rust_grammar.specs.Notation.{◌▹◌};
+ghost use Rattle.rust_grammar.specs.Rule as rules;
+ghost use Rattle.rust_grammar.specs.Rule.{begins, One};
+ghost use Rattle.rust_productions.specs.Reads.{looks, Does, Saw};
+
+use crate::grammar::names::at_literal;
+use crate::grammar::paths::at_path;
+use crate::grammar::{at, at_pair, at_second, current};
+use parser_events::parser::Parser;
+use parser_input::syntax_kind::SyntaxKind;
+
+/// Whether a pattern begins here, without a `|` before it.
+pub(crate) fn at_single_pattern(p: &mut Parser<'_>) -> bool
+    ensures sees { (c : Bool) → Saw c (looks rules.single_pattern) p.old result }
+    ensures some { IsTrue result → 1 ≤ tokens p.old }
+    ensures same { Does (λ s. s) p.old p.new }
+    ensures left { tokens p.new ≡ tokens p.old }
+    ensures looks { spent p.new ≤ spent p.old + 8 }
+{
+    if at(p, SyntaxKind::IDENT) {
+        return true;
+    }
+    if at_path(p) {
+        return true;
+    }
+    if at_literal(p) {
+        return true;
+    }
+    if at_pair(p, SyntaxKind::DOT, SyntaxKind::DOT) {
+        return true;
+    }
+    match current(p) {
+        SyntaxKind::MINUS
+        | SyntaxKind::UNDERSCORE
+        | SyntaxKind::AMP
+        | SyntaxKind::L_PAREN
+        | SyntaxKind::L_BRACK
+        | SyntaxKind::REF_KW
+        | SyntaxKind::MUT_KW => true,
+        _ => false,
+    }
+}
+
+/// Whether a pattern begins here.
+pub(crate) fn at_pattern(p: &mut Parser<'_>) -> bool
+    ensures sees { (c : Bool) → Saw c (looks rules.pattern) p.old result }
+    ensures some { IsTrue result → 1 ≤ tokens p.old }
+    ensures same { Does (λ s. s) p.old p.new }
+    ensures left { tokens p.new ≡ tokens p.old }
+    ensures looks { spent p.new ≤ spent p.old + 9 }
+{
+    if at_single_pattern(p) {
+        return true;
+    }
+    match current(p) {
+        SyntaxKind::PIPE => true,
+        _ => false,
+    }
+}
+
+/// Whether a field by name or number is next, with a colon after it.
+pub(crate) fn at_named_field(p: &mut Parser<'_>) -> bool
+    ensures sees { (c : Bool) → Saw c (begins looks (field_name ▹ One ':')) p.old result }
+    ensures some { IsTrue result → 1 ≤ tokens p.old }
+    ensures same { Does (λ s. s) p.old p.new }
+    ensures left { tokens p.new ≡ tokens p.old }
+    ensures looks { spent p.new ≤ spent p.old + 2 }
+{
+    if !at_second(p, SyntaxKind::COLON) {
+        return false;
+    }
+    match current(p) {
+        SyntaxKind::IDENT | SyntaxKind::INT_NUMBER => true,
+        _ => false,
+    }
+}
+
+/// Whether a field of a record pattern begins here.
+pub(crate) fn at_pattern_field(p: &mut Parser<'_>) -> bool
+    ensures sees { (c : Bool) → Saw c (looks rules.pattern_field) p.old result }
+    ensures some { IsTrue result → 1 ≤ tokens p.old }
+    ensures same { Does (λ s. s) p.old p.new }
+    ensures left { tokens p.new ≡ tokens p.old }
+    ensures looks { spent p.new ≤ spent p.old + 5 }
+{
+    if at_pair(p, SyntaxKind::DOT, SyntaxKind::DOT) {
+        return true;
+    }
+    if at_named_field(p) {
+        return true;
+    }
+    match current(p) {
+        SyntaxKind::REF_KW | SyntaxKind::MUT_KW | SyntaxKind::IDENT => true,
+        _ => false,
+    }
+}

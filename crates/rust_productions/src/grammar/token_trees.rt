@@ -1,0 +1,109 @@
+//! Token trees: tokens with brackets around them.
+
+ghost use Rattle.std.specs.Prelude.{◌≡◌, ◌≢◌, ◌+◌, ◌*◌, ◌≤◌, Bool, true, IsTrue, [], ◌∷◌};
+ghost use Rattle.parser_input.specs.Kind.{raw_of};
+ghost use Rattle.parser_input.specs.Kinds as kinds;
+ghost use Rattle.parser_input.specs.Kinds.{TOKEN_TREE};
+ghost use Rattle.parser_events.specs.Forest.{Expected};
+ghost use Rattle.rust_productions.specs.Looks.{tokens, spent};
+ghost use Rattle.rust_grammar.specs.Notation.{◌or◌, ◌▸◌, ◌*, ◌!, ◌⟨◌⟩, one_of};
+ghost use Rattle.rust_grammar.specs.Words.{one, 'r_paren', 'r_curly', ']'};
+ghost use Rattle.rust_grammar.specs.Items.{inner_token};
+ghost use Rattle.rust_grammar.specs.Rule as rules;
+ghost use Rattle.rust_grammar.specs.Rule.{Left, Both, Either, Not, Want, One};
+ghost use Rattle.rust_productions.specs.Reads.{looks, Does, Gives, Reads, Saw};
+
+use crate::grammar::{complete, current, expect, start, take, take_any};
+use parser_events::parser::Parser;
+use parser_input::syntax_kind::SyntaxKind;
+
+/// Whether a token tree begins here.
+pub fn at_token_tree(p: &mut Parser<'_>) -> bool
+    ensures sees { (c : Bool) → Saw c (looks rules.token_tree) p.old result }
+    ensures some { IsTrue result → 1 ≤ tokens p.old }
+    ensures same { Does (λ s. s) p.old p.new }
+    ensures left { tokens p.new ≡ tokens p.old }
+    ensures looks { spent p.new ≤ spent p.old + 1 }
+{
+    match current(p) {
+        SyntaxKind::L_PAREN | SyntaxKind::L_BRACK | SyntaxKind::L_CURLY => true,
+        _ => false,
+    }
+}
+
+/// Whether a token is next that can stand in a token tree: any but a closing bracket.
+fn at_inner(p: &mut Parser<'_>) -> bool
+    ensures sees { (c : Bool) → Saw c
+        (Either (looks rules.token_tree) (Both Left (Not (one_of 0 ('r_paren' ∷ 'r_curly' ∷ ']' ∷ []))))) p.old result }
+    ensures some { IsTrue result → 1 ≤ tokens p.old }
+    ensures same { Does (λ s. s) p.old p.new }
+    ensures left { tokens p.new ≡ tokens p.old }
+    ensures looks { spent p.new ≤ spent p.old + 1 }
+{
+    match current(p) {
+        SyntaxKind::R_PAREN | SyntaxKind::R_CURLY | SyntaxKind::R_BRACK | SyntaxKind::EOF => false,
+        _ => true,
+    }
+}
+
+/// A token inside a token tree, or another token tree.
+#[cycle(token_trees)]
+fn inner(p: &mut Parser<'_>)
+    requires { 1 ≤ tokens p.old }
+    ensures reads { (c : Bool) → Reads c inner_token p.old p.new }
+    ensures left { tokens p.new + 1 ≤ tokens p.old }
+    ensures looks { spent p.new + 4000 ≤ spent p.old }
+{
+    if at_token_tree(p) {
+        token_tree(p);
+        return;
+    }
+    take_any(p);
+}
+
+/// What stands in a token tree.
+#[cycle(token_trees)]
+fn inner_tokens(p: &mut Parser<'_>)
+    ensures reads { (c : Bool) → Reads c (inner_token *) p.old p.new }
+    ensures left { tokens p.new ≤ tokens p.old }
+    ensures looks { spent p.new ≤ spent p.old + 1 }
+{
+    'turns: while at_inner(p) {
+        inner(p);
+    }
+}
+
+/// A token tree between these brackets.
+#[cycle(token_trees)]
+fn bracketed(p: &mut Parser<'_>, opening: SyntaxKind, closing: SyntaxKind)
+    requires some { 1 ≤ tokens p.old }
+    requires closing { raw_of closing ≢ kinds.EOF }
+    ensures reads { (c : Bool) → Reads c
+        (TOKEN_TREE
+        ⟨ One (one (raw_of opening))
+        ▸ inner_token *
+        ▸ Want (One (one (raw_of closing))) (Expected (raw_of closing)) ⟩) p.old p.new }
+    ensures left { tokens p.new + 1 ≤ tokens p.old }
+    ensures looks { spent p.new + 4080 ≤ spent p.old }
+{
+    let tree = start(p);
+    take(p, opening);
+    inner_tokens(p);
+    expect(p, closing);
+    complete(p, tree, SyntaxKind::TOKEN_TREE);
+}
+
+/// A token tree.
+#[cycle(token_trees)]
+pub fn token_tree(p: &mut Parser<'_>)
+    requires { 1 ≤ tokens p.old }
+    ensures gives { (c : Bool) → Gives rules.token_tree c p.old p.new }
+    ensures left { tokens p.new + 1 ≤ tokens p.old }
+    ensures looks { spent p.new + 4070 ≤ spent p.old }
+{
+    match current(p) {
+        SyntaxKind::L_PAREN => bracketed(p, SyntaxKind::L_PAREN, SyntaxKind::R_PAREN),
+        SyntaxKind::L_BRACK => bracketed(p, SyntaxKind::L_BRACK, SyntaxKind::R_BRACK),
+        _ => bracketed(p, SyntaxKind::L_CURLY, SyntaxKind::R_CURLY),
+    }
+}

@@ -1,0 +1,68 @@
+//! Types.
+
+ghost use Rattle.std.specs.Prelude.{◌≡◌, ◌+◌, ◌*◌, ◌≤◌, Bool, IsTrue, [], ◌∷◌};
+ghost use Rattle.parser_input.specs.Kinds as kinds;
+ghost use Rattle.rust_productions.specs.Looks.{tokens, spent};
+ghost use Rattle.parser_input.specs.Kinds.{DYN_KW};
+ghost use Rattle.rust_grammar.specs.Notation.{one_of};
+ghost use Rattle.rust_grammar.specs.Words.{'?', 'lifetime'};
+ghost use Rattle.rust_grammar.specs.Shared.{refs};
+ghost use Rattle.rust_grammar.specs.Rule as rules;
+ghost use Rattle.rust_grammar.specs.Rule.{Contextual, Both};
+ghost use Rattle.rust_productions.specs.Reads.{looks, Does, Saw};
+
+use crate::grammar::paths::at_path;
+use crate::grammar::{at_contextual, current, nth};
+use parser_events::parser::Parser;
+use parser_input::syntax_kind::SyntaxKind;
+
+/// Whether the word `dyn` is next, as no keyword of the edition, before what can follow `dyn`.
+fn at_dyn_word(p: &mut Parser<'_>) -> bool
+    ensures sees { (c : Bool) → Saw c (Both (Contextual 0 DYN_KW)
+        (one_of 1 ('?' ∷ 'lifetime' ∷ refs))) p.old result }
+    ensures some { IsTrue result → 1 ≤ tokens p.old }
+    ensures same { Does (λ s. s) p.old p.new }
+    ensures left { tokens p.new ≡ tokens p.old }
+    ensures looks { spent p.new ≤ spent p.old + 1 }
+{
+    if !at_contextual(p, SyntaxKind::DYN_KW) {
+        return false;
+    }
+    match nth(p, 1) {
+        SyntaxKind::QUESTION
+        | SyntaxKind::LIFETIME_IDENT
+        | SyntaxKind::IDENT
+        | SyntaxKind::SELF_KW
+        | SyntaxKind::SUPER_KW
+        | SyntaxKind::CRATE_KW
+        | SyntaxKind::SELF_TYPE_KW => true,
+        _ => false,
+    }
+}
+
+/// Whether a type begins here.
+pub(crate) fn at_type(p: &mut Parser<'_>) -> bool
+    ensures sees { (c : Bool) → Saw c (looks rules.any_type) p.old result }
+    ensures some { IsTrue result → 1 ≤ tokens p.old }
+    ensures same { Does (λ s. s) p.old p.new }
+    ensures left { tokens p.new ≡ tokens p.old }
+    ensures looks { spent p.new ≤ spent p.old + 5 }
+{
+    if at_path(p) {
+        return true;
+    }
+    if at_dyn_word(p) {
+        return true;
+    }
+    match current(p) {
+        SyntaxKind::L_PAREN
+        | SyntaxKind::BANG
+        | SyntaxKind::STAR
+        | SyntaxKind::L_BRACK
+        | SyntaxKind::AMP
+        | SyntaxKind::UNDERSCORE
+        | SyntaxKind::IMPL_KW
+        | SyntaxKind::DYN_KW => true,
+        _ => false,
+    }
+}

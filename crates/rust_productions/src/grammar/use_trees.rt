@@ -1,0 +1,257 @@
+//! What a `use` names.
+
+ghost use Rattle.std.specs.Prelude.{◌≡◌, ◌+◌, ◌*◌, ◌≤◌, Bool, true, false, IsTrue, [], ◌∷◌};
+ghost use Rattle.parser_input.specs.Kinds as kinds;
+ghost use Rattle.parser_input.specs.Kinds.{COMMA, USE_TREE, USE_TREE_LIST, RENAME};
+ghost use Rattle.parser_events.specs.Forest.{Expected, UnexpectedIn};
+ghost use Rattle.rust_productions.specs.Looks.{tokens, spent};
+ghost use Rattle.rust_grammar.specs.Notation.{◌or◌, ◌▸◌, ⁅◌⁆, ◌*, ◌!, ◌⟨◌⟩, next, one_of, stops, until};
+ghost use Rattle.rust_grammar.specs.Words.{'::', 'comma', 'l_curly', 'r_curly', '*', 'as', '_'};
+ghost use Rattle.rust_grammar.specs.Calls.{Name, Path, UseTree, UseList};
+ghost use Rattle.rust_grammar.specs.Items.{after_use};
+ghost use Rattle.rust_grammar.specs.Shared.{colons_before_more, path_goes_on};
+ghost use Rattle.rust_grammar.specs.Rule as rules;
+ghost use Rattle.rust_grammar.specs.Rule.{Left, Both, Either, Not, Nothing, One, Say, Skip, When, Unless};
+ghost use Rattle.rust_productions.specs.Reads.{looks, Does, Gives, Reads, Saw};
+
+use crate::grammar::lists::{at_list_end, at_unexpected, comma};
+use crate::grammar::names::expect_name;
+use crate::grammar::paths::{at_colons, at_path, path};
+use crate::grammar::{at, at_third, complete, current, expect, skip, start, take, take_pair};
+use parser_events::message::Message;
+use parser_events::parser::Parser;
+use parser_input::syntax_kind::SyntaxKind;
+
+/// Whether a `::` is next with a `*` or a `{` after it.
+fn at_colons_before_more(p: &mut Parser<'_>) -> bool
+    ensures sees { (c : Bool) → Saw c colons_before_more p.old result }
+    ensures some { IsTrue result → 3 ≤ tokens p.old }
+    ensures same { Does (λ s. s) p.old p.new }
+    ensures left { tokens p.new ≡ tokens p.old }
+    ensures looks { spent p.new ≤ spent p.old + 4 }
+{
+    if !at_colons(p) {
+        return false;
+    }
+    if at_third(p, SyntaxKind::STAR) {
+        return true;
+    }
+    if at_third(p, SyntaxKind::L_CURLY) {
+        return true;
+    }
+    false
+}
+
+/// Whether a use tree begins here.
+fn at_use_tree(p: &mut Parser<'_>) -> bool
+    ensures sees { (c : Bool) → Saw c (looks rules.use_tree) p.old result }
+    ensures some { IsTrue result → 1 ≤ tokens p.old }
+    ensures same { Does (λ s. s) p.old p.new }
+    ensures left { tokens p.new ≡ tokens p.old }
+    ensures looks { spent p.new ≤ spent p.old + 6 }
+{
+    if at_colons(p) {
+        return true;
+    }
+    if at_path(p) {
+        return true;
+    }
+    match current(p) {
+        SyntaxKind::STAR | SyntaxKind::L_CURLY => true,
+        _ => false,
+    }
+}
+
+/// A new name for what is used, or `_`.
+fn rename(p: &mut Parser<'_>)
+    requires { 1 ≤ tokens p.old }
+    ensures reads { (c : Bool) → Reads c (RENAME ⟨ One 'as' ▸ (One '_' or Name !) ⟩) p.old p.new }
+    ensures left { tokens p.new + 1 ≤ tokens p.old }
+    ensures looks { spent p.new + 4090 ≤ spent p.old }
+{
+    let rename = start(p);
+    take(p, SyntaxKind::AS_KW);
+    underscore_or_name(p);
+    complete(p, rename, SyntaxKind::RENAME);
+}
+
+/// A name or `_`, or the message that a name is missing.
+pub(crate) fn underscore_or_name(p: &mut Parser<'_>)
+    ensures reads { (c : Bool) → Reads c (One '_' or Name !) p.old p.new }
+    ensures left { tokens p.new ≤ tokens p.old }
+    ensures looks { spent p.new ≤ spent p.old + 2 }
+{
+    if at(p, SyntaxKind::UNDERSCORE) {
+        take(p, SyntaxKind::UNDERSCORE);
+        return;
+    }
+    expect_name(p);
+}
+
+/// A `*`, or a list of use trees.
+#[cycle(use_trees)]
+fn star_or_list(p: &mut Parser<'_>)
+    requires { 1 ≤ tokens p.old }
+    ensures reads { (c : Bool) → Reads c (One '*' or UseList) p.old p.new }
+    ensures left { tokens p.new + 1 ≤ tokens p.old }
+    ensures looks { spent p.new + 3900 ≤ spent p.old }
+{
+    if at(p, SyntaxKind::STAR) {
+        take(p, SyntaxKind::STAR);
+        return;
+    }
+    use_list(p);
+}
+
+/// What stands after the path of a use tree, where that is more or a new name.
+#[cycle(use_trees)]
+fn after_path(p: &mut Parser<'_>)
+    requires ends { (c : Bool) → Saw c path_goes_on p.old false }
+    ensures reads { (c : Bool) → Reads c after_use p.old p.new }
+    ensures left { tokens p.new ≤ tokens p.old }
+    ensures looks { spent p.new ≤ spent p.old + 5 }
+{
+    if at_colons_before_more(p) {
+        take_pair(p, SyntaxKind::COLON2);
+        star_or_list(p);
+        return;
+    }
+    if at(p, SyntaxKind::AS_KW) {
+        rename(p);
+    }
+}
+
+/// A path with what stands after it.
+#[cycle(use_trees)]
+fn path_tree(p: &mut Parser<'_>)
+    requires begins { (c : Bool) → Saw c (looks rules.path) p.old true }
+    requires some { 1 ≤ tokens p.old }
+    ensures reads { (c : Bool) → Reads c (Path ▸ after_use) p.old p.new }
+    ensures left { tokens p.new + 1 ≤ tokens p.old }
+    ensures looks { spent p.new + 3900 ≤ spent p.old }
+{
+    path(p);
+    after_path(p);
+}
+
+/// What stands after a `::` that a use tree begins with.
+#[cycle(use_trees)]
+fn after_colons(p: &mut Parser<'_>)
+    requires next { (c : Bool) → Saw c (one_of 0 ('*' ∷ 'l_curly' ∷ [])) p.old true }
+    requires some { 1 ≤ tokens p.old }
+    ensures reads { (c : Bool) → Reads c (One '*' or UseList or Path ▸ after_use) p.old p.new }
+    ensures left { tokens p.new + 1 ≤ tokens p.old }
+    ensures looks { spent p.new + 3900 ≤ spent p.old }
+{
+    if at(p, SyntaxKind::STAR) {
+        take(p, SyntaxKind::STAR);
+        return;
+    }
+    use_list(p);
+}
+
+/// A use tree, inside its node.
+#[cycle(use_trees)]
+fn inside(p: &mut Parser<'_>)
+    requires begins { (c : Bool) → Saw c (looks rules.use_tree) p.old true }
+    requires some { 1 ≤ tokens p.old }
+    ensures reads { (c : Bool) → Reads c
+        (⁅ When colons_before_more (One '::') ⁆
+        ▸ (One '*' or UseList or Path ▸ after_use)) p.old p.new }
+    ensures left { tokens p.new + 1 ≤ tokens p.old }
+    ensures looks { spent p.new + 3890 ≤ spent p.old }
+{
+    if at_colons_before_more(p) {
+        take_pair(p, SyntaxKind::COLON2);
+        after_colons(p);
+        return;
+    }
+    match current(p) {
+        SyntaxKind::STAR => take(p, SyntaxKind::STAR),
+        SyntaxKind::L_CURLY => use_list(p),
+        _ => path_tree(p),
+    }
+}
+
+/// A use tree.
+#[cycle(use_trees)]
+pub fn use_tree(p: &mut Parser<'_>)
+    requires begins { (c : Bool) → Saw c (looks rules.use_tree) p.old true }
+    requires some { 1 ≤ tokens p.old }
+    ensures gives { (c : Bool) → Gives rules.use_tree c p.old p.new }
+    ensures left { tokens p.new + 1 ≤ tokens p.old }
+    ensures looks { spent p.new + 3880 ≤ spent p.old }
+{
+    let tree = start(p);
+    inside(p);
+    complete(p, tree, SyntaxKind::USE_TREE);
+}
+
+/// A list of use trees.
+#[cycle(use_trees)]
+pub fn use_list(p: &mut Parser<'_>)
+    requires { 1 ≤ tokens p.old }
+    ensures gives { (c : Bool) → Gives rules.use_list c p.old p.new }
+    ensures left { tokens p.new + 1 ≤ tokens p.old }
+    ensures looks { spent p.new + 4000 ≤ spent p.old }
+{
+    let list = start(p);
+    take(p, SyntaxKind::L_CURLY);
+    use_turns(p);
+    expect(p, SyntaxKind::R_CURLY);
+    complete(p, list, SyntaxKind::USE_TREE_LIST);
+}
+
+/// Whether a list of use trees goes on here.
+fn at_use_turn(p: &mut Parser<'_>) -> bool
+    ensures sees { (c : Bool) → Saw c
+        (Both (Not (until 'r_curly')) (Either (looks rules.use_tree) (Both Left (Not (one_of 0 stops))))) p.old result }
+    ensures some { IsTrue result → 1 ≤ tokens p.old }
+    ensures same { Does (λ s. s) p.old p.new }
+    ensures left { tokens p.new ≡ tokens p.old }
+    ensures looks { spent p.new ≤ spent p.old + 9 }
+{
+    if at_list_end(p, SyntaxKind::R_CURLY) {
+        return false;
+    }
+    if at_use_tree(p) {
+        return true;
+    }
+    if at_unexpected(p) {
+        return true;
+    }
+    false
+}
+
+/// A use tree with its comma, or a token that begins none.
+#[cycle(use_trees)]
+fn use_turn(p: &mut Parser<'_>)
+    requires { 1 ≤ tokens p.old }
+    ensures reads { Reads false
+        (UseTree ▸ (One 'comma' or When (next 'r_curly') Nothing or Say (Expected COMMA))
+        or When (Both Left (Not (one_of 0 stops))) (Skip (UnexpectedIn USE_TREE_LIST))) p.old p.new }
+    ensures left { tokens p.new + 1 ≤ tokens p.old }
+    ensures looks { spent p.new + 3860 ≤ spent p.old }
+{
+    if at_use_tree(p) {
+        use_tree(p);
+        comma(p, SyntaxKind::R_CURLY);
+        return;
+    }
+    skip(p, Message::UnexpectedIn(SyntaxKind::USE_TREE_LIST));
+}
+
+/// The use trees of a list.
+#[cycle(use_trees)]
+fn use_turns(p: &mut Parser<'_>)
+    ensures reads { Reads false
+        ((Unless (until 'r_curly')
+        (UseTree ▸ (One 'comma' or When (next 'r_curly') Nothing or Say (Expected COMMA))
+        or When (Both Left (Not (one_of 0 stops))) (Skip (UnexpectedIn USE_TREE_LIST)))) *) p.old p.new }
+    ensures left { tokens p.new ≤ tokens p.old }
+    ensures looks { spent p.new ≤ spent p.old + 9 }
+{
+    'turns: while at_use_turn(p) {
+        use_turn(p);
+    }
+}

@@ -1,0 +1,79 @@
+//! Visibility.
+
+ghost use Rattle.std.specs.Prelude.{◌≡◌, ◌+◌, ◌*◌, ◌≤◌, Bool, IsTrue};
+ghost use Rattle.rust_productions.specs.Looks.{tokens, spent};
+ghost use Rattle.rust_grammar.specs.Notation.{◌▸◌, ⁅◌⁆, ◌! };
+ghost use Rattle.rust_grammar.specs.Words.{'l_paren', 'r_paren', 'in'};
+ghost use Rattle.rust_grammar.specs.Calls.{Path, Visibility};
+ghost use Rattle.rust_grammar.specs.Items.{visibility_goes_on};
+ghost use Rattle.rust_grammar.specs.Rule as rules;
+ghost use Rattle.rust_grammar.specs.Rule.{When, One};
+ghost use Rattle.rust_productions.specs.Reads.{Does, Gives, Reads, Saw};
+
+use crate::grammar::paths::expect_path;
+use crate::grammar::{at, at_second, at_third, complete, eat, expect, nth, start, take};
+use parser_events::parser::Parser;
+use parser_input::syntax_kind::SyntaxKind;
+
+/// Whether a bracket is next that belongs to the `pub` before it: what stands in it is a path after
+/// `in`, or one word.
+fn at_scope(p: &mut Parser<'_>) -> bool
+    ensures sees { (c : Bool) → Saw c visibility_goes_on p.old result }
+    ensures some { IsTrue result → 1 ≤ tokens p.old }
+    ensures same { Does (λ s. s) p.old p.new }
+    ensures left { tokens p.new ≡ tokens p.old }
+    ensures looks { spent p.new ≤ spent p.old + 4 }
+{
+    if !at(p, SyntaxKind::L_PAREN) {
+        return false;
+    }
+    if at_second(p, SyntaxKind::IN_KW) {
+        return true;
+    }
+    if !at_third(p, SyntaxKind::R_PAREN) {
+        return false;
+    }
+    match nth(p, 1) {
+        SyntaxKind::CRATE_KW | SyntaxKind::SELF_KW | SyntaxKind::SUPER_KW => true,
+        _ => false,
+    }
+}
+
+/// The bracket after `pub`, where it belongs to that.
+fn opt_scope(p: &mut Parser<'_>)
+    ensures reads { (c : Bool) → Reads c
+        ⁅ When visibility_goes_on (One 'l_paren' ▸ ⁅ One 'in' ⁆ ▸ Path ! ▸ One 'r_paren' !) ⁆ p.old p.new }
+    ensures left { tokens p.new ≤ tokens p.old }
+    ensures looks { spent p.new ≤ spent p.old + 4 }
+{
+    if at_scope(p) {
+        take(p, SyntaxKind::L_PAREN);
+        eat(p, SyntaxKind::IN_KW);
+        expect_path(p);
+        expect(p, SyntaxKind::R_PAREN);
+    }
+}
+
+/// A visibility.
+pub fn visibility(p: &mut Parser<'_>)
+    requires { 1 ≤ tokens p.old }
+    ensures gives { (c : Bool) → Gives rules.visibility c p.old p.new }
+    ensures left { tokens p.new + 1 ≤ tokens p.old }
+    ensures looks { spent p.new + 4092 ≤ spent p.old }
+{
+    let visibility = start(p);
+    take(p, SyntaxKind::PUB_KW);
+    opt_scope(p);
+    complete(p, visibility, SyntaxKind::VISIBILITY);
+}
+
+/// A visibility, where there is one.
+pub(crate) fn opt_visibility(p: &mut Parser<'_>)
+    ensures reads { (c : Bool) → Reads c ⁅ Visibility ⁆ p.old p.new }
+    ensures left { tokens p.new ≤ tokens p.old }
+    ensures looks { spent p.new ≤ spent p.old + 1 }
+{
+    if at(p, SyntaxKind::PUB_KW) {
+        visibility(p);
+    }
+}
