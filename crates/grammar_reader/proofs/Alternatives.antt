@@ -14,7 +14,7 @@ use Rattle.grammar_reader.specs.Rows.{IsLater, IsRest}
 use Rattle.rust_grammar.specs.Laws.{reads}
 use Rattle.parser_events.specs.View.{View}
 use Rattle.grammar_reader.specs.Looks.{Costs}
-use Rattle.grammar_reader.specs.Data.{later}
+use Rattle.grammar_table.specs.Data.{later}
 use Rattle.parser_input.specs.Kind.{raw_of}
 use Rattle.parser_input.specs.declared.syntax_kind.SyntaxKind.{SyntaxKind}
 use Rattle.grammar_reader.specs.Told.{IsNext, known_answer, is_told, is_in, are_passed, all_passed}

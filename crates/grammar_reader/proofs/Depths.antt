@@ -6,10 +6,10 @@ use Rattle.rust_grammar.specs.Whole.{rule, whole}
 use Rattle.rust_grammar.proofs.Plain.{and_l, and_r}
 use Rattle.rust_grammar.proofs.OnlyLooks.{asks_only, asks_less, reaches_second, unless, wherever}
 use Rattle.rust_grammar.proofs.OnlyWhole.{depth, all_asked}
-use Rattle.grammar_reader.specs.Data.{plain, is_reference}
-use Rattle.grammar_reader.specs.Size.{size}
-use Rattle.grammar_reader.specs.declared.rule.Rule as rows
-use Rattle.grammar_reader.proofs.Sizes.{weight, falls}
+use Rattle.grammar_table.specs.Data.{plain, is_reference}
+use Rattle.grammar_table.specs.Size.{size}
+use Rattle.grammar_table.specs.declared.rule.Rule as rows
+use Rattle.grammar_table.proofs.Sizes.{weight, falls, least}
 
 -- one more than the depth of each production that is asked for where the rule begins
 unfoldable pub deepest : Rule → ℕ
@@ -103,10 +103,6 @@ to_ask d = 8192 * deepest (plain d) + weight d
 
 pub asks-inside : (small large : rows.Rule) → deepest (plain small) ≤ deepest (plain large) → size (plain small) < size (plain large) → to_ask small < to_ask large
 asks-inside a b h i = omega (arith, h, falls a b i)
-
-least : (b : Bool) → (if b then 1 else 0) ≤ 1
-least true = omega arith
-least false = omega arith
 
 pub asks-row : (x : Production) (row large : rows.Rule) → deepest (plain row) ≤ deepest (rule x) → size (plain row) < 2048 → deepest (plain large) ≡ suc (depth x) → to_ask row < to_ask large
 asks-row x row large e h i = omega (arith, e, h, i, least (is_reference row), row-deepest x)

@@ -14,13 +14,13 @@ use Rattle.rust_grammar.specs.Begun.{IsBegun}
 use Rattle.rust_grammar.specs.Laws.{reads}
 use Rattle.rust_grammar.proofs.WholeTable.{whole-means}
 use Rattle.grammar_reader.specs.CanRead.{CanRead}
-use Rattle.grammar_reader.specs.Layers.{layers, layer_at, turns_of}
+use Rattle.grammar_table.specs.Layers.{layers, layer_at, turns_of}
 use Rattle.grammar_reader.specs.Looks.{Costs}
 use Rattle.grammar_reader.specs.Prices.{idle, debt, is_paid, idle_of, debt_of}
-use Rattle.grammar_reader.specs.Size.{size}
+use Rattle.grammar_table.specs.Size.{size}
 use Rattle.rust_productions.specs.Stands.{left}
 use Rattle.grammar_reader.proofs.Below.{can-read}
-use Rattle.grammar_reader.proofs.Sizes.{few-forms}
+use Rattle.grammar_table.proofs.Sizes.{few-forms}
 use Rattle.grammar_reader.proofs.Spending.{as-priced, after-each-other-look, rule-paid, second-few, second-paid}
 use Rattle.grammar_reader.proofs.Standing.{after-nothing}
 

@@ -6,7 +6,7 @@ use Rattle.parser_events.specs.View.{View}
 use Rattle.rust_grammar.specs.Rule.{Rule, Then, Call}
 use Rattle.rust_grammar.specs.Meaning.{Reading, fresh, meaning}
 use Rattle.rust_grammar.specs.Whole.{rule, whole}
-use Rattle.grammar_reader.specs.Layers.{layer_at, turns_of}
+use Rattle.grammar_table.specs.Layers.{layer_at, turns_of}
 use Rattle.grammar_reader.specs.Looks.{Costs}
 use Rattle.grammar_reader.specs.Prices.{idle, debt, idle_of, debt_of}
 use Rattle.rust_productions.specs.Stands.{left}

@@ -5,7 +5,7 @@ use Rattle.parser_input.specs.declared.syntax_kind.SyntaxKind.{SyntaxKind}
 use Rattle.rust_grammar.specs.Rule.{Production, Rule, Look, begins, shift}
 use Rattle.rust_grammar.specs.Meaning.{Reading, sees, look_of}
 use Rattle.rust_grammar.specs.Whole.{rule, whole}
-use Rattle.grammar_reader.specs.Data.{later}
+use Rattle.grammar_table.specs.Data.{later}
 use Rattle.grammar_reader.specs.Rows.{IsRest}
 use Rattle.grammar_reader.specs.Told.{IsNext}
 use Rattle.grammar_reader.proofs.Alternatives.{rest-stands}

@@ -127,9 +127,6 @@ pub known-next : (o place : Option SyntaxKind) (ts : List Token) → IfSome o (�
 known-next None place ts e h = tt
 known-next (Some k) place ts e h = subst (λ (q : Option SyntaxKind). IfSome q (λ i. IsNext (raw_of i) ts)) e h
 
-pub answered : (P : Bool → Type 0) {o : Option Bool} {b : Bool} → o ≡ Some b → IfSome o P → P b
-answered P e h = subst (λ (o : Option Bool). IfSome o P) e h
-
 -- the next token, by looks at it
 pub next-known :
     (old new : View) (kind word : ℕ) {looks : ℕ} → new ≡ record old { looks = looks } → kind ≡ (token_at old.input (old.position + 0)).kind

@@ -6,6 +6,9 @@ use Rattle.rust_grammar.specs.Meaning.{Reading, sees, fresh, ahead, look_of}
 use Rattle.rust_grammar.specs.Laws.{reads}
 use Rattle.rust_grammar.specs.Whole.{rank, whole}
 use Rattle.rust_grammar.specs.Begun.{IsBegun}
+use Rattle.parser_events.specs.View.{View}
+use Rattle.rust_productions.specs.Stands.{left}
+use Rattle.grammar_table.specs.Layers.{layer_at}
 
 -- whether a rule of the whole grammar begins
 abbrev pub is_begun : Bool → Rule → Reading → Bool
@@ -50,3 +53,14 @@ HasRank n (Some now) = n ≤ now.ranks
 -- The rule can be read on behalf of a production that began with so many tokens left.
 abbrev pub CanRead : (caller : Production) → (began : ℕ) → Bool → Rule → Reading → Type 0
 CanRead x began c r s = CanTake (λ y d t. IsBelow x began y t × IsBegun y d t) c r s
+
+-- A layer of this height may be read up to from an operand: it began here, where so many tokens were left, and nothing was given.
+pub record CanClimb (began ranks top : ℕ) (c : Bool) (s : Reading) : Type 0 where
+  pub few : rank (layer_at top) ≤ ranks
+  pub here : began ≡ length s.rest
+  pub anew : s ≡ fresh s
+  pub begun : IsBegun (layer_at top) c s
+
+-- A production can be read anew where a parser stands.
+abbrev pub CanBegin : Production → Bool → View → Type 0
+CanBegin x c v = (s : Reading) → left v ≡ s.rest → IsBegun x c (fresh s)

@@ -1,9 +1,6 @@
 pub mod ByHand
 pub mod CanRead
-pub mod Data
-pub mod Layers
 pub mod Looks
 pub mod Told
 pub mod Prices
 pub mod Rows
-pub mod Size

@@ -3,7 +3,7 @@ use Rattle.std.specs.Prelude.{◌≡◌, ◌≤◌, ℕ, true, Option, None, IfS
 use Rattle.parser_input.specs.Kind.{raw_of}
 use Rattle.parser_input.specs.declared.syntax_kind.SyntaxKind.{SyntaxKind}
 use Rattle.rust_grammar.specs.Rule.{Rule}
-use Rattle.grammar_reader.specs.Data.{later}
+use Rattle.grammar_table.specs.Data.{later}
 use Rattle.grammar_reader.specs.Told.{are_passed}
 
 -- What is left of a row after first alternatives, at most so many.

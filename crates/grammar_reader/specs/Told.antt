@@ -7,8 +7,8 @@ use Rattle.parser_input.specs.declared.syntax_kind.SyntaxKind.{SyntaxKind}
 use Rattle.rust_grammar.specs.Rule.{Look, Always, Never, Kind, Contextual, Joint, Left, InCondition, Given, Both, Either, Not, Rule, Nothing, Or, Star, Then, begins}
 use Rattle.rust_grammar.specs.Meaning.{ahead, look_of}
 use Rattle.rust_grammar.specs.Whole.{whole}
-use Rattle.grammar_reader.specs.Data.{row_part}
-use Rattle.grammar_reader.specs.declared.part.Part.{Part}
+use Rattle.grammar_table.specs.Data.{row_part}
+use Rattle.grammar_table.specs.declared.part.Part.{Part}
 
 -- no word that is a contextual keyword has this as its contextual kind
 unfoldable pub is_plain : ℕ → Bool

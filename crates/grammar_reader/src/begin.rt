@@ -6,19 +6,19 @@ ghost use Rattle.rust_grammar.specs.Rule as rules;
 ghost use Rattle.rust_grammar.specs.Rule.{shift};
 ghost use Rattle.rust_grammar.specs.Meaning.{Reading, sees, look_of};
 ghost use Rattle.rust_grammar.specs.Whole.{whole};
-ghost use Rattle.grammar_reader.specs.Data.{named, plain};
+ghost use Rattle.grammar_table.specs.Data.{named, plain};
 ghost use Rattle.grammar_reader.specs.Looks.{asked};
 ghost use Rattle.rust_productions.specs.Stands.{IsAt, left};
 ghost use Rattle.grammar_reader.specs.Told.{IsNext, answer_before, part_look};
 
 use crate::first::begins_before;
 use crate::look::{Place, is_spelled, is_there, tokens_left};
-use crate::part::Part;
 use crate::part_first::part_begins_before;
 use crate::passed::row_before;
-use crate::production::Production;
-use crate::rule::Rule;
-use crate::table::rule_of_part;
+use grammar_table::part::Part;
+use grammar_table::production::Production;
+use grammar_table::rule::Rule;
+use grammar_table::table::rule_of_part;
 use parser_events::parser::Parser;
 use parser_input::syntax_kind::SyntaxKind;
 

@@ -1,61 +1,86 @@
 //! The productions that are read by a function of their own.
 
-ghost use Rattle.std.specs.Prelude.{◌≡◌, ◌≤◌, Bool, IfSome};
-ghost use Rattle.rust_productions.specs.Looks.{tokens};
-ghost use Rattle.rust_productions.specs.Reads.{Gives};
+ghost use Rattle.std.specs.Prelude.{◌≡◌, Bool, IfSome, None, true, false};
+ghost use Rattle.parser_input.specs.Kind.{raw_of};
+ghost use Rattle.rust_grammar.specs.Meaning.{Reading, look_of, sees};
+ghost use Rattle.rust_grammar.specs.Whole.{whole};
 ghost use Rattle.grammar_reader.specs.ByHand.{production_by_hand};
-ghost use Rattle.grammar_reader.specs.Data.{named};
-ghost use Rattle.grammar_reader.specs.Looks.{IsPaid};
-ghost use Rattle.grammar_reader.specs.Prices.{debt_of};
+ghost use Rattle.grammar_table.specs.Data.{named};
+ghost use Rattle.grammar_reader.specs.Told.{IsNext};
 
-use crate::production::Production;
-use parser_events::parser::Parser;
-use rust_productions::grammar::names::{lifetime, literal, name, name_ref};
-use rust_productions::grammar::token_trees::token_tree;
-use rust_productions::grammar::use_trees::use_list;
-use rust_productions::grammar::visibility::visibility;
+use crate::first::begins_before;
+use grammar_table::production::Production;
+use parser_input::syntax_kind::SyntaxKind;
 
 /// A production that is read by a function of its own.
 #[derive(Clone, Copy)]
 pub enum ByHand {
+    AnyType,
+    Arguments,
+    Attribute,
+    Block,
+    ExprPath,
+    FieldValues,
+    GenericArgs,
+    GenericParams,
     Lifetime,
     Literal,
+    Meta,
     Name,
     NameRef,
+    Params,
+    Path,
+    PatternFields,
+    StatementList,
     TokenTree,
+    TypePath,
     UseList,
+    UseTree,
     Visibility,
 }
 
 /// The production as one with a function of its own, if it has one.
-pub fn by_hand(production: Production) -> Option<ByHand>
+fn by_hand(production: Production) -> Option<ByHand>
     ensures { IfSome result (λ hand. production_by_hand hand ≡ named production) }
 {
     match production {
+        Production::AnyType => Some(ByHand::AnyType),
+        Production::Arguments => Some(ByHand::Arguments),
+        Production::Attribute => Some(ByHand::Attribute),
+        Production::Block => Some(ByHand::Block),
+        Production::ExprPath => Some(ByHand::ExprPath),
+        Production::FieldValues => Some(ByHand::FieldValues),
+        Production::GenericArgs => Some(ByHand::GenericArgs),
+        Production::GenericParams => Some(ByHand::GenericParams),
         Production::Lifetime => Some(ByHand::Lifetime),
         Production::Literal => Some(ByHand::Literal),
+        Production::Meta => Some(ByHand::Meta),
         Production::Name => Some(ByHand::Name),
         Production::NameRef => Some(ByHand::NameRef),
+        Production::Params => Some(ByHand::Params),
+        Production::Path => Some(ByHand::Path),
+        Production::PatternFields => Some(ByHand::PatternFields),
+        Production::StatementList => Some(ByHand::StatementList),
         Production::TokenTree => Some(ByHand::TokenTree),
+        Production::TypePath => Some(ByHand::TypePath),
         Production::UseList => Some(ByHand::UseList),
+        Production::UseTree => Some(ByHand::UseTree),
         Production::Visibility => Some(ByHand::Visibility),
         _ => None,
     }
 }
 
-/// Reads such a production where a token is left.
-pub fn read_by_hand(p: &mut Parser<'_>, hand: ByHand)
-    requires some { 1 ≤ tokens p.old }
-    ensures gives { (c : Bool) → Gives (production_by_hand hand) c p.old p.new }
-    ensures looks { IsPaid (debt_of (production_by_hand hand)) p.old p.new }
+/// The production as one with a function of its own, if it has one and begins before the next
+/// token, as its kind tells. The kind is given where it is known and that is no contextual keyword.
+pub(crate) fn by_hand_before(production: Production, next: Option<SyntaxKind>) -> Option<ByHand>
+    ensures is { IfSome result (λ hand. production_by_hand hand ≡ named production) }
+    ensures begins { IfSome result (λ hand. (c : Bool) (s : Reading)
+        → IfSome next (λ kind. IsNext (raw_of kind) s.rest)
+        → sees c s (look_of whole (named production)) ≡ true) }
 {
-    match hand {
-        ByHand::Lifetime => lifetime(p),
-        ByHand::Literal => literal(p),
-        ByHand::Name => name(p),
-        ByHand::NameRef => name_ref(p),
-        ByHand::TokenTree => token_tree(p),
-        ByHand::UseList => use_list(p),
-        ByHand::Visibility => visibility(p),
+    let hand = by_hand(production)?;
+    if begins_before(production, next?)? {
+        return Some(hand);
     }
+    None
 }

@@ -6,11 +6,11 @@ ghost use Rattle.rust_grammar.specs.Meaning.{look_of};
 ghost use Rattle.rust_grammar.specs.Rule as rules;
 ghost use Rattle.rust_grammar.specs.Rule.{Look, Rule};
 ghost use Rattle.rust_grammar.specs.Whole.{rule, whole};
-ghost use Rattle.grammar_reader.specs.Data.{named};
-ghost use Rattle.grammar_reader.specs.Layers.{layer_at};
+ghost use Rattle.grammar_table.specs.Data.{named};
+ghost use Rattle.grammar_table.specs.Layers.{layer_at};
 ghost use Rattle.grammar_reader.specs.Told.{IsOver, all_end_before, all_give_nothing, answer_before, are_right, ends_before, gives_nothing, has_bit, is_in};
 
-use crate::production::Production;
+use grammar_table::production::Production;
 use parser_input::syntax_kind::SyntaxKind;
 
 /// Kinds of tokens, each a bit of a number. No kind may stand in two parts of a sum.

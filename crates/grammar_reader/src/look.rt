@@ -4,12 +4,12 @@ ghost use Rattle.std.specs.Prelude.{◌≡◌, ◌<◌, ◌≤◌, ◌+◌, ◌^
 ghost use Rattle.parser_input.specs.Kind.{raw_of};
 ghost use Rattle.rust_grammar.specs.Rule.{shift, there_at, Kind, Joint, Both};
 ghost use Rattle.rust_grammar.specs.Meaning.{Reading, ahead, sees};
-ghost use Rattle.grammar_reader.specs.Data.{plain_look, spelled};
+ghost use Rattle.grammar_table.specs.Data.{plain_look, spelled};
 ghost use Rattle.grammar_reader.specs.Looks.{asked};
 ghost use Rattle.rust_productions.specs.Stands.{IsAt, left};
 ghost use Rattle.grammar_reader.specs.Told.{IsNext, is_plain};
 
-use crate::rule::{Look, Spelling};
+use grammar_table::rule::{Look, Spelling};
 use parser_events::parser::Parser;
 use parser_input::syntax_kind::SyntaxKind;
 

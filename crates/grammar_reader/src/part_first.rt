@@ -5,7 +5,7 @@ ghost use Rattle.parser_input.specs.Kind.{raw_of};
 ghost use Rattle.grammar_reader.specs.Told.{answer_before, are_right, part_look};
 
 use crate::first::{ANY_TOKEN, First, kinds};
-use crate::part::Part;
+use grammar_table::part::Part;
 use parser_input::syntax_kind::SyntaxKind;
 
 static ITEM_IN_BRACES: First = First {

@@ -4,14 +4,14 @@ ghost use Rattle.std.specs.Prelude.{◌≡◌, IfSome, false, true};
 ghost use Rattle.parser_input.specs.Kind.{raw_of};
 ghost use Rattle.rust_grammar.specs.Rule as rules;
 ghost use Rattle.rust_grammar.specs.Whole.{rule};
-ghost use Rattle.grammar_reader.specs.Data.{named, plain};
+ghost use Rattle.grammar_table.specs.Data.{named, plain};
 ghost use Rattle.grammar_reader.specs.Rows.{IsLater, IsRest};
 ghost use Rattle.grammar_reader.specs.Told.{are_passed, all_passed, has_bit, is_in};
 
 use crate::first::{atoms, block_likes, has, kinds, literals, operands, refs, single_patterns};
-use crate::production::Production;
-use crate::rule::Rule;
-use crate::table::{rule_of, rule_of_part};
+use grammar_table::production::Production;
+use grammar_table::rule::Rule;
+use grammar_table::table::{rule_of, rule_of_part};
 use parser_input::syntax_kind::SyntaxKind;
 
 /// Before each kind of a set so many alternatives of a row are passed by, and before each kind of

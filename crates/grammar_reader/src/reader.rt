@@ -10,28 +10,48 @@ ghost use Rattle.rust_grammar.specs.Meaning.{Reading, after, fresh, meaning};
 ghost use Rattle.rust_grammar.specs.Whole.{rank, rule, whole};
 ghost use Rattle.rust_grammar.specs.Begun.{IsBegun};
 ghost use Rattle.rust_grammar.specs.Laws.{reads};
-ghost use Rattle.grammar_reader.specs.CanRead.{CanRead, HasRank, IsBelow, is_begun};
-ghost use Rattle.grammar_reader.specs.Data.{named, plain};
-ghost use Rattle.grammar_reader.specs.Layers.{layer_at, CanClimb};
+ghost use Rattle.grammar_reader.specs.ByHand.{production_by_hand};
+ghost use Rattle.grammar_reader.specs.CanRead.{CanClimb, CanRead, HasRank, IsBelow, is_begun};
+ghost use Rattle.grammar_table.specs.Data.{named, plain};
+ghost use Rattle.grammar_table.specs.Layers.{layer_at};
 ghost use Rattle.grammar_reader.specs.Looks.{begin_looks, Costs};
 ghost use Rattle.grammar_reader.specs.Prices.{idle, idle_of, debt, debt_of, is_paid};
-ghost use Rattle.grammar_reader.specs.Size.{size};
+ghost use Rattle.grammar_table.specs.Size.{size};
+ghost use Rattle.rust_productions.specs.Looks.{tokens, spent};
+ghost use Rattle.rust_productions.specs.Reads.{looks, Gives, Saw};
 ghost use Rattle.rust_productions.specs.Stands.{Stands, left};
 ghost use Rattle.grammar_reader.specs.Told.{IsNext, gives_nothing, has_bit};
 
 use crate::begin::begins;
-use crate::by_hand::{by_hand, read_by_hand};
+use crate::by_hand::{ByHand, by_hand_before};
 use crate::context::Context;
 use crate::first::{next_layer, operation_ends_before};
-use crate::layer::{height_of, layer_of};
 use crate::look::{Place, next_kind, tokens_left};
 use crate::open::{Open, close, leave_out, skip, split, start, take, take_any, tell, wrap};
 use crate::passed::row_before;
-use crate::production::Production;
-use crate::rule::Rule;
-use crate::table::{rule_of_part, turns_in};
+use crate::reader::attributes::{attribute, meta};
+use crate::reader::blocks::{block, statement_list};
+use crate::reader::lists::{arguments, field_values, generic_params, params, pattern_fields};
+use crate::reader::paths::{Mode, generic_args, path_with_args};
+use crate::reader::types::any_type;
+use grammar_table::layer::{height_of, layer_of};
+use grammar_table::production::Production;
+use grammar_table::rule::Rule;
+use grammar_table::table::{rule_of_part, turns_in};
 use parser_events::parser::Parser;
 use parser_input::syntax_kind::SyntaxKind;
+use rust_productions::grammar::names::{lifetime, literal, name, name_ref};
+use rust_productions::grammar::paths::path;
+use rust_productions::grammar::token_trees::token_tree;
+use rust_productions::grammar::use_trees::{use_list, use_tree};
+use rust_productions::grammar::visibility::visibility;
+
+pub(crate) mod attributes;
+pub(crate) mod blocks;
+pub(crate) mod called;
+pub(crate) mod lists;
+pub(crate) mod paths;
+pub(crate) mod types;
 
 /// Whether the rule begins here.
 pub fn at(p: &mut Parser<'_>, given: bool, rule: &'static Rule, context: Context) -> bool
@@ -109,26 +129,62 @@ pub fn production(p: &mut Parser<'_>, node: Open, production: Production, contex
 {
     let began = tokens_left(p);
     if !node.given
-        && began > 0
-        && let Some(hand) = by_hand(production)
+        && let Some(height) = height_of(production)
     {
-        read_by_hand(p, hand);
+        return layers(p, node, height, began, context);
+    }
+    let next = next_kind(p);
+    if !node.given
+        && began > 0
+        && let Some(hand) = by_hand_before(production, next)
+    {
+        read_by_hand(p, hand, context.condition());
         let Open { marker, given: _ } = node;
         return Open {
             marker,
             given: true,
         };
     }
-    if !node.given
-        && let Some(height) = height_of(production)
-    {
-        return layers(p, node, height, began, context);
-    }
-    let next = next_kind(p);
     if passes_by(production, next) {
         return node;
     }
     read(p, node, row_before(production, next), began, context)
+}
+
+/// Reads a production by its own function, where it begins.
+#[cycle(reader)]
+fn read_by_hand(p: &mut Parser<'_>, hand: ByHand, condition: bool)
+    requires short { length p.old.input < 2 ^ 64 }
+    requires begins { (c : Bool) → Saw c (looks (production_by_hand hand)) p.old true }
+    requires some { 1 ≤ tokens p.old }
+    ensures gives { Gives (production_by_hand hand) condition p.old p.new }
+    ensures left { tokens p.new + 1 ≤ tokens p.old }
+    ensures looks { spent p.new + 4097 ≤ spent p.old + debt_of (production_by_hand hand) }
+{
+    match hand {
+        ByHand::AnyType => any_type(p, condition),
+        ByHand::Arguments => arguments(p),
+        ByHand::Attribute => attribute(p),
+        ByHand::Block => block(p),
+        ByHand::ExprPath => path_with_args(p, Mode::Expr),
+        ByHand::FieldValues => field_values(p),
+        ByHand::GenericArgs => generic_args(p),
+        ByHand::GenericParams => generic_params(p),
+        ByHand::Lifetime => lifetime(p),
+        ByHand::Literal => literal(p),
+        ByHand::Meta => meta(p, condition),
+        ByHand::Name => name(p),
+        ByHand::NameRef => name_ref(p),
+        ByHand::Params => params(p),
+        ByHand::Path => path(p),
+        ByHand::PatternFields => pattern_fields(p),
+        ByHand::StatementList => statement_list(p),
+        ByHand::TokenTree => token_tree(p),
+        ByHand::TypePath => path_with_args(p, Mode::Type),
+        ByHand::UseList => use_list(p),
+        ByHand::UseTree => use_tree(p),
+        ByHand::Visibility => visibility(p),
+    }
 }
 
 /// Reads an operand and the operators after it, up to the layer of this height, where the present

@@ -20,7 +20,7 @@ use Rattle.rust_grammar.specs.Begun.{asks_nothing, IsBegun}
 use Rattle.rust_grammar.proofs.EntriesInOrder.{lists-begin}
 use Rattle.rust_grammar.specs.Whole as all
 use Rattle.rust_productions.specs.Stands.{Holds, Stands}
-use Rattle.grammar_reader.proofs.Sizes.{few-ranks}
+use Rattle.grammar_table.proofs.Sizes.{few-ranks}
 use Rattle.rust_productions.specs.Moves.{Leaves}
 use Rattle.ra_parser.specs.Entries.{can_enter, strayed}
 

@@ -18,7 +18,7 @@ use Rattle.rust_grammar.specs.Begun.{IsBegun}
 use Rattle.grammar_reader.specs.Looks.{asked, begin_looks, Costs}
 use Rattle.grammar_reader.specs.Prices.{surely_takes, idle_of, debt_of, most}
 use Rattle.rust_productions.specs.Stands.{left, Stands}
-use Rattle.grammar_reader.proofs.Sizes.{few-ranks}
+use Rattle.grammar_table.proofs.Sizes.{few-ranks}
 use Rattle.grammar_reader.proofs.Spending.{at-most}
 use Rattle.ra_parser.specs.Entries.{can_enter, production_of}
 use Rattle.ra_parser.specs.declared.entry_points.TopEntryPoint.{TopEntryPoint}

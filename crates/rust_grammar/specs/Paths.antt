@@ -8,7 +8,7 @@ use Rattle.rust_grammar.specs.Notation.{◌or◌, ◌▸◌, ◌▹◌, ⁅◌�
 use Rattle.rust_grammar.specs.Shared.{colons_before_more}
 
 -- segments, each with these arguments; a path ends before `::*` and `::{`
-abbrev path_with : Rule → Rule
+abbrev pub path_with : Rule → Rule
 path_with args =
     PATH ⟨ PATH_SEGMENT ⟨ ⁅ One '::' ⁆ ▸ Ref ! ▸ args ⟩ ⟩
     ▸ (Unless colons_before_more (PATH <⟨ One '::' ▸ (PATH_SEGMENT ⟨ Ref ▸ args ⟩) ! ⟩)) *

@@ -1,12 +1,13 @@
 -- Repetitions that are read turn by turn.
-use Rattle.std.proofs.Common.{◌≡◌, ℕ, zero, suc, ◌<◌, ◌≤◌, Bool, true, false, length, nat_lt, refl, sym, ap, arith, if◌then◌else◌}
-use Rattle.std.proofs.lemmas.Bool.{ltb-true, lt-ltb}
+use Rattle.std.proofs.Common.{◌≡◌, ℕ, zero, suc, ◌<◌, ◌≤◌, Bool, true, false, length, nat_lt, refl, sym, ap, ◌∙◌, arith, true≢false, if◌then◌else◌}
+use Rattle.std.proofs.lemmas.Bool.{ltb-true, lt-ltb, le-ltb}
 use Rattle.parser_events.specs.View.{View}
 use Rattle.rust_productions.specs.Stands.{left}
 use Rattle.rust_grammar.specs.Rule.{Rule, Star, begins}
 use Rattle.rust_grammar.specs.Meaning.{Reading, sees, read, look_of, meaning, turns}
 use Rattle.rust_grammar.specs.Whole.{whole}
 use Rattle.rust_productions.specs.Reads.{looks, Does, Reads, Saw}
+use Rattle.rust_productions.specs.Turns.{TurnsFrom}
 use Rattle.rust_productions.proofs.ByHand.{does-then, does-as}
 
 module _ (test : Reading → Bool) (turn : Reading → Reading) (ends : (t : Reading) → length t.rest ≡ 0 → test t ≡ false) where
@@ -41,12 +42,17 @@ module _ (test : Reading → Bool) (turn : Reading → Reading) (ends : (t : Rea
       first zero is = absurd (omega (arith, is, less))
       first (suc n) is = rw (e, lt-ltb (length (turn s).rest) (length s.rest) less) (enough n (length (turn s).rest) (turn s) (omega (arith, is, less)) (omega arith))
 
+  -- a turn that takes no token is the last
+  pub once-only : (s : Reading) → test s ≡ true → length (turn s).rest ≡ length s.rest → turns (length s.rest) test turn s ≡ turn s
+  unfolding turns
+  once-only s e same = once (length s.rest) refl
+    where
+      once : (n : ℕ) → n ≡ length s.rest → turns n test turn s ≡ turn s
+      once zero is = absurd (true≢false (sym e ∙ ends s (sym is)))
+      once (suc n) is = rw (e, le-ltb (length (turn s).rest) (length s.rest) (omega (arith, same))) refl
+
   pub no-turn : (s : Reading) → test s ≡ false → turns (length s.rest) test turn s ≡ s
   no-turn s e = stays (length s.rest) s e
-
--- What is read from `entry` on is read once the turns from here on are.
-pub record TurnsFrom (c : Bool) (a : Rule) (entry now : View) : Type 0 where
-  pub rest : (end : View) → Reads c (Star a) now end → Reads c (Star a) entry end
 
 pub first-turn : {c : Bool} {a : Rule} {v : View} → TurnsFrom c a v v
 first-turn = record { rest = λ end p. p }
@@ -74,6 +80,17 @@ module _ (c : Bool) (a : Rule) (ends : EndsAtEnd c a) where
     where
       shorter : (s : Reading) → left now ≡ s.rest → length (turn s).rest < length s.rest
       shorter s e = omega (arith, less, ap (λ ts. length ts) (p.does.rest s e), ap (λ ts. length ts) e)
+
+  -- a turn that takes no token is the last
+  pub idle-turn : (entry now next : View) → TurnsFrom c a entry now → Saw c (begins looks a) now true → Reads c a now next → length (left next) ≡ length (left now) → Reads c (Star a) entry next
+  unfolding read
+  idle-turn entry now next at saw p same = at.rest next (record { does = does-as (λ s e. sym (idle s (saw.at s e) (as-long s e))) p.does })
+    where
+      as-long : (s : Reading) → left now ≡ s.rest → length (turn s).rest ≡ length s.rest
+      as-long s e = sym (ap (λ ts. length ts) (p.does.rest s e)) ∙ same ∙ ap (λ ts. length ts) e
+
+      idle : (s : Reading) → test s ≡ true → length (turn s).rest ≡ length s.rest → turns (length s.rest) test turn s ≡ turn s
+      idle s e same = once-only test turn ends s e same
 
   -- no turn is left
   pub last-turn : (entry now end : View) → TurnsFrom c a entry now → Saw c (begins looks a) now false → Does (λ s. s) now end → Reads c (Star a) entry end

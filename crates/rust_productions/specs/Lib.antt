@@ -3,3 +3,4 @@ pub mod Moves
 pub mod Reads
 pub mod Layers
 pub mod Looks
+pub mod Turns

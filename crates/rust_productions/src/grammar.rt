@@ -21,18 +21,18 @@ use parser_input::syntax_kind::SyntaxKind;
 
 pub(crate) mod expressions;
 pub(crate) mod generic_params;
-pub(crate) mod lists;
+pub mod lists;
 pub mod names;
 pub(crate) mod params;
-pub(crate) mod paths;
+pub mod paths;
 pub(crate) mod patterns;
 pub mod token_trees;
-pub(crate) mod types;
+pub mod types;
 pub mod use_trees;
 pub mod visibility;
 
 /// The kind of the next token.
-fn current(p: &mut Parser<'_>) -> SyntaxKind
+pub fn current(p: &mut Parser<'_>) -> SyntaxKind
     ensures sees { (c : Bool) (kind : ℕ) → Saw c (Kind 0 kind) p.old (raw_of result == kind) }
     ensures end { (c : Bool) → Saw c Left p.old (not (raw_of result == kinds.EOF)) }
     ensures some { raw_of result ≢ kinds.EOF → 1 ≤ tokens p.old }
@@ -44,7 +44,7 @@ fn current(p: &mut Parser<'_>) -> SyntaxKind
 }
 
 /// The kind of the token so far ahead.
-fn nth(p: &mut Parser<'_>, n: usize) -> SyntaxKind
+pub fn nth(p: &mut Parser<'_>, n: usize) -> SyntaxKind
     ensures sees { (c : Bool) (kind : ℕ) → Saw c (Kind n kind) p.old (raw_of result == kind) }
     ensures same { Does (λ s. s) p.old p.new }
     ensures left { tokens p.new ≡ tokens p.old }
@@ -54,7 +54,7 @@ fn nth(p: &mut Parser<'_>, n: usize) -> SyntaxKind
 }
 
 /// Whether the next token is of this kind.
-fn at(p: &mut Parser<'_>, kind: SyntaxKind) -> bool
+pub fn at(p: &mut Parser<'_>, kind: SyntaxKind) -> bool
     ensures sees { (c : Bool) → Saw c (Kind 0 (raw_of kind)) p.old result }
     ensures some { IsTrue result → raw_of kind ≢ kinds.EOF → 1 ≤ tokens p.old }
     ensures same { Does (λ s. s) p.old p.new }
@@ -65,7 +65,7 @@ fn at(p: &mut Parser<'_>, kind: SyntaxKind) -> bool
 }
 
 /// Whether the token after the next one is of this kind.
-fn at_second(p: &mut Parser<'_>, kind: SyntaxKind) -> bool
+pub fn at_second(p: &mut Parser<'_>, kind: SyntaxKind) -> bool
     ensures sees { (c : Bool) → Saw c (Kind 1 (raw_of kind)) p.old result }
     ensures some { IsTrue result → raw_of kind ≢ kinds.EOF → 2 ≤ tokens p.old }
     ensures same { Does (λ s. s) p.old p.new }
@@ -76,7 +76,7 @@ fn at_second(p: &mut Parser<'_>, kind: SyntaxKind) -> bool
 }
 
 /// Whether the third token from here is of this kind.
-fn at_third(p: &mut Parser<'_>, kind: SyntaxKind) -> bool
+pub fn at_third(p: &mut Parser<'_>, kind: SyntaxKind) -> bool
     ensures sees { (c : Bool) → Saw c (Kind 2 (raw_of kind)) p.old result }
     ensures some { IsTrue result → raw_of kind ≢ kinds.EOF → 3 ≤ tokens p.old }
     ensures same { Does (λ s. s) p.old p.new }
@@ -98,7 +98,7 @@ fn at_contextual(p: &mut Parser<'_>, kind: SyntaxKind) -> bool
 }
 
 /// Whether tokens of these kinds are next, which touch each other.
-fn at_pair(p: &mut Parser<'_>, first: SyntaxKind, second: SyntaxKind) -> bool
+pub fn at_pair(p: &mut Parser<'_>, first: SyntaxKind, second: SyntaxKind) -> bool
     ensures sees { (c : Bool) → Saw c (there_at 0 (raw_of first ∷ raw_of second ∷ [])) p.old result }
     ensures some { IsTrue result → raw_of second ≢ kinds.EOF → 2 ≤ tokens p.old }
     ensures same { Does (λ s. s) p.old p.new }
@@ -115,7 +115,7 @@ fn at_pair(p: &mut Parser<'_>, first: SyntaxKind, second: SyntaxKind) -> bool
 }
 
 /// Opens a node in the innermost one.
-fn start(p: &mut Parser<'_>) -> Marker
+pub fn start(p: &mut Parser<'_>) -> Marker
     ensures opens { Opens p.old p.new }
     ensures marker { IsInnermost result p.new.nodes }
     ensures left { tokens p.new ≡ tokens p.old }
@@ -125,7 +125,7 @@ fn start(p: &mut Parser<'_>) -> Marker
 }
 
 /// Closes the marker's node as one of this kind.
-fn complete(p: &mut Parser<'_>, marker: Marker, kind: SyntaxKind)
+pub fn complete(p: &mut Parser<'_>, marker: Marker, kind: SyntaxKind)
     requires { IsInnermost marker p.old.nodes }
     ensures closes { Closes (raw_of kind) p.old p.new }
     ensures left { tokens p.new ≡ tokens p.old }
@@ -135,7 +135,7 @@ fn complete(p: &mut Parser<'_>, marker: Marker, kind: SyntaxKind)
 }
 
 /// Leaves the marker's node out.
-fn abandon(p: &mut Parser<'_>, marker: Marker)
+pub fn abandon(p: &mut Parser<'_>, marker: Marker)
     requires { IsInnermost marker p.old.nodes }
     ensures leaves { Leaves p.old p.new }
     ensures left { tokens p.new ≡ tokens p.old }
@@ -145,7 +145,7 @@ fn abandon(p: &mut Parser<'_>, marker: Marker)
 }
 
 /// Adds a message.
-fn error(p: &mut Parser<'_>, message: Message)
+pub fn error(p: &mut Parser<'_>, message: Message)
     ensures reads { (c : Bool) → Reads c (Say (message_of message)) p.old p.new }
     ensures left { tokens p.new ≡ tokens p.old }
     ensures looks { spent p.new ≡ spent p.old }
@@ -154,7 +154,7 @@ fn error(p: &mut Parser<'_>, message: Message)
 }
 
 /// Takes the next token, as a leaf of this kind.
-fn take(p: &mut Parser<'_>, kind: SyntaxKind)
+pub fn take(p: &mut Parser<'_>, kind: SyntaxKind)
     requires { 1 ≤ tokens p.old }
     ensures reads { (c : Bool) → Reads c (One (one (raw_of kind))) p.old p.new }
     ensures left { tokens p.new + 1 ≡ tokens p.old }
@@ -164,7 +164,7 @@ fn take(p: &mut Parser<'_>, kind: SyntaxKind)
 }
 
 /// Takes the next two tokens, as one leaf of this kind.
-fn take_pair(p: &mut Parser<'_>, kind: SyntaxKind)
+pub fn take_pair(p: &mut Parser<'_>, kind: SyntaxKind)
     requires { 2 ≤ tokens p.old }
     ensures reads { (c : Bool) (first second : ℕ)
         → Reads c (One (joined (raw_of kind) (first ∷ second ∷ []))) p.old p.new }
@@ -186,7 +186,7 @@ fn take_any(p: &mut Parser<'_>)
 }
 
 /// Takes the next token where it is of this kind.
-fn eat(p: &mut Parser<'_>, kind: SyntaxKind)
+pub fn eat(p: &mut Parser<'_>, kind: SyntaxKind)
     requires { raw_of kind ≢ kinds.EOF }
     ensures reads { (c : Bool) → Reads c (Opt (One (one (raw_of kind)))) p.old p.new }
     ensures left { tokens p.new ≤ tokens p.old }
@@ -198,7 +198,7 @@ fn eat(p: &mut Parser<'_>, kind: SyntaxKind)
 }
 
 /// Takes the next token, or says that one of this kind is missing.
-fn expect(p: &mut Parser<'_>, kind: SyntaxKind)
+pub fn expect(p: &mut Parser<'_>, kind: SyntaxKind)
     requires { raw_of kind ≢ kinds.EOF }
     ensures reads { (c : Bool) → Reads c (Want (One (one (raw_of kind))) (Expected (raw_of kind))) p.old p.new }
     ensures left { tokens p.new ≤ tokens p.old }
@@ -212,7 +212,7 @@ fn expect(p: &mut Parser<'_>, kind: SyntaxKind)
 }
 
 /// Takes the next token into an error, after the message.
-fn skip(p: &mut Parser<'_>, message: Message)
+pub fn skip(p: &mut Parser<'_>, message: Message)
     requires { 1 ≤ tokens p.old }
     ensures reads { (c : Bool) → Reads c (Skip (message_of message)) p.old p.new }
     ensures left { tokens p.new + 1 ≡ tokens p.old }
@@ -225,7 +225,7 @@ fn skip(p: &mut Parser<'_>, message: Message)
 }
 
 /// Closes the node as one of this kind, and opens one around it.
-fn wrap(p: &mut Parser<'_>, marker: Marker, kind: SyntaxKind) -> Marker
+pub fn wrap(p: &mut Parser<'_>, marker: Marker, kind: SyntaxKind) -> Marker
     requires { IsInnermost marker p.old.nodes }
     ensures wraps { Does (wrapped (raw_of kind)) p.old p.new }
     ensures marker { IsInnermost result p.new.nodes }

@@ -1,6 +1,6 @@
 //! What all lists of elements with commas between them share.
 
-ghost use Rattle.std.specs.Prelude.{◌≡◌, ◌≢◌, ◌+◌, ◌*◌, ◌≤◌, Bool, IsTrue};
+ghost use Rattle.std.specs.Prelude.{◌≡◌, ◌≢◌, ◌+◌, ◌*◌, ◌<◌, ◌≤◌, Bool, IsTrue};
 ghost use Rattle.parser_input.specs.Kind.{raw_of};
 ghost use Rattle.parser_input.specs.Kinds as kinds;
 ghost use Rattle.parser_input.specs.Kinds.{COMMA};
@@ -30,7 +30,7 @@ pub(crate) fn at_end(p: &mut Parser<'_>) -> bool
 }
 
 /// Whether a list ends here: at its closing token, or with the input.
-pub(crate) fn at_list_end(p: &mut Parser<'_>, closing: SyntaxKind) -> bool
+pub fn at_list_end(p: &mut Parser<'_>, closing: SyntaxKind) -> bool
     ensures sees { (c : Bool) → Saw c (until (one (raw_of closing))) p.old result }
     ensures same { Does (λ s. s) p.old p.new }
     ensures left { tokens p.new ≡ tokens p.old }
@@ -43,7 +43,7 @@ pub(crate) fn at_list_end(p: &mut Parser<'_>, closing: SyntaxKind) -> bool
 }
 
 /// Whether a token is next that a list takes into an error: none at which it gives up.
-pub(crate) fn at_unexpected(p: &mut Parser<'_>) -> bool
+pub fn at_unexpected(p: &mut Parser<'_>) -> bool
     ensures sees { (c : Bool) → Saw c (Both Left (Not (one_of 0 stops))) p.old result }
     ensures some { IsTrue result → 1 ≤ tokens p.old }
     ensures same { Does (λ s. s) p.old p.new }
@@ -63,11 +63,12 @@ pub(crate) fn at_unexpected(p: &mut Parser<'_>) -> bool
 
 /// The comma after an element, or the message that it is missing; none is wanted before the closing
 /// token.
-pub(crate) fn comma(p: &mut Parser<'_>, closing: SyntaxKind)
+pub fn comma(p: &mut Parser<'_>, closing: SyntaxKind)
     ensures reads { (c : Bool) → Reads c
         (One 'comma' or When (next (one (raw_of closing))) Nothing or Say (Expected COMMA)) p.old p.new }
     ensures left { tokens p.new ≤ tokens p.old }
     ensures looks { spent p.new ≤ spent p.old + 2 }
+    ensures pays { tokens p.new < tokens p.old → spent p.new + 4000 ≤ spent p.old }
 {
     if at(p, SyntaxKind::COMMA) {
         take(p, SyntaxKind::COMMA);

@@ -55,7 +55,7 @@ pub fn lifetime(p: &mut Parser<'_>)
 }
 
 /// A lifetime, where there is one.
-pub(crate) fn opt_lifetime(p: &mut Parser<'_>)
+pub fn opt_lifetime(p: &mut Parser<'_>)
     ensures reads { (c : Bool) → Reads c ⁅ Lifetime ⁆ p.old p.new }
     ensures left { tokens p.new ≤ tokens p.old }
     ensures looks { spent p.new ≤ spent p.old + 1 }
@@ -158,7 +158,7 @@ pub fn literal(p: &mut Parser<'_>)
 }
 
 /// Whether a literal begins here.
-pub fn at_literal(p: &mut Parser<'_>) -> bool
+pub(crate) fn at_literal(p: &mut Parser<'_>) -> bool
     ensures sees { (c : Bool) → Saw c (looks rules.literal) p.old result }
     ensures some { IsTrue result → 1 ≤ tokens p.old }
     ensures same { Does (λ s. s) p.old p.new }

@@ -20,7 +20,7 @@ use parser_events::parser::{Marker, Parser};
 use parser_input::syntax_kind::SyntaxKind;
 
 /// Whether `::` is next.
-pub(crate) fn at_colons(p: &mut Parser<'_>) -> bool
+pub fn at_colons(p: &mut Parser<'_>) -> bool
     ensures sees { (c : Bool) → Saw c (Both (Kind 0 kinds.COLON)
         (Both (Joint 0) (Kind 1 kinds.COLON))) p.old result }
     ensures some { IsTrue result → 2 ≤ tokens p.old }
@@ -32,7 +32,7 @@ pub(crate) fn at_colons(p: &mut Parser<'_>) -> bool
 }
 
 /// Whether a path begins here.
-pub(crate) fn at_path(p: &mut Parser<'_>) -> bool
+pub fn at_path(p: &mut Parser<'_>) -> bool
     ensures sees { (c : Bool) → Saw c (looks rules.path) p.old result }
     ensures some { IsTrue result → 1 ≤ tokens p.old }
     ensures same { Does (λ s. s) p.old p.new }
@@ -49,7 +49,7 @@ pub(crate) fn at_path(p: &mut Parser<'_>) -> bool
 }
 
 /// The word that a path begins with, and the `::` before it.
-pub(crate) fn first_word(p: &mut Parser<'_>)
+pub fn first_word(p: &mut Parser<'_>)
     requires begins { (c : Bool) → Saw c (looks rules.path) p.old true }
     requires some { 1 ≤ tokens p.old }
     ensures reads { (c : Bool) → Reads c (⁅ One '::' ⁆ ▸ Ref ! ▸ Nothing) p.old p.new }
@@ -81,7 +81,7 @@ fn first_segment(p: &mut Parser<'_>)
 }
 
 /// Whether a path goes on here: at a `::` with neither `*` nor `{` after it.
-pub(crate) fn at_next_segment(p: &mut Parser<'_>) -> bool
+pub fn at_next_segment(p: &mut Parser<'_>) -> bool
     ensures sees { (c : Bool) → Saw c path_goes_on p.old result }
     ensures some { IsTrue result → 2 ≤ tokens p.old }
     ensures same { Does (λ s. s) p.old p.new }
@@ -144,7 +144,7 @@ fn next_segments(p: &mut Parser<'_>, path: Marker) -> Marker
 }
 
 /// A path without arguments.
-pub(crate) fn path(p: &mut Parser<'_>)
+pub fn path(p: &mut Parser<'_>)
     requires begins { (c : Bool) → Saw c (looks rules.path) p.old true }
     requires some { 1 ≤ tokens p.old }
     ensures gives { (c : Bool) → Gives rules.path c p.old p.new }

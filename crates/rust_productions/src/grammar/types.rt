@@ -17,7 +17,7 @@ use parser_events::parser::Parser;
 use parser_input::syntax_kind::SyntaxKind;
 
 /// Whether the word `dyn` is next, as no keyword of the edition, before what can follow `dyn`.
-fn at_dyn_word(p: &mut Parser<'_>) -> bool
+pub fn at_dyn_word(p: &mut Parser<'_>) -> bool
     ensures sees { (c : Bool) → Saw c (Both (Contextual 0 DYN_KW)
         (one_of 1 ('?' ∷ 'lifetime' ∷ refs))) p.old result }
     ensures some { IsTrue result → 1 ≤ tokens p.old }
@@ -41,7 +41,7 @@ fn at_dyn_word(p: &mut Parser<'_>) -> bool
 }
 
 /// Whether a type begins here.
-pub(crate) fn at_type(p: &mut Parser<'_>) -> bool
+pub fn at_type(p: &mut Parser<'_>) -> bool
     ensures sees { (c : Bool) → Saw c (looks rules.any_type) p.old result }
     ensures some { IsTrue result → 1 ≤ tokens p.old }
     ensures same { Does (λ s. s) p.old p.new }

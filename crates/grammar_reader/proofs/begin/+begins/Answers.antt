@@ -5,18 +5,18 @@ use Rattle.parser_input.specs.Kind.{raw_of}
 use Rattle.rust_grammar.specs.Meaning.{Reading, sees, fresh, look_of}
 use Rattle.grammar_reader.specs.Told.{IsNext}
 use Rattle.rust_grammar.specs.Whole.{rule, whole}
-use Rattle.grammar_reader.specs.Data.{plain, plain_look, named, row_part, is_reference}
-use Rattle.grammar_reader.specs.Size.{size}
-use Rattle.grammar_reader.specs.declared.rule.Rule as rows
+use Rattle.grammar_table.specs.Data.{plain, plain_look, named, row_part, is_reference}
+use Rattle.grammar_table.specs.Size.{size}
+use Rattle.grammar_table.specs.declared.rule.Rule as rows
 use Rattle.grammar_reader.specs.Looks.{asked}
 use Rattle.grammar_reader.proofs.Asking.{silent-cost, first-cost, second-cost, near-cost, mode-cost, rule-cost, or-asked, anew-cost}
 use Rattle.grammar_reader.proofs.Beginning.{silent-then, first-then, no-then, second-then, no-near, both-near, first-or, second-or, no-unless, unless, in-mode, inside, rest-short}
 use Rattle.grammar_reader.proofs.Rest.{as-row}
 use Rattle.grammar_reader.proofs.Looking.{still-at, still-short, fresh-at}
-use Rattle.grammar_reader.proofs.Sizes.{below-measure, few-forms, or-size}
+use Rattle.grammar_table.proofs.Sizes.{below-measure, few-forms, or-size}
 use Rattle.grammar_reader.proofs.Depths.{deepest, silent-deepest, first-deepest, second-deepest, near-first, near-second, or-first, or-second, asks-inside, asks-row, asks-part}
 use Rattle.grammar_reader.proofs.Alternatives.{rest-less}
-use Rattle.grammar_reader.proofs.Telling.{answered, known-next, next-there, still-next}
+use Rattle.grammar_reader.proofs.Telling.{known-next, next-there, still-next, sure}
 use Rattle.grammar_reader.proofs.begin.+begins.Goals as goal
 
 pub returns-then-is_silent-clause-sees : goal.returns-then-is_silent-clause-sees
@@ -111,13 +111,13 @@ pub returns-in-Some-clause-sees : goal.returns-in-Some-clause-sees
 unfolding begins fresh
 returns-in-Some-clause-sees t c s at =
     rw c.in-Call.is (inside c.args.place.condition s c.args.ahead (look_of whole (named c.in-Call.production))
-    (answered (λ (b : Bool). (d : Bool) (u : Reading) → IfSome c.args.place.next (λ k. IsNext (raw_of k) u.rest) → b ≡ sees d u (shift c.args.ahead (look_of whole (named c.in-Call.production)))) c.in-Some.is c.told_here.ensures.sees c.args.place.condition (fresh s) (next-there c.args.place.next at.rest c.requires.next)))
+    (sure (λ (b : Bool). (d : Bool) (u : Reading) → IfSome c.args.place.next (λ k. IsNext (raw_of k) u.rest) → b ≡ sees d u (shift c.args.ahead (look_of whole (named c.in-Call.production)))) c.in-Some.is c.told_here.ensures.sees c.args.place.condition (fresh s) (next-there c.args.place.next at.rest c.requires.next)))
 
 pub returns-in-Some-told_here-clause-sees : goal.returns-in-Some-told_here-clause-sees
 unfolding begins
 returns-in-Some-told_here-clause-sees t c s at =
     rw c.in-Continue.is
-    (answered (λ (b : Bool). (d : Bool) (u : Reading) → IfSome c.args.place.next (λ k. IsNext (raw_of k) u.rest) → b ≡ sees d u (shift c.args.ahead (look_of whole (named c.in-Continue.production)))) c.in-Some-told_here.is c.told_here-in-Continue.ensures.sees c.args.place.condition s (next-there c.args.place.next at.rest c.requires.next))
+    (sure (λ (b : Bool). (d : Bool) (u : Reading) → IfSome c.args.place.next (λ k. IsNext (raw_of k) u.rest) → b ≡ sees d u (shift c.args.ahead (look_of whole (named c.in-Continue.production)))) c.in-Some-told_here.is c.told_here-in-Continue.ensures.sees c.args.place.condition s (next-there c.args.place.next at.rest c.requires.next))
 
 pub returns-in-None-clause-sees : goal.returns-in-None-clause-sees
 unfolding begins fresh
@@ -136,7 +136,7 @@ returns-in-Mode-clause-sees t c s at = rw c.in-Mode.is (in-mode c.args.place.con
 pub returns-in-Some-part_told_here-clause-sees : goal.returns-in-Some-part_told_here-clause-sees
 returns-in-Some-part_told_here-clause-sees t c s at =
     rw c.in-Part.is
-    (answered (λ (b : Bool). (d : Bool) (u : Reading) → IfSome c.args.place.next (λ k. IsNext (raw_of k) u.rest) → b ≡ sees d u (shift c.args.ahead (begins (look_of whole) (row_part c.in-Part.part)))) c.in-Some-part_told_here.is c.part_told_here.ensures.sees c.args.place.condition s (next-there c.args.place.next at.rest c.requires.next))
+    (sure (λ (b : Bool). (d : Bool) (u : Reading) → IfSome c.args.place.next (λ k. IsNext (raw_of k) u.rest) → b ≡ sees d u (shift c.args.ahead (begins (look_of whole) (row_part c.in-Part.part)))) c.in-Some-part_told_here.is c.part_told_here.ensures.sees c.args.place.condition s (next-there c.args.place.next at.rest c.requires.next))
 
 pub returns-in-None-part_told_here-clause-sees : goal.returns-in-None-part_told_here-clause-sees
 returns-in-None-part_told_here-clause-sees t c s at = rw (c.in-Part.is, sym c.rule_of_part.ensures.rule) (c.begins-in-None-part_told_here.ensures.sees s at)

@@ -1,7 +1,7 @@
 -- Of the place itself, what the sets tell is so.
 use Rattle.rust_grammar.specs.Meaning.{look_of}
 use Rattle.rust_grammar.specs.Whole.{whole}
-use Rattle.grammar_reader.specs.Data.{named}
+use Rattle.grammar_table.specs.Data.{named}
 use Rattle.std.proofs.Common.{◌≡◌, Some}
 use Rattle.parser_input.specs.declared.syntax_kind.SyntaxKind.{SyntaxKind}
 use Rattle.grammar_reader.proofs.Telling.{told-there, sure}

@@ -1,6 +1,6 @@
 use Rattle.std.specs.Prelude.{ℕ, ◌+◌, ◌-◌, ◌<◌, ◌≤◌, Some}
 use Rattle.rust_grammar.specs.Whole.{rule}
-use Rattle.grammar_reader.specs.Layers.{layer_at}
+use Rattle.grammar_table.specs.Layers.{layer_at}
 use Rattle.grammar_reader.specs.Told.{IsOver}
 use Rattle.grammar_reader.proofs.first.next_layer.Given as goal
 

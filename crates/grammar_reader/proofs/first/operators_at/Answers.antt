@@ -10,7 +10,7 @@ use Rattle.rust_grammar.specs.Rule.{begins, in_mode, anew, is_silent, passes, sh
 use Rattle.rust_grammar.specs.Statements.{statements}
 use Rattle.rust_grammar.specs.Types.{types}
 use Rattle.rust_grammar.specs.Whole.{rule, whole}
-use Rattle.grammar_reader.specs.Layers.{layers, layer_at}
+use Rattle.grammar_table.specs.Layers.{layers, layer_at}
 use Rattle.grammar_reader.specs.declared.first.TheConstants.{OPERATORS}
 use Rattle.grammar_reader.specs.Told.{is_plain, known_not, known_both, known_either, known_answer, is_in, is_told, ends_before, all_end_before}
 use Rattle.grammar_reader.proofs.first.operators_at.Goals as goal

@@ -11,7 +11,7 @@ use Rattle.rust_grammar.specs.Statements.{statements}
 use Rattle.rust_grammar.specs.Types.{types}
 use Rattle.rust_grammar.specs.Whole.{rule, whole}
 use Rattle.grammar_reader.specs.Told.{is_plain, known_not, known_both, known_either, known_answer, is_in, is_told, same_told, told_by, are_right}
-use Rattle.grammar_reader.specs.Data.{later, inner, front, rest}
+use Rattle.grammar_table.specs.Data.{later, inner, front, rest}
 use Rattle.grammar_reader.proofs.part_first.first_of_part.Goals as goal
 
 pub returns-in-LaterBodies : goal.returns-in-LaterBodies

@@ -1,12 +1,12 @@
 -- One alternative after the other.
 use Rattle.std.proofs.Common.{ap, subst}
 use Rattle.rust_grammar.specs.Rule.{Rule}
-use Rattle.grammar_reader.specs.Data.{plain, is_reference}
+use Rattle.grammar_table.specs.Data.{plain, is_reference}
 use Rattle.grammar_reader.specs.Rows.{IsLater}
-use Rattle.grammar_reader.specs.declared.rule.Rule as rows
+use Rattle.grammar_table.specs.declared.rule.Rule as rows
 use Rattle.grammar_reader.proofs.Alternatives.{all-later, or-later}
 use Rattle.grammar_reader.proofs.Depths.{after-or, after-part}
-use Rattle.grammar_reader.proofs.Sizes.{below-measure}
+use Rattle.grammar_table.proofs.Sizes.{below-measure}
 use Rattle.grammar_reader.proofs.passed.+after.Goals as goal
 
 pub returns-then-count-eq0 : goal.returns-then-count-eq0

@@ -2,7 +2,7 @@
 use Rattle.std.proofs.Common.{subst}
 use Rattle.rust_grammar.specs.Rule.{Rule}
 use Rattle.rust_grammar.specs.Whole.{rule}
-use Rattle.grammar_reader.specs.Data.{named, plain}
+use Rattle.grammar_table.specs.Data.{named, plain}
 use Rattle.grammar_reader.specs.Rows.{IsLater}
 use Rattle.grammar_reader.proofs.Alternatives.{whole-rest, some-rest}
 use Rattle.grammar_reader.proofs.passed.row_before.Goals as goal

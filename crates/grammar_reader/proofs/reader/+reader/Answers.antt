@@ -1,6 +1,12 @@
 -- Form by form.
-mod Looks
+mod Attributes
+mod Blocks
 mod Climbing
+mod Hands
+mod Lists
+mod Looks
+mod Paths
+mod Types
 use Rattle.std.proofs.Common.{◌≡◌, Some, ℕ, ◌+◌, ◌-◌, ◌*◌, ◌<◌, ◌≤◌, Bool, true, false, List, Option, refl, sym, ap, subst, ◌∙◌, arith, inr, length, if◌then◌else◌}
 use Rattle.parser_events.specs.Marked.{marked}
 use Rattle.parser_events.specs.View.{View}
@@ -13,24 +19,29 @@ use Rattle.rust_grammar.specs.Laws.{reads}
 use Rattle.rust_grammar.proofs.WholeTable.{whole-means}
 use Rattle.grammar_reader.specs.CanRead.{CanRead, Setting, HasRank, is_begun}
 use Rattle.grammar_reader.proofs.Below.{row-can-read}
-use Rattle.grammar_reader.specs.Data.{plain, named}
-use Rattle.grammar_reader.specs.Size.{size}
+use Rattle.grammar_table.specs.Data.{plain, named}
+use Rattle.grammar_table.specs.Size.{size}
 use Rattle.rust_productions.specs.Looks.{tokens}
 use Rattle.rust_productions.specs.Stands.{Stands, left}
-use Rattle.grammar_reader.specs.declared.rule.Rule as rows
-use Rattle.grammar_reader.proofs.Sizes.{falls-read, falls-turns, falls-call, falls-row, below-measure, few-forms, or-size}
+use Rattle.grammar_table.specs.declared.rule.Rule as rows
+use Rattle.grammar_table.proofs.Sizes.{falls-read, falls-turns, falls-call, falls-row, below-measure, few-forms, or-size}
 use Rattle.grammar_reader.proofs.Standing.{inside, stands-still, stands-opened, stands-closed, stands-left-out, nothing-given, after-nothing, still-innermost, short-still}
 use Rattle.grammar_reader.specs.Looks.{begin_looks, Costs}
 use Rattle.grammar_reader.specs.Prices.{in_turn, idle, debt, idle_of, debt_of}
 use Rattle.grammar_reader.proofs.Spending.{same-length, tested, within, as-priced, rule-paid, turn-taken, tail-passed-by, turn-is-paid, turns-are-paid}
 use Rattle.grammar_reader.proofs.Alternatives.{rest-stands, rest-less}
 use Rattle.grammar_reader.proofs.Telling.{next-there}
-use Rattle.grammar_reader.proofs.Hands.{hand-stands}
 use Rattle.grammar_reader.proofs.Calling.{Reads, Spends, called-under}
 use Rattle.grammar_reader.proofs.Turning.{no-turn, last-turn, next-turn, zero-turns}
 use Rattle.grammar_reader.proofs.reader.+reader.Goals as goal
 use Rattle.grammar_reader.proofs.reader.+reader.Goals.{call-then-given, call-else-given}
+use Rattle.grammar_reader.proofs.reader.+reader.Answers.Attributes as attributes
+use Rattle.grammar_reader.proofs.reader.+reader.Answers.Blocks as blocks
+use Rattle.grammar_reader.proofs.reader.+reader.Answers.Hands as hands
+use Rattle.grammar_reader.proofs.reader.+reader.Answers.Lists as lists
 use Rattle.grammar_reader.proofs.reader.+reader.Answers.Looks as looks
+use Rattle.grammar_reader.proofs.reader.+reader.Answers.Paths as paths
+use Rattle.grammar_reader.proofs.reader.+reader.Answers.Types as types
 use Rattle.grammar_reader.proofs.reader.+reader.Answers.Climbing as climbing
 
 pub call-returns-in_default-clause-reads : goal.call-returns-in_default-clause-reads
@@ -82,27 +93,6 @@ call-returns-then-not-given-clause-looks t c = λ x s below low h b e.
     subst (λ (d : Bool). Spends y c.in-Some.now.ranks d c.args.node.given c.args.p.now c.production.new.p) same
     c.production.ensures.looks s below ok h (subst (λ (r : Reading). IsBegun y c.args.context.condition r) (sym anew) e)
 
-pub production-read_by_hand-requires : goal.production-read_by_hand-requires
-unfolding tokens
-production-read_by_hand-requires t c = omega (arith, c.if-began-gt0.true, c.tokens_left-began.ensures)
-
-pub production-returns-clause-input : goal.production-returns-clause-input
-production-returns-clause-input t c = (c.read_by_hand.ensures.gives false).does.input
-
-pub production-returns-clause-marker : goal.production-returns-clause-marker
-production-returns-clause-marker t c = (c.read_by_hand.ensures.gives false).does.innermost _ c.requires.marker
-
-pub production-returns-clause-innermost : goal.production-returns-clause-innermost
-production-returns-clause-innermost t c = λ n i. (c.read_by_hand.ensures.gives false).does.innermost n i
-
-pub production-returns-clause-reads : goal.production-returns-clause-reads
-production-returns-clause-reads t c = λ s below low h b.
-    hand-stands c.in-Some.hand (named c.args.production) c.args.context.condition s below c.in-Some.ensures c.if-not-node.true c.read_by_hand.ensures.gives h
-
-pub production-returns-clause-looks : goal.production-returns-clause-looks
-production-returns-clause-looks t c = λ s below low h b.
-    subst (λ (x : Production). Costs (idle_of x) (debt_of x) c.args.p.now c.read_by_hand.new.p) c.in-Some.ensures (inr c.read_by_hand.ensures.looks)
-
 pub production-read-requires : goal.production-read-requires
 production-read-requires t c =
     let x = named c.args.production in
@@ -131,15 +121,15 @@ production-returns-3-clause-reads t c = λ s below low h b.
     (sym (part.means c.args.context.condition s still.at.rest) ∙ sym (whole-means x c.args.context.condition s))
     (c.read.ensures.reads x s below low still can)
 
-pub production-returns-2-clause-reads : goal.production-returns-2-clause-reads
-production-returns-2-clause-reads t c = λ s below low h b.
-    let e = c.in-Some-height_of.ensures.layer in
+pub production-returns-clause-reads : goal.production-returns-clause-reads
+production-returns-clause-reads t c = λ s below low h b.
+    let e = c.in-Some.ensures.layer in
     subst (λ (x : Production). Stands c.layers.result.given c.layers.new.p (meaning whole x c.args.context.condition s) below) (sym e)
     (c.layers.ensures.reads s below (subst (λ (x : Production). rank x ≤ c.args.context.ranks) e low) h (subst (λ (x : Production). IsBegun x c.args.context.condition s) e b))
 
-pub production-returns-2-clause-looks : goal.production-returns-2-clause-looks
-production-returns-2-clause-looks t c = λ s below low h b.
-    let e = c.in-Some-height_of.ensures.layer in
+pub production-returns-clause-looks : goal.production-returns-clause-looks
+production-returns-clause-looks t c = λ s below low h b.
+    let e = c.in-Some.ensures.layer in
     subst (λ (x : Production). Costs (idle_of x) (debt_of x) c.args.p.now c.layers.new.p) (sym e)
     (c.layers.ensures.looks s below (subst (λ (x : Production). rank x ≤ c.args.context.ranks) e low) h (subst (λ (x : Production). IsBegun x c.args.context.condition s) e b))
 
@@ -539,3 +529,606 @@ turns-returns-then-tokens_left-before-clause-looks = looks.turns-returns-then-to
 
 pub turns-returns-clause-looks : goal.turns-returns-clause-looks
 turns-returns-clause-looks = looks.turns-returns-clause-looks
+
+pub attributes::attribute-expect_meta-requires : goal.attributes::attribute-expect_meta-requires
+attributes::attribute-expect_meta-requires = attributes.attributes::attribute-expect_meta-requires
+
+pub attributes::attribute-complete-requires : goal.attributes::attribute-complete-requires
+attributes::attribute-complete-requires = attributes.attributes::attribute-complete-requires
+
+pub attributes::attribute-returns-clause-gives : goal.attributes::attribute-returns-clause-gives
+attributes::attribute-returns-clause-gives = attributes.attributes::attribute-returns-clause-gives
+
+pub attributes::expect_meta-meta-requires : goal.attributes::expect_meta-meta-requires
+attributes::expect_meta-meta-requires = attributes.attributes::expect_meta-meta-requires
+
+pub attributes::expect_meta-returns-then-at_path-clause-reads : goal.attributes::expect_meta-returns-then-at_path-clause-reads
+attributes::expect_meta-returns-then-at_path-clause-reads = attributes.attributes::expect_meta-returns-then-at_path-clause-reads
+
+pub attributes::expect_meta-returns-clause-reads : goal.attributes::expect_meta-returns-clause-reads
+attributes::expect_meta-returns-clause-reads = attributes.attributes::expect_meta-returns-clause-reads
+
+pub attributes::meta-path-requires-clause-begins : goal.attributes::meta-path-requires-clause-begins
+attributes::meta-path-requires-clause-begins = attributes.attributes::meta-path-requires-clause-begins
+
+pub attributes::meta-opt_value-requires : goal.attributes::meta-opt_value-requires
+attributes::meta-opt_value-requires = attributes.attributes::meta-opt_value-requires
+
+pub attributes::meta-complete-requires : goal.attributes::meta-complete-requires
+attributes::meta-complete-requires = attributes.attributes::meta-complete-requires
+
+pub attributes::meta-returns-clause-gives : goal.attributes::meta-returns-clause-gives
+attributes::meta-returns-clause-gives = attributes.attributes::meta-returns-clause-gives
+
+pub attributes::opt_value-expect_expression-requires : goal.attributes::opt_value-expect_expression-requires
+attributes::opt_value-expect_expression-requires = attributes.attributes::opt_value-expect_expression-requires
+
+pub attributes::opt_value-returns-then-at-clause-reads : goal.attributes::opt_value-returns-then-at-clause-reads
+attributes::opt_value-returns-then-at-clause-reads = attributes.attributes::opt_value-returns-then-at-clause-reads
+
+pub attributes::opt_value-returns-then-at_token_tree-clause-reads : goal.attributes::opt_value-returns-then-at_token_tree-clause-reads
+attributes::opt_value-returns-then-at_token_tree-clause-reads = attributes.attributes::opt_value-returns-then-at_token_tree-clause-reads
+
+pub attributes::opt_value-returns-else-at_token_tree-clause-reads : goal.attributes::opt_value-returns-else-at_token_tree-clause-reads
+attributes::opt_value-returns-else-at_token_tree-clause-reads = attributes.attributes::opt_value-returns-else-at_token_tree-clause-reads
+
+pub attributes::expect_expression-read_anew-requires : goal.attributes::expect_expression-read_anew-requires
+attributes::expect_expression-read_anew-requires = attributes.attributes::expect_expression-read_anew-requires
+
+pub attributes::expect_expression-returns-then-at_production-clause-reads : goal.attributes::expect_expression-returns-then-at_production-clause-reads
+attributes::expect_expression-returns-then-at_production-clause-reads = attributes.attributes::expect_expression-returns-then-at_production-clause-reads
+
+pub attributes::expect_expression-returns-clause-reads : goal.attributes::expect_expression-returns-clause-reads
+attributes::expect_expression-returns-clause-reads = attributes.attributes::expect_expression-returns-clause-reads
+
+pub attributes::expect_expression-returns-then-at_production-clause-looks : goal.attributes::expect_expression-returns-then-at_production-clause-looks
+attributes::expect_expression-returns-then-at_production-clause-looks = attributes.attributes::expect_expression-returns-then-at_production-clause-looks
+
+pub attributes::expect_expression-returns-clause-looks : goal.attributes::expect_expression-returns-clause-looks
+attributes::expect_expression-returns-clause-looks = attributes.attributes::expect_expression-returns-clause-looks
+
+pub blocks::statement_turn-returns-then-at_list_end-clause-ends : goal.blocks::statement_turn-returns-then-at_list_end-clause-ends
+blocks::statement_turn-returns-then-at_list_end-clause-ends = blocks.blocks::statement_turn-returns-then-at_list_end-clause-ends
+
+pub blocks::statement_turn-returns-then-not-at_production-clause-ends : goal.blocks::statement_turn-returns-then-not-at_production-clause-ends
+blocks::statement_turn-returns-then-not-at_production-clause-ends = blocks.blocks::statement_turn-returns-then-not-at_production-clause-ends
+
+pub blocks::statement_turn-returns-then-not-at_production-clause-looks : goal.blocks::statement_turn-returns-then-not-at_production-clause-looks
+blocks::statement_turn-returns-then-not-at_production-clause-looks = blocks.blocks::statement_turn-returns-then-not-at_production-clause-looks
+
+pub blocks::statement_turn-read_anew-requires : goal.blocks::statement_turn-read_anew-requires
+blocks::statement_turn-read_anew-requires = blocks.blocks::statement_turn-read_anew-requires
+
+pub blocks::statement_turn-returns-clause-goes : goal.blocks::statement_turn-returns-clause-goes
+blocks::statement_turn-returns-clause-goes = blocks.blocks::statement_turn-returns-clause-goes
+
+pub blocks::statement_turn-returns-clause-ends : goal.blocks::statement_turn-returns-clause-ends
+blocks::statement_turn-returns-clause-ends = blocks.blocks::statement_turn-returns-clause-ends
+
+pub blocks::statement_turn-returns-clause-fewer : goal.blocks::statement_turn-returns-clause-fewer
+blocks::statement_turn-returns-clause-fewer = blocks.blocks::statement_turn-returns-clause-fewer
+
+pub blocks::statement_turn-returns-clause-pays : goal.blocks::statement_turn-returns-clause-pays
+blocks::statement_turn-returns-clause-pays = blocks.blocks::statement_turn-returns-clause-pays
+
+pub blocks::statement_turn-returns-clause-looks : goal.blocks::statement_turn-returns-clause-looks
+blocks::statement_turn-returns-clause-looks = blocks.blocks::statement_turn-returns-clause-looks
+
+pub blocks::statements-turns-preserved : goal.blocks::statements-turns-preserved
+blocks::statements-turns-preserved = blocks.blocks::statements-turns-preserved
+
+pub blocks::statements-returns-clause-reads : goal.blocks::statements-returns-clause-reads
+blocks::statements-returns-clause-reads = blocks.blocks::statements-returns-clause-reads
+
+pub blocks::statement_list-statements-requires : goal.blocks::statement_list-statements-requires
+blocks::statement_list-statements-requires = blocks.blocks::statement_list-statements-requires
+
+pub blocks::statement_list-complete-requires : goal.blocks::statement_list-complete-requires
+blocks::statement_list-complete-requires = blocks.blocks::statement_list-complete-requires
+
+pub blocks::statement_list-returns-clause-gives : goal.blocks::statement_list-returns-clause-gives
+blocks::statement_list-returns-clause-gives = blocks.blocks::statement_list-returns-clause-gives
+
+pub blocks::block-complete-requires : goal.blocks::block-complete-requires
+blocks::block-complete-requires = blocks.blocks::block-complete-requires
+
+pub blocks::block-returns-clause-gives : goal.blocks::block-returns-clause-gives
+blocks::block-returns-clause-gives = blocks.blocks::block-returns-clause-gives
+
+pub read_by_hand-returns-in-Arguments-clause-gives : goal.read_by_hand-returns-in-Arguments-clause-gives
+read_by_hand-returns-in-Arguments-clause-gives = hands.read_by_hand-returns-in-Arguments-clause-gives
+
+pub read_by_hand-returns-in-Arguments-clause-looks : goal.read_by_hand-returns-in-Arguments-clause-looks
+read_by_hand-returns-in-Arguments-clause-looks = hands.read_by_hand-returns-in-Arguments-clause-looks
+
+pub read_by_hand-returns-in-Attribute-clause-gives : goal.read_by_hand-returns-in-Attribute-clause-gives
+read_by_hand-returns-in-Attribute-clause-gives = hands.read_by_hand-returns-in-Attribute-clause-gives
+
+pub read_by_hand-returns-in-Attribute-clause-looks : goal.read_by_hand-returns-in-Attribute-clause-looks
+read_by_hand-returns-in-Attribute-clause-looks = hands.read_by_hand-returns-in-Attribute-clause-looks
+
+pub read_by_hand-returns-in-Block-clause-gives : goal.read_by_hand-returns-in-Block-clause-gives
+read_by_hand-returns-in-Block-clause-gives = hands.read_by_hand-returns-in-Block-clause-gives
+
+pub read_by_hand-returns-in-Block-clause-looks : goal.read_by_hand-returns-in-Block-clause-looks
+read_by_hand-returns-in-Block-clause-looks = hands.read_by_hand-returns-in-Block-clause-looks
+
+pub read_by_hand-returns-in-ExprPath-clause-gives : goal.read_by_hand-returns-in-ExprPath-clause-gives
+read_by_hand-returns-in-ExprPath-clause-gives = hands.read_by_hand-returns-in-ExprPath-clause-gives
+
+pub read_by_hand-returns-in-ExprPath-clause-looks : goal.read_by_hand-returns-in-ExprPath-clause-looks
+read_by_hand-returns-in-ExprPath-clause-looks = hands.read_by_hand-returns-in-ExprPath-clause-looks
+
+pub read_by_hand-returns-in-FieldValues-clause-gives : goal.read_by_hand-returns-in-FieldValues-clause-gives
+read_by_hand-returns-in-FieldValues-clause-gives = hands.read_by_hand-returns-in-FieldValues-clause-gives
+
+pub read_by_hand-returns-in-FieldValues-clause-looks : goal.read_by_hand-returns-in-FieldValues-clause-looks
+read_by_hand-returns-in-FieldValues-clause-looks = hands.read_by_hand-returns-in-FieldValues-clause-looks
+
+pub read_by_hand-returns-in-GenericArgs-clause-gives : goal.read_by_hand-returns-in-GenericArgs-clause-gives
+read_by_hand-returns-in-GenericArgs-clause-gives = hands.read_by_hand-returns-in-GenericArgs-clause-gives
+
+pub read_by_hand-returns-in-GenericArgs-clause-looks : goal.read_by_hand-returns-in-GenericArgs-clause-looks
+read_by_hand-returns-in-GenericArgs-clause-looks = hands.read_by_hand-returns-in-GenericArgs-clause-looks
+
+pub read_by_hand-returns-in-GenericParams-clause-gives : goal.read_by_hand-returns-in-GenericParams-clause-gives
+read_by_hand-returns-in-GenericParams-clause-gives = hands.read_by_hand-returns-in-GenericParams-clause-gives
+
+pub read_by_hand-returns-in-GenericParams-clause-looks : goal.read_by_hand-returns-in-GenericParams-clause-looks
+read_by_hand-returns-in-GenericParams-clause-looks = hands.read_by_hand-returns-in-GenericParams-clause-looks
+
+pub read_by_hand-returns-in-Lifetime-clause-gives : goal.read_by_hand-returns-in-Lifetime-clause-gives
+read_by_hand-returns-in-Lifetime-clause-gives = hands.read_by_hand-returns-in-Lifetime-clause-gives
+
+pub read_by_hand-returns-in-Lifetime-clause-looks : goal.read_by_hand-returns-in-Lifetime-clause-looks
+read_by_hand-returns-in-Lifetime-clause-looks = hands.read_by_hand-returns-in-Lifetime-clause-looks
+
+pub read_by_hand-returns-in-Literal-clause-gives : goal.read_by_hand-returns-in-Literal-clause-gives
+read_by_hand-returns-in-Literal-clause-gives = hands.read_by_hand-returns-in-Literal-clause-gives
+
+pub read_by_hand-returns-in-Literal-clause-looks : goal.read_by_hand-returns-in-Literal-clause-looks
+read_by_hand-returns-in-Literal-clause-looks = hands.read_by_hand-returns-in-Literal-clause-looks
+
+pub read_by_hand-returns-in-Meta-clause-looks : goal.read_by_hand-returns-in-Meta-clause-looks
+read_by_hand-returns-in-Meta-clause-looks = hands.read_by_hand-returns-in-Meta-clause-looks
+
+pub read_by_hand-returns-in-Name-clause-gives : goal.read_by_hand-returns-in-Name-clause-gives
+read_by_hand-returns-in-Name-clause-gives = hands.read_by_hand-returns-in-Name-clause-gives
+
+pub read_by_hand-returns-in-Name-clause-looks : goal.read_by_hand-returns-in-Name-clause-looks
+read_by_hand-returns-in-Name-clause-looks = hands.read_by_hand-returns-in-Name-clause-looks
+
+pub read_by_hand-returns-in-NameRef-clause-gives : goal.read_by_hand-returns-in-NameRef-clause-gives
+read_by_hand-returns-in-NameRef-clause-gives = hands.read_by_hand-returns-in-NameRef-clause-gives
+
+pub read_by_hand-returns-in-NameRef-clause-looks : goal.read_by_hand-returns-in-NameRef-clause-looks
+read_by_hand-returns-in-NameRef-clause-looks = hands.read_by_hand-returns-in-NameRef-clause-looks
+
+pub read_by_hand-returns-in-Params-clause-gives : goal.read_by_hand-returns-in-Params-clause-gives
+read_by_hand-returns-in-Params-clause-gives = hands.read_by_hand-returns-in-Params-clause-gives
+
+pub read_by_hand-returns-in-Params-clause-looks : goal.read_by_hand-returns-in-Params-clause-looks
+read_by_hand-returns-in-Params-clause-looks = hands.read_by_hand-returns-in-Params-clause-looks
+
+pub read_by_hand-returns-in-Path-clause-gives : goal.read_by_hand-returns-in-Path-clause-gives
+read_by_hand-returns-in-Path-clause-gives = hands.read_by_hand-returns-in-Path-clause-gives
+
+pub read_by_hand-returns-in-Path-clause-looks : goal.read_by_hand-returns-in-Path-clause-looks
+read_by_hand-returns-in-Path-clause-looks = hands.read_by_hand-returns-in-Path-clause-looks
+
+pub read_by_hand-returns-in-PatternFields-clause-gives : goal.read_by_hand-returns-in-PatternFields-clause-gives
+read_by_hand-returns-in-PatternFields-clause-gives = hands.read_by_hand-returns-in-PatternFields-clause-gives
+
+pub read_by_hand-returns-in-PatternFields-clause-looks : goal.read_by_hand-returns-in-PatternFields-clause-looks
+read_by_hand-returns-in-PatternFields-clause-looks = hands.read_by_hand-returns-in-PatternFields-clause-looks
+
+pub read_by_hand-returns-in-StatementList-clause-gives : goal.read_by_hand-returns-in-StatementList-clause-gives
+read_by_hand-returns-in-StatementList-clause-gives = hands.read_by_hand-returns-in-StatementList-clause-gives
+
+pub read_by_hand-returns-in-StatementList-clause-looks : goal.read_by_hand-returns-in-StatementList-clause-looks
+read_by_hand-returns-in-StatementList-clause-looks = hands.read_by_hand-returns-in-StatementList-clause-looks
+
+pub read_by_hand-returns-in-TokenTree-clause-gives : goal.read_by_hand-returns-in-TokenTree-clause-gives
+read_by_hand-returns-in-TokenTree-clause-gives = hands.read_by_hand-returns-in-TokenTree-clause-gives
+
+pub read_by_hand-returns-in-TokenTree-clause-looks : goal.read_by_hand-returns-in-TokenTree-clause-looks
+read_by_hand-returns-in-TokenTree-clause-looks = hands.read_by_hand-returns-in-TokenTree-clause-looks
+
+pub read_by_hand-returns-in-TypePath-clause-gives : goal.read_by_hand-returns-in-TypePath-clause-gives
+read_by_hand-returns-in-TypePath-clause-gives = hands.read_by_hand-returns-in-TypePath-clause-gives
+
+pub read_by_hand-returns-in-TypePath-clause-looks : goal.read_by_hand-returns-in-TypePath-clause-looks
+read_by_hand-returns-in-TypePath-clause-looks = hands.read_by_hand-returns-in-TypePath-clause-looks
+
+pub read_by_hand-returns-in-UseList-clause-gives : goal.read_by_hand-returns-in-UseList-clause-gives
+read_by_hand-returns-in-UseList-clause-gives = hands.read_by_hand-returns-in-UseList-clause-gives
+
+pub read_by_hand-returns-in-UseList-clause-looks : goal.read_by_hand-returns-in-UseList-clause-looks
+read_by_hand-returns-in-UseList-clause-looks = hands.read_by_hand-returns-in-UseList-clause-looks
+
+pub read_by_hand-returns-in-UseTree-clause-gives : goal.read_by_hand-returns-in-UseTree-clause-gives
+read_by_hand-returns-in-UseTree-clause-gives = hands.read_by_hand-returns-in-UseTree-clause-gives
+
+pub read_by_hand-returns-in-UseTree-clause-looks : goal.read_by_hand-returns-in-UseTree-clause-looks
+read_by_hand-returns-in-UseTree-clause-looks = hands.read_by_hand-returns-in-UseTree-clause-looks
+
+pub read_by_hand-returns-in-Visibility-clause-gives : goal.read_by_hand-returns-in-Visibility-clause-gives
+read_by_hand-returns-in-Visibility-clause-gives = hands.read_by_hand-returns-in-Visibility-clause-gives
+
+pub read_by_hand-returns-in-Visibility-clause-looks : goal.read_by_hand-returns-in-Visibility-clause-looks
+read_by_hand-returns-in-Visibility-clause-looks = hands.read_by_hand-returns-in-Visibility-clause-looks
+
+pub read_by_hand-path_with_args-requires : goal.read_by_hand-path_with_args-requires
+read_by_hand-path_with_args-requires = hands.read_by_hand-path_with_args-requires
+
+pub read_by_hand-path_with_args-requires-in-TypePath : goal.read_by_hand-path_with_args-requires-in-TypePath
+read_by_hand-path_with_args-requires-in-TypePath = hands.read_by_hand-path_with_args-requires-in-TypePath
+
+pub read_by_hand-generic_args-requires : goal.read_by_hand-generic_args-requires
+read_by_hand-generic_args-requires = hands.read_by_hand-generic_args-requires
+
+pub read_by_hand-meta-requires : goal.read_by_hand-meta-requires
+read_by_hand-meta-requires = hands.read_by_hand-meta-requires
+
+pub read_by_hand-path-requires-clause-begins : goal.read_by_hand-path-requires-clause-begins
+read_by_hand-path-requires-clause-begins = hands.read_by_hand-path-requires-clause-begins
+
+pub read_by_hand-use_tree-requires-clause-begins : goal.read_by_hand-use_tree-requires-clause-begins
+read_by_hand-use_tree-requires-clause-begins = hands.read_by_hand-use_tree-requires-clause-begins
+
+pub production-read_by_hand-requires : goal.production-read_by_hand-requires
+production-read_by_hand-requires = hands.production-read_by_hand-requires
+
+pub production-returns-2-clause-input : goal.production-returns-2-clause-input
+production-returns-2-clause-input = hands.production-returns-2-clause-input
+
+pub production-returns-2-clause-marker : goal.production-returns-2-clause-marker
+production-returns-2-clause-marker = hands.production-returns-2-clause-marker
+
+pub production-returns-2-clause-innermost : goal.production-returns-2-clause-innermost
+production-returns-2-clause-innermost = hands.production-returns-2-clause-innermost
+
+pub production-returns-2-clause-reads : goal.production-returns-2-clause-reads
+production-returns-2-clause-reads = hands.production-returns-2-clause-reads
+
+pub production-returns-2-clause-looks : goal.production-returns-2-clause-looks
+production-returns-2-clause-looks = hands.production-returns-2-clause-looks
+
+pub called::read_anew-production-node-requires : goal.called::read_anew-production-node-requires
+called::read_anew-production-node-requires = hands.called::read_anew-production-node-requires
+
+pub called::read_anew-returns-clause-gives : goal.called::read_anew-returns-clause-gives
+called::read_anew-returns-clause-gives = hands.called::read_anew-returns-clause-gives
+
+pub called::read_anew-returns-clause-looks : goal.called::read_anew-returns-clause-looks
+called::read_anew-returns-clause-looks = hands.called::read_anew-returns-clause-looks
+
+pub called::read_anew-returns-clause-left : goal.called::read_anew-returns-clause-left
+called::read_anew-returns-clause-left = hands.called::read_anew-returns-clause-left
+
+pub lists::turn-returns-then-at_list_end-clause-ends : goal.lists::turn-returns-then-at_list_end-clause-ends
+lists::turn-returns-then-at_list_end-clause-ends = lists.lists::turn-returns-then-at_list_end-clause-ends
+
+pub lists::turn-read_anew-requires : goal.lists::turn-read_anew-requires
+lists::turn-read_anew-requires = lists.lists::turn-read_anew-requires
+
+pub lists::turn-returns-then-at_production-clause-goes : goal.lists::turn-returns-then-at_production-clause-goes
+lists::turn-returns-then-at_production-clause-goes = lists.lists::turn-returns-then-at_production-clause-goes
+
+pub lists::turn-returns-then-at_production-clause-ends : goal.lists::turn-returns-then-at_production-clause-ends
+lists::turn-returns-then-at_production-clause-ends = lists.lists::turn-returns-then-at_production-clause-ends
+
+pub lists::turn-returns-then-at_production-clause-input : goal.lists::turn-returns-then-at_production-clause-input
+lists::turn-returns-then-at_production-clause-input = lists.lists::turn-returns-then-at_production-clause-input
+
+pub lists::turn-returns-then-at_production-clause-innermost : goal.lists::turn-returns-then-at_production-clause-innermost
+lists::turn-returns-then-at_production-clause-innermost = lists.lists::turn-returns-then-at_production-clause-innermost
+
+pub lists::turn-returns-then-at_production-clause-fewer : goal.lists::turn-returns-then-at_production-clause-fewer
+lists::turn-returns-then-at_production-clause-fewer = lists.lists::turn-returns-then-at_production-clause-fewer
+
+pub lists::turn-returns-then-at_production-clause-pays : goal.lists::turn-returns-then-at_production-clause-pays
+lists::turn-returns-then-at_production-clause-pays = lists.lists::turn-returns-then-at_production-clause-pays
+
+pub lists::turn-returns-then-at_production-clause-looks : goal.lists::turn-returns-then-at_production-clause-looks
+lists::turn-returns-then-at_production-clause-looks = lists.lists::turn-returns-then-at_production-clause-looks
+
+pub lists::turn-returns-then-at_unexpected-clause-goes : goal.lists::turn-returns-then-at_unexpected-clause-goes
+lists::turn-returns-then-at_unexpected-clause-goes = lists.lists::turn-returns-then-at_unexpected-clause-goes
+
+pub lists::turn-returns-then-at_unexpected-clause-input : goal.lists::turn-returns-then-at_unexpected-clause-input
+lists::turn-returns-then-at_unexpected-clause-input = lists.lists::turn-returns-then-at_unexpected-clause-input
+
+pub lists::turn-returns-then-at_unexpected-clause-innermost : goal.lists::turn-returns-then-at_unexpected-clause-innermost
+lists::turn-returns-then-at_unexpected-clause-innermost = lists.lists::turn-returns-then-at_unexpected-clause-innermost
+
+pub lists::turn-returns-then-at_unexpected-clause-pays : goal.lists::turn-returns-then-at_unexpected-clause-pays
+lists::turn-returns-then-at_unexpected-clause-pays = lists.lists::turn-returns-then-at_unexpected-clause-pays
+
+pub lists::turn-returns-then-at_unexpected-clause-looks : goal.lists::turn-returns-then-at_unexpected-clause-looks
+lists::turn-returns-then-at_unexpected-clause-looks = lists.lists::turn-returns-then-at_unexpected-clause-looks
+
+pub lists::turn-returns-clause-ends : goal.lists::turn-returns-clause-ends
+lists::turn-returns-clause-ends = lists.lists::turn-returns-clause-ends
+
+pub lists::turn-returns-clause-looks : goal.lists::turn-returns-clause-looks
+lists::turn-returns-clause-looks = lists.lists::turn-returns-clause-looks
+
+pub lists::elements-turns-preserved : goal.lists::elements-turns-preserved
+lists::elements-turns-preserved = lists.lists::elements-turns-preserved
+
+pub lists::elements-returns-clause-reads : goal.lists::elements-returns-clause-reads
+lists::elements-returns-clause-reads = lists.lists::elements-returns-clause-reads
+
+pub lists::rest_of_list-returns-clause-reads : goal.lists::rest_of_list-returns-clause-reads
+lists::rest_of_list-returns-clause-reads = lists.lists::rest_of_list-returns-clause-reads
+
+pub lists::arguments-rest_of_list-requires : goal.lists::arguments-rest_of_list-requires
+lists::arguments-rest_of_list-requires = lists.lists::arguments-rest_of_list-requires
+
+pub lists::arguments-complete-requires : goal.lists::arguments-complete-requires
+lists::arguments-complete-requires = lists.lists::arguments-complete-requires
+
+pub lists::arguments-returns-clause-gives : goal.lists::arguments-returns-clause-gives
+lists::arguments-returns-clause-gives = lists.lists::arguments-returns-clause-gives
+
+pub lists::field_values-rest_of_list-requires : goal.lists::field_values-rest_of_list-requires
+lists::field_values-rest_of_list-requires = lists.lists::field_values-rest_of_list-requires
+
+pub lists::field_values-complete-requires : goal.lists::field_values-complete-requires
+lists::field_values-complete-requires = lists.lists::field_values-complete-requires
+
+pub lists::field_values-returns-clause-gives : goal.lists::field_values-returns-clause-gives
+lists::field_values-returns-clause-gives = lists.lists::field_values-returns-clause-gives
+
+pub lists::generic_params-rest_of_list-requires : goal.lists::generic_params-rest_of_list-requires
+lists::generic_params-rest_of_list-requires = lists.lists::generic_params-rest_of_list-requires
+
+pub lists::generic_params-complete-requires : goal.lists::generic_params-complete-requires
+lists::generic_params-complete-requires = lists.lists::generic_params-complete-requires
+
+pub lists::generic_params-returns-clause-gives : goal.lists::generic_params-returns-clause-gives
+lists::generic_params-returns-clause-gives = lists.lists::generic_params-returns-clause-gives
+
+pub lists::params-rest_of_list-requires : goal.lists::params-rest_of_list-requires
+lists::params-rest_of_list-requires = lists.lists::params-rest_of_list-requires
+
+pub lists::params-complete-requires : goal.lists::params-complete-requires
+lists::params-complete-requires = lists.lists::params-complete-requires
+
+pub lists::params-returns-clause-gives : goal.lists::params-returns-clause-gives
+lists::params-returns-clause-gives = lists.lists::params-returns-clause-gives
+
+pub lists::pattern_fields-rest_of_list-requires : goal.lists::pattern_fields-rest_of_list-requires
+lists::pattern_fields-rest_of_list-requires = lists.lists::pattern_fields-rest_of_list-requires
+
+pub lists::pattern_fields-complete-requires : goal.lists::pattern_fields-complete-requires
+lists::pattern_fields-complete-requires = lists.lists::pattern_fields-complete-requires
+
+pub lists::pattern_fields-returns-clause-gives : goal.lists::pattern_fields-returns-clause-gives
+lists::pattern_fields-returns-clause-gives = lists.lists::pattern_fields-returns-clause-gives
+
+pub paths::generic_args-rest_of_list-requires : goal.paths::generic_args-rest_of_list-requires
+paths::generic_args-rest_of_list-requires = paths.paths::generic_args-rest_of_list-requires
+
+pub paths::generic_args-opt_colons-requires-clause-begins : goal.paths::generic_args-opt_colons-requires-clause-begins
+paths::generic_args-opt_colons-requires-clause-begins = paths.paths::generic_args-opt_colons-requires-clause-begins
+
+pub paths::generic_args-complete-requires : goal.paths::generic_args-complete-requires
+paths::generic_args-complete-requires = paths.paths::generic_args-complete-requires
+
+pub paths::generic_args-returns-clause-gives : goal.paths::generic_args-returns-clause-gives
+paths::generic_args-returns-clause-gives = paths.paths::generic_args-returns-clause-gives
+
+pub paths::opt_args-generic_args-requires : goal.paths::opt_args-generic_args-requires
+paths::opt_args-generic_args-requires = paths.paths::opt_args-generic_args-requires
+
+pub paths::opt_args-returns-then-at_args-clause-reads : goal.paths::opt_args-returns-then-at_args-clause-reads
+paths::opt_args-returns-then-at_args-clause-reads = paths.paths::opt_args-returns-then-at_args-clause-reads
+
+pub paths::opt_args-returns-else-at_args-clause-reads : goal.paths::opt_args-returns-else-at_args-clause-reads
+paths::opt_args-returns-else-at_args-clause-reads = paths.paths::opt_args-returns-else-at_args-clause-reads
+
+pub paths::first_segment-first_word-requires-clause-begins : goal.paths::first_segment-first_word-requires-clause-begins
+paths::first_segment-first_word-requires-clause-begins = paths.paths::first_segment-first_word-requires-clause-begins
+
+pub paths::first_segment-opt_args-requires : goal.paths::first_segment-opt_args-requires
+paths::first_segment-opt_args-requires = paths.paths::first_segment-opt_args-requires
+
+pub paths::first_segment-complete-requires : goal.paths::first_segment-complete-requires
+paths::first_segment-complete-requires = paths.paths::first_segment-complete-requires
+
+pub paths::first_segment-complete-requires-2 : goal.paths::first_segment-complete-requires-2
+paths::first_segment-complete-requires-2 = paths.paths::first_segment-complete-requires-2
+
+pub paths::first_segment-returns-clause-reads : goal.paths::first_segment-returns-clause-reads
+paths::first_segment-returns-clause-reads = paths.paths::first_segment-returns-clause-reads
+
+pub paths::expect_segment-opt_args-requires : goal.paths::expect_segment-opt_args-requires
+paths::expect_segment-opt_args-requires = paths.paths::expect_segment-opt_args-requires
+
+pub paths::expect_segment-complete-requires : goal.paths::expect_segment-complete-requires
+paths::expect_segment-complete-requires = paths.paths::expect_segment-complete-requires
+
+pub paths::expect_segment-returns-then-at_name_ref-clause-reads : goal.paths::expect_segment-returns-then-at_name_ref-clause-reads
+paths::expect_segment-returns-then-at_name_ref-clause-reads = paths.paths::expect_segment-returns-then-at_name_ref-clause-reads
+
+pub paths::expect_segment-returns-clause-reads : goal.paths::expect_segment-returns-clause-reads
+paths::expect_segment-returns-clause-reads = paths.paths::expect_segment-returns-clause-reads
+
+pub paths::next_segment-expect_segment-requires : goal.paths::next_segment-expect_segment-requires
+paths::next_segment-expect_segment-requires = paths.paths::next_segment-expect_segment-requires
+
+pub paths::next_segment-wrap-requires : goal.paths::next_segment-wrap-requires
+paths::next_segment-wrap-requires = paths.paths::next_segment-wrap-requires
+
+pub paths::next_segment-returns-clause-reads : goal.paths::next_segment-returns-clause-reads
+paths::next_segment-returns-clause-reads = paths.paths::next_segment-returns-clause-reads
+
+pub paths::next_segments-turns-preserved : goal.paths::next_segments-turns-preserved
+paths::next_segments-turns-preserved = paths.paths::next_segments-turns-preserved
+
+pub paths::next_segments-returns-clause-reads : goal.paths::next_segments-returns-clause-reads
+paths::next_segments-returns-clause-reads = paths.paths::next_segments-returns-clause-reads
+
+pub paths::path_with_args-first_segment-requires : goal.paths::path_with_args-first_segment-requires
+paths::path_with_args-first_segment-requires = paths.paths::path_with_args-first_segment-requires
+
+pub paths::path_with_args-next_segments-frame-requires : goal.paths::path_with_args-next_segments-frame-requires
+paths::path_with_args-next_segments-frame-requires = paths.paths::path_with_args-next_segments-frame-requires
+
+pub paths::path_with_args-returns-clause-gives : goal.paths::path_with_args-returns-clause-gives
+paths::path_with_args-returns-clause-gives = paths.paths::path_with_args-returns-clause-gives
+
+pub types::any_type-returns-clause-gives : goal.types::any_type-returns-clause-gives
+types::any_type-returns-clause-gives = types.types::any_type-returns-clause-gives
+
+pub types::inside-returns-in-L_PAREN-clause-reads : goal.types::inside-returns-in-L_PAREN-clause-reads
+types::inside-returns-in-L_PAREN-clause-reads = types.types::inside-returns-in-L_PAREN-clause-reads
+
+pub types::inside-returns-in-L_BRACK-clause-reads : goal.types::inside-returns-in-L_BRACK-clause-reads
+types::inside-returns-in-L_BRACK-clause-reads = types.types::inside-returns-in-L_BRACK-clause-reads
+
+pub types::inside-returns-in-BANG-clause-reads : goal.types::inside-returns-in-BANG-clause-reads
+types::inside-returns-in-BANG-clause-reads = types.types::inside-returns-in-BANG-clause-reads
+
+pub types::inside-returns-in-UNDERSCORE-clause-reads : goal.types::inside-returns-in-UNDERSCORE-clause-reads
+types::inside-returns-in-UNDERSCORE-clause-reads = types.types::inside-returns-in-UNDERSCORE-clause-reads
+
+pub types::inside-returns-in-STAR-clause-reads : goal.types::inside-returns-in-STAR-clause-reads
+types::inside-returns-in-STAR-clause-reads = types.types::inside-returns-in-STAR-clause-reads
+
+pub types::inside-returns-in-AMP-clause-reads : goal.types::inside-returns-in-AMP-clause-reads
+types::inside-returns-in-AMP-clause-reads = types.types::inside-returns-in-AMP-clause-reads
+
+pub types::inside-returns-in-IMPL_KW-clause-reads : goal.types::inside-returns-in-IMPL_KW-clause-reads
+types::inside-returns-in-IMPL_KW-clause-reads = types.types::inside-returns-in-IMPL_KW-clause-reads
+
+pub types::inside-returns-in-DYN_KW-clause-reads : goal.types::inside-returns-in-DYN_KW-clause-reads
+types::inside-returns-in-DYN_KW-clause-reads = types.types::inside-returns-in-DYN_KW-clause-reads
+
+pub types::inside-returns-in-BANG-clause-marker : goal.types::inside-returns-in-BANG-clause-marker
+types::inside-returns-in-BANG-clause-marker = types.types::inside-returns-in-BANG-clause-marker
+
+pub types::inside-returns-in-UNDERSCORE-clause-marker : goal.types::inside-returns-in-UNDERSCORE-clause-marker
+types::inside-returns-in-UNDERSCORE-clause-marker = types.types::inside-returns-in-UNDERSCORE-clause-marker
+
+pub types::inside-returns-then-at_dyn_word : goal.types::inside-returns-then-at_dyn_word
+types::inside-returns-then-at_dyn_word = types.types::inside-returns-then-at_dyn_word
+
+pub types::inside-returns-else-at_dyn_word : goal.types::inside-returns-else-at_dyn_word
+types::inside-returns-else-at_dyn_word = types.types::inside-returns-else-at_dyn_word
+
+pub types::inside-path_type-requires : goal.types::inside-path_type-requires
+types::inside-path_type-requires = types.types::inside-path_type-requires
+
+pub types::bounded_type-read_anew-requires : goal.types::bounded_type-read_anew-requires
+types::bounded_type-read_anew-requires = types.types::bounded_type-read_anew-requires
+
+pub types::bounded_type-complete-requires : goal.types::bounded_type-complete-requires
+types::bounded_type-complete-requires = types.types::bounded_type-complete-requires
+
+pub types::bounded_type-returns-clause-reads : goal.types::bounded_type-returns-clause-reads
+types::bounded_type-returns-clause-reads = types.types::bounded_type-returns-clause-reads
+
+pub types::bounded_type-returns-clause-looks : goal.types::bounded_type-returns-clause-looks
+types::bounded_type-returns-clause-looks = types.types::bounded_type-returns-clause-looks
+
+pub types::path_type-path_with_args-requires : goal.types::path_type-path_with_args-requires
+types::path_type-path_with_args-requires = types.types::path_type-path_with_args-requires
+
+pub types::path_type-complete-requires : goal.types::path_type-complete-requires
+types::path_type-complete-requires = types.types::path_type-complete-requires
+
+pub types::path_type-returns-clause-reads : goal.types::path_type-returns-clause-reads
+types::path_type-returns-clause-reads = types.types::path_type-returns-clause-reads
+
+pub types::expect_type-any_type-requires : goal.types::expect_type-any_type-requires
+types::expect_type-any_type-requires = types.types::expect_type-any_type-requires
+
+pub types::expect_type-returns-then-at_type-clause-reads : goal.types::expect_type-returns-then-at_type-clause-reads
+types::expect_type-returns-then-at_type-clause-reads = types.types::expect_type-returns-then-at_type-clause-reads
+
+pub types::expect_type-returns-clause-reads : goal.types::expect_type-returns-clause-reads
+types::expect_type-returns-clause-reads = types.types::expect_type-returns-clause-reads
+
+pub types::ptr_type-expect_type-requires : goal.types::ptr_type-expect_type-requires
+types::ptr_type-expect_type-requires = types.types::ptr_type-expect_type-requires
+
+pub types::ptr_type-complete-requires : goal.types::ptr_type-complete-requires
+types::ptr_type-complete-requires = types.types::ptr_type-complete-requires
+
+pub types::ptr_type-returns-clause-reads : goal.types::ptr_type-returns-clause-reads
+types::ptr_type-returns-clause-reads = types.types::ptr_type-returns-clause-reads
+
+pub types::ref_type-expect_type-requires : goal.types::ref_type-expect_type-requires
+types::ref_type-expect_type-requires = types.types::ref_type-expect_type-requires
+
+pub types::ref_type-complete-requires : goal.types::ref_type-complete-requires
+types::ref_type-complete-requires = types.types::ref_type-complete-requires
+
+pub types::ref_type-returns-clause-reads : goal.types::ref_type-returns-clause-reads
+types::ref_type-returns-clause-reads = types.types::ref_type-returns-clause-reads
+
+pub types::paren_type-after_paren-requires : goal.types::paren_type-after_paren-requires
+types::paren_type-after_paren-requires = types.types::paren_type-after_paren-requires
+
+pub types::paren_type-returns-clause-reads : goal.types::paren_type-returns-clause-reads
+types::paren_type-returns-clause-reads = types.types::paren_type-returns-clause-reads
+
+pub types::after_paren-wrap-requires : goal.types::after_paren-wrap-requires
+types::after_paren-wrap-requires = types.types::after_paren-wrap-requires
+
+pub types::after_paren-returns-then-at-clause-reads : goal.types::after_paren-returns-then-at-clause-reads
+types::after_paren-returns-then-at-clause-reads = types.types::after_paren-returns-then-at-clause-reads
+
+pub types::after_paren-returns-clause-reads : goal.types::after_paren-returns-clause-reads
+types::after_paren-returns-clause-reads = types.types::after_paren-returns-clause-reads
+
+pub types::after_first-rest_of_list-requires : goal.types::after_first-rest_of_list-requires
+types::after_first-rest_of_list-requires = types.types::after_first-rest_of_list-requires
+
+pub types::after_first-wrap-requires : goal.types::after_first-wrap-requires
+types::after_first-wrap-requires = types.types::after_first-wrap-requires
+
+pub types::after_first-wrap-requires-2 : goal.types::after_first-wrap-requires-2
+types::after_first-wrap-requires-2 = types.types::after_first-wrap-requires-2
+
+pub types::after_first-returns-then-at-clause-reads : goal.types::after_first-returns-then-at-clause-reads
+types::after_first-returns-then-at-clause-reads = types.types::after_first-returns-then-at-clause-reads
+
+pub types::after_first-returns-clause-reads : goal.types::after_first-returns-clause-reads
+types::after_first-returns-clause-reads = types.types::after_first-returns-clause-reads
+
+pub types::bracket_type-expect_type-requires : goal.types::bracket_type-expect_type-requires
+types::bracket_type-expect_type-requires = types.types::bracket_type-expect_type-requires
+
+pub types::bracket_type-after_element-requires : goal.types::bracket_type-after_element-requires
+types::bracket_type-after_element-requires = types.types::bracket_type-after_element-requires
+
+pub types::bracket_type-returns-clause-reads : goal.types::bracket_type-returns-clause-reads
+types::bracket_type-returns-clause-reads = types.types::bracket_type-returns-clause-reads
+
+pub types::after_element-array_length-requires : goal.types::after_element-array_length-requires
+types::after_element-array_length-requires = types.types::after_element-array_length-requires
+
+pub types::after_element-wrap-requires : goal.types::after_element-wrap-requires
+types::after_element-wrap-requires = types.types::after_element-wrap-requires
+
+pub types::after_element-wrap-requires-2 : goal.types::after_element-wrap-requires-2
+types::after_element-wrap-requires-2 = types.types::after_element-wrap-requires-2
+
+pub types::after_element-returns-then-at-clause-reads : goal.types::after_element-returns-then-at-clause-reads
+types::after_element-returns-then-at-clause-reads = types.types::after_element-returns-then-at-clause-reads
+
+pub types::after_element-returns-clause-reads : goal.types::after_element-returns-clause-reads
+types::after_element-returns-clause-reads = types.types::after_element-returns-clause-reads
+
+pub types::array_length-returns-clause-reads : goal.types::array_length-returns-clause-reads
+types::array_length-returns-clause-reads = types.types::array_length-returns-clause-reads
+
+pub read_by_hand-returns-in-AnyType-clause-looks : goal.read_by_hand-returns-in-AnyType-clause-looks
+read_by_hand-returns-in-AnyType-clause-looks = hands.read_by_hand-returns-in-AnyType-clause-looks
+
+pub read_by_hand-any_type-requires : goal.read_by_hand-any_type-requires
+read_by_hand-any_type-requires = hands.read_by_hand-any_type-requires

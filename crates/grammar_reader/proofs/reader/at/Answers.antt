@@ -1,6 +1,6 @@
 use Rattle.std.proofs.Common.{◌≡◌, Bool, subst}
 use Rattle.grammar_reader.specs.CanRead.{is_begun}
-use Rattle.grammar_reader.specs.Data.{plain}
+use Rattle.grammar_table.specs.Data.{plain}
 use Rattle.grammar_reader.proofs.Asking.{begin-cost}
 use Rattle.grammar_reader.proofs.Beginning.{begun-here}
 use Rattle.grammar_reader.proofs.Looking.{still-at, still-short}

@@ -1,5 +1,5 @@
 use Rattle.std.proofs.Common.{arith}
-use Rattle.grammar_reader.proofs.Sizes.{few-ranks}
+use Rattle.grammar_table.proofs.Sizes.{few-ranks}
 use Rattle.grammar_reader.proofs.reader.callee.Goals as goal
 
 pub returns-then-left-began-clause-some : goal.returns-then-left-began-clause-some

@@ -5,9 +5,9 @@ use Rattle.parser_input.specs.declared.syntax_kind.SyntaxKind.{SyntaxKind}
 use Rattle.rust_grammar.specs.Meaning.{meaning}
 use Rattle.rust_grammar.specs.Whole.{whole}
 use Rattle.rust_grammar.proofs.Plain.{and_r}
-use Rattle.grammar_reader.specs.Data.{named}
+use Rattle.grammar_table.specs.Data.{named}
 use Rattle.grammar_reader.specs.Told.{IsNext}
-use Rattle.grammar_reader.specs.declared.production.Production.{Production}
+use Rattle.grammar_table.specs.declared.production.Production.{Production}
 use Rattle.grammar_reader.proofs.Telling.{sure, tail-passed}
 use Rattle.grammar_reader.proofs.reader.passes_by.Goals as goal
 

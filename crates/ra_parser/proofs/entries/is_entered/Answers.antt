@@ -6,7 +6,7 @@ use Rattle.rust_grammar.specs.Whole.{rule, whole}
 use Rattle.rust_grammar.proofs.WholeTable.{whole-begins}
 use Rattle.ra_parser.specs.Entries.{can_enter, production_of}
 use Rattle.grammar_reader.specs.CanRead.{is_begun}
-use Rattle.grammar_reader.specs.Data.{plain}
+use Rattle.grammar_table.specs.Data.{plain}
 use Rattle.grammar_reader.specs.Looks.{begin_looks}
 use Rattle.ra_parser.proofs.EntryLooks.{few-to-begin}
 use Rattle.ra_parser.proofs.entries.is_entered.Goals as goal

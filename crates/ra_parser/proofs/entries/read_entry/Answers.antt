@@ -3,7 +3,7 @@ use Rattle.parser_input.specs.Input.{Token}
 use Rattle.parser_events.specs.Forest.{Forest}
 use Rattle.parser_events.specs.Marked.{End, marked}
 use Rattle.parser_events.specs.Seen.{message_of}
-use Rattle.grammar_reader.specs.Data.{named}
+use Rattle.grammar_table.specs.Data.{named}
 use Rattle.rust_productions.specs.Stands.{Holds, left}
 use Rattle.grammar_reader.proofs.Standing.{stands-still}
 use Rattle.ra_parser.specs.Entries.{can_enter, production_of}

@@ -7,10 +7,10 @@ use Rattle.rust_grammar.specs.Whole.{rank, rule, whole}
 use Rattle.rust_grammar.specs.Begun.{IsBegun}
 use Rattle.rust_grammar.specs.Laws.{reads}
 use Rattle.grammar_reader.specs.CanRead.{CanRead}
-use Rattle.grammar_reader.specs.Layers.{layer_at, turns_of}
-use Rattle.grammar_reader.specs.Size.{size}
+use Rattle.grammar_table.specs.Layers.{layer_at, turns_of}
+use Rattle.grammar_table.specs.Size.{size}
 use Rattle.rust_productions.specs.Stands.{Stands, left}
-use Rattle.grammar_reader.proofs.Sizes.{falls-climb, below-measure}
+use Rattle.grammar_table.proofs.Sizes.{falls-climb, below-measure}
 use Rattle.grammar_reader.proofs.Standing.{stands-still, nothing-given, still-innermost, short-still}
 use Rattle.grammar_reader.specs.Looks.{Costs}
 use Rattle.grammar_reader.specs.Prices.{idle, debt, is_paid, idle_of, debt_of}

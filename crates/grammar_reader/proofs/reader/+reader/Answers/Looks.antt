@@ -3,7 +3,7 @@ use Rattle.std.proofs.Common.{◌≡◌, ◌+◌, ◌<◌, ◌≤◌, max, Bool,
 use Rattle.parser_events.specs.Marked.{marked}
 use Rattle.rust_grammar.specs.Meaning.{read, fresh, leaf, say, skip, split, wrapped}
 use Rattle.grammar_reader.specs.CanRead.{CanRead, is_begun}
-use Rattle.grammar_reader.specs.Data.{plain}
+use Rattle.grammar_table.specs.Data.{plain}
 use Rattle.rust_productions.specs.Stands.{left}
 use Rattle.grammar_reader.proofs.Standing.{inside, stands-still, stands-opened}
 use Rattle.rust_grammar.proofs.Plain.{and_l, and_r}

@@ -8,7 +8,7 @@ use Rattle.rust_grammar.specs.Words.{'::'}
 use Rattle.rust_grammar.specs.Calls.{Ref}
 use Rattle.rust_grammar.specs.Shared.{colons_before_more}
 use Rattle.rust_grammar.specs.Rule.{Nothing, One, Unless}
-use Rattle.rust_productions.proofs.Turns.{TurnsFrom}
+use Rattle.rust_productions.specs.Turns.{TurnsFrom}
 use Rattle.rust_productions.proofs.grammar.paths.next_segments.Given as goal
 
 abbrev pub invariant-turns : goal.invariant-turns

@@ -5,7 +5,7 @@ use Rattle.rust_grammar.specs.Notation.{◌or◌, ◌*, one_of}
 use Rattle.rust_grammar.specs.Words.{'r_paren', 'r_curly', ']'}
 use Rattle.rust_grammar.specs.Calls.{TokenTree}
 use Rattle.rust_grammar.specs.Rule.{Left, Both, Not, When, Any}
-use Rattle.rust_productions.proofs.Turns.{TurnsFrom}
+use Rattle.rust_productions.specs.Turns.{TurnsFrom}
 use Rattle.rust_productions.proofs.grammar.token_trees.+token_trees.Given as goal
 
 abbrev pub decreases-inner : goal.decreases-inner

@@ -7,7 +7,7 @@ use Rattle.rust_grammar.specs.Notation.{◌or◌, ◌▸◌, ◌*, next, one_of,
 use Rattle.rust_grammar.specs.Words.{'comma', 'r_curly'}
 use Rattle.rust_grammar.specs.Calls.{UseTree}
 use Rattle.rust_grammar.specs.Rule.{Left, Both, Not, Nothing, One, Say, Skip, When, Unless}
-use Rattle.rust_productions.proofs.Turns.{TurnsFrom}
+use Rattle.rust_productions.specs.Turns.{TurnsFrom}
 use Rattle.rust_productions.proofs.grammar.use_trees.+use_trees.Given as goal
 
 abbrev pub decreases-star_or_list : goal.decreases-star_or_list

@@ -1,0 +1,86 @@
+//! Blocks.
+
+ghost use Rattle.std.specs.Prelude.{◌≡◌, ◌≤◌, ◌<◌, ◌+◌, ◌*◌, ◌^◌, Bool, ℕ, IsTrue, false, length};
+ghost use Rattle.parser_events.specs.Stack.{IsInnermost};
+ghost use Rattle.rust_grammar.specs.Notation.{◌*, until};
+ghost use Rattle.rust_grammar.specs.Rule as rules;
+ghost use Rattle.rust_grammar.specs.Rule.{Call, Unless};
+ghost use Rattle.rust_grammar.specs.Words.{'r_curly'};
+ghost use Rattle.rust_productions.specs.Looks.{tokens, spent};
+ghost use Rattle.rust_productions.specs.Reads.{Gives, Reads};
+ghost use Rattle.rust_productions.specs.Turns.{TurnsFrom};
+
+use crate::look::tokens_left;
+use crate::reader::called::{at_production, read_anew};
+use grammar_table::production::Production;
+use parser_events::parser::Parser;
+use parser_input::syntax_kind::SyntaxKind;
+use rust_productions::grammar::lists::at_list_end;
+use rust_productions::grammar::{complete, expect, start, take};
+
+/// A block.
+#[cycle(reader)]
+pub(crate) fn block(p: &mut Parser<'_>)
+    requires short { length p.old.input < 2 ^ 64 }
+    requires some { 1 ≤ tokens p.old }
+    ensures gives { (c : Bool) → Gives rules.block c p.old p.new }
+    ensures left { tokens p.new + 1 ≤ tokens p.old }
+    ensures looks { spent p.new + 2990 ≤ spent p.old }
+{
+    let block = start(p);
+    statement_list(p);
+    complete(p, block, SyntaxKind::BLOCK_EXPR);
+}
+
+/// The statements of a block, in their braces.
+#[cycle(reader)]
+pub(crate) fn statement_list(p: &mut Parser<'_>)
+    requires short { length p.old.input < 2 ^ 64 }
+    requires some { 1 ≤ tokens p.old }
+    ensures gives { (c : Bool) → Gives rules.statement_list c p.old p.new }
+    ensures left { tokens p.new + 1 ≤ tokens p.old }
+    ensures looks { spent p.new + 3000 ≤ spent p.old }
+{
+    let list = start(p);
+    take(p, SyntaxKind::L_CURLY);
+    statements(p);
+    expect(p, SyntaxKind::R_CURLY);
+    complete(p, list, SyntaxKind::STMT_LIST);
+}
+
+/// Reads a statement. Whether more may follow is the answer.
+#[cycle(reader)]
+fn statement_turn(p: &mut Parser<'_>) -> bool
+    requires short { length p.old.input < 2 ^ 64 }
+    ensures goes { IsTrue result
+        → TurnsFrom false (Unless (until 'r_curly') (Call rules.statement)) p.old p.new }
+    ensures ends { result ≡ false
+        → Reads false ((Unless (until 'r_curly') (Call rules.statement)) *) p.old p.new }
+    ensures input { p.new.input ≡ p.old.input }
+    ensures innermost { (n : ℕ) → IsInnermost n p.old.nodes → IsInnermost n p.new.nodes }
+    ensures fewer { IsTrue result → tokens p.new < tokens p.old }
+    ensures left { tokens p.new ≤ tokens p.old }
+    ensures pays { IsTrue result → spent p.new ≤ spent p.old }
+    ensures looks { spent p.new ≤ spent p.old + 1080 }
+{
+    if at_list_end(p, SyntaxKind::R_CURLY) {
+        return false;
+    }
+    if !at_production(p, Production::Statement, false) {
+        return false;
+    }
+    let before = tokens_left(p);
+    read_anew(p, Production::Statement, false);
+    tokens_left(p) < before
+}
+
+/// Reads the statements of a block.
+#[cycle(reader)]
+fn statements(p: &mut Parser<'_>)
+    requires short { length p.old.input < 2 ^ 64 }
+    ensures reads { Reads false ((Unless (until 'r_curly') (Call rules.statement)) *) p.old p.new }
+    ensures left { tokens p.new ≤ tokens p.old }
+    ensures looks { spent p.new ≤ spent p.old + 1080 }
+{
+    'turns: while statement_turn(p) {}
+}
