@@ -112,14 +112,3 @@ one b = if b then 1 else 0
 
 pub asks-part : (apart row : rows.Rule) → plain apart ≡ plain row → is_reference apart ≡ false → is_reference row ≡ true → to_ask apart < to_ask row
 asks-part a b e f g = omega (arith, ap (λ (r : Rule). deepest r) e, ap (λ (r : Rule). size r) e, ap one f, ap one g)
-
--- what is to be passed by of a row: so many alternatives, and whether it stands for another row
-abbrev pub to_pass : ℕ → rows.Rule → ℕ
-to_pass count d = 2 * count + (if is_reference d then 1 else 0)
-
-pub after-or : (second row : rows.Rule) (count : ℕ) → (count ≡ 0 → ⊥) → to_pass (count - 1) second < to_pass count row
-after-or second row zero some = absurd (some refl)
-after-or second row (suc count) some = omega (arith, least (is_reference second))
-
-pub after-part : (apart row : rows.Rule) (count : ℕ) → is_reference apart ≡ false → is_reference row ≡ true → to_pass count apart < to_pass count row
-after-part a b count f g = omega (arith, ap one f, ap one g)

@@ -1,11 +1,12 @@
 -- The turns of lists.
-use Rattle.std.proofs.Common.{◌≡◌, ℕ, ◌+◌, ◌<◌, ◌≤◌, nat_le, nat_lt, Bool, true, false, not, length, refl, ap, ◌∙◌, arith, inl, inr, if◌then◌else◌}
-use Rattle.std.proofs.lemmas.Bool.{leb-true}
+use Rattle.std.proofs.Common.{◌≡◌, ℕ, ◌+◌, ◌<◌, ◌≤◌, nat_le, nat_lt, Bool, true, false, not, length, refl, sym, ap, subst, ◌∙◌, arith, inl, inr, if◌then◌else◌}
+use Rattle.std.proofs.lemmas.Bool.{cases_lt, leb-true}
 use Rattle.parser_events.specs.View.{View}
 use Rattle.parser_input.specs.Kinds.{COMMA}
 use Rattle.parser_events.specs.Forest.{Expected, UnexpectedIn}
-use Rattle.rust_grammar.specs.Notation.{◌or◌, next, one_of, stops, until}
-use Rattle.rust_grammar.specs.Rule.{statement, Production, Rule, Look, Both, Either, Left, Never, Not, Call, Nothing, One, Say, Skip, Unless, When, anew, begins, is_silent, passes}
+use Rattle.rust_grammar.specs.Notation.{◌or◌, ◌▸◌, next, one_of, stops, until}
+use Rattle.rust_grammar.specs.Rule as rules
+use Rattle.rust_grammar.specs.Rule.{expression, operation, statement, Production, Rule, Look, Then, Both, Either, Left, Never, Not, Call, Nothing, One, Say, Skip, Unless, When, anew, begins, is_silent, passes}
 use Rattle.rust_grammar.specs.Meaning.{sees}
 use Rattle.rust_grammar.specs.Whole.{rank}
 use Rattle.rust_grammar.specs.Expressions.{expressions}
@@ -19,7 +20,9 @@ use Rattle.rust_grammar.specs.Statements.{statements}
 use Rattle.rust_grammar.specs.Types.{types}
 use Rattle.rust_grammar.specs.Whole.{rule, whole}
 use Rattle.rust_grammar.specs.Words.{one, 'comma'}
-use Rattle.grammar_reader.specs.ByHand.{element_of, list_turn}
+use Rattle.grammar_reader.specs.ByHand.{element_of, level_of, list_turn, looks_before, looks_in}
+use Rattle.grammar_reader.specs.declared.reader.expressions.Level.{Level}
+use Rattle.grammar_reader.specs.declared.reader.expressions.Level.TheVariants as levels
 use Rattle.grammar_reader.specs.Looks.{asked, begin_looks, Costs}
 use Rattle.grammar_reader.specs.Prices.{debt_of, idle_of, most, surely_takes}
 use Rattle.grammar_reader.specs.declared.reader.lists.Element.{Element}
@@ -47,35 +50,67 @@ saw-never {c} {b} {l} saw = record { at = λ s e. alone (sees c s l) ∙ saw.at 
     alone true = refl
     alone false = refl
 
-module _ (list : ℕ) (x : Production) (close : ℕ) {v : View} where
+-- A part that is read for sure is where what follows begins.
+first-begins : (r b : Rule) → is_silent r ≡ false → passes r ≡ false → begins looks (Then r b) ≡ begins looks r
+unfolding begins
+first-begins r b e f = rw (e, f) refl
+
+module _ (list : ℕ) (r : Rule) (close : ℕ) {v : View} where
   -- A list ends at its closing token, and where neither an element nor a stray token is next.
-  pub over : Saw false (until (one close)) v true → Saw false (begins looks (list_turn list x close)) v false
+  pub over : Saw false (until (one close)) v true → Saw false (begins looks (list_turn list r close)) v false
   unfolding begins passes is_silent
   over f = saw-no-left (saw-denied f)
 
-  pub over-there : Saw false (until (one close)) v false → Saw false (anew (looks x)) v false → Saw false (Both Left (Not (one_of 0 stops))) v false → Saw false (begins looks (list_turn list x close)) v false
-  unfolding begins passes is_silent
-  over-there f g h = saw-both (saw-denied f) (saw-either-right g h)
+  module _ (said : is_silent r ≡ false) (sure : passes r ≡ false) where
+    -- an element is next where one begins
+    element-next : {b : Bool} → Saw false (begins looks r) v b → Saw false (begins looks (r ▸ (One 'comma' or When (next (one close)) Nothing or Say (Expected COMMA)))) v b
+    element-next {b} saw = subst (λ (l : Look). Saw false l v b) (sym (first-begins r (One 'comma' or When (next (one close)) Nothing or Say (Expected COMMA)) said sure)) saw
 
-  -- It goes on else.
-  pub more : Saw false (until (one close)) v false → Saw false (anew (looks x)) v true → Saw false (begins looks (list_turn list x close)) v true
-  unfolding begins passes is_silent
-  more f g = saw-both (saw-denied f) (saw-either-left g)
+    pub over-there : Saw false (until (one close)) v false → Saw false (begins looks r) v false → Saw false (Both Left (Not (one_of 0 stops))) v false → Saw false (begins looks (list_turn list r close)) v false
+    unfolding begins
+    over-there f g h = saw-both (saw-denied f) (saw-either-right (element-next g) h)
 
-  pub stray : Saw false (until (one close)) v false → Saw false (anew (looks x)) v false → Saw false (Both Left (Not (one_of 0 stops))) v true → Saw false (begins looks (list_turn list x close)) v true
-  unfolding begins passes is_silent
-  stray f g h = saw-both (saw-denied f) (saw-either-right g h)
+    -- It goes on else.
+    pub more : Saw false (until (one close)) v false → Saw false (begins looks r) v true → Saw false (begins looks (list_turn list r close)) v true
+    unfolding begins
+    more f g = saw-both (saw-denied f) (saw-either-left (element-next g))
 
-  pub reads-element :
-      {mid new : View} → Saw false (anew (looks x)) v true → Gives x false v mid
-      → Reads false (One 'comma' or When (next (one close)) Nothing or Say (Expected COMMA)) mid new
-      → Reads false (list_turn list x close) v new
-  unfolding begins passes is_silent
-  reads-element f p q = reads-unless false (reads-or false f (reads-then false (reads-call false p) q))
+    pub stray : Saw false (until (one close)) v false → Saw false (begins looks r) v false → Saw false (Both Left (Not (one_of 0 stops))) v true → Saw false (begins looks (list_turn list r close)) v true
+    unfolding begins
+    stray f g h = saw-both (saw-denied f) (saw-either-right (element-next g) h)
 
-  pub reads-stray : {new : View} → Saw false (anew (looks x)) v false → Reads false (Skip (UnexpectedIn list)) v new → Reads false (list_turn list x close) v new
-  unfolding begins passes is_silent
-  reads-stray f p = reads-unless false (reads-else false f (reads-when false p))
+    pub reads-element :
+        {mid new : View} → Saw false (begins looks r) v true → Reads false r v mid
+        → Reads false (One 'comma' or When (next (one close)) Nothing or Say (Expected COMMA)) mid new
+        → Reads false (list_turn list r close) v new
+    reads-element f p q = reads-unless false (reads-or false (element-next f) (reads-then false p q))
+
+    pub reads-stray : {new : View} → Saw false (begins looks r) v false → Reads false (Skip (UnexpectedIn list)) v new → Reads false (list_turn list r close) v new
+    reads-stray f p = reads-unless false (reads-else false (element-next f) (reads-when false p))
+
+pub said-element : (e : Element) → is_silent (element_of e) ≡ false
+unfolding is_silent
+said-element elements.ClosureParam = refl
+said-element elements.Expression = refl
+said-element elements.FieldValue = refl
+said-element elements.GenericArg = refl
+said-element elements.GenericParam = refl
+said-element elements.Param = refl
+said-element elements.Pattern = refl
+said-element elements.PatternField = refl
+said-element elements.Type = refl
+
+pub sure-element : (e : Element) → passes (element_of e) ≡ false
+unfolding passes
+sure-element elements.ClosureParam = refl
+sure-element elements.Expression = refl
+sure-element elements.FieldValue = refl
+sure-element elements.GenericArg = refl
+sure-element elements.GenericParam = refl
+sure-element elements.Param = refl
+sure-element elements.Pattern = refl
+sure-element elements.PatternField = refl
+sure-element elements.Type = refl
 
 -- The same where a list repeats one production alone.
 abbrev pub repeated : Production → ℕ → Rule
@@ -94,71 +129,123 @@ pub repeated-ends : (x : Production) (close : ℕ) → EndsAtEnd false (repeated
 unfolding begins sees
 repeated-ends x close t none = let e : nat_lt 0 (length t.rest) ≡ false = ap (λ (n : ℕ). nat_lt 0 n) none in rw e refl
 
-pub ends : (list : ℕ) (x : Production) (close : ℕ) → EndsAtEnd false (list_turn list x close)
+pub ends : (list : ℕ) (r : Rule) (close : ℕ) → EndsAtEnd false (list_turn list r close)
 unfolding begins sees
-ends list x close t none = let e : nat_lt 0 (length t.rest) ≡ false = ap (λ (n : ℕ). nat_lt 0 n) none in rw e refl
+ends list r close t none = let e : nat_lt 0 (length t.rest) ≡ false = ap (λ (n : ℕ). nat_lt 0 n) none in rw e refl
 
--- What elements cost.
-few-idle : (e : Element) → nat_le (most (idle_of (element_of e))) 600 ≡ true
-unfolding most idle_of surely_takes rank
-few-idle elements.Expression = refl
-few-idle elements.FieldValue = refl
-few-idle elements.GenericArg = refl
-few-idle elements.GenericParam = refl
-few-idle elements.Param = refl
-few-idle elements.PatternField = refl
-few-idle elements.Type = refl
-
-few-debt : (e : Element) → nat_le (debt_of (element_of e)) 3000 ≡ true
-unfolding debt_of rank
-few-debt elements.Expression = refl
-few-debt elements.FieldValue = refl
-few-debt elements.GenericArg = refl
-few-debt elements.GenericParam = refl
-few-debt elements.Param = refl
-few-debt elements.PatternField = refl
-few-debt elements.Type = refl
-
-few-begin : (e : Element) → nat_le (begin_looks (Call (element_of e))) 170 ≡ true
-unfolding begin_looks asked look_of begins_below whole rule items statements expressions patterns types paths there_at shift passes is_silent begins in_mode anew row one_of any_of no_longer longest is_longer
-few-begin elements.Expression = refl
-few-begin elements.FieldValue = refl
-few-begin elements.GenericArg = refl
-few-begin elements.GenericParam = refl
-few-begin elements.Param = refl
-few-begin elements.PatternField = refl
-few-begin elements.Type = refl
-
-pub begin-cost : (e : Element) → begin_looks (Call (element_of e)) ≤ 170
-begin-cost e = leb-true _ _ (few-begin e)
-
-pub element-cost : (e : Element) {old new : View} → Costs (idle_of (element_of e)) (debt_of (element_of e)) old new → spent new ≤ spent old + 600
+-- What a production costs that is called anew: its looks where it takes no token, and what is left of a token that it takes.
+pub read-cost : (n : ℕ) (x : Production) {old new : View} → nat_le (most (idle_of x)) n ≡ true → nat_le (debt_of x) 4096 ≡ true → Costs (idle_of x) (debt_of x) old new → spent new ≤ spent old + n
 unfolding tokens
-element-cost e (inl h) = omega (arith, h.none, at-most _ _ _ h.looks, leb-true _ _ (few-idle e))
-element-cost e (inr h) = omega (arith, h.some, h.looks, leb-true _ _ (few-debt e))
+read-cost n x e f (inl h) = omega (arith, h.none, at-most _ _ _ h.looks, leb-true _ _ e)
+read-cost n x e f (inr h) = omega (arith, h.some, h.looks, leb-true _ _ f)
+
+pub read-pays : (n : ℕ) (x : Production) {old new : View} → nat_le (debt_of x + n) 4096 ≡ true → Costs (idle_of x) (debt_of x) old new → tokens new < tokens old → spent new + n ≤ spent old
+unfolding tokens
+read-pays n x e (inl h) less = absurd (omega (arith, h.none, less))
+read-pays n x e (inr h) less = omega (arith, h.looks, leb-true _ _ e)
+
+-- How many looks tell whether one begins.
+pub expression-begins : begin_looks (Call expression) ≤ 170
+unfolding begin_looks asked look_of begins_below whole rule items statements expressions patterns types paths there_at shift passes is_silent begins in_mode anew row one_of any_of no_longer longest is_longer
+expression-begins = omega arith
+
+pub operation-begins : begin_looks (Call operation) ≤ 170
+unfolding begin_looks asked look_of begins_below whole rule items statements expressions patterns types paths there_at shift passes is_silent begins in_mode anew row one_of any_of no_longer longest is_longer
+operation-begins = omega arith
+
+few-before : (l : Level) → nat_le (begin_looks (Call (level_of l))) 170 ≡ true
+unfolding begin_looks asked look_of begins_below whole rule items statements expressions patterns types paths there_at shift passes is_silent begins in_mode anew row one_of any_of no_longer longest is_longer
+few-before levels.Comparison = refl
+few-before levels.Expression = refl
+few-before levels.Operation = refl
+few-before levels.Prefixed = refl
+
+pub level-begins : (l : Level) → begin_looks (Call (level_of l)) ≤ 170
+level-begins l = leb-true _ _ (few-before l)
+
+few-in : (l : Level) → nat_le (most (idle_of (level_of l))) 600 ≡ true
+unfolding most idle_of surely_takes rank
+few-in levels.Comparison = refl
+few-in levels.Expression = refl
+few-in levels.Operation = refl
+few-in levels.Prefixed = refl
+
+few-debt : (l : Level) → nat_le (debt_of (level_of l)) 4096 ≡ true
+unfolding debt_of rank
+few-debt levels.Comparison = refl
+few-debt levels.Expression = refl
+few-debt levels.Operation = refl
+few-debt levels.Prefixed = refl
+
+pub level-cost : (l : Level) {old new : View} → Costs (idle_of (level_of l)) (debt_of (level_of l)) old new → spent new ≤ spent old + 600
+level-cost l h = read-cost 600 (level_of l) (few-in l) (few-debt l) h
+
+pub field_value-begins : begin_looks (Call rules.field_value) ≤ 170
+unfolding begin_looks asked look_of begins_below whole rule items statements expressions patterns types paths there_at shift passes is_silent begins in_mode anew row one_of any_of no_longer longest is_longer
+field_value-begins = omega arith
+
+pub generic_arg-begins : begin_looks (Call rules.generic_arg) ≤ 170
+unfolding begin_looks asked look_of begins_below whole rule items statements expressions patterns types paths there_at shift passes is_silent begins in_mode anew row one_of any_of no_longer longest is_longer
+generic_arg-begins = omega arith
+
+pub generic_param-begins : begin_looks (Call rules.generic_param) ≤ 170
+unfolding begin_looks asked look_of begins_below whole rule items statements expressions patterns types paths there_at shift passes is_silent begins in_mode anew row one_of any_of no_longer longest is_longer
+generic_param-begins = omega arith
+
+pub param-begins : begin_looks (Call rules.param) ≤ 170
+unfolding begin_looks asked look_of begins_below whole rule items statements expressions patterns types paths there_at shift passes is_silent begins in_mode anew row one_of any_of no_longer longest is_longer
+param-begins = omega arith
+
+pub pattern-begins : begin_looks (Call rules.pattern) ≤ 170
+unfolding begin_looks asked look_of begins_below whole rule items statements expressions patterns types paths there_at shift passes is_silent begins in_mode anew row one_of any_of no_longer longest is_longer
+pattern-begins = omega arith
+
+pub pattern_field-begins : begin_looks (Call rules.pattern_field) ≤ 170
+unfolding begin_looks asked look_of begins_below whole rule items statements expressions patterns types paths there_at shift passes is_silent begins in_mode anew row one_of any_of no_longer longest is_longer
+pattern_field-begins = omega arith
+
+pub type-begins : begin_looks (Call rules.any_type) ≤ 170
+unfolding begin_looks asked look_of begins_below whole rule items statements expressions patterns types paths there_at shift passes is_silent begins in_mode anew row one_of any_of no_longer longest is_longer
+type-begins = omega arith
+
+pub arm-begins : begin_looks (Call rules.match_arm) ≤ 170
+unfolding begin_looks asked look_of begins_below whole rule items statements expressions patterns types paths there_at shift passes is_silent begins in_mode anew row one_of any_of no_longer longest is_longer
+arm-begins = omega arith
 
 -- An element with its comma pays for its looks where a token is taken.
 pub element-pays :
-    (e : Element) {old mid : View} (new : View)
-    → Costs (idle_of (element_of e)) (debt_of (element_of e)) old mid → tokens new ≤ tokens mid → spent new ≤ spent mid + 2
-    → (tokens new < tokens mid → spent new + 4000 ≤ spent mid) → tokens new < tokens old → spent new + 1000 ≤ spent old
-unfolding tokens
-element-pays e new (inl h) left few pays less =
-    let more = pays (omega (arith, h.none, less)) in
-    omega (arith, h.none, at-most _ _ _ h.looks, leb-true _ _ (few-idle e), more)
-element-pays e new (inr h) left few pays less = omega (arith, h.some, h.looks, leb-true _ _ (few-debt e), few)
+    (old mid new : View) (n : ℕ) → n ≤ 600
+    → (tokens mid < tokens old → spent mid + 1000 ≤ spent old) → spent mid ≤ spent old + n
+    → tokens mid ≤ tokens old → tokens new ≤ tokens mid → spent new ≤ spent mid + 2
+    → (tokens new < tokens mid → spent new + 4000 ≤ spent mid) → tokens new < tokens old → spent new + 900 ≤ spent old
+element-pays old mid new n few first cost fewer left little pays less = elim (cases_lt (tokens mid) (tokens old)) [
+  | inl h ↦ let a = first h in omega (arith, a, little)
+  | inr h ↦ let a = pays (omega (arith, less, h, fewer)) in omega (arith, a, cost, few)
+]
+
+pub few-looks-in : (e : Element) → looks_in e ≤ 600
+few-looks-in elements.ClosureParam = omega arith
+few-looks-in elements.Expression = omega arith
+few-looks-in elements.FieldValue = omega arith
+few-looks-in elements.GenericArg = omega arith
+few-looks-in elements.GenericParam = omega arith
+few-looks-in elements.Param = omega arith
+few-looks-in elements.Pattern = omega arith
+few-looks-in elements.PatternField = omega arith
+few-looks-in elements.Type = omega arith
+
+pub few-looks-before : (e : Element) → looks_before e ≤ 170
+few-looks-before elements.ClosureParam = omega arith
+few-looks-before elements.Expression = omega arith
+few-looks-before elements.FieldValue = omega arith
+few-looks-before elements.GenericArg = omega arith
+few-looks-before elements.GenericParam = omega arith
+few-looks-before elements.Param = omega arith
+few-looks-before elements.Pattern = omega arith
+few-looks-before elements.PatternField = omega arith
+few-looks-before elements.Type = omega arith
 
 -- What statements cost.
 pub statement-begins : begin_looks (Call statement) ≤ 170
 unfolding begin_looks asked look_of begins_below whole rule items statements expressions patterns types paths there_at shift passes is_silent begins in_mode anew row one_of any_of no_longer longest is_longer
 statement-begins = omega arith
-
-pub statement-cost : {old new : View} → Costs (idle_of statement) (debt_of statement) old new → spent new ≤ spent old + 900
-unfolding tokens idle_of debt_of surely_takes rank
-statement-cost (inl h) = omega (arith, h.none, h.looks)
-statement-cost (inr h) = omega (arith, h.some, h.looks)
-
-pub statement-pays : {old new : View} → Costs (idle_of statement) (debt_of statement) old new → tokens new < tokens old → spent new + 1500 ≤ spent old
-unfolding tokens idle_of debt_of surely_takes rank
-statement-pays (inl h) less = absurd (omega (arith, h.none, less))
-statement-pays (inr h) less = omega (arith, h.some, h.looks)

@@ -1,4 +1,5 @@
 pub mod Looking
+pub mod Seeing
 pub mod Telling
 pub mod PricesTable
 pub mod Spending
@@ -17,4 +18,5 @@ mod Rest
 mod Hands
 pub mod Called
 pub mod Elements
+pub mod Operands
 pub mod PathArgs

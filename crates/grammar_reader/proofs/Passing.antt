@@ -10,7 +10,7 @@ use Rattle.grammar_table.specs.Layers.{layer_at, turns_of}
 use Rattle.grammar_reader.specs.Looks.{Costs}
 use Rattle.grammar_reader.specs.Prices.{idle, debt, idle_of, debt_of}
 use Rattle.rust_productions.specs.Stands.{left}
-use Rattle.grammar_reader.specs.Told.{IsNext, IsOver, ends_before}
+use Rattle.first_sets.specs.Told.{IsNext, IsOver, ends_before}
 use Rattle.grammar_reader.proofs.Layering.{row-at, layer-means, upper-costs}
 use Rattle.grammar_reader.proofs.Telling.{layer-ended, layer-idle}
 

@@ -88,3 +88,8 @@ pub bounds-cost : {old new : View} → Costs (idle_of rules.bounds) (debt_of rul
 unfolding tokens idle_of debt_of surely_takes rank
 bounds-cost (inl h) = omega (arith, h.none, h.looks)
 bounds-cost (inr h) = omega (arith, h.some, h.looks)
+
+-- parts one after the other, however they are grouped
+pub reads-flat : {c : Bool} {a b d : Rule} {old new : View} → Reads c (Then (Then a b) d) old new → Reads c (Then a (Then b d)) old new
+unfolding read
+reads-flat p = record { does = does-as (λ s e. refl) p.does }

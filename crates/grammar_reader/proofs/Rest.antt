@@ -6,8 +6,8 @@ use Rattle.rust_grammar.specs.Rule.{Production, Rule, Look, begins, shift}
 use Rattle.rust_grammar.specs.Meaning.{Reading, sees, look_of}
 use Rattle.rust_grammar.specs.Whole.{rule, whole}
 use Rattle.grammar_table.specs.Data.{later}
-use Rattle.grammar_reader.specs.Rows.{IsRest}
-use Rattle.grammar_reader.specs.Told.{IsNext}
+use Rattle.first_sets.specs.Rows.{IsRest}
+use Rattle.first_sets.specs.Told.{IsNext}
 use Rattle.grammar_reader.proofs.Alternatives.{rest-stands}
 use Rattle.grammar_reader.proofs.Beginning.{as-rule, shift-none}
 

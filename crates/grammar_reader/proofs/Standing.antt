@@ -35,7 +35,7 @@ stands-still {old} {new} {looks} {given} {s} {below} same h = record {
     trees None t = tt
     trees (Some nodes) t = subst (λ (n : Option (List Marked)). Holds n (marked s.given ∷ nodes)) (sym (ap (λ (v : View). v.nodes) same)) t
 
-is-end : (f : Forest) → is_end f ≡ true → f ≡ forest.End
+pub is-end : (f : Forest) → is_end f ≡ true → f ≡ forest.End
 unfolding is_end
 is-end forest.End e = refl
 is-end (forest.Leaf k n f) e = absurd (true≢false (sym e))

@@ -9,12 +9,12 @@ ghost use Rattle.rust_grammar.specs.Whole.{whole};
 ghost use Rattle.grammar_table.specs.Data.{named, plain};
 ghost use Rattle.grammar_reader.specs.Looks.{asked};
 ghost use Rattle.rust_productions.specs.Stands.{IsAt, left};
-ghost use Rattle.grammar_reader.specs.Told.{IsNext, answer_before, part_look};
+ghost use Rattle.first_sets.specs.Told.{IsNext, answer_before, part_look};
 
-use crate::first::begins_before;
 use crate::look::{Place, is_spelled, is_there, tokens_left};
-use crate::part_first::part_begins_before;
-use crate::passed::row_before;
+use first_sets::first::begins_before;
+use first_sets::part_first::part_begins_before;
+use first_sets::passed::row_before;
 use grammar_table::part::Part;
 use grammar_table::production::Production;
 use grammar_table::rule::Rule;

@@ -6,9 +6,9 @@ ghost use Rattle.rust_grammar.specs.Meaning.{Reading, look_of, sees};
 ghost use Rattle.rust_grammar.specs.Whole.{whole};
 ghost use Rattle.grammar_reader.specs.ByHand.{production_by_hand};
 ghost use Rattle.grammar_table.specs.Data.{named};
-ghost use Rattle.grammar_reader.specs.Told.{IsNext};
+ghost use Rattle.first_sets.specs.Told.{IsNext};
 
-use crate::first::begins_before;
+use first_sets::first::begins_before;
 use grammar_table::production::Production;
 use parser_input::syntax_kind::SyntaxKind;
 
@@ -17,20 +17,27 @@ use parser_input::syntax_kind::SyntaxKind;
 pub enum ByHand {
     AnyType,
     Arguments,
+    Atom,
     Attribute,
     Block,
+    BlockLike,
     ExprPath,
     FieldValues,
     GenericArgs,
     GenericParams,
+    IfExpr,
     Lifetime,
     Literal,
+    MatchArms,
     Meta,
     Name,
     NameRef,
     Params,
     Path,
+    Pattern,
     PatternFields,
+    Prefixed,
+    SinglePattern,
     StatementList,
     TokenTree,
     TypePath,
@@ -46,20 +53,27 @@ fn by_hand(production: Production) -> Option<ByHand>
     match production {
         Production::AnyType => Some(ByHand::AnyType),
         Production::Arguments => Some(ByHand::Arguments),
+        Production::Atom => Some(ByHand::Atom),
         Production::Attribute => Some(ByHand::Attribute),
         Production::Block => Some(ByHand::Block),
+        Production::BlockLike => Some(ByHand::BlockLike),
         Production::ExprPath => Some(ByHand::ExprPath),
         Production::FieldValues => Some(ByHand::FieldValues),
         Production::GenericArgs => Some(ByHand::GenericArgs),
         Production::GenericParams => Some(ByHand::GenericParams),
+        Production::IfExpr => Some(ByHand::IfExpr),
         Production::Lifetime => Some(ByHand::Lifetime),
         Production::Literal => Some(ByHand::Literal),
+        Production::MatchArms => Some(ByHand::MatchArms),
         Production::Meta => Some(ByHand::Meta),
         Production::Name => Some(ByHand::Name),
         Production::NameRef => Some(ByHand::NameRef),
         Production::Params => Some(ByHand::Params),
         Production::Path => Some(ByHand::Path),
+        Production::Pattern => Some(ByHand::Pattern),
         Production::PatternFields => Some(ByHand::PatternFields),
+        Production::Prefixed => Some(ByHand::Prefixed),
+        Production::SinglePattern => Some(ByHand::SinglePattern),
         Production::StatementList => Some(ByHand::StatementList),
         Production::TokenTree => Some(ByHand::TokenTree),
         Production::TypePath => Some(ByHand::TypePath),

@@ -8,9 +8,6 @@
 pub mod begin;
 pub mod by_hand;
 pub mod context;
-pub mod first;
 pub mod look;
 pub mod open;
-pub mod part_first;
-pub mod passed;
 pub mod reader;

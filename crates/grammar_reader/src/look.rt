@@ -7,7 +7,7 @@ ghost use Rattle.rust_grammar.specs.Meaning.{Reading, ahead, sees};
 ghost use Rattle.grammar_table.specs.Data.{plain_look, spelled};
 ghost use Rattle.grammar_reader.specs.Looks.{asked};
 ghost use Rattle.rust_productions.specs.Stands.{IsAt, left};
-ghost use Rattle.grammar_reader.specs.Told.{IsNext, is_plain};
+ghost use Rattle.first_sets.specs.Told.{IsNext, is_plain};
 
 use grammar_table::rule::{Look, Spelling};
 use parser_events::parser::Parser;

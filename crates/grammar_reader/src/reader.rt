@@ -20,20 +20,25 @@ ghost use Rattle.grammar_table.specs.Size.{size};
 ghost use Rattle.rust_productions.specs.Looks.{tokens, spent};
 ghost use Rattle.rust_productions.specs.Reads.{looks, Gives, Saw};
 ghost use Rattle.rust_productions.specs.Stands.{Stands, left};
-ghost use Rattle.grammar_reader.specs.Told.{IsNext, gives_nothing, has_bit};
+ghost use Rattle.first_sets.specs.Told.{IsNext, gives_nothing, has_bit};
 
 use crate::begin::begins;
 use crate::by_hand::{ByHand, by_hand_before};
 use crate::context::Context;
-use crate::first::{next_layer, operation_ends_before};
 use crate::look::{Place, next_kind, tokens_left};
 use crate::open::{Open, close, leave_out, skip, split, start, take, take_any, tell, wrap};
-use crate::passed::row_before;
+use crate::reader::atoms::atom;
 use crate::reader::attributes::{attribute, meta};
 use crate::reader::blocks::{block, statement_list};
+use crate::reader::control::{block_like, if_expr, match_arms};
 use crate::reader::lists::{arguments, field_values, generic_params, params, pattern_fields};
+use crate::reader::operands::prefixed;
+use crate::reader::or_patterns::pattern;
 use crate::reader::paths::{Mode, generic_args, path_with_args};
+use crate::reader::patterns::single_pattern;
 use crate::reader::types::any_type;
+use first_sets::first::{next_layer, operation_ends_before};
+use first_sets::passed::row_before;
 use grammar_table::layer::{height_of, layer_of};
 use grammar_table::production::Production;
 use grammar_table::rule::Rule;
@@ -46,11 +51,19 @@ use rust_productions::grammar::token_trees::token_tree;
 use rust_productions::grammar::use_trees::{use_list, use_tree};
 use rust_productions::grammar::visibility::visibility;
 
+pub(crate) mod atoms;
 pub(crate) mod attributes;
 pub(crate) mod blocks;
 pub(crate) mod called;
+pub(crate) mod closures;
+pub(crate) mod control;
+pub(crate) mod expressions;
 pub(crate) mod lists;
+pub(crate) mod operands;
+pub(crate) mod or_patterns;
 pub(crate) mod paths;
+pub(crate) mod patterns;
+pub(crate) mod statements;
 pub(crate) mod types;
 
 /// Whether the rule begins here.
@@ -164,20 +177,27 @@ fn read_by_hand(p: &mut Parser<'_>, hand: ByHand, condition: bool)
     match hand {
         ByHand::AnyType => any_type(p, condition),
         ByHand::Arguments => arguments(p),
+        ByHand::Atom => atom(p, condition),
         ByHand::Attribute => attribute(p),
         ByHand::Block => block(p),
+        ByHand::BlockLike => block_like(p),
         ByHand::ExprPath => path_with_args(p, Mode::Expr),
         ByHand::FieldValues => field_values(p),
         ByHand::GenericArgs => generic_args(p),
         ByHand::GenericParams => generic_params(p),
+        ByHand::IfExpr => if_expr(p),
         ByHand::Lifetime => lifetime(p),
         ByHand::Literal => literal(p),
+        ByHand::MatchArms => match_arms(p),
         ByHand::Meta => meta(p, condition),
         ByHand::Name => name(p),
         ByHand::NameRef => name_ref(p),
         ByHand::Params => params(p),
         ByHand::Path => path(p),
+        ByHand::Pattern => pattern(p),
         ByHand::PatternFields => pattern_fields(p),
+        ByHand::Prefixed => prefixed(p, condition),
+        ByHand::SinglePattern => single_pattern(p),
         ByHand::StatementList => statement_list(p),
         ByHand::TokenTree => token_tree(p),
         ByHand::TypePath => path_with_args(p, Mode::Type),

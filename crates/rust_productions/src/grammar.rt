@@ -19,13 +19,13 @@ use parser_events::message::Message;
 use parser_events::parser::{Marker, Parser};
 use parser_input::syntax_kind::SyntaxKind;
 
-pub(crate) mod expressions;
+pub mod expressions;
 pub(crate) mod generic_params;
 pub mod lists;
 pub mod names;
 pub(crate) mod params;
 pub mod paths;
-pub(crate) mod patterns;
+pub mod patterns;
 pub mod token_trees;
 pub mod types;
 pub mod use_trees;
@@ -112,6 +112,22 @@ pub fn at_pair(p: &mut Parser<'_>, first: SyntaxKind, second: SyntaxKind) -> boo
         return false;
     }
     at_second(p, second)
+}
+
+/// Whether tokens of these kinds come after the next one, and touch each other.
+pub fn at_pair_after(p: &mut Parser<'_>, first: SyntaxKind, second: SyntaxKind) -> bool
+    ensures sees { (c : Bool) → Saw c (there_at 1 (raw_of first ∷ raw_of second ∷ [])) p.old result }
+    ensures same { Does (λ s. s) p.old p.new }
+    ensures left { tokens p.new ≡ tokens p.old }
+    ensures looks { spent p.new ≤ spent p.old + 2 }
+{
+    if !at_second(p, first) {
+        return false;
+    }
+    if !p.joint_at(1) {
+        return false;
+    }
+    at_third(p, second)
 }
 
 /// Opens a node in the innermost one.

@@ -9,8 +9,7 @@ ghost use Rattle.rust_grammar.specs.Words.{'='};
 ghost use Rattle.rust_productions.specs.Looks.{tokens, spent};
 ghost use Rattle.rust_productions.specs.Reads.{looks, Gives, Reads, Saw};
 
-use crate::reader::called::{at_production, read_anew};
-use grammar_table::production::Production;
+use crate::reader::expressions::{Level, expect_expression};
 use parser_events::message::Message;
 use parser_events::parser::Parser;
 use parser_input::syntax_kind::SyntaxKind;
@@ -77,25 +76,10 @@ fn opt_value(p: &mut Parser<'_>, condition: bool)
 {
     if at(p, SyntaxKind::EQ) {
         take(p, SyntaxKind::EQ);
-        expect_expression(p, condition);
+        expect_expression(p, Level::Expression, condition);
         return;
     }
     if at_token_tree(p) {
         token_tree(p);
     }
-}
-
-/// An expression, or the message that it is missing.
-#[cycle(reader)]
-pub(crate) fn expect_expression(p: &mut Parser<'_>, condition: bool)
-    requires short { length p.old.input < 2 ^ 64 }
-    ensures reads { Reads condition (Expression !) p.old p.new }
-    ensures left { tokens p.new ≤ tokens p.old }
-    ensures looks { spent p.new ≤ spent p.old + 770 }
-{
-    if at_production(p, Production::Expression, condition) {
-        read_anew(p, Production::Expression, condition);
-        return;
-    }
-    error(p, Message::ExpectedExpression);
 }

@@ -11,7 +11,8 @@ ghost use Rattle.rust_productions.specs.Reads.{Gives, Reads};
 ghost use Rattle.rust_productions.specs.Turns.{TurnsFrom};
 
 use crate::look::tokens_left;
-use crate::reader::called::{at_production, read_anew};
+use crate::reader::called::at_production;
+use crate::reader::statements::statement;
 use grammar_table::production::Production;
 use parser_events::parser::Parser;
 use parser_input::syntax_kind::SyntaxKind;
@@ -70,7 +71,7 @@ fn statement_turn(p: &mut Parser<'_>) -> bool
         return false;
     }
     let before = tokens_left(p);
-    read_anew(p, Production::Statement, false);
+    statement(p);
     tokens_left(p) < before
 }
 

@@ -11,11 +11,11 @@ ghost use Rattle.rust_productions.specs.Reads.{looks, Does, Gives, Saw};
 
 use crate::begin::begins;
 use crate::context::Context;
-use crate::first::begins_before;
 use crate::look::{Place, next_kind};
 use crate::open::{leave_out, start};
-use crate::passed::row_before;
 use crate::reader::production;
+use first_sets::first::begins_before;
+use first_sets::passed::row_before;
 use grammar_table::production::Production;
 use parser_events::parser::Parser;
 

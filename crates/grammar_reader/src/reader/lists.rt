@@ -1,54 +1,84 @@
 //! Lists of elements with commas between them.
 
-ghost use Rattle.std.specs.Prelude.{◌≡◌, ◌≢◌, ◌≤◌, ◌<◌, ◌+◌, ◌*◌, ◌^◌, Bool, IsTrue, ℕ, false, length};
+ghost use Rattle.std.specs.Prelude.{◌≡◌, ◌≢◌, ◌≤◌, ◌<◌, ◌+◌, ◌*◌, ◌^◌, Bool, IsTrue, ℕ, true, false, length};
 ghost use Rattle.parser_input.specs.Kind.{raw_of};
 ghost use Rattle.parser_input.specs.Kinds as kinds;
 ghost use Rattle.parser_events.specs.Stack.{IsInnermost};
 ghost use Rattle.rust_grammar.specs.Notation.{◌*, rest_listed};
 ghost use Rattle.rust_grammar.specs.Rule as rules;
-ghost use Rattle.rust_grammar.specs.Rule.{Call};
+ghost use Rattle.rust_grammar.specs.Rule.{begins};
 ghost use Rattle.rust_grammar.specs.Words.{one};
-ghost use Rattle.grammar_reader.specs.ByHand.{element_of, list_turn};
-ghost use Rattle.grammar_table.specs.Data.{named};
+ghost use Rattle.grammar_reader.specs.ByHand.{element_of, list_turn, looks_before, looks_in};
 ghost use Rattle.rust_productions.specs.Looks.{tokens, spent};
-ghost use Rattle.rust_productions.specs.Reads.{looks, Gives, Reads, Saw};
+ghost use Rattle.rust_productions.specs.Reads.{looks, Does, Gives, Reads, Saw};
 ghost use Rattle.rust_productions.specs.Turns.{TurnsFrom};
 
 use crate::look::tokens_left;
 use crate::reader::called::{at_production, read_anew};
+use crate::reader::closures::closure_param;
 use grammar_table::production::Production;
 use parser_events::message::Message;
 use parser_events::parser::Parser;
 use parser_input::syntax_kind::SyntaxKind;
 use rust_productions::grammar::lists::{at_list_end, at_unexpected, comma};
+use rust_productions::grammar::patterns::at_single_pattern;
 use rust_productions::grammar::{complete, expect, skip, start, take};
 
 /// What a list holds.
 #[derive(Clone, Copy)]
 pub(crate) enum Element {
+    ClosureParam,
     Expression,
     FieldValue,
     GenericArg,
     GenericParam,
     Param,
+    Pattern,
     PatternField,
     Type,
 }
 
-impl Element {
-    /// The production that an element is.
-    fn production(self) -> Production
-        ensures { named result ≡ element_of self }
-    {
-        match self {
-            Element::Expression => Production::Expression,
-            Element::FieldValue => Production::FieldValue,
-            Element::GenericArg => Production::GenericArg,
-            Element::GenericParam => Production::GenericParam,
-            Element::Param => Production::Param,
-            Element::PatternField => Production::PatternField,
-            Element::Type => Production::AnyType,
-        }
+/// Whether an element begins here.
+fn at_element(p: &mut Parser<'_>, element: Element) -> bool
+    requires short { length p.old.input < 2 ^ 64 }
+    ensures sees { Saw false (begins looks (element_of element)) p.old result }
+    ensures same { Does (λ s. s) p.old p.new }
+    ensures left { tokens p.new ≡ tokens p.old }
+    ensures looks { spent p.new ≤ spent p.old + looks_before element }
+{
+    match element {
+        Element::ClosureParam => at_single_pattern(p),
+        Element::Expression => at_production(p, Production::Expression, false),
+        Element::FieldValue => at_production(p, Production::FieldValue, false),
+        Element::GenericArg => at_production(p, Production::GenericArg, false),
+        Element::GenericParam => at_production(p, Production::GenericParam, false),
+        Element::Param => at_production(p, Production::Param, false),
+        Element::Pattern => at_production(p, Production::Pattern, false),
+        Element::PatternField => at_production(p, Production::PatternField, false),
+        Element::Type => at_production(p, Production::AnyType, false),
+    }
+}
+
+/// Reads an element.
+#[cycle(reader)]
+fn read_element(p: &mut Parser<'_>, element: Element)
+    requires short { length p.old.input < 2 ^ 64 }
+    requires begins { Saw false (begins looks (element_of element)) p.old true }
+    ensures reads { Reads false (element_of element) p.old p.new }
+    ensures left { tokens p.new ≤ tokens p.old }
+    ensures pays { tokens p.new < tokens p.old → spent p.new + 1000 ≤ spent p.old }
+    ensures looks { spent p.new ≤ spent p.old + looks_in element }
+{
+    match element {
+        Element::ClosureParam => closure_param(p),
+        Element::Expression => read_anew(p, Production::Expression, false),
+        Element::FieldValue => read_anew(p, Production::FieldValue, false),
+        Element::GenericArg => read_anew(p, Production::GenericArg, false),
+        Element::GenericParam => read_anew(p, Production::GenericParam, false),
+        Element::Param => read_anew(p, Production::Param, false),
+        Element::Pattern => read_anew(p, Production::Pattern, false),
+        Element::PatternField => read_anew(p, Production::PatternField, false),
+        Element::Type => read_anew(p, Production::AnyType, false),
     }
 }
 
@@ -66,15 +96,14 @@ fn turn(p: &mut Parser<'_>, list: SyntaxKind, element: Element, closing: SyntaxK
     ensures fewer { IsTrue result → tokens p.new < tokens p.old }
     ensures left { tokens p.new ≤ tokens p.old }
     ensures pays { IsTrue result → spent p.new ≤ spent p.old }
-    ensures looks { spent p.new ≤ spent p.old + 780 }
+    ensures looks { spent p.new ≤ spent p.old + looks_before element + looks_in element + 10 }
 {
     if at_list_end(p, closing) {
         return false;
     }
     let before = tokens_left(p);
-    let called = element.production();
-    if at_production(p, called, false) {
-        read_anew(p, called, false);
+    if at_element(p, element) {
+        read_element(p, element);
         comma(p, closing);
         return tokens_left(p) < before;
     }
@@ -92,7 +121,7 @@ fn elements(p: &mut Parser<'_>, list: SyntaxKind, element: Element, closing: Syn
     ensures reads { Reads false
         ((list_turn (raw_of list) (element_of element) (raw_of closing)) *) p.old p.new }
     ensures left { tokens p.new ≤ tokens p.old }
-    ensures looks { spent p.new ≤ spent p.old + 780 }
+    ensures looks { spent p.new ≤ spent p.old + looks_before element + looks_in element + 10 }
 {
     'turns: while turn(p, list, element, closing) {}
 }
@@ -107,10 +136,10 @@ pub(crate) fn rest_of_list(
 )
     requires short { length p.old.input < 2 ^ 64 }
     requires closing { raw_of closing ≢ kinds.EOF }
-    ensures reads { (c : Bool) → Reads c (rest_listed (raw_of list) (Call (element_of element))
+    ensures reads { (c : Bool) → Reads c (rest_listed (raw_of list) (element_of element)
         (one (raw_of closing))) p.old p.new }
     ensures left { tokens p.new ≤ tokens p.old }
-    ensures looks { spent p.new ≤ spent p.old + 781 }
+    ensures looks { spent p.new ≤ spent p.old + looks_before element + looks_in element + 11 }
 {
     elements(p, list, element, closing);
     expect(p, closing);

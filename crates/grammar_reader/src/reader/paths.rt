@@ -5,7 +5,7 @@ ghost use Rattle.parser_input.specs.Kinds.{PATH, PATH_SEGMENT};
 ghost use Rattle.parser_events.specs.Stack.{IsInnermost};
 ghost use Rattle.rust_grammar.specs.Notation.{◌▸◌, ⁅◌⁆, ◌*, ◌!, ◌⟨◌⟩, ◌<⟨◌⟩, ◌before◌};
 ghost use Rattle.rust_grammar.specs.Words.{'::', '<'};
-ghost use Rattle.rust_grammar.specs.Calls.{Ref};
+ghost use Rattle.rust_grammar.specs.Calls.{GenericArgs, Ref};
 ghost use Rattle.rust_grammar.specs.Shared.{colons_before_more};
 ghost use Rattle.rust_grammar.specs.Rule as rules;
 ghost use Rattle.rust_grammar.specs.Rule.{One, Unless};
@@ -109,6 +109,33 @@ pub(crate) fn generic_args(p: &mut Parser<'_>)
         SyntaxKind::R_ANGLE,
     );
     complete(p, list, SyntaxKind::GENERIC_ARG_LIST);
+}
+
+/// Whether generic arguments are next.
+fn at_generic_args(p: &mut Parser<'_>) -> bool
+    ensures sees { (c : Bool) → Saw c (looks rules.generic_args) p.old result }
+    ensures some { IsTrue result → 1 ≤ tokens p.old }
+    ensures same { Does (λ s. s) p.old p.new }
+    ensures left { tokens p.new ≡ tokens p.old }
+    ensures looks { spent p.new ≤ spent p.old + 4 }
+{
+    if at_colons_before_args(p) {
+        return true;
+    }
+    at(p, SyntaxKind::L_ANGLE)
+}
+
+/// Generic arguments, where there are some.
+#[cycle(reader)]
+pub(crate) fn opt_generic_args(p: &mut Parser<'_>)
+    requires short { length p.old.input < 2 ^ 64 }
+    ensures reads { (c : Bool) → Reads c ⁅ GenericArgs ⁆ p.old p.new }
+    ensures left { tokens p.new ≤ tokens p.old }
+    ensures looks { spent p.new ≤ spent p.old + 4 }
+{
+    if at_generic_args(p) {
+        generic_args(p);
+    }
 }
 
 /// The arguments of a segment, where there are some.

@@ -13,8 +13,8 @@ ghost use Rattle.rust_grammar.specs.Words.{one, 'comma', 'semi', 'l_paren', 'r_p
 ghost use Rattle.rust_productions.specs.Looks.{tokens, spent};
 ghost use Rattle.rust_productions.specs.Reads.{looks, Gives, Reads, Saw};
 
-use crate::reader::attributes::expect_expression;
 use crate::reader::called::read_anew;
+use crate::reader::expressions::{Level, expect_expression};
 use crate::reader::lists::{Element, rest_of_list};
 use crate::reader::paths::{Mode, path_with_args};
 use grammar_table::production::Production;
@@ -24,7 +24,7 @@ use parser_input::syntax_kind::SyntaxKind;
 use rust_productions::grammar::names::opt_lifetime;
 use rust_productions::grammar::types::{at_dyn_word, at_type};
 use rust_productions::grammar::{
-    abandon, at, complete, current, eat, error, expect, start, take, wrap,
+    abandon, at, complete, current, eat, error, expect, start, take, take_pair, wrap,
 };
 
 /// A type.
@@ -98,7 +98,7 @@ fn inside(p: &mut Parser<'_>, frame: Marker, condition: bool) -> Marker
 }
 
 /// A type of one token, in a node of this kind.
-fn word_type(p: &mut Parser<'_>, token: SyntaxKind, kind: SyntaxKind)
+pub(crate) fn word_type(p: &mut Parser<'_>, token: SyntaxKind, kind: SyntaxKind)
     requires { 1 ≤ tokens p.old }
     ensures reads { (c : Bool) → Reads c (raw_of kind ⟨ One (one (raw_of token)) ⟩) p.old p.new }
     ensures left { tokens p.new + 1 ≡ tokens p.old }
@@ -314,6 +314,21 @@ fn array_length(p: &mut Parser<'_>)
     ensures looks { spent p.new ≤ spent p.old + 770 }
 {
     let node = start(p);
-    expect_expression(p, false);
+    expect_expression(p, Level::Expression, false);
     complete(p, node, SyntaxKind::CONST_ARG);
+}
+
+/// The type that a function gives.
+#[cycle(reader)]
+pub(crate) fn ret_type(p: &mut Parser<'_>, condition: bool)
+    requires short { length p.old.input < 2 ^ 64 }
+    requires some { 2 ≤ tokens p.old }
+    ensures gives { Gives rules.ret_type condition p.old p.new }
+    ensures left { tokens p.new + 1 ≤ tokens p.old }
+    ensures looks { spent p.new + 4090 ≤ spent p.old }
+{
+    let node = start(p);
+    take_pair(p, SyntaxKind::THIN_ARROW);
+    expect_type(p, condition);
+    complete(p, node, SyntaxKind::RET_TYPE);
 }

@@ -53,7 +53,7 @@ fn at_let(p: &mut Parser<'_>, condition: bool) -> bool
 }
 
 /// Whether an expression begins here that ends in a block.
-pub(crate) fn at_block_like(p: &mut Parser<'_>) -> bool
+pub fn at_block_like(p: &mut Parser<'_>) -> bool
     ensures sees { (c : Bool) → Saw c (looks rules.block_like) p.old result }
     ensures some { IsTrue result → 1 ≤ tokens p.old }
     ensures same { Does (λ s. s) p.old p.new }

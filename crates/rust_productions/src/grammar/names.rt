@@ -30,7 +30,7 @@ pub fn name(p: &mut Parser<'_>)
 }
 
 /// A name, or the message that it is missing.
-pub(crate) fn expect_name(p: &mut Parser<'_>)
+pub fn expect_name(p: &mut Parser<'_>)
     ensures reads { (c : Bool) → Reads c (Name !) p.old p.new }
     ensures left { tokens p.new ≤ tokens p.old }
     ensures looks { spent p.new ≤ spent p.old + 1 }
@@ -158,7 +158,7 @@ pub fn literal(p: &mut Parser<'_>)
 }
 
 /// Whether a literal begins here.
-pub(crate) fn at_literal(p: &mut Parser<'_>) -> bool
+pub fn at_literal(p: &mut Parser<'_>) -> bool
     ensures sees { (c : Bool) → Saw c (looks rules.literal) p.old result }
     ensures some { IsTrue result → 1 ≤ tokens p.old }
     ensures same { Does (λ s. s) p.old p.new }
@@ -180,7 +180,7 @@ pub(crate) fn at_literal(p: &mut Parser<'_>) -> bool
 }
 
 /// A literal, or the message that it is missing.
-pub(crate) fn expect_literal(p: &mut Parser<'_>)
+pub fn expect_literal(p: &mut Parser<'_>)
     ensures reads { (c : Bool) → Reads c (Literal !) p.old p.new }
     ensures left { tokens p.new ≤ tokens p.old }
     ensures looks { spent p.new ≤ spent p.old + 1 }

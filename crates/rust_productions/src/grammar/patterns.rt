@@ -17,7 +17,7 @@ use parser_events::parser::Parser;
 use parser_input::syntax_kind::SyntaxKind;
 
 /// Whether a pattern begins here, without a `|` before it.
-pub(crate) fn at_single_pattern(p: &mut Parser<'_>) -> bool
+pub fn at_single_pattern(p: &mut Parser<'_>) -> bool
     ensures sees { (c : Bool) → Saw c (looks rules.single_pattern) p.old result }
     ensures some { IsTrue result → 1 ≤ tokens p.old }
     ensures same { Does (λ s. s) p.old p.new }
@@ -49,7 +49,7 @@ pub(crate) fn at_single_pattern(p: &mut Parser<'_>) -> bool
 }
 
 /// Whether a pattern begins here.
-pub(crate) fn at_pattern(p: &mut Parser<'_>) -> bool
+pub fn at_pattern(p: &mut Parser<'_>) -> bool
     ensures sees { (c : Bool) → Saw c (looks rules.pattern) p.old result }
     ensures some { IsTrue result → 1 ≤ tokens p.old }
     ensures same { Does (λ s. s) p.old p.new }

@@ -3,7 +3,7 @@ use Rattle.std.proofs.Common.{◌≡◌, Bool, IfSome, ℕ, ◌+◌, ◌-◌, �
 use Rattle.rust_grammar.specs.Rule.{Rule, begins, shift}
 use Rattle.parser_input.specs.Kind.{raw_of}
 use Rattle.rust_grammar.specs.Meaning.{Reading, sees, fresh, look_of}
-use Rattle.grammar_reader.specs.Told.{IsNext}
+use Rattle.first_sets.specs.Told.{IsNext}
 use Rattle.rust_grammar.specs.Whole.{rule, whole}
 use Rattle.grammar_table.specs.Data.{plain, plain_look, named, row_part, is_reference}
 use Rattle.grammar_table.specs.Size.{size}

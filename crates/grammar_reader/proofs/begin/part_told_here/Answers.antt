@@ -1,5 +1,5 @@
 -- Of the place itself, what the sets tell is so.
-use Rattle.grammar_reader.specs.Told.{part_look}
+use Rattle.first_sets.specs.Told.{part_look}
 use Rattle.std.proofs.Common.{◌≡◌, Some}
 use Rattle.parser_input.specs.declared.syntax_kind.SyntaxKind.{SyntaxKind}
 use Rattle.grammar_reader.proofs.Telling.{told-there, sure}

@@ -5,7 +5,7 @@ use Rattle.rust_grammar.specs.Rule.{Look, shift}
 use Rattle.rust_grammar.specs.Meaning.{Reading, look_of, sees}
 use Rattle.rust_grammar.specs.Whole.{whole}
 use Rattle.grammar_table.specs.Data.{named}
-use Rattle.grammar_reader.specs.Told.{IsNext}
+use Rattle.first_sets.specs.Told.{IsNext}
 use Rattle.grammar_reader.proofs.Beginning.{shift-none}
 use Rattle.grammar_reader.proofs.Telling.{sure, told-there}
 use Rattle.grammar_reader.proofs.by_hand.by_hand_before.Goals as goal

@@ -1,11 +1,17 @@
 -- Form by form.
+mod Atoms
 mod Attributes
 mod Blocks
 mod Climbing
+mod Control
+mod Expressions
 mod Hands
 mod Lists
 mod Looks
+mod Operands
 mod Paths
+mod Patterns
+mod Statements
 mod Types
 use Rattle.std.proofs.Common.{◌≡◌, Some, ℕ, ◌+◌, ◌-◌, ◌*◌, ◌<◌, ◌≤◌, Bool, true, false, List, Option, refl, sym, ap, subst, ◌∙◌, arith, inr, length, if◌then◌else◌}
 use Rattle.parser_events.specs.Marked.{marked}
@@ -36,12 +42,18 @@ use Rattle.grammar_reader.proofs.Turning.{no-turn, last-turn, next-turn, zero-tu
 use Rattle.grammar_reader.proofs.reader.+reader.Goals as goal
 use Rattle.grammar_reader.proofs.reader.+reader.Goals.{call-then-given, call-else-given}
 use Rattle.grammar_reader.proofs.reader.+reader.Answers.Attributes as attributes
+use Rattle.grammar_reader.proofs.reader.+reader.Answers.Atoms as atoms
 use Rattle.grammar_reader.proofs.reader.+reader.Answers.Blocks as blocks
-use Rattle.grammar_reader.proofs.reader.+reader.Answers.Hands as hands
+use Rattle.grammar_reader.proofs.reader.+reader.Answers.Control as control
+use Rattle.grammar_reader.proofs.reader.+reader.Answers.Expressions as expressions
 use Rattle.grammar_reader.proofs.reader.+reader.Answers.Lists as lists
-use Rattle.grammar_reader.proofs.reader.+reader.Answers.Looks as looks
+use Rattle.grammar_reader.proofs.reader.+reader.Answers.Operands as operands
 use Rattle.grammar_reader.proofs.reader.+reader.Answers.Paths as paths
+use Rattle.grammar_reader.proofs.reader.+reader.Answers.Patterns as patterns
+use Rattle.grammar_reader.proofs.reader.+reader.Answers.Statements as statements
 use Rattle.grammar_reader.proofs.reader.+reader.Answers.Types as types
+use Rattle.grammar_reader.proofs.reader.+reader.Answers.Hands as hands
+use Rattle.grammar_reader.proofs.reader.+reader.Answers.Looks as looks
 use Rattle.grammar_reader.proofs.reader.+reader.Answers.Climbing as climbing
 
 pub call-returns-in_default-clause-reads : goal.call-returns-in_default-clause-reads
@@ -530,111 +542,6 @@ turns-returns-then-tokens_left-before-clause-looks = looks.turns-returns-then-to
 pub turns-returns-clause-looks : goal.turns-returns-clause-looks
 turns-returns-clause-looks = looks.turns-returns-clause-looks
 
-pub attributes::attribute-expect_meta-requires : goal.attributes::attribute-expect_meta-requires
-attributes::attribute-expect_meta-requires = attributes.attributes::attribute-expect_meta-requires
-
-pub attributes::attribute-complete-requires : goal.attributes::attribute-complete-requires
-attributes::attribute-complete-requires = attributes.attributes::attribute-complete-requires
-
-pub attributes::attribute-returns-clause-gives : goal.attributes::attribute-returns-clause-gives
-attributes::attribute-returns-clause-gives = attributes.attributes::attribute-returns-clause-gives
-
-pub attributes::expect_meta-meta-requires : goal.attributes::expect_meta-meta-requires
-attributes::expect_meta-meta-requires = attributes.attributes::expect_meta-meta-requires
-
-pub attributes::expect_meta-returns-then-at_path-clause-reads : goal.attributes::expect_meta-returns-then-at_path-clause-reads
-attributes::expect_meta-returns-then-at_path-clause-reads = attributes.attributes::expect_meta-returns-then-at_path-clause-reads
-
-pub attributes::expect_meta-returns-clause-reads : goal.attributes::expect_meta-returns-clause-reads
-attributes::expect_meta-returns-clause-reads = attributes.attributes::expect_meta-returns-clause-reads
-
-pub attributes::meta-path-requires-clause-begins : goal.attributes::meta-path-requires-clause-begins
-attributes::meta-path-requires-clause-begins = attributes.attributes::meta-path-requires-clause-begins
-
-pub attributes::meta-opt_value-requires : goal.attributes::meta-opt_value-requires
-attributes::meta-opt_value-requires = attributes.attributes::meta-opt_value-requires
-
-pub attributes::meta-complete-requires : goal.attributes::meta-complete-requires
-attributes::meta-complete-requires = attributes.attributes::meta-complete-requires
-
-pub attributes::meta-returns-clause-gives : goal.attributes::meta-returns-clause-gives
-attributes::meta-returns-clause-gives = attributes.attributes::meta-returns-clause-gives
-
-pub attributes::opt_value-expect_expression-requires : goal.attributes::opt_value-expect_expression-requires
-attributes::opt_value-expect_expression-requires = attributes.attributes::opt_value-expect_expression-requires
-
-pub attributes::opt_value-returns-then-at-clause-reads : goal.attributes::opt_value-returns-then-at-clause-reads
-attributes::opt_value-returns-then-at-clause-reads = attributes.attributes::opt_value-returns-then-at-clause-reads
-
-pub attributes::opt_value-returns-then-at_token_tree-clause-reads : goal.attributes::opt_value-returns-then-at_token_tree-clause-reads
-attributes::opt_value-returns-then-at_token_tree-clause-reads = attributes.attributes::opt_value-returns-then-at_token_tree-clause-reads
-
-pub attributes::opt_value-returns-else-at_token_tree-clause-reads : goal.attributes::opt_value-returns-else-at_token_tree-clause-reads
-attributes::opt_value-returns-else-at_token_tree-clause-reads = attributes.attributes::opt_value-returns-else-at_token_tree-clause-reads
-
-pub attributes::expect_expression-read_anew-requires : goal.attributes::expect_expression-read_anew-requires
-attributes::expect_expression-read_anew-requires = attributes.attributes::expect_expression-read_anew-requires
-
-pub attributes::expect_expression-returns-then-at_production-clause-reads : goal.attributes::expect_expression-returns-then-at_production-clause-reads
-attributes::expect_expression-returns-then-at_production-clause-reads = attributes.attributes::expect_expression-returns-then-at_production-clause-reads
-
-pub attributes::expect_expression-returns-clause-reads : goal.attributes::expect_expression-returns-clause-reads
-attributes::expect_expression-returns-clause-reads = attributes.attributes::expect_expression-returns-clause-reads
-
-pub attributes::expect_expression-returns-then-at_production-clause-looks : goal.attributes::expect_expression-returns-then-at_production-clause-looks
-attributes::expect_expression-returns-then-at_production-clause-looks = attributes.attributes::expect_expression-returns-then-at_production-clause-looks
-
-pub attributes::expect_expression-returns-clause-looks : goal.attributes::expect_expression-returns-clause-looks
-attributes::expect_expression-returns-clause-looks = attributes.attributes::expect_expression-returns-clause-looks
-
-pub blocks::statement_turn-returns-then-at_list_end-clause-ends : goal.blocks::statement_turn-returns-then-at_list_end-clause-ends
-blocks::statement_turn-returns-then-at_list_end-clause-ends = blocks.blocks::statement_turn-returns-then-at_list_end-clause-ends
-
-pub blocks::statement_turn-returns-then-not-at_production-clause-ends : goal.blocks::statement_turn-returns-then-not-at_production-clause-ends
-blocks::statement_turn-returns-then-not-at_production-clause-ends = blocks.blocks::statement_turn-returns-then-not-at_production-clause-ends
-
-pub blocks::statement_turn-returns-then-not-at_production-clause-looks : goal.blocks::statement_turn-returns-then-not-at_production-clause-looks
-blocks::statement_turn-returns-then-not-at_production-clause-looks = blocks.blocks::statement_turn-returns-then-not-at_production-clause-looks
-
-pub blocks::statement_turn-read_anew-requires : goal.blocks::statement_turn-read_anew-requires
-blocks::statement_turn-read_anew-requires = blocks.blocks::statement_turn-read_anew-requires
-
-pub blocks::statement_turn-returns-clause-goes : goal.blocks::statement_turn-returns-clause-goes
-blocks::statement_turn-returns-clause-goes = blocks.blocks::statement_turn-returns-clause-goes
-
-pub blocks::statement_turn-returns-clause-ends : goal.blocks::statement_turn-returns-clause-ends
-blocks::statement_turn-returns-clause-ends = blocks.blocks::statement_turn-returns-clause-ends
-
-pub blocks::statement_turn-returns-clause-fewer : goal.blocks::statement_turn-returns-clause-fewer
-blocks::statement_turn-returns-clause-fewer = blocks.blocks::statement_turn-returns-clause-fewer
-
-pub blocks::statement_turn-returns-clause-pays : goal.blocks::statement_turn-returns-clause-pays
-blocks::statement_turn-returns-clause-pays = blocks.blocks::statement_turn-returns-clause-pays
-
-pub blocks::statement_turn-returns-clause-looks : goal.blocks::statement_turn-returns-clause-looks
-blocks::statement_turn-returns-clause-looks = blocks.blocks::statement_turn-returns-clause-looks
-
-pub blocks::statements-turns-preserved : goal.blocks::statements-turns-preserved
-blocks::statements-turns-preserved = blocks.blocks::statements-turns-preserved
-
-pub blocks::statements-returns-clause-reads : goal.blocks::statements-returns-clause-reads
-blocks::statements-returns-clause-reads = blocks.blocks::statements-returns-clause-reads
-
-pub blocks::statement_list-statements-requires : goal.blocks::statement_list-statements-requires
-blocks::statement_list-statements-requires = blocks.blocks::statement_list-statements-requires
-
-pub blocks::statement_list-complete-requires : goal.blocks::statement_list-complete-requires
-blocks::statement_list-complete-requires = blocks.blocks::statement_list-complete-requires
-
-pub blocks::statement_list-returns-clause-gives : goal.blocks::statement_list-returns-clause-gives
-blocks::statement_list-returns-clause-gives = blocks.blocks::statement_list-returns-clause-gives
-
-pub blocks::block-complete-requires : goal.blocks::block-complete-requires
-blocks::block-complete-requires = blocks.blocks::block-complete-requires
-
-pub blocks::block-returns-clause-gives : goal.blocks::block-returns-clause-gives
-blocks::block-returns-clause-gives = blocks.blocks::block-returns-clause-gives
-
 pub read_by_hand-returns-in-Arguments-clause-gives : goal.read_by_hand-returns-in-Arguments-clause-gives
 read_by_hand-returns-in-Arguments-clause-gives = hands.read_by_hand-returns-in-Arguments-clause-gives
 
@@ -806,32 +713,749 @@ called::read_anew-returns-clause-looks = hands.called::read_anew-returns-clause-
 pub called::read_anew-returns-clause-left : goal.called::read_anew-returns-clause-left
 called::read_anew-returns-clause-left = hands.called::read_anew-returns-clause-left
 
+pub read_by_hand-returns-in-AnyType-clause-looks : goal.read_by_hand-returns-in-AnyType-clause-looks
+read_by_hand-returns-in-AnyType-clause-looks = hands.read_by_hand-returns-in-AnyType-clause-looks
+
+pub read_by_hand-any_type-requires : goal.read_by_hand-any_type-requires
+read_by_hand-any_type-requires = hands.read_by_hand-any_type-requires
+
+pub read_by_hand-returns-in-Pattern-clause-gives : goal.read_by_hand-returns-in-Pattern-clause-gives
+read_by_hand-returns-in-Pattern-clause-gives = hands.read_by_hand-returns-in-Pattern-clause-gives
+
+pub read_by_hand-returns-in-Pattern-clause-looks : goal.read_by_hand-returns-in-Pattern-clause-looks
+read_by_hand-returns-in-Pattern-clause-looks = hands.read_by_hand-returns-in-Pattern-clause-looks
+
+pub read_by_hand-pattern-requires : goal.read_by_hand-pattern-requires
+read_by_hand-pattern-requires = hands.read_by_hand-pattern-requires
+
+pub read_by_hand-returns-in-SinglePattern-clause-gives : goal.read_by_hand-returns-in-SinglePattern-clause-gives
+read_by_hand-returns-in-SinglePattern-clause-gives = hands.read_by_hand-returns-in-SinglePattern-clause-gives
+
+pub read_by_hand-returns-in-SinglePattern-clause-looks : goal.read_by_hand-returns-in-SinglePattern-clause-looks
+read_by_hand-returns-in-SinglePattern-clause-looks = hands.read_by_hand-returns-in-SinglePattern-clause-looks
+
+pub read_by_hand-single_pattern-requires : goal.read_by_hand-single_pattern-requires
+read_by_hand-single_pattern-requires = hands.read_by_hand-single_pattern-requires
+
+pub read_by_hand-returns-in-Atom-clause-gives : goal.read_by_hand-returns-in-Atom-clause-gives
+read_by_hand-returns-in-Atom-clause-gives = hands.read_by_hand-returns-in-Atom-clause-gives
+
+pub read_by_hand-returns-in-Atom-clause-looks : goal.read_by_hand-returns-in-Atom-clause-looks
+read_by_hand-returns-in-Atom-clause-looks = hands.read_by_hand-returns-in-Atom-clause-looks
+
+pub read_by_hand-atom-requires : goal.read_by_hand-atom-requires
+read_by_hand-atom-requires = hands.read_by_hand-atom-requires
+
+pub read_by_hand-returns-in-Prefixed-clause-gives : goal.read_by_hand-returns-in-Prefixed-clause-gives
+read_by_hand-returns-in-Prefixed-clause-gives = hands.read_by_hand-returns-in-Prefixed-clause-gives
+
+pub read_by_hand-returns-in-Prefixed-clause-looks : goal.read_by_hand-returns-in-Prefixed-clause-looks
+read_by_hand-returns-in-Prefixed-clause-looks = hands.read_by_hand-returns-in-Prefixed-clause-looks
+
+pub read_by_hand-prefixed-requires : goal.read_by_hand-prefixed-requires
+read_by_hand-prefixed-requires = hands.read_by_hand-prefixed-requires
+
+pub read_by_hand-returns-in-BlockLike-clause-gives : goal.read_by_hand-returns-in-BlockLike-clause-gives
+read_by_hand-returns-in-BlockLike-clause-gives = hands.read_by_hand-returns-in-BlockLike-clause-gives
+
+pub read_by_hand-returns-in-BlockLike-clause-looks : goal.read_by_hand-returns-in-BlockLike-clause-looks
+read_by_hand-returns-in-BlockLike-clause-looks = hands.read_by_hand-returns-in-BlockLike-clause-looks
+
+pub read_by_hand-block_like-requires : goal.read_by_hand-block_like-requires
+read_by_hand-block_like-requires = hands.read_by_hand-block_like-requires
+
+pub read_by_hand-returns-in-IfExpr-clause-gives : goal.read_by_hand-returns-in-IfExpr-clause-gives
+read_by_hand-returns-in-IfExpr-clause-gives = hands.read_by_hand-returns-in-IfExpr-clause-gives
+
+pub read_by_hand-returns-in-IfExpr-clause-looks : goal.read_by_hand-returns-in-IfExpr-clause-looks
+read_by_hand-returns-in-IfExpr-clause-looks = hands.read_by_hand-returns-in-IfExpr-clause-looks
+
+pub read_by_hand-returns-in-MatchArms-clause-gives : goal.read_by_hand-returns-in-MatchArms-clause-gives
+read_by_hand-returns-in-MatchArms-clause-gives = hands.read_by_hand-returns-in-MatchArms-clause-gives
+
+pub read_by_hand-returns-in-MatchArms-clause-looks : goal.read_by_hand-returns-in-MatchArms-clause-looks
+read_by_hand-returns-in-MatchArms-clause-looks = hands.read_by_hand-returns-in-MatchArms-clause-looks
+
+pub attributes::attribute-expect_meta-requires : goal.attributes::attribute-expect_meta-requires
+attributes::attribute-expect_meta-requires = attributes.attributes::attribute-expect_meta-requires
+
+pub attributes::attribute-complete-requires : goal.attributes::attribute-complete-requires
+attributes::attribute-complete-requires = attributes.attributes::attribute-complete-requires
+
+pub attributes::attribute-returns-clause-gives : goal.attributes::attribute-returns-clause-gives
+attributes::attribute-returns-clause-gives = attributes.attributes::attribute-returns-clause-gives
+
+pub attributes::expect_meta-meta-requires : goal.attributes::expect_meta-meta-requires
+attributes::expect_meta-meta-requires = attributes.attributes::expect_meta-meta-requires
+
+pub attributes::expect_meta-returns-then-at_path-clause-reads : goal.attributes::expect_meta-returns-then-at_path-clause-reads
+attributes::expect_meta-returns-then-at_path-clause-reads = attributes.attributes::expect_meta-returns-then-at_path-clause-reads
+
+pub attributes::expect_meta-returns-clause-reads : goal.attributes::expect_meta-returns-clause-reads
+attributes::expect_meta-returns-clause-reads = attributes.attributes::expect_meta-returns-clause-reads
+
+pub attributes::meta-path-requires-clause-begins : goal.attributes::meta-path-requires-clause-begins
+attributes::meta-path-requires-clause-begins = attributes.attributes::meta-path-requires-clause-begins
+
+pub attributes::meta-opt_value-requires : goal.attributes::meta-opt_value-requires
+attributes::meta-opt_value-requires = attributes.attributes::meta-opt_value-requires
+
+pub attributes::meta-complete-requires : goal.attributes::meta-complete-requires
+attributes::meta-complete-requires = attributes.attributes::meta-complete-requires
+
+pub attributes::meta-returns-clause-gives : goal.attributes::meta-returns-clause-gives
+attributes::meta-returns-clause-gives = attributes.attributes::meta-returns-clause-gives
+
+pub attributes::opt_value-expect_expression-requires : goal.attributes::opt_value-expect_expression-requires
+attributes::opt_value-expect_expression-requires = attributes.attributes::opt_value-expect_expression-requires
+
+pub attributes::opt_value-returns-then-at-clause-reads : goal.attributes::opt_value-returns-then-at-clause-reads
+attributes::opt_value-returns-then-at-clause-reads = attributes.attributes::opt_value-returns-then-at-clause-reads
+
+pub attributes::opt_value-returns-then-at_token_tree-clause-reads : goal.attributes::opt_value-returns-then-at_token_tree-clause-reads
+attributes::opt_value-returns-then-at_token_tree-clause-reads = attributes.attributes::opt_value-returns-then-at_token_tree-clause-reads
+
+pub attributes::opt_value-returns-else-at_token_tree-clause-reads : goal.attributes::opt_value-returns-else-at_token_tree-clause-reads
+attributes::opt_value-returns-else-at_token_tree-clause-reads = attributes.attributes::opt_value-returns-else-at_token_tree-clause-reads
+
+pub atoms::atom-inside-frame-requires : goal.atoms::atom-inside-frame-requires
+atoms::atom-inside-frame-requires = atoms.atoms::atom-inside-frame-requires
+
+pub atoms::atom-returns-clause-gives : goal.atoms::atom-returns-clause-gives
+atoms::atom-returns-clause-gives = atoms.atoms::atom-returns-clause-gives
+
+pub atoms::inside-paren_expr-requires : goal.atoms::inside-paren_expr-requires
+atoms::inside-paren_expr-requires = atoms.atoms::inside-paren_expr-requires
+
+pub atoms::inside-returns-in-L_PAREN-clause-reads : goal.atoms::inside-returns-in-L_PAREN-clause-reads
+atoms::inside-returns-in-L_PAREN-clause-reads = atoms.atoms::inside-returns-in-L_PAREN-clause-reads
+
+pub atoms::inside-array_expr-requires : goal.atoms::inside-array_expr-requires
+atoms::inside-array_expr-requires = atoms.atoms::inside-array_expr-requires
+
+pub atoms::inside-returns-in-L_BRACK-clause-reads : goal.atoms::inside-returns-in-L_BRACK-clause-reads
+atoms::inside-returns-in-L_BRACK-clause-reads = atoms.atoms::inside-returns-in-L_BRACK-clause-reads
+
+pub atoms::inside-returns-in-L_BRACK-clause-marker : goal.atoms::inside-returns-in-L_BRACK-clause-marker
+atoms::inside-returns-in-L_BRACK-clause-marker = atoms.atoms::inside-returns-in-L_BRACK-clause-marker
+
+pub atoms::inside-value_expr-requires : goal.atoms::inside-value_expr-requires
+atoms::inside-value_expr-requires = atoms.atoms::inside-value_expr-requires
+
+pub atoms::inside-returns-in-RETURN_KW-clause-reads : goal.atoms::inside-returns-in-RETURN_KW-clause-reads
+atoms::inside-returns-in-RETURN_KW-clause-reads = atoms.atoms::inside-returns-in-RETURN_KW-clause-reads
+
+pub atoms::inside-returns-in-RETURN_KW-clause-marker : goal.atoms::inside-returns-in-RETURN_KW-clause-marker
+atoms::inside-returns-in-RETURN_KW-clause-marker = atoms.atoms::inside-returns-in-RETURN_KW-clause-marker
+
+pub atoms::inside-value_expr-requires-in-BREAK_KW : goal.atoms::inside-value_expr-requires-in-BREAK_KW
+atoms::inside-value_expr-requires-in-BREAK_KW = atoms.atoms::inside-value_expr-requires-in-BREAK_KW
+
+pub atoms::inside-returns-in-BREAK_KW-clause-reads : goal.atoms::inside-returns-in-BREAK_KW-clause-reads
+atoms::inside-returns-in-BREAK_KW-clause-reads = atoms.atoms::inside-returns-in-BREAK_KW-clause-reads
+
+pub atoms::inside-returns-in-BREAK_KW-clause-marker : goal.atoms::inside-returns-in-BREAK_KW-clause-marker
+atoms::inside-returns-in-BREAK_KW-clause-marker = atoms.atoms::inside-returns-in-BREAK_KW-clause-marker
+
+pub atoms::inside-returns-in-CONTINUE_KW-clause-reads : goal.atoms::inside-returns-in-CONTINUE_KW-clause-reads
+atoms::inside-returns-in-CONTINUE_KW-clause-reads = atoms.atoms::inside-returns-in-CONTINUE_KW-clause-reads
+
+pub atoms::inside-returns-in-CONTINUE_KW-clause-marker : goal.atoms::inside-returns-in-CONTINUE_KW-clause-marker
+atoms::inside-returns-in-CONTINUE_KW-clause-marker = atoms.atoms::inside-returns-in-CONTINUE_KW-clause-marker
+
+pub atoms::inside-closure_expr-requires : goal.atoms::inside-closure_expr-requires
+atoms::inside-closure_expr-requires = atoms.atoms::inside-closure_expr-requires
+
+pub atoms::inside-returns-in-PIPE-clause-reads : goal.atoms::inside-returns-in-PIPE-clause-reads
+atoms::inside-returns-in-PIPE-clause-reads = atoms.atoms::inside-returns-in-PIPE-clause-reads
+
+pub atoms::inside-returns-in-PIPE-clause-marker : goal.atoms::inside-returns-in-PIPE-clause-marker
+atoms::inside-returns-in-PIPE-clause-marker = atoms.atoms::inside-returns-in-PIPE-clause-marker
+
+pub atoms::inside-move_closure-requires : goal.atoms::inside-move_closure-requires
+atoms::inside-move_closure-requires = atoms.atoms::inside-move_closure-requires
+
+pub atoms::inside-returns-in-MOVE_KW-clause-reads : goal.atoms::inside-returns-in-MOVE_KW-clause-reads
+atoms::inside-returns-in-MOVE_KW-clause-reads = atoms.atoms::inside-returns-in-MOVE_KW-clause-reads
+
+pub atoms::inside-returns-in-MOVE_KW-clause-marker : goal.atoms::inside-returns-in-MOVE_KW-clause-marker
+atoms::inside-returns-in-MOVE_KW-clause-marker = atoms.atoms::inside-returns-in-MOVE_KW-clause-marker
+
+pub atoms::inside-let_expr-requires : goal.atoms::inside-let_expr-requires
+atoms::inside-let_expr-requires = atoms.atoms::inside-let_expr-requires
+
+pub atoms::inside-returns-in-LET_KW-clause-reads : goal.atoms::inside-returns-in-LET_KW-clause-reads
+atoms::inside-returns-in-LET_KW-clause-reads = atoms.atoms::inside-returns-in-LET_KW-clause-reads
+
+pub atoms::inside-returns-in-LET_KW-clause-marker : goal.atoms::inside-returns-in-LET_KW-clause-marker
+atoms::inside-returns-in-LET_KW-clause-marker = atoms.atoms::inside-returns-in-LET_KW-clause-marker
+
+pub atoms::inside-returns-then-at_literal : goal.atoms::inside-returns-then-at_literal
+atoms::inside-returns-then-at_literal = atoms.atoms::inside-returns-then-at_literal
+
+pub atoms::inside-block_like-requires : goal.atoms::inside-block_like-requires
+atoms::inside-block_like-requires = atoms.atoms::inside-block_like-requires
+
+pub atoms::inside-returns-then-at_block_like : goal.atoms::inside-returns-then-at_block_like
+atoms::inside-returns-then-at_block_like = atoms.atoms::inside-returns-then-at_block_like
+
+pub atoms::inside-path_expr-requires : goal.atoms::inside-path_expr-requires
+atoms::inside-path_expr-requires = atoms.atoms::inside-path_expr-requires
+
+pub atoms::inside-returns-else-at_block_like : goal.atoms::inside-returns-else-at_block_like
+atoms::inside-returns-else-at_block_like = atoms.atoms::inside-returns-else-at_block_like
+
+pub atoms::path_expr-path_with_args-requires : goal.atoms::path_expr-path_with_args-requires
+atoms::path_expr-path_with_args-requires = atoms.atoms::path_expr-path_with_args-requires
+
+pub atoms::path_expr-after_path-requires : goal.atoms::path_expr-after_path-requires
+atoms::path_expr-after_path-requires = atoms.atoms::path_expr-after_path-requires
+
+pub atoms::path_expr-returns-clause-reads : goal.atoms::path_expr-returns-clause-reads
+atoms::path_expr-returns-clause-reads = atoms.atoms::path_expr-returns-clause-reads
+
+pub atoms::after_path-wrap-requires : goal.atoms::after_path-wrap-requires
+atoms::after_path-wrap-requires = atoms.atoms::after_path-wrap-requires
+
+pub atoms::after_path-wrap-frame-requires : goal.atoms::after_path-wrap-frame-requires
+atoms::after_path-wrap-frame-requires = atoms.atoms::after_path-wrap-frame-requires
+
+pub atoms::after_path-wrap-requires-then-condition : goal.atoms::after_path-wrap-requires-then-condition
+atoms::after_path-wrap-requires-then-condition = atoms.atoms::after_path-wrap-requires-then-condition
+
+pub atoms::after_path-field_values-requires : goal.atoms::after_path-field_values-requires
+atoms::after_path-field_values-requires = atoms.atoms::after_path-field_values-requires
+
+pub atoms::after_path-wrap-requires-then-at-2 : goal.atoms::after_path-wrap-requires-then-at-2
+atoms::after_path-wrap-requires-then-at-2 = atoms.atoms::after_path-wrap-requires-then-at-2
+
+pub atoms::after_path-wrap-requires-2 : goal.atoms::after_path-wrap-requires-2
+atoms::after_path-wrap-requires-2 = atoms.atoms::after_path-wrap-requires-2
+
+pub atoms::after_path-returns-then-at_pair-clause-reads : goal.atoms::after_path-returns-then-at_pair-clause-reads
+atoms::after_path-returns-then-at_pair-clause-reads = atoms.atoms::after_path-returns-then-at_pair-clause-reads
+
+pub atoms::after_path-returns-then-at-clause-reads : goal.atoms::after_path-returns-then-at-clause-reads
+atoms::after_path-returns-then-at-clause-reads = atoms.atoms::after_path-returns-then-at-clause-reads
+
+pub atoms::after_path-returns-then-condition-clause-reads : goal.atoms::after_path-returns-then-condition-clause-reads
+atoms::after_path-returns-then-condition-clause-reads = atoms.atoms::after_path-returns-then-condition-clause-reads
+
+pub atoms::after_path-returns-then-at-2-clause-reads : goal.atoms::after_path-returns-then-at-2-clause-reads
+atoms::after_path-returns-then-at-2-clause-reads = atoms.atoms::after_path-returns-then-at-2-clause-reads
+
+pub atoms::after_path-returns-clause-reads : goal.atoms::after_path-returns-clause-reads
+atoms::after_path-returns-clause-reads = atoms.atoms::after_path-returns-clause-reads
+
+pub atoms::paren_expr-after_paren-requires : goal.atoms::paren_expr-after_paren-requires
+atoms::paren_expr-after_paren-requires = atoms.atoms::paren_expr-after_paren-requires
+
+pub atoms::paren_expr-returns-clause-reads : goal.atoms::paren_expr-returns-clause-reads
+atoms::paren_expr-returns-clause-reads = atoms.atoms::paren_expr-returns-clause-reads
+
+pub atoms::after_paren-wrap-requires : goal.atoms::after_paren-wrap-requires
+atoms::after_paren-wrap-requires = atoms.atoms::after_paren-wrap-requires
+
+pub atoms::after_paren-expect_expression-requires : goal.atoms::after_paren-expect_expression-requires
+atoms::after_paren-expect_expression-requires = atoms.atoms::after_paren-expect_expression-requires
+
+pub atoms::after_paren-after_first-requires : goal.atoms::after_paren-after_first-requires
+atoms::after_paren-after_first-requires = atoms.atoms::after_paren-after_first-requires
+
+pub atoms::after_paren-returns-then-at-clause-reads : goal.atoms::after_paren-returns-then-at-clause-reads
+atoms::after_paren-returns-then-at-clause-reads = atoms.atoms::after_paren-returns-then-at-clause-reads
+
+pub atoms::after_paren-returns-clause-reads : goal.atoms::after_paren-returns-clause-reads
+atoms::after_paren-returns-clause-reads = atoms.atoms::after_paren-returns-clause-reads
+
+pub atoms::after_first-rest_of_list-requires : goal.atoms::after_first-rest_of_list-requires
+atoms::after_first-rest_of_list-requires = atoms.atoms::after_first-rest_of_list-requires
+
+pub atoms::after_first-wrap-requires : goal.atoms::after_first-wrap-requires
+atoms::after_first-wrap-requires = atoms.atoms::after_first-wrap-requires
+
+pub atoms::after_first-wrap-requires-2 : goal.atoms::after_first-wrap-requires-2
+atoms::after_first-wrap-requires-2 = atoms.atoms::after_first-wrap-requires-2
+
+pub atoms::after_first-returns-then-at-clause-reads : goal.atoms::after_first-returns-then-at-clause-reads
+atoms::after_first-returns-then-at-clause-reads = atoms.atoms::after_first-returns-then-at-clause-reads
+
+pub atoms::after_first-returns-clause-reads : goal.atoms::after_first-returns-clause-reads
+atoms::after_first-returns-clause-reads = atoms.atoms::after_first-returns-clause-reads
+
+pub atoms::array_expr-array_elements-requires : goal.atoms::array_expr-array_elements-requires
+atoms::array_expr-array_elements-requires = atoms.atoms::array_expr-array_elements-requires
+
+pub atoms::array_expr-complete-requires : goal.atoms::array_expr-complete-requires
+atoms::array_expr-complete-requires = atoms.atoms::array_expr-complete-requires
+
+pub atoms::array_expr-returns-clause-reads : goal.atoms::array_expr-returns-clause-reads
+atoms::array_expr-returns-clause-reads = atoms.atoms::array_expr-returns-clause-reads
+
+pub atoms::array_elements-read_anew-requires : goal.atoms::array_elements-read_anew-requires
+atoms::array_elements-read_anew-requires = atoms.atoms::array_elements-read_anew-requires
+
+pub atoms::array_elements-after_element-requires : goal.atoms::array_elements-after_element-requires
+atoms::array_elements-after_element-requires = atoms.atoms::array_elements-after_element-requires
+
+pub atoms::array_elements-returns-then-at_production-clause-reads : goal.atoms::array_elements-returns-then-at_production-clause-reads
+atoms::array_elements-returns-then-at_production-clause-reads = atoms.atoms::array_elements-returns-then-at_production-clause-reads
+
+pub atoms::array_elements-returns-clause-reads : goal.atoms::array_elements-returns-clause-reads
+atoms::array_elements-returns-clause-reads = atoms.atoms::array_elements-returns-clause-reads
+
+pub atoms::array_elements-returns-then-at_production-clause-looks : goal.atoms::array_elements-returns-then-at_production-clause-looks
+atoms::array_elements-returns-then-at_production-clause-looks = atoms.atoms::array_elements-returns-then-at_production-clause-looks
+
+pub atoms::array_elements-returns-clause-looks : goal.atoms::array_elements-returns-clause-looks
+atoms::array_elements-returns-clause-looks = atoms.atoms::array_elements-returns-clause-looks
+
+pub atoms::after_element-expect_expression-requires : goal.atoms::after_element-expect_expression-requires
+atoms::after_element-expect_expression-requires = atoms.atoms::after_element-expect_expression-requires
+
+pub atoms::after_element-rest_of_list-requires : goal.atoms::after_element-rest_of_list-requires
+atoms::after_element-rest_of_list-requires = atoms.atoms::after_element-rest_of_list-requires
+
+pub atoms::after_element-returns-then-at-clause-reads : goal.atoms::after_element-returns-then-at-clause-reads
+atoms::after_element-returns-then-at-clause-reads = atoms.atoms::after_element-returns-then-at-clause-reads
+
+pub atoms::after_element-returns-then-at-2-clause-reads : goal.atoms::after_element-returns-then-at-2-clause-reads
+atoms::after_element-returns-then-at-2-clause-reads = atoms.atoms::after_element-returns-then-at-2-clause-reads
+
+pub atoms::after_element-returns-clause-reads : goal.atoms::after_element-returns-clause-reads
+atoms::after_element-returns-clause-reads = atoms.atoms::after_element-returns-clause-reads
+
+pub atoms::value_expr-opt_value-requires : goal.atoms::value_expr-opt_value-requires
+atoms::value_expr-opt_value-requires = atoms.atoms::value_expr-opt_value-requires
+
+pub atoms::value_expr-complete-requires : goal.atoms::value_expr-complete-requires
+atoms::value_expr-complete-requires = atoms.atoms::value_expr-complete-requires
+
+pub atoms::value_expr-returns-clause-reads : goal.atoms::value_expr-returns-clause-reads
+atoms::value_expr-returns-clause-reads = atoms.atoms::value_expr-returns-clause-reads
+
+pub atoms::opt_value-read_anew-requires : goal.atoms::opt_value-read_anew-requires
+atoms::opt_value-read_anew-requires = atoms.atoms::opt_value-read_anew-requires
+
+pub atoms::opt_value-returns-then-at_body-clause-reads : goal.atoms::opt_value-returns-then-at_body-clause-reads
+atoms::opt_value-returns-then-at_body-clause-reads = atoms.atoms::opt_value-returns-then-at_body-clause-reads
+
+pub atoms::opt_value-returns-then-at_production-clause-reads : goal.atoms::opt_value-returns-then-at_production-clause-reads
+atoms::opt_value-returns-then-at_production-clause-reads = atoms.atoms::opt_value-returns-then-at_production-clause-reads
+
+pub atoms::opt_value-returns-else-at_production-clause-reads : goal.atoms::opt_value-returns-else-at_production-clause-reads
+atoms::opt_value-returns-else-at_production-clause-reads = atoms.atoms::opt_value-returns-else-at_production-clause-reads
+
+pub atoms::opt_value-returns-then-at_production-clause-looks : goal.atoms::opt_value-returns-then-at_production-clause-looks
+atoms::opt_value-returns-then-at_production-clause-looks = atoms.atoms::opt_value-returns-then-at_production-clause-looks
+
+pub atoms::opt_value-returns-else-at_production-clause-looks : goal.atoms::opt_value-returns-else-at_production-clause-looks
+atoms::opt_value-returns-else-at_production-clause-looks = atoms.atoms::opt_value-returns-else-at_production-clause-looks
+
+pub closures::closure_expr-closure_params-requires : goal.closures::closure_expr-closure_params-requires
+closures::closure_expr-closure_params-requires = atoms.closures::closure_expr-closure_params-requires
+
+pub closures::closure_expr-closure_body-requires : goal.closures::closure_expr-closure_body-requires
+closures::closure_expr-closure_body-requires = atoms.closures::closure_expr-closure_body-requires
+
+pub closures::closure_expr-complete-requires : goal.closures::closure_expr-complete-requires
+closures::closure_expr-complete-requires = atoms.closures::closure_expr-complete-requires
+
+pub closures::closure_expr-returns-clause-reads : goal.closures::closure_expr-returns-clause-reads
+closures::closure_expr-returns-clause-reads = atoms.closures::closure_expr-returns-clause-reads
+
+pub closures::move_closure-expect_closure_params-requires : goal.closures::move_closure-expect_closure_params-requires
+closures::move_closure-expect_closure_params-requires = atoms.closures::move_closure-expect_closure_params-requires
+
+pub closures::move_closure-closure_body-requires : goal.closures::move_closure-closure_body-requires
+closures::move_closure-closure_body-requires = atoms.closures::move_closure-closure_body-requires
+
+pub closures::move_closure-complete-requires : goal.closures::move_closure-complete-requires
+closures::move_closure-complete-requires = atoms.closures::move_closure-complete-requires
+
+pub closures::move_closure-returns-clause-reads : goal.closures::move_closure-returns-clause-reads
+closures::move_closure-returns-clause-reads = atoms.closures::move_closure-returns-clause-reads
+
+pub closures::expect_closure_params-closure_params-requires : goal.closures::expect_closure_params-closure_params-requires
+closures::expect_closure_params-closure_params-requires = atoms.closures::expect_closure_params-closure_params-requires
+
+pub closures::expect_closure_params-returns-then-at-clause-reads : goal.closures::expect_closure_params-returns-then-at-clause-reads
+closures::expect_closure_params-returns-then-at-clause-reads = atoms.closures::expect_closure_params-returns-then-at-clause-reads
+
+pub closures::expect_closure_params-returns-clause-reads : goal.closures::expect_closure_params-returns-clause-reads
+closures::expect_closure_params-returns-clause-reads = atoms.closures::expect_closure_params-returns-clause-reads
+
+pub closures::closure_params-rest_of_list-requires : goal.closures::closure_params-rest_of_list-requires
+closures::closure_params-rest_of_list-requires = atoms.closures::closure_params-rest_of_list-requires
+
+pub closures::closure_params-complete-requires : goal.closures::closure_params-complete-requires
+closures::closure_params-complete-requires = atoms.closures::closure_params-complete-requires
+
+pub closures::closure_params-returns-clause-reads : goal.closures::closure_params-returns-clause-reads
+closures::closure_params-returns-clause-reads = atoms.closures::closure_params-returns-clause-reads
+
+pub closures::closure_param-single_pattern-requires : goal.closures::closure_param-single_pattern-requires
+closures::closure_param-single_pattern-requires = atoms.closures::closure_param-single_pattern-requires
+
+pub closures::closure_param-opt_type-requires : goal.closures::closure_param-opt_type-requires
+closures::closure_param-opt_type-requires = atoms.closures::closure_param-opt_type-requires
+
+pub closures::closure_param-complete-requires : goal.closures::closure_param-complete-requires
+closures::closure_param-complete-requires = atoms.closures::closure_param-complete-requires
+
+pub closures::closure_param-returns-clause-reads : goal.closures::closure_param-returns-clause-reads
+closures::closure_param-returns-clause-reads = atoms.closures::closure_param-returns-clause-reads
+
+pub closures::opt_type-expect_type-requires : goal.closures::opt_type-expect_type-requires
+closures::opt_type-expect_type-requires = atoms.closures::opt_type-expect_type-requires
+
+pub closures::opt_type-returns-then-at-clause-reads : goal.closures::opt_type-returns-then-at-clause-reads
+closures::opt_type-returns-then-at-clause-reads = atoms.closures::opt_type-returns-then-at-clause-reads
+
+pub closures::opt_type-returns-else-at-clause-reads : goal.closures::opt_type-returns-else-at-clause-reads
+closures::opt_type-returns-else-at-clause-reads = atoms.closures::opt_type-returns-else-at-clause-reads
+
+pub closures::closure_body-ret_type-requires : goal.closures::closure_body-ret_type-requires
+closures::closure_body-ret_type-requires = atoms.closures::closure_body-ret_type-requires
+
+pub closures::closure_body-expect_block-requires : goal.closures::closure_body-expect_block-requires
+closures::closure_body-expect_block-requires = atoms.closures::closure_body-expect_block-requires
+
+pub closures::closure_body-expect_expression-requires : goal.closures::closure_body-expect_expression-requires
+closures::closure_body-expect_expression-requires = atoms.closures::closure_body-expect_expression-requires
+
+pub closures::closure_body-returns-then-at_pair-clause-reads : goal.closures::closure_body-returns-then-at_pair-clause-reads
+closures::closure_body-returns-then-at_pair-clause-reads = atoms.closures::closure_body-returns-then-at_pair-clause-reads
+
+pub closures::closure_body-returns-clause-reads : goal.closures::closure_body-returns-clause-reads
+closures::closure_body-returns-clause-reads = atoms.closures::closure_body-returns-clause-reads
+
+pub atoms::let_expr-expect_pattern-requires : goal.atoms::let_expr-expect_pattern-requires
+atoms::let_expr-expect_pattern-requires = atoms.atoms::let_expr-expect_pattern-requires
+
+pub atoms::let_expr-expect_expression-requires : goal.atoms::let_expr-expect_expression-requires
+atoms::let_expr-expect_expression-requires = atoms.atoms::let_expr-expect_expression-requires
+
+pub atoms::let_expr-complete-requires : goal.atoms::let_expr-complete-requires
+atoms::let_expr-complete-requires = atoms.atoms::let_expr-complete-requires
+
+pub atoms::let_expr-returns-clause-reads : goal.atoms::let_expr-returns-clause-reads
+atoms::let_expr-returns-clause-reads = atoms.atoms::let_expr-returns-clause-reads
+
+pub blocks::statement_turn-returns-then-at_list_end-clause-ends : goal.blocks::statement_turn-returns-then-at_list_end-clause-ends
+blocks::statement_turn-returns-then-at_list_end-clause-ends = blocks.blocks::statement_turn-returns-then-at_list_end-clause-ends
+
+pub blocks::statement_turn-returns-then-not-at_production-clause-ends : goal.blocks::statement_turn-returns-then-not-at_production-clause-ends
+blocks::statement_turn-returns-then-not-at_production-clause-ends = blocks.blocks::statement_turn-returns-then-not-at_production-clause-ends
+
+pub blocks::statement_turn-returns-then-not-at_production-clause-looks : goal.blocks::statement_turn-returns-then-not-at_production-clause-looks
+blocks::statement_turn-returns-then-not-at_production-clause-looks = blocks.blocks::statement_turn-returns-then-not-at_production-clause-looks
+
+pub blocks::statement_turn-statement-requires : goal.blocks::statement_turn-statement-requires
+blocks::statement_turn-statement-requires = blocks.blocks::statement_turn-statement-requires
+
+pub blocks::statement_turn-returns-clause-goes : goal.blocks::statement_turn-returns-clause-goes
+blocks::statement_turn-returns-clause-goes = blocks.blocks::statement_turn-returns-clause-goes
+
+pub blocks::statement_turn-returns-clause-ends : goal.blocks::statement_turn-returns-clause-ends
+blocks::statement_turn-returns-clause-ends = blocks.blocks::statement_turn-returns-clause-ends
+
+pub blocks::statement_turn-returns-clause-fewer : goal.blocks::statement_turn-returns-clause-fewer
+blocks::statement_turn-returns-clause-fewer = blocks.blocks::statement_turn-returns-clause-fewer
+
+pub blocks::statement_turn-returns-clause-pays : goal.blocks::statement_turn-returns-clause-pays
+blocks::statement_turn-returns-clause-pays = blocks.blocks::statement_turn-returns-clause-pays
+
+pub blocks::statement_turn-returns-clause-looks : goal.blocks::statement_turn-returns-clause-looks
+blocks::statement_turn-returns-clause-looks = blocks.blocks::statement_turn-returns-clause-looks
+
+pub blocks::statements-turns-preserved : goal.blocks::statements-turns-preserved
+blocks::statements-turns-preserved = blocks.blocks::statements-turns-preserved
+
+pub blocks::statements-returns-clause-reads : goal.blocks::statements-returns-clause-reads
+blocks::statements-returns-clause-reads = blocks.blocks::statements-returns-clause-reads
+
+pub blocks::statement_list-statements-requires : goal.blocks::statement_list-statements-requires
+blocks::statement_list-statements-requires = blocks.blocks::statement_list-statements-requires
+
+pub blocks::statement_list-complete-requires : goal.blocks::statement_list-complete-requires
+blocks::statement_list-complete-requires = blocks.blocks::statement_list-complete-requires
+
+pub blocks::statement_list-returns-clause-gives : goal.blocks::statement_list-returns-clause-gives
+blocks::statement_list-returns-clause-gives = blocks.blocks::statement_list-returns-clause-gives
+
+pub blocks::block-complete-requires : goal.blocks::block-complete-requires
+blocks::block-complete-requires = blocks.blocks::block-complete-requires
+
+pub blocks::block-returns-clause-gives : goal.blocks::block-returns-clause-gives
+blocks::block-returns-clause-gives = blocks.blocks::block-returns-clause-gives
+
+pub control::block_like-block-requires : goal.control::block_like-block-requires
+control::block_like-block-requires = control.control::block_like-block-requires
+
+pub control::block_like-returns-in-L_CURLY-clause-gives : goal.control::block_like-returns-in-L_CURLY-clause-gives
+control::block_like-returns-in-L_CURLY-clause-gives = control.control::block_like-returns-in-L_CURLY-clause-gives
+
+pub control::block_like-unsafe_block-requires : goal.control::block_like-unsafe_block-requires
+control::block_like-unsafe_block-requires = control.control::block_like-unsafe_block-requires
+
+pub control::block_like-returns-in-UNSAFE_KW-clause-gives : goal.control::block_like-returns-in-UNSAFE_KW-clause-gives
+control::block_like-returns-in-UNSAFE_KW-clause-gives = control.control::block_like-returns-in-UNSAFE_KW-clause-gives
+
+pub control::block_like-if_expr-requires : goal.control::block_like-if_expr-requires
+control::block_like-if_expr-requires = control.control::block_like-if_expr-requires
+
+pub control::block_like-returns-in-IF_KW-clause-gives : goal.control::block_like-returns-in-IF_KW-clause-gives
+control::block_like-returns-in-IF_KW-clause-gives = control.control::block_like-returns-in-IF_KW-clause-gives
+
+pub control::block_like-while_expr-requires : goal.control::block_like-while_expr-requires
+control::block_like-while_expr-requires = control.control::block_like-while_expr-requires
+
+pub control::block_like-returns-in-WHILE_KW-clause-gives : goal.control::block_like-returns-in-WHILE_KW-clause-gives
+control::block_like-returns-in-WHILE_KW-clause-gives = control.control::block_like-returns-in-WHILE_KW-clause-gives
+
+pub control::block_like-loop_expr-requires : goal.control::block_like-loop_expr-requires
+control::block_like-loop_expr-requires = control.control::block_like-loop_expr-requires
+
+pub control::block_like-returns-in-LOOP_KW-clause-gives : goal.control::block_like-returns-in-LOOP_KW-clause-gives
+control::block_like-returns-in-LOOP_KW-clause-gives = control.control::block_like-returns-in-LOOP_KW-clause-gives
+
+pub control::block_like-for_expr-requires : goal.control::block_like-for_expr-requires
+control::block_like-for_expr-requires = control.control::block_like-for_expr-requires
+
+pub control::block_like-returns-in-FOR_KW-clause-gives : goal.control::block_like-returns-in-FOR_KW-clause-gives
+control::block_like-returns-in-FOR_KW-clause-gives = control.control::block_like-returns-in-FOR_KW-clause-gives
+
+pub control::block_like-match_expr-requires : goal.control::block_like-match_expr-requires
+control::block_like-match_expr-requires = control.control::block_like-match_expr-requires
+
+pub control::block_like-returns-in-MATCH_KW-clause-gives : goal.control::block_like-returns-in-MATCH_KW-clause-gives
+control::block_like-returns-in-MATCH_KW-clause-gives = control.control::block_like-returns-in-MATCH_KW-clause-gives
+
+pub control::block_like-macro_block-requires : goal.control::block_like-macro_block-requires
+control::block_like-macro_block-requires = control.control::block_like-macro_block-requires
+
+pub control::block_like-returns-in_default-clause-gives : goal.control::block_like-returns-in_default-clause-gives
+control::block_like-returns-in_default-clause-gives = control.control::block_like-returns-in_default-clause-gives
+
+pub control::expect_statement_list-statement_list-requires : goal.control::expect_statement_list-statement_list-requires
+control::expect_statement_list-statement_list-requires = control.control::expect_statement_list-statement_list-requires
+
+pub control::expect_statement_list-returns-then-at-clause-reads : goal.control::expect_statement_list-returns-then-at-clause-reads
+control::expect_statement_list-returns-then-at-clause-reads = control.control::expect_statement_list-returns-then-at-clause-reads
+
+pub control::expect_statement_list-returns-clause-reads : goal.control::expect_statement_list-returns-clause-reads
+control::expect_statement_list-returns-clause-reads = control.control::expect_statement_list-returns-clause-reads
+
+pub control::expect_block-block-requires : goal.control::expect_block-block-requires
+control::expect_block-block-requires = control.control::expect_block-block-requires
+
+pub control::expect_block-returns-then-at-clause-reads : goal.control::expect_block-returns-then-at-clause-reads
+control::expect_block-returns-then-at-clause-reads = control.control::expect_block-returns-then-at-clause-reads
+
+pub control::expect_block-returns-clause-reads : goal.control::expect_block-returns-clause-reads
+control::expect_block-returns-clause-reads = control.control::expect_block-returns-clause-reads
+
+pub control::expect_match_arms-match_arms-requires : goal.control::expect_match_arms-match_arms-requires
+control::expect_match_arms-match_arms-requires = control.control::expect_match_arms-match_arms-requires
+
+pub control::expect_match_arms-returns-then-at-clause-reads : goal.control::expect_match_arms-returns-then-at-clause-reads
+control::expect_match_arms-returns-then-at-clause-reads = control.control::expect_match_arms-returns-then-at-clause-reads
+
+pub control::expect_match_arms-returns-clause-reads : goal.control::expect_match_arms-returns-clause-reads
+control::expect_match_arms-returns-clause-reads = control.control::expect_match_arms-returns-clause-reads
+
+pub control::unsafe_block-expect_statement_list-requires : goal.control::unsafe_block-expect_statement_list-requires
+control::unsafe_block-expect_statement_list-requires = control.control::unsafe_block-expect_statement_list-requires
+
+pub control::unsafe_block-complete-requires : goal.control::unsafe_block-complete-requires
+control::unsafe_block-complete-requires = control.control::unsafe_block-complete-requires
+
+pub control::unsafe_block-returns-clause-reads : goal.control::unsafe_block-returns-clause-reads
+control::unsafe_block-returns-clause-reads = control.control::unsafe_block-returns-clause-reads
+
+pub control::while_expr-expect_condition-requires : goal.control::while_expr-expect_condition-requires
+control::while_expr-expect_condition-requires = control.control::while_expr-expect_condition-requires
+
+pub control::while_expr-expect_block-requires : goal.control::while_expr-expect_block-requires
+control::while_expr-expect_block-requires = control.control::while_expr-expect_block-requires
+
+pub control::while_expr-complete-requires : goal.control::while_expr-complete-requires
+control::while_expr-complete-requires = control.control::while_expr-complete-requires
+
+pub control::while_expr-returns-clause-reads : goal.control::while_expr-returns-clause-reads
+control::while_expr-returns-clause-reads = control.control::while_expr-returns-clause-reads
+
+pub control::loop_expr-expect_block-requires : goal.control::loop_expr-expect_block-requires
+control::loop_expr-expect_block-requires = control.control::loop_expr-expect_block-requires
+
+pub control::loop_expr-complete-requires : goal.control::loop_expr-complete-requires
+control::loop_expr-complete-requires = control.control::loop_expr-complete-requires
+
+pub control::loop_expr-returns-clause-reads : goal.control::loop_expr-returns-clause-reads
+control::loop_expr-returns-clause-reads = control.control::loop_expr-returns-clause-reads
+
+pub control::match_expr-expect_condition-requires : goal.control::match_expr-expect_condition-requires
+control::match_expr-expect_condition-requires = control.control::match_expr-expect_condition-requires
+
+pub control::match_expr-expect_match_arms-requires : goal.control::match_expr-expect_match_arms-requires
+control::match_expr-expect_match_arms-requires = control.control::match_expr-expect_match_arms-requires
+
+pub control::match_expr-complete-requires : goal.control::match_expr-complete-requires
+control::match_expr-complete-requires = control.control::match_expr-complete-requires
+
+pub control::match_expr-returns-clause-reads : goal.control::match_expr-returns-clause-reads
+control::match_expr-returns-clause-reads = control.control::match_expr-returns-clause-reads
+
+pub control::for_expr-expect_pattern-requires : goal.control::for_expr-expect_pattern-requires
+control::for_expr-expect_pattern-requires = control.control::for_expr-expect_pattern-requires
+
+pub control::for_expr-expect_condition-requires : goal.control::for_expr-expect_condition-requires
+control::for_expr-expect_condition-requires = control.control::for_expr-expect_condition-requires
+
+pub control::for_expr-expect_block-requires : goal.control::for_expr-expect_block-requires
+control::for_expr-expect_block-requires = control.control::for_expr-expect_block-requires
+
+pub control::for_expr-complete-requires : goal.control::for_expr-complete-requires
+control::for_expr-complete-requires = control.control::for_expr-complete-requires
+
+pub control::for_expr-returns-clause-reads : goal.control::for_expr-returns-clause-reads
+control::for_expr-returns-clause-reads = control.control::for_expr-returns-clause-reads
+
+pub control::if_expr-expect_condition-requires : goal.control::if_expr-expect_condition-requires
+control::if_expr-expect_condition-requires = control.control::if_expr-expect_condition-requires
+
+pub control::if_expr-expect_block-requires : goal.control::if_expr-expect_block-requires
+control::if_expr-expect_block-requires = control.control::if_expr-expect_block-requires
+
+pub control::if_expr-opt_else-requires : goal.control::if_expr-opt_else-requires
+control::if_expr-opt_else-requires = control.control::if_expr-opt_else-requires
+
+pub control::if_expr-complete-requires : goal.control::if_expr-complete-requires
+control::if_expr-complete-requires = control.control::if_expr-complete-requires
+
+pub control::if_expr-returns-clause-gives : goal.control::if_expr-returns-clause-gives
+control::if_expr-returns-clause-gives = control.control::if_expr-returns-clause-gives
+
+pub control::opt_else-after_else-requires : goal.control::opt_else-after_else-requires
+control::opt_else-after_else-requires = control.control::opt_else-after_else-requires
+
+pub control::opt_else-returns-then-at-clause-reads : goal.control::opt_else-returns-then-at-clause-reads
+control::opt_else-returns-then-at-clause-reads = control.control::opt_else-returns-then-at-clause-reads
+
+pub control::opt_else-returns-else-at-clause-reads : goal.control::opt_else-returns-else-at-clause-reads
+control::opt_else-returns-else-at-clause-reads = control.control::opt_else-returns-else-at-clause-reads
+
+pub control::after_else-if_expr-requires : goal.control::after_else-if_expr-requires
+control::after_else-if_expr-requires = control.control::after_else-if_expr-requires
+
+pub control::after_else-expect_block-requires : goal.control::after_else-expect_block-requires
+control::after_else-expect_block-requires = control.control::after_else-expect_block-requires
+
+pub control::after_else-returns-then-at-clause-reads : goal.control::after_else-returns-then-at-clause-reads
+control::after_else-returns-then-at-clause-reads = control.control::after_else-returns-then-at-clause-reads
+
+pub control::after_else-returns-clause-reads : goal.control::after_else-returns-clause-reads
+control::after_else-returns-clause-reads = control.control::after_else-returns-clause-reads
+
+pub control::match_arms-arms-requires : goal.control::match_arms-arms-requires
+control::match_arms-arms-requires = control.control::match_arms-arms-requires
+
+pub control::match_arms-complete-requires : goal.control::match_arms-complete-requires
+control::match_arms-complete-requires = control.control::match_arms-complete-requires
+
+pub control::match_arms-returns-clause-gives : goal.control::match_arms-returns-clause-gives
+control::match_arms-returns-clause-gives = control.control::match_arms-returns-clause-gives
+
+pub control::arms-turns-preserved : goal.control::arms-turns-preserved
+control::arms-turns-preserved = control.control::arms-turns-preserved
+
+pub control::arms-returns-clause-reads : goal.control::arms-returns-clause-reads
+control::arms-returns-clause-reads = control.control::arms-returns-clause-reads
+
+pub control::arm_turn-returns-then-at_list_end-clause-ends : goal.control::arm_turn-returns-then-at_list_end-clause-ends
+control::arm_turn-returns-then-at_list_end-clause-ends = control.control::arm_turn-returns-then-at_list_end-clause-ends
+
+pub control::arm_turn-read_anew-requires : goal.control::arm_turn-read_anew-requires
+control::arm_turn-read_anew-requires = control.control::arm_turn-read_anew-requires
+
+pub control::arm_turn-returns-then-at_production-clause-goes : goal.control::arm_turn-returns-then-at_production-clause-goes
+control::arm_turn-returns-then-at_production-clause-goes = control.control::arm_turn-returns-then-at_production-clause-goes
+
+pub control::arm_turn-returns-then-at_production-clause-ends : goal.control::arm_turn-returns-then-at_production-clause-ends
+control::arm_turn-returns-then-at_production-clause-ends = control.control::arm_turn-returns-then-at_production-clause-ends
+
+pub control::arm_turn-returns-then-at_production-clause-fewer : goal.control::arm_turn-returns-then-at_production-clause-fewer
+control::arm_turn-returns-then-at_production-clause-fewer = control.control::arm_turn-returns-then-at_production-clause-fewer
+
+pub control::arm_turn-returns-then-at_production-clause-pays : goal.control::arm_turn-returns-then-at_production-clause-pays
+control::arm_turn-returns-then-at_production-clause-pays = control.control::arm_turn-returns-then-at_production-clause-pays
+
+pub control::arm_turn-returns-then-at_production-clause-looks : goal.control::arm_turn-returns-then-at_production-clause-looks
+control::arm_turn-returns-then-at_production-clause-looks = control.control::arm_turn-returns-then-at_production-clause-looks
+
+pub control::arm_turn-skip-requires : goal.control::arm_turn-skip-requires
+control::arm_turn-skip-requires = control.control::arm_turn-skip-requires
+
+pub control::arm_turn-returns-clause-goes : goal.control::arm_turn-returns-clause-goes
+control::arm_turn-returns-clause-goes = control.control::arm_turn-returns-clause-goes
+
+pub control::arm_turn-returns-clause-input : goal.control::arm_turn-returns-clause-input
+control::arm_turn-returns-clause-input = control.control::arm_turn-returns-clause-input
+
+pub control::arm_turn-returns-clause-innermost : goal.control::arm_turn-returns-clause-innermost
+control::arm_turn-returns-clause-innermost = control.control::arm_turn-returns-clause-innermost
+
+pub control::arm_turn-returns-clause-pays : goal.control::arm_turn-returns-clause-pays
+control::arm_turn-returns-clause-pays = control.control::arm_turn-returns-clause-pays
+
+pub control::arm_turn-returns-clause-looks : goal.control::arm_turn-returns-clause-looks
+control::arm_turn-returns-clause-looks = control.control::arm_turn-returns-clause-looks
+
+pub expressions::expect_expression-read_anew-requires : goal.expressions::expect_expression-read_anew-requires
+expressions::expect_expression-read_anew-requires = expressions.expressions::expect_expression-read_anew-requires
+
+pub expressions::expect_expression-returns-then-at_production-clause-reads : goal.expressions::expect_expression-returns-then-at_production-clause-reads
+expressions::expect_expression-returns-then-at_production-clause-reads = expressions.expressions::expect_expression-returns-then-at_production-clause-reads
+
+pub expressions::expect_expression-returns-clause-reads : goal.expressions::expect_expression-returns-clause-reads
+expressions::expect_expression-returns-clause-reads = expressions.expressions::expect_expression-returns-clause-reads
+
+pub expressions::expect_expression-returns-then-at_production-clause-looks : goal.expressions::expect_expression-returns-then-at_production-clause-looks
+expressions::expect_expression-returns-then-at_production-clause-looks = expressions.expressions::expect_expression-returns-then-at_production-clause-looks
+
+pub expressions::expect_expression-returns-clause-looks : goal.expressions::expect_expression-returns-clause-looks
+expressions::expect_expression-returns-clause-looks = expressions.expressions::expect_expression-returns-clause-looks
+
+pub expressions::expect_condition-returns-clause-reads : goal.expressions::expect_condition-returns-clause-reads
+expressions::expect_condition-returns-clause-reads = expressions.expressions::expect_condition-returns-clause-reads
+
 pub lists::turn-returns-then-at_list_end-clause-ends : goal.lists::turn-returns-then-at_list_end-clause-ends
 lists::turn-returns-then-at_list_end-clause-ends = lists.lists::turn-returns-then-at_list_end-clause-ends
 
-pub lists::turn-read_anew-requires : goal.lists::turn-read_anew-requires
-lists::turn-read_anew-requires = lists.lists::turn-read_anew-requires
+pub lists::turn-read_element-requires : goal.lists::turn-read_element-requires
+lists::turn-read_element-requires = lists.lists::turn-read_element-requires
 
-pub lists::turn-returns-then-at_production-clause-goes : goal.lists::turn-returns-then-at_production-clause-goes
-lists::turn-returns-then-at_production-clause-goes = lists.lists::turn-returns-then-at_production-clause-goes
+pub lists::turn-returns-then-at_element-clause-goes : goal.lists::turn-returns-then-at_element-clause-goes
+lists::turn-returns-then-at_element-clause-goes = lists.lists::turn-returns-then-at_element-clause-goes
 
-pub lists::turn-returns-then-at_production-clause-ends : goal.lists::turn-returns-then-at_production-clause-ends
-lists::turn-returns-then-at_production-clause-ends = lists.lists::turn-returns-then-at_production-clause-ends
+pub lists::turn-returns-then-at_element-clause-ends : goal.lists::turn-returns-then-at_element-clause-ends
+lists::turn-returns-then-at_element-clause-ends = lists.lists::turn-returns-then-at_element-clause-ends
 
-pub lists::turn-returns-then-at_production-clause-input : goal.lists::turn-returns-then-at_production-clause-input
-lists::turn-returns-then-at_production-clause-input = lists.lists::turn-returns-then-at_production-clause-input
+pub lists::turn-returns-then-at_element-clause-input : goal.lists::turn-returns-then-at_element-clause-input
+lists::turn-returns-then-at_element-clause-input = lists.lists::turn-returns-then-at_element-clause-input
 
-pub lists::turn-returns-then-at_production-clause-innermost : goal.lists::turn-returns-then-at_production-clause-innermost
-lists::turn-returns-then-at_production-clause-innermost = lists.lists::turn-returns-then-at_production-clause-innermost
+pub lists::turn-returns-then-at_element-clause-innermost : goal.lists::turn-returns-then-at_element-clause-innermost
+lists::turn-returns-then-at_element-clause-innermost = lists.lists::turn-returns-then-at_element-clause-innermost
 
-pub lists::turn-returns-then-at_production-clause-fewer : goal.lists::turn-returns-then-at_production-clause-fewer
-lists::turn-returns-then-at_production-clause-fewer = lists.lists::turn-returns-then-at_production-clause-fewer
+pub lists::turn-returns-then-at_element-clause-fewer : goal.lists::turn-returns-then-at_element-clause-fewer
+lists::turn-returns-then-at_element-clause-fewer = lists.lists::turn-returns-then-at_element-clause-fewer
 
-pub lists::turn-returns-then-at_production-clause-pays : goal.lists::turn-returns-then-at_production-clause-pays
-lists::turn-returns-then-at_production-clause-pays = lists.lists::turn-returns-then-at_production-clause-pays
+pub lists::turn-returns-then-at_element-clause-pays : goal.lists::turn-returns-then-at_element-clause-pays
+lists::turn-returns-then-at_element-clause-pays = lists.lists::turn-returns-then-at_element-clause-pays
 
-pub lists::turn-returns-then-at_production-clause-looks : goal.lists::turn-returns-then-at_production-clause-looks
-lists::turn-returns-then-at_production-clause-looks = lists.lists::turn-returns-then-at_production-clause-looks
+pub lists::turn-returns-then-at_element-clause-looks : goal.lists::turn-returns-then-at_element-clause-looks
+lists::turn-returns-then-at_element-clause-looks = lists.lists::turn-returns-then-at_element-clause-looks
 
 pub lists::turn-returns-then-at_unexpected-clause-goes : goal.lists::turn-returns-then-at_unexpected-clause-goes
 lists::turn-returns-then-at_unexpected-clause-goes = lists.lists::turn-returns-then-at_unexpected-clause-goes
@@ -853,6 +1477,105 @@ lists::turn-returns-clause-ends = lists.lists::turn-returns-clause-ends
 
 pub lists::turn-returns-clause-looks : goal.lists::turn-returns-clause-looks
 lists::turn-returns-clause-looks = lists.lists::turn-returns-clause-looks
+
+pub lists::read_element-closure_param-requires : goal.lists::read_element-closure_param-requires
+lists::read_element-closure_param-requires = lists.lists::read_element-closure_param-requires
+
+pub lists::read_element-read_anew-requires : goal.lists::read_element-read_anew-requires
+lists::read_element-read_anew-requires = lists.lists::read_element-read_anew-requires
+
+pub lists::read_element-returns-in-Expression-clause-reads : goal.lists::read_element-returns-in-Expression-clause-reads
+lists::read_element-returns-in-Expression-clause-reads = lists.lists::read_element-returns-in-Expression-clause-reads
+
+pub lists::read_element-returns-in-Expression-clause-pays : goal.lists::read_element-returns-in-Expression-clause-pays
+lists::read_element-returns-in-Expression-clause-pays = lists.lists::read_element-returns-in-Expression-clause-pays
+
+pub lists::read_element-returns-in-Expression-clause-looks : goal.lists::read_element-returns-in-Expression-clause-looks
+lists::read_element-returns-in-Expression-clause-looks = lists.lists::read_element-returns-in-Expression-clause-looks
+
+pub lists::read_element-read_anew-requires-in-FieldValue : goal.lists::read_element-read_anew-requires-in-FieldValue
+lists::read_element-read_anew-requires-in-FieldValue = lists.lists::read_element-read_anew-requires-in-FieldValue
+
+pub lists::read_element-returns-in-FieldValue-clause-reads : goal.lists::read_element-returns-in-FieldValue-clause-reads
+lists::read_element-returns-in-FieldValue-clause-reads = lists.lists::read_element-returns-in-FieldValue-clause-reads
+
+pub lists::read_element-returns-in-FieldValue-clause-pays : goal.lists::read_element-returns-in-FieldValue-clause-pays
+lists::read_element-returns-in-FieldValue-clause-pays = lists.lists::read_element-returns-in-FieldValue-clause-pays
+
+pub lists::read_element-returns-in-FieldValue-clause-looks : goal.lists::read_element-returns-in-FieldValue-clause-looks
+lists::read_element-returns-in-FieldValue-clause-looks = lists.lists::read_element-returns-in-FieldValue-clause-looks
+
+pub lists::read_element-read_anew-requires-in-GenericArg : goal.lists::read_element-read_anew-requires-in-GenericArg
+lists::read_element-read_anew-requires-in-GenericArg = lists.lists::read_element-read_anew-requires-in-GenericArg
+
+pub lists::read_element-returns-in-GenericArg-clause-reads : goal.lists::read_element-returns-in-GenericArg-clause-reads
+lists::read_element-returns-in-GenericArg-clause-reads = lists.lists::read_element-returns-in-GenericArg-clause-reads
+
+pub lists::read_element-returns-in-GenericArg-clause-pays : goal.lists::read_element-returns-in-GenericArg-clause-pays
+lists::read_element-returns-in-GenericArg-clause-pays = lists.lists::read_element-returns-in-GenericArg-clause-pays
+
+pub lists::read_element-returns-in-GenericArg-clause-looks : goal.lists::read_element-returns-in-GenericArg-clause-looks
+lists::read_element-returns-in-GenericArg-clause-looks = lists.lists::read_element-returns-in-GenericArg-clause-looks
+
+pub lists::read_element-read_anew-requires-in-GenericParam : goal.lists::read_element-read_anew-requires-in-GenericParam
+lists::read_element-read_anew-requires-in-GenericParam = lists.lists::read_element-read_anew-requires-in-GenericParam
+
+pub lists::read_element-returns-in-GenericParam-clause-reads : goal.lists::read_element-returns-in-GenericParam-clause-reads
+lists::read_element-returns-in-GenericParam-clause-reads = lists.lists::read_element-returns-in-GenericParam-clause-reads
+
+pub lists::read_element-returns-in-GenericParam-clause-pays : goal.lists::read_element-returns-in-GenericParam-clause-pays
+lists::read_element-returns-in-GenericParam-clause-pays = lists.lists::read_element-returns-in-GenericParam-clause-pays
+
+pub lists::read_element-returns-in-GenericParam-clause-looks : goal.lists::read_element-returns-in-GenericParam-clause-looks
+lists::read_element-returns-in-GenericParam-clause-looks = lists.lists::read_element-returns-in-GenericParam-clause-looks
+
+pub lists::read_element-read_anew-requires-in-Param : goal.lists::read_element-read_anew-requires-in-Param
+lists::read_element-read_anew-requires-in-Param = lists.lists::read_element-read_anew-requires-in-Param
+
+pub lists::read_element-returns-in-Param-clause-reads : goal.lists::read_element-returns-in-Param-clause-reads
+lists::read_element-returns-in-Param-clause-reads = lists.lists::read_element-returns-in-Param-clause-reads
+
+pub lists::read_element-returns-in-Param-clause-pays : goal.lists::read_element-returns-in-Param-clause-pays
+lists::read_element-returns-in-Param-clause-pays = lists.lists::read_element-returns-in-Param-clause-pays
+
+pub lists::read_element-returns-in-Param-clause-looks : goal.lists::read_element-returns-in-Param-clause-looks
+lists::read_element-returns-in-Param-clause-looks = lists.lists::read_element-returns-in-Param-clause-looks
+
+pub lists::read_element-read_anew-requires-in-Pattern : goal.lists::read_element-read_anew-requires-in-Pattern
+lists::read_element-read_anew-requires-in-Pattern = lists.lists::read_element-read_anew-requires-in-Pattern
+
+pub lists::read_element-returns-in-Pattern-clause-reads : goal.lists::read_element-returns-in-Pattern-clause-reads
+lists::read_element-returns-in-Pattern-clause-reads = lists.lists::read_element-returns-in-Pattern-clause-reads
+
+pub lists::read_element-returns-in-Pattern-clause-pays : goal.lists::read_element-returns-in-Pattern-clause-pays
+lists::read_element-returns-in-Pattern-clause-pays = lists.lists::read_element-returns-in-Pattern-clause-pays
+
+pub lists::read_element-returns-in-Pattern-clause-looks : goal.lists::read_element-returns-in-Pattern-clause-looks
+lists::read_element-returns-in-Pattern-clause-looks = lists.lists::read_element-returns-in-Pattern-clause-looks
+
+pub lists::read_element-read_anew-requires-in-PatternField : goal.lists::read_element-read_anew-requires-in-PatternField
+lists::read_element-read_anew-requires-in-PatternField = lists.lists::read_element-read_anew-requires-in-PatternField
+
+pub lists::read_element-returns-in-PatternField-clause-reads : goal.lists::read_element-returns-in-PatternField-clause-reads
+lists::read_element-returns-in-PatternField-clause-reads = lists.lists::read_element-returns-in-PatternField-clause-reads
+
+pub lists::read_element-returns-in-PatternField-clause-pays : goal.lists::read_element-returns-in-PatternField-clause-pays
+lists::read_element-returns-in-PatternField-clause-pays = lists.lists::read_element-returns-in-PatternField-clause-pays
+
+pub lists::read_element-returns-in-PatternField-clause-looks : goal.lists::read_element-returns-in-PatternField-clause-looks
+lists::read_element-returns-in-PatternField-clause-looks = lists.lists::read_element-returns-in-PatternField-clause-looks
+
+pub lists::read_element-read_anew-requires-in-Type : goal.lists::read_element-read_anew-requires-in-Type
+lists::read_element-read_anew-requires-in-Type = lists.lists::read_element-read_anew-requires-in-Type
+
+pub lists::read_element-returns-in-Type-clause-reads : goal.lists::read_element-returns-in-Type-clause-reads
+lists::read_element-returns-in-Type-clause-reads = lists.lists::read_element-returns-in-Type-clause-reads
+
+pub lists::read_element-returns-in-Type-clause-pays : goal.lists::read_element-returns-in-Type-clause-pays
+lists::read_element-returns-in-Type-clause-pays = lists.lists::read_element-returns-in-Type-clause-pays
+
+pub lists::read_element-returns-in-Type-clause-looks : goal.lists::read_element-returns-in-Type-clause-looks
+lists::read_element-returns-in-Type-clause-looks = lists.lists::read_element-returns-in-Type-clause-looks
 
 pub lists::elements-turns-preserved : goal.lists::elements-turns-preserved
 lists::elements-turns-preserved = lists.lists::elements-turns-preserved
@@ -907,6 +1630,168 @@ lists::pattern_fields-complete-requires = lists.lists::pattern_fields-complete-r
 
 pub lists::pattern_fields-returns-clause-gives : goal.lists::pattern_fields-returns-clause-gives
 lists::pattern_fields-returns-clause-gives = lists.lists::pattern_fields-returns-clause-gives
+
+pub operands::prefixed-prefix_expr-requires : goal.operands::prefixed-prefix_expr-requires
+operands::prefixed-prefix_expr-requires = operands.operands::prefixed-prefix_expr-requires
+
+pub operands::prefixed-returns-in-MINUS-clause-gives : goal.operands::prefixed-returns-in-MINUS-clause-gives
+operands::prefixed-returns-in-MINUS-clause-gives = operands.operands::prefixed-returns-in-MINUS-clause-gives
+
+pub operands::prefixed-prefix_expr-requires-in-BANG : goal.operands::prefixed-prefix_expr-requires-in-BANG
+operands::prefixed-prefix_expr-requires-in-BANG = operands.operands::prefixed-prefix_expr-requires-in-BANG
+
+pub operands::prefixed-returns-in-BANG-clause-gives : goal.operands::prefixed-returns-in-BANG-clause-gives
+operands::prefixed-returns-in-BANG-clause-gives = operands.operands::prefixed-returns-in-BANG-clause-gives
+
+pub operands::prefixed-prefix_expr-requires-in-STAR : goal.operands::prefixed-prefix_expr-requires-in-STAR
+operands::prefixed-prefix_expr-requires-in-STAR = operands.operands::prefixed-prefix_expr-requires-in-STAR
+
+pub operands::prefixed-returns-in-STAR-clause-gives : goal.operands::prefixed-returns-in-STAR-clause-gives
+operands::prefixed-returns-in-STAR-clause-gives = operands.operands::prefixed-returns-in-STAR-clause-gives
+
+pub operands::prefixed-ref_expr-requires : goal.operands::prefixed-ref_expr-requires
+operands::prefixed-ref_expr-requires = operands.operands::prefixed-ref_expr-requires
+
+pub operands::prefixed-returns-in-AMP-clause-gives : goal.operands::prefixed-returns-in-AMP-clause-gives
+operands::prefixed-returns-in-AMP-clause-gives = operands.operands::prefixed-returns-in-AMP-clause-gives
+
+pub operands::prefixed-operand-requires : goal.operands::prefixed-operand-requires
+operands::prefixed-operand-requires = operands.operands::prefixed-operand-requires
+
+pub operands::prefixed-returns-in_default-clause-gives : goal.operands::prefixed-returns-in_default-clause-gives
+operands::prefixed-returns-in_default-clause-gives = operands.operands::prefixed-returns-in_default-clause-gives
+
+pub operands::prefix_expr-expect_expression-requires : goal.operands::prefix_expr-expect_expression-requires
+operands::prefix_expr-expect_expression-requires = operands.operands::prefix_expr-expect_expression-requires
+
+pub operands::prefix_expr-complete-requires : goal.operands::prefix_expr-complete-requires
+operands::prefix_expr-complete-requires = operands.operands::prefix_expr-complete-requires
+
+pub operands::prefix_expr-returns-clause-reads : goal.operands::prefix_expr-returns-clause-reads
+operands::prefix_expr-returns-clause-reads = operands.operands::prefix_expr-returns-clause-reads
+
+pub operands::ref_expr-expect_expression-requires : goal.operands::ref_expr-expect_expression-requires
+operands::ref_expr-expect_expression-requires = operands.operands::ref_expr-expect_expression-requires
+
+pub operands::ref_expr-complete-requires : goal.operands::ref_expr-complete-requires
+operands::ref_expr-complete-requires = operands.operands::ref_expr-complete-requires
+
+pub operands::ref_expr-returns-clause-reads : goal.operands::ref_expr-returns-clause-reads
+operands::ref_expr-returns-clause-reads = operands.operands::ref_expr-returns-clause-reads
+
+pub operands::operand-inside-frame-requires : goal.operands::operand-inside-frame-requires
+operands::operand-inside-frame-requires = operands.operands::operand-inside-frame-requires
+
+pub operands::operand-postfixes-frame-requires : goal.operands::operand-postfixes-frame-requires
+operands::operand-postfixes-frame-requires = operands.operands::operand-postfixes-frame-requires
+
+pub operands::operand-returns-clause-anew : goal.operands::operand-returns-clause-anew
+operands::operand-returns-clause-anew = operands.operands::operand-returns-clause-anew
+
+pub operands::postfixes-turns-preserved : goal.operands::postfixes-turns-preserved
+operands::postfixes-turns-preserved = operands.operands::postfixes-turns-preserved
+
+pub operands::postfixes-returns-clause-reads : goal.operands::postfixes-returns-clause-reads
+operands::postfixes-returns-clause-reads = operands.operands::postfixes-returns-clause-reads
+
+pub operands::postfix-arguments-requires : goal.operands::postfix-arguments-requires
+operands::postfix-arguments-requires = operands.operands::postfix-arguments-requires
+
+pub operands::postfix-wrap-requires : goal.operands::postfix-wrap-requires
+operands::postfix-wrap-requires = operands.operands::postfix-wrap-requires
+
+pub operands::postfix-returns-in-L_PAREN-clause-reads : goal.operands::postfix-returns-in-L_PAREN-clause-reads
+operands::postfix-returns-in-L_PAREN-clause-reads = operands.operands::postfix-returns-in-L_PAREN-clause-reads
+
+pub operands::postfix-index-requires : goal.operands::postfix-index-requires
+operands::postfix-index-requires = operands.operands::postfix-index-requires
+
+pub operands::postfix-wrap-requires-in-L_BRACK : goal.operands::postfix-wrap-requires-in-L_BRACK
+operands::postfix-wrap-requires-in-L_BRACK = operands.operands::postfix-wrap-requires-in-L_BRACK
+
+pub operands::postfix-returns-in-L_BRACK-clause-reads : goal.operands::postfix-returns-in-L_BRACK-clause-reads
+operands::postfix-returns-in-L_BRACK-clause-reads = operands.operands::postfix-returns-in-L_BRACK-clause-reads
+
+pub operands::postfix-wrap-requires-in-QUESTION : goal.operands::postfix-wrap-requires-in-QUESTION
+operands::postfix-wrap-requires-in-QUESTION = operands.operands::postfix-wrap-requires-in-QUESTION
+
+pub operands::postfix-returns-in-QUESTION-clause-reads : goal.operands::postfix-returns-in-QUESTION-clause-reads
+operands::postfix-returns-in-QUESTION-clause-reads = operands.operands::postfix-returns-in-QUESTION-clause-reads
+
+pub operands::postfix-after_dot-requires : goal.operands::postfix-after_dot-requires
+operands::postfix-after_dot-requires = operands.operands::postfix-after_dot-requires
+
+pub operands::postfix-returns-in_default-clause-reads : goal.operands::postfix-returns-in_default-clause-reads
+operands::postfix-returns-in_default-clause-reads = operands.operands::postfix-returns-in_default-clause-reads
+
+pub operands::index-expect_expression-requires : goal.operands::index-expect_expression-requires
+operands::index-expect_expression-requires = operands.operands::index-expect_expression-requires
+
+pub operands::index-returns-clause-reads : goal.operands::index-returns-clause-reads
+operands::index-returns-clause-reads = operands.operands::index-returns-clause-reads
+
+pub operands::after_dot-method_call-requires : goal.operands::after_dot-method_call-requires
+operands::after_dot-method_call-requires = operands.operands::after_dot-method_call-requires
+
+pub operands::after_dot-wrap-requires : goal.operands::after_dot-wrap-requires
+operands::after_dot-wrap-requires = operands.operands::after_dot-wrap-requires
+
+pub operands::after_dot-returns-then-at_method-clause-reads : goal.operands::after_dot-returns-then-at_method-clause-reads
+operands::after_dot-returns-then-at_method-clause-reads = operands.operands::after_dot-returns-then-at_method-clause-reads
+
+pub operands::after_dot-wrap-requires-in-IDENT : goal.operands::after_dot-wrap-requires-in-IDENT
+operands::after_dot-wrap-requires-in-IDENT = operands.operands::after_dot-wrap-requires-in-IDENT
+
+pub operands::after_dot-returns-in-IDENT-clause-reads : goal.operands::after_dot-returns-in-IDENT-clause-reads
+operands::after_dot-returns-in-IDENT-clause-reads = operands.operands::after_dot-returns-in-IDENT-clause-reads
+
+pub operands::after_dot-wrap-requires-in-INT_NUMBER : goal.operands::after_dot-wrap-requires-in-INT_NUMBER
+operands::after_dot-wrap-requires-in-INT_NUMBER = operands.operands::after_dot-wrap-requires-in-INT_NUMBER
+
+pub operands::after_dot-returns-in-INT_NUMBER-clause-reads : goal.operands::after_dot-returns-in-INT_NUMBER-clause-reads
+operands::after_dot-returns-in-INT_NUMBER-clause-reads = operands.operands::after_dot-returns-in-INT_NUMBER-clause-reads
+
+pub operands::after_dot-float-requires : goal.operands::after_dot-float-requires
+operands::after_dot-float-requires = operands.operands::after_dot-float-requires
+
+pub operands::after_dot-returns-in-FLOAT_NUMBER-clause-reads : goal.operands::after_dot-returns-in-FLOAT_NUMBER-clause-reads
+operands::after_dot-returns-in-FLOAT_NUMBER-clause-reads = operands.operands::after_dot-returns-in-FLOAT_NUMBER-clause-reads
+
+pub operands::after_dot-wrap-requires-in_default : goal.operands::after_dot-wrap-requires-in_default
+operands::after_dot-wrap-requires-in_default = operands.operands::after_dot-wrap-requires-in_default
+
+pub operands::after_dot-returns-in_default-clause-reads : goal.operands::after_dot-returns-in_default-clause-reads
+operands::after_dot-returns-in_default-clause-reads = operands.operands::after_dot-returns-in_default-clause-reads
+
+pub operands::method_call-opt_generic_args-requires : goal.operands::method_call-opt_generic_args-requires
+operands::method_call-opt_generic_args-requires = operands.operands::method_call-opt_generic_args-requires
+
+pub operands::method_call-expect_arguments-requires : goal.operands::method_call-expect_arguments-requires
+operands::method_call-expect_arguments-requires = operands.operands::method_call-expect_arguments-requires
+
+pub operands::method_call-returns-clause-reads : goal.operands::method_call-returns-clause-reads
+operands::method_call-returns-clause-reads = operands.operands::method_call-returns-clause-reads
+
+pub operands::expect_arguments-arguments-requires : goal.operands::expect_arguments-arguments-requires
+operands::expect_arguments-arguments-requires = operands.operands::expect_arguments-arguments-requires
+
+pub operands::expect_arguments-returns-then-at-clause-reads : goal.operands::expect_arguments-returns-then-at-clause-reads
+operands::expect_arguments-returns-then-at-clause-reads = operands.operands::expect_arguments-returns-then-at-clause-reads
+
+pub operands::expect_arguments-returns-clause-reads : goal.operands::expect_arguments-returns-clause-reads
+operands::expect_arguments-returns-clause-reads = operands.operands::expect_arguments-returns-clause-reads
+
+pub operands::float-split-frame-requires : goal.operands::float-split-frame-requires
+operands::float-split-frame-requires = operands.operands::float-split-frame-requires
+
+pub operands::float-after_dot-requires : goal.operands::float-after_dot-requires
+operands::float-after_dot-requires = operands.operands::float-after_dot-requires
+
+pub operands::float-returns-then-joint-clause-reads : goal.operands::float-returns-then-joint-clause-reads
+operands::float-returns-then-joint-clause-reads = operands.operands::float-returns-then-joint-clause-reads
+
+pub operands::float-returns-clause-reads : goal.operands::float-returns-clause-reads
+operands::float-returns-clause-reads = operands.operands::float-returns-clause-reads
 
 pub paths::generic_args-rest_of_list-requires : goal.paths::generic_args-rest_of_list-requires
 paths::generic_args-rest_of_list-requires = paths.paths::generic_args-rest_of_list-requires
@@ -979,6 +1864,435 @@ paths::path_with_args-next_segments-frame-requires = paths.paths::path_with_args
 
 pub paths::path_with_args-returns-clause-gives : goal.paths::path_with_args-returns-clause-gives
 paths::path_with_args-returns-clause-gives = paths.paths::path_with_args-returns-clause-gives
+
+pub paths::opt_generic_args-generic_args-requires : goal.paths::opt_generic_args-generic_args-requires
+paths::opt_generic_args-generic_args-requires = paths.paths::opt_generic_args-generic_args-requires
+
+pub paths::opt_generic_args-returns-then-at_generic_args-clause-reads : goal.paths::opt_generic_args-returns-then-at_generic_args-clause-reads
+paths::opt_generic_args-returns-then-at_generic_args-clause-reads = paths.paths::opt_generic_args-returns-then-at_generic_args-clause-reads
+
+pub paths::opt_generic_args-returns-else-at_generic_args-clause-reads : goal.paths::opt_generic_args-returns-else-at_generic_args-clause-reads
+paths::opt_generic_args-returns-else-at_generic_args-clause-reads = paths.paths::opt_generic_args-returns-else-at_generic_args-clause-reads
+
+pub patterns::single_pattern-inside-frame-requires : goal.patterns::single_pattern-inside-frame-requires
+patterns::single_pattern-inside-frame-requires = patterns.patterns::single_pattern-inside-frame-requires
+
+pub patterns::single_pattern-returns-clause-gives : goal.patterns::single_pattern-returns-clause-gives
+patterns::single_pattern-returns-clause-gives = patterns.patterns::single_pattern-returns-clause-gives
+
+pub patterns::inside-returns-in-MINUS-clause-reads : goal.patterns::inside-returns-in-MINUS-clause-reads
+patterns::inside-returns-in-MINUS-clause-reads = patterns.patterns::inside-returns-in-MINUS-clause-reads
+
+pub patterns::inside-returns-in-MINUS-clause-marker : goal.patterns::inside-returns-in-MINUS-clause-marker
+patterns::inside-returns-in-MINUS-clause-marker = patterns.patterns::inside-returns-in-MINUS-clause-marker
+
+pub patterns::inside-returns-in-UNDERSCORE-clause-reads : goal.patterns::inside-returns-in-UNDERSCORE-clause-reads
+patterns::inside-returns-in-UNDERSCORE-clause-reads = patterns.patterns::inside-returns-in-UNDERSCORE-clause-reads
+
+pub patterns::inside-returns-in-UNDERSCORE-clause-marker : goal.patterns::inside-returns-in-UNDERSCORE-clause-marker
+patterns::inside-returns-in-UNDERSCORE-clause-marker = patterns.patterns::inside-returns-in-UNDERSCORE-clause-marker
+
+pub patterns::inside-returns-in-AMP-clause-reads : goal.patterns::inside-returns-in-AMP-clause-reads
+patterns::inside-returns-in-AMP-clause-reads = patterns.patterns::inside-returns-in-AMP-clause-reads
+
+pub patterns::inside-returns-in-AMP-clause-marker : goal.patterns::inside-returns-in-AMP-clause-marker
+patterns::inside-returns-in-AMP-clause-marker = patterns.patterns::inside-returns-in-AMP-clause-marker
+
+pub patterns::inside-returns-in-L_BRACK-clause-reads : goal.patterns::inside-returns-in-L_BRACK-clause-reads
+patterns::inside-returns-in-L_BRACK-clause-reads = patterns.patterns::inside-returns-in-L_BRACK-clause-reads
+
+pub patterns::inside-returns-in-L_BRACK-clause-marker : goal.patterns::inside-returns-in-L_BRACK-clause-marker
+patterns::inside-returns-in-L_BRACK-clause-marker = patterns.patterns::inside-returns-in-L_BRACK-clause-marker
+
+pub patterns::inside-returns-in-REF_KW-clause-reads : goal.patterns::inside-returns-in-REF_KW-clause-reads
+patterns::inside-returns-in-REF_KW-clause-reads = patterns.patterns::inside-returns-in-REF_KW-clause-reads
+
+pub patterns::inside-returns-in-REF_KW-clause-marker : goal.patterns::inside-returns-in-REF_KW-clause-marker
+patterns::inside-returns-in-REF_KW-clause-marker = patterns.patterns::inside-returns-in-REF_KW-clause-marker
+
+pub patterns::inside-returns-in-MUT_KW-clause-reads : goal.patterns::inside-returns-in-MUT_KW-clause-reads
+patterns::inside-returns-in-MUT_KW-clause-reads = patterns.patterns::inside-returns-in-MUT_KW-clause-reads
+
+pub patterns::inside-returns-in-MUT_KW-clause-marker : goal.patterns::inside-returns-in-MUT_KW-clause-marker
+patterns::inside-returns-in-MUT_KW-clause-marker = patterns.patterns::inside-returns-in-MUT_KW-clause-marker
+
+pub patterns::inside-returns-then-at_paren_before_dots : goal.patterns::inside-returns-then-at_paren_before_dots
+patterns::inside-returns-then-at_paren_before_dots = patterns.patterns::inside-returns-then-at_paren_before_dots
+
+pub patterns::inside-returns-else-at_paren_before_dots : goal.patterns::inside-returns-else-at_paren_before_dots
+patterns::inside-returns-else-at_paren_before_dots = patterns.patterns::inside-returns-else-at_paren_before_dots
+
+pub patterns::inside-returns-then-at_ident_pat : goal.patterns::inside-returns-then-at_ident_pat
+patterns::inside-returns-then-at_ident_pat = patterns.patterns::inside-returns-then-at_ident_pat
+
+pub patterns::inside-returns-then-at_pair : goal.patterns::inside-returns-then-at_pair
+patterns::inside-returns-then-at_pair = patterns.patterns::inside-returns-then-at_pair
+
+pub patterns::inside-returns-then-at_literal : goal.patterns::inside-returns-then-at_literal
+patterns::inside-returns-then-at_literal = patterns.patterns::inside-returns-then-at_literal
+
+pub patterns::inside-returns-else-at_literal : goal.patterns::inside-returns-else-at_literal
+patterns::inside-returns-else-at_literal = patterns.patterns::inside-returns-else-at_literal
+
+pub patterns::inside-path_pat-requires : goal.patterns::inside-path_pat-requires
+patterns::inside-path_pat-requires = patterns.patterns::inside-path_pat-requires
+
+pub patterns::expect_single-single_pattern-requires : goal.patterns::expect_single-single_pattern-requires
+patterns::expect_single-single_pattern-requires = patterns.patterns::expect_single-single_pattern-requires
+
+pub patterns::expect_single-returns-then-at_single_pattern-clause-reads : goal.patterns::expect_single-returns-then-at_single_pattern-clause-reads
+patterns::expect_single-returns-then-at_single_pattern-clause-reads = patterns.patterns::expect_single-returns-then-at_single_pattern-clause-reads
+
+pub patterns::expect_single-returns-clause-reads : goal.patterns::expect_single-returns-clause-reads
+patterns::expect_single-returns-clause-reads = patterns.patterns::expect_single-returns-clause-reads
+
+pub or_patterns::expect_pattern-pattern-requires : goal.or_patterns::expect_pattern-pattern-requires
+or_patterns::expect_pattern-pattern-requires = patterns.or_patterns::expect_pattern-pattern-requires
+
+pub or_patterns::expect_pattern-returns-then-at_pattern-clause-reads : goal.or_patterns::expect_pattern-returns-then-at_pattern-clause-reads
+or_patterns::expect_pattern-returns-then-at_pattern-clause-reads = patterns.or_patterns::expect_pattern-returns-then-at_pattern-clause-reads
+
+pub or_patterns::expect_pattern-returns-clause-reads : goal.or_patterns::expect_pattern-returns-clause-reads
+or_patterns::expect_pattern-returns-clause-reads = patterns.or_patterns::expect_pattern-returns-clause-reads
+
+pub patterns::ref_pat-expect_single-requires : goal.patterns::ref_pat-expect_single-requires
+patterns::ref_pat-expect_single-requires = patterns.patterns::ref_pat-expect_single-requires
+
+pub patterns::ref_pat-complete-requires : goal.patterns::ref_pat-complete-requires
+patterns::ref_pat-complete-requires = patterns.patterns::ref_pat-complete-requires
+
+pub patterns::ref_pat-returns-clause-reads : goal.patterns::ref_pat-returns-clause-reads
+patterns::ref_pat-returns-clause-reads = patterns.patterns::ref_pat-returns-clause-reads
+
+pub patterns::slice_pat-rest_of_list-requires : goal.patterns::slice_pat-rest_of_list-requires
+patterns::slice_pat-rest_of_list-requires = patterns.patterns::slice_pat-rest_of_list-requires
+
+pub patterns::slice_pat-complete-requires : goal.patterns::slice_pat-complete-requires
+patterns::slice_pat-complete-requires = patterns.patterns::slice_pat-complete-requires
+
+pub patterns::slice_pat-returns-clause-reads : goal.patterns::slice_pat-returns-clause-reads
+patterns::slice_pat-returns-clause-reads = patterns.patterns::slice_pat-returns-clause-reads
+
+pub patterns::tuple_pat-rest_of_list-requires : goal.patterns::tuple_pat-rest_of_list-requires
+patterns::tuple_pat-rest_of_list-requires = patterns.patterns::tuple_pat-rest_of_list-requires
+
+pub patterns::tuple_pat-complete-requires : goal.patterns::tuple_pat-complete-requires
+patterns::tuple_pat-complete-requires = patterns.patterns::tuple_pat-complete-requires
+
+pub patterns::tuple_pat-returns-clause-reads : goal.patterns::tuple_pat-returns-clause-reads
+patterns::tuple_pat-returns-clause-reads = patterns.patterns::tuple_pat-returns-clause-reads
+
+pub patterns::ident_pat-opt_at-requires : goal.patterns::ident_pat-opt_at-requires
+patterns::ident_pat-opt_at-requires = patterns.patterns::ident_pat-opt_at-requires
+
+pub patterns::ident_pat-complete-requires : goal.patterns::ident_pat-complete-requires
+patterns::ident_pat-complete-requires = patterns.patterns::ident_pat-complete-requires
+
+pub patterns::ident_pat-returns-clause-reads : goal.patterns::ident_pat-returns-clause-reads
+patterns::ident_pat-returns-clause-reads = patterns.patterns::ident_pat-returns-clause-reads
+
+pub patterns::ident_after_mut-opt_at-requires : goal.patterns::ident_after_mut-opt_at-requires
+patterns::ident_after_mut-opt_at-requires = patterns.patterns::ident_after_mut-opt_at-requires
+
+pub patterns::ident_after_mut-complete-requires : goal.patterns::ident_after_mut-complete-requires
+patterns::ident_after_mut-complete-requires = patterns.patterns::ident_after_mut-complete-requires
+
+pub patterns::ident_after_mut-returns-clause-reads : goal.patterns::ident_after_mut-returns-clause-reads
+patterns::ident_after_mut-returns-clause-reads = patterns.patterns::ident_after_mut-returns-clause-reads
+
+pub patterns::ident_after_ref-opt_at-requires : goal.patterns::ident_after_ref-opt_at-requires
+patterns::ident_after_ref-opt_at-requires = patterns.patterns::ident_after_ref-opt_at-requires
+
+pub patterns::ident_after_ref-complete-requires : goal.patterns::ident_after_ref-complete-requires
+patterns::ident_after_ref-complete-requires = patterns.patterns::ident_after_ref-complete-requires
+
+pub patterns::ident_after_ref-returns-clause-reads : goal.patterns::ident_after_ref-returns-clause-reads
+patterns::ident_after_ref-returns-clause-reads = patterns.patterns::ident_after_ref-returns-clause-reads
+
+pub patterns::opt_at-expect_single-requires : goal.patterns::opt_at-expect_single-requires
+patterns::opt_at-expect_single-requires = patterns.patterns::opt_at-expect_single-requires
+
+pub patterns::opt_at-returns-then-at-clause-reads : goal.patterns::opt_at-returns-then-at-clause-reads
+patterns::opt_at-returns-then-at-clause-reads = patterns.patterns::opt_at-returns-then-at-clause-reads
+
+pub patterns::opt_at-returns-else-at-clause-reads : goal.patterns::opt_at-returns-else-at-clause-reads
+patterns::opt_at-returns-else-at-clause-reads = patterns.patterns::opt_at-returns-else-at-clause-reads
+
+pub patterns::paren_pat-after_paren-requires : goal.patterns::paren_pat-after_paren-requires
+patterns::paren_pat-after_paren-requires = patterns.patterns::paren_pat-after_paren-requires
+
+pub patterns::paren_pat-returns-clause-reads : goal.patterns::paren_pat-returns-clause-reads
+patterns::paren_pat-returns-clause-reads = patterns.patterns::paren_pat-returns-clause-reads
+
+pub patterns::after_paren-wrap-requires : goal.patterns::after_paren-wrap-requires
+patterns::after_paren-wrap-requires = patterns.patterns::after_paren-wrap-requires
+
+pub patterns::after_paren-after_first-requires : goal.patterns::after_paren-after_first-requires
+patterns::after_paren-after_first-requires = patterns.patterns::after_paren-after_first-requires
+
+pub patterns::after_paren-expect_pattern-requires : goal.patterns::after_paren-expect_pattern-requires
+patterns::after_paren-expect_pattern-requires = patterns.patterns::after_paren-expect_pattern-requires
+
+pub patterns::after_paren-returns-then-at-clause-reads : goal.patterns::after_paren-returns-then-at-clause-reads
+patterns::after_paren-returns-then-at-clause-reads = patterns.patterns::after_paren-returns-then-at-clause-reads
+
+pub patterns::after_paren-returns-clause-reads : goal.patterns::after_paren-returns-clause-reads
+patterns::after_paren-returns-clause-reads = patterns.patterns::after_paren-returns-clause-reads
+
+pub patterns::after_first-rest_of_list-requires : goal.patterns::after_first-rest_of_list-requires
+patterns::after_first-rest_of_list-requires = patterns.patterns::after_first-rest_of_list-requires
+
+pub patterns::after_first-wrap-requires : goal.patterns::after_first-wrap-requires
+patterns::after_first-wrap-requires = patterns.patterns::after_first-wrap-requires
+
+pub patterns::after_first-wrap-requires-2 : goal.patterns::after_first-wrap-requires-2
+patterns::after_first-wrap-requires-2 = patterns.patterns::after_first-wrap-requires-2
+
+pub patterns::after_first-returns-then-at-clause-reads : goal.patterns::after_first-returns-then-at-clause-reads
+patterns::after_first-returns-then-at-clause-reads = patterns.patterns::after_first-returns-then-at-clause-reads
+
+pub patterns::after_first-returns-clause-reads : goal.patterns::after_first-returns-clause-reads
+patterns::after_first-returns-clause-reads = patterns.patterns::after_first-returns-clause-reads
+
+pub patterns::path_pat-path_with_args-requires : goal.patterns::path_pat-path_with_args-requires
+patterns::path_pat-path_with_args-requires = patterns.patterns::path_pat-path_with_args-requires
+
+pub patterns::path_pat-after_path-requires : goal.patterns::path_pat-after_path-requires
+patterns::path_pat-after_path-requires = patterns.patterns::path_pat-after_path-requires
+
+pub patterns::path_pat-returns-clause-reads : goal.patterns::path_pat-returns-clause-reads
+patterns::path_pat-returns-clause-reads = patterns.patterns::path_pat-returns-clause-reads
+
+pub patterns::after_path-rest_of_list-requires : goal.patterns::after_path-rest_of_list-requires
+patterns::after_path-rest_of_list-requires = patterns.patterns::after_path-rest_of_list-requires
+
+pub patterns::after_path-wrap-requires : goal.patterns::after_path-wrap-requires
+patterns::after_path-wrap-requires = patterns.patterns::after_path-wrap-requires
+
+pub patterns::after_path-wrap-requires-then-at-2 : goal.patterns::after_path-wrap-requires-then-at-2
+patterns::after_path-wrap-requires-then-at-2 = patterns.patterns::after_path-wrap-requires-then-at-2
+
+pub patterns::after_path-wrap-requires-2 : goal.patterns::after_path-wrap-requires-2
+patterns::after_path-wrap-requires-2 = patterns.patterns::after_path-wrap-requires-2
+
+pub patterns::after_path-returns-then-at-clause-reads : goal.patterns::after_path-returns-then-at-clause-reads
+patterns::after_path-returns-then-at-clause-reads = patterns.patterns::after_path-returns-then-at-clause-reads
+
+pub patterns::after_path-returns-then-at-2-clause-reads : goal.patterns::after_path-returns-then-at-2-clause-reads
+patterns::after_path-returns-then-at-2-clause-reads = patterns.patterns::after_path-returns-then-at-2-clause-reads
+
+pub patterns::after_path-returns-clause-reads : goal.patterns::after_path-returns-clause-reads
+patterns::after_path-returns-clause-reads = patterns.patterns::after_path-returns-clause-reads
+
+pub or_patterns::pattern-alternatives-frame-requires : goal.or_patterns::pattern-alternatives-frame-requires
+or_patterns::pattern-alternatives-frame-requires = patterns.or_patterns::pattern-alternatives-frame-requires
+
+pub or_patterns::pattern-returns-clause-gives : goal.or_patterns::pattern-returns-clause-gives
+or_patterns::pattern-returns-clause-gives = patterns.or_patterns::pattern-returns-clause-gives
+
+pub or_patterns::alternatives-expect_single-requires : goal.or_patterns::alternatives-expect_single-requires
+or_patterns::alternatives-expect_single-requires = patterns.or_patterns::alternatives-expect_single-requires
+
+pub or_patterns::alternatives-further-requires : goal.or_patterns::alternatives-further-requires
+or_patterns::alternatives-further-requires = patterns.or_patterns::alternatives-further-requires
+
+pub or_patterns::alternatives-wrap-requires : goal.or_patterns::alternatives-wrap-requires
+or_patterns::alternatives-wrap-requires = patterns.or_patterns::alternatives-wrap-requires
+
+pub or_patterns::alternatives-single_pattern-requires : goal.or_patterns::alternatives-single_pattern-requires
+or_patterns::alternatives-single_pattern-requires = patterns.or_patterns::alternatives-single_pattern-requires
+
+pub or_patterns::alternatives-opt_further-requires : goal.or_patterns::alternatives-opt_further-requires
+or_patterns::alternatives-opt_further-requires = patterns.or_patterns::alternatives-opt_further-requires
+
+pub or_patterns::alternatives-returns-then-at-clause-reads : goal.or_patterns::alternatives-returns-then-at-clause-reads
+or_patterns::alternatives-returns-then-at-clause-reads = patterns.or_patterns::alternatives-returns-then-at-clause-reads
+
+pub or_patterns::alternatives-returns-clause-reads : goal.or_patterns::alternatives-returns-clause-reads
+or_patterns::alternatives-returns-clause-reads = patterns.or_patterns::alternatives-returns-clause-reads
+
+pub or_patterns::one_further-expect_single-requires : goal.or_patterns::one_further-expect_single-requires
+or_patterns::one_further-expect_single-requires = patterns.or_patterns::one_further-expect_single-requires
+
+pub or_patterns::one_further-returns-clause-reads : goal.or_patterns::one_further-returns-clause-reads
+or_patterns::one_further-returns-clause-reads = patterns.or_patterns::one_further-returns-clause-reads
+
+pub or_patterns::further-turns-preserved : goal.or_patterns::further-turns-preserved
+or_patterns::further-turns-preserved = patterns.or_patterns::further-turns-preserved
+
+pub or_patterns::further-returns-clause-reads : goal.or_patterns::further-returns-clause-reads
+or_patterns::further-returns-clause-reads = patterns.or_patterns::further-returns-clause-reads
+
+pub or_patterns::opt_further-further-requires : goal.or_patterns::opt_further-further-requires
+or_patterns::opt_further-further-requires = patterns.or_patterns::opt_further-further-requires
+
+pub or_patterns::opt_further-wrap-requires : goal.or_patterns::opt_further-wrap-requires
+or_patterns::opt_further-wrap-requires = patterns.or_patterns::opt_further-wrap-requires
+
+pub or_patterns::opt_further-returns-then-at-clause-reads : goal.or_patterns::opt_further-returns-then-at-clause-reads
+or_patterns::opt_further-returns-then-at-clause-reads = patterns.or_patterns::opt_further-returns-then-at-clause-reads
+
+pub or_patterns::opt_further-returns-clause-reads : goal.or_patterns::opt_further-returns-clause-reads
+or_patterns::opt_further-returns-clause-reads = patterns.or_patterns::opt_further-returns-clause-reads
+
+pub statements::statement-let_stmt-requires : goal.statements::statement-let_stmt-requires
+statements::statement-let_stmt-requires = statements.statements::statement-let_stmt-requires
+
+pub statements::statement-returns-in-SEMICOLON-clause-gives : goal.statements::statement-returns-in-SEMICOLON-clause-gives
+statements::statement-returns-in-SEMICOLON-clause-gives = statements.statements::statement-returns-in-SEMICOLON-clause-gives
+
+pub statements::statement-returns-in-LET_KW-clause-gives : goal.statements::statement-returns-in-LET_KW-clause-gives
+statements::statement-returns-in-LET_KW-clause-gives = statements.statements::statement-returns-in-LET_KW-clause-gives
+
+pub statements::statement-attribute-requires : goal.statements::statement-attribute-requires
+statements::statement-attribute-requires = statements.statements::statement-attribute-requires
+
+pub statements::statement-returns-then-at_inner_attribute-clause-gives : goal.statements::statement-returns-then-at_inner_attribute-clause-gives
+statements::statement-returns-then-at_inner_attribute-clause-gives = statements.statements::statement-returns-then-at_inner_attribute-clause-gives
+
+pub statements::statement-returns-then-at_item-clause-gives : goal.statements::statement-returns-then-at_item-clause-gives
+statements::statement-returns-then-at_item-clause-gives = statements.statements::statement-returns-then-at_item-clause-gives
+
+pub statements::statement-read_anew-requires : goal.statements::statement-read_anew-requires
+statements::statement-read_anew-requires = statements.statements::statement-read_anew-requires
+
+pub statements::statement-returns-then-at_item-clause-pays : goal.statements::statement-returns-then-at_item-clause-pays
+statements::statement-returns-then-at_item-clause-pays = statements.statements::statement-returns-then-at_item-clause-pays
+
+pub statements::statement-returns-then-at_item-clause-looks : goal.statements::statement-returns-then-at_item-clause-looks
+statements::statement-returns-then-at_item-clause-looks = statements.statements::statement-returns-then-at_item-clause-looks
+
+pub statements::statement-expression_statement-requires : goal.statements::statement-expression_statement-requires
+statements::statement-expression_statement-requires = statements.statements::statement-expression_statement-requires
+
+pub statements::statement-returns-else-at_item-clause-gives : goal.statements::statement-returns-else-at_item-clause-gives
+statements::statement-returns-else-at_item-clause-gives = statements.statements::statement-returns-else-at_item-clause-gives
+
+pub statements::statement-returns-else-at_item-clause-pays : goal.statements::statement-returns-else-at_item-clause-pays
+statements::statement-returns-else-at_item-clause-pays = statements.statements::statement-returns-else-at_item-clause-pays
+
+pub statements::let_stmt-expect_pattern-requires : goal.statements::let_stmt-expect_pattern-requires
+statements::let_stmt-expect_pattern-requires = statements.statements::let_stmt-expect_pattern-requires
+
+pub statements::let_stmt-opt_type-requires : goal.statements::let_stmt-opt_type-requires
+statements::let_stmt-opt_type-requires = statements.statements::let_stmt-opt_type-requires
+
+pub statements::let_stmt-opt_value-requires : goal.statements::let_stmt-opt_value-requires
+statements::let_stmt-opt_value-requires = statements.statements::let_stmt-opt_value-requires
+
+pub statements::let_stmt-opt_else-requires : goal.statements::let_stmt-opt_else-requires
+statements::let_stmt-opt_else-requires = statements.statements::let_stmt-opt_else-requires
+
+pub statements::let_stmt-complete-requires : goal.statements::let_stmt-complete-requires
+statements::let_stmt-complete-requires = statements.statements::let_stmt-complete-requires
+
+pub statements::let_stmt-returns-clause-reads : goal.statements::let_stmt-returns-clause-reads
+statements::let_stmt-returns-clause-reads = statements.statements::let_stmt-returns-clause-reads
+
+pub statements::opt_value-expect_expression-requires : goal.statements::opt_value-expect_expression-requires
+statements::opt_value-expect_expression-requires = statements.statements::opt_value-expect_expression-requires
+
+pub statements::opt_value-returns-then-at-clause-reads : goal.statements::opt_value-returns-then-at-clause-reads
+statements::opt_value-returns-then-at-clause-reads = statements.statements::opt_value-returns-then-at-clause-reads
+
+pub statements::opt_value-returns-else-at-clause-reads : goal.statements::opt_value-returns-else-at-clause-reads
+statements::opt_value-returns-else-at-clause-reads = statements.statements::opt_value-returns-else-at-clause-reads
+
+pub statements::opt_else-let_else-requires : goal.statements::opt_else-let_else-requires
+statements::opt_else-let_else-requires = statements.statements::opt_else-let_else-requires
+
+pub statements::opt_else-returns-then-at-clause-reads : goal.statements::opt_else-returns-then-at-clause-reads
+statements::opt_else-returns-then-at-clause-reads = statements.statements::opt_else-returns-then-at-clause-reads
+
+pub statements::opt_else-returns-else-at-clause-reads : goal.statements::opt_else-returns-else-at-clause-reads
+statements::opt_else-returns-else-at-clause-reads = statements.statements::opt_else-returns-else-at-clause-reads
+
+pub statements::let_else-expect_block-requires : goal.statements::let_else-expect_block-requires
+statements::let_else-expect_block-requires = statements.statements::let_else-expect_block-requires
+
+pub statements::let_else-complete-requires : goal.statements::let_else-complete-requires
+statements::let_else-complete-requires = statements.statements::let_else-complete-requires
+
+pub statements::let_else-returns-clause-reads : goal.statements::let_else-returns-clause-reads
+statements::let_else-returns-clause-reads = statements.statements::let_else-returns-clause-reads
+
+pub statements::expression_statement-block_statement-requires : goal.statements::expression_statement-block_statement-requires
+statements::expression_statement-block_statement-requires = statements.statements::expression_statement-block_statement-requires
+
+pub statements::expression_statement-returns-then-at_block_like-clause-anew : goal.statements::expression_statement-returns-then-at_block_like-clause-anew
+statements::expression_statement-returns-then-at_block_like-clause-anew = statements.statements::expression_statement-returns-then-at_block_like-clause-anew
+
+pub statements::expression_statement-ended_expression-requires : goal.statements::expression_statement-ended_expression-requires
+statements::expression_statement-ended_expression-requires = statements.statements::expression_statement-ended_expression-requires
+
+pub statements::expression_statement-returns-then-at_production-clause-anew : goal.statements::expression_statement-returns-then-at_production-clause-anew
+statements::expression_statement-returns-then-at_production-clause-anew = statements.statements::expression_statement-returns-then-at_production-clause-anew
+
+pub statements::expression_statement-returns-then-at_production-clause-pays : goal.statements::expression_statement-returns-then-at_production-clause-pays
+statements::expression_statement-returns-then-at_production-clause-pays = statements.statements::expression_statement-returns-then-at_production-clause-pays
+
+pub statements::expression_statement-returns-then-at_production-clause-looks : goal.statements::expression_statement-returns-then-at_production-clause-looks
+statements::expression_statement-returns-then-at_production-clause-looks = statements.statements::expression_statement-returns-then-at_production-clause-looks
+
+pub statements::expression_statement-returns-clause-anew : goal.statements::expression_statement-returns-clause-anew
+statements::expression_statement-returns-clause-anew = statements.statements::expression_statement-returns-clause-anew
+
+pub statements::expression_statement-returns-clause-pays : goal.statements::expression_statement-returns-clause-pays
+statements::expression_statement-returns-clause-pays = statements.statements::expression_statement-returns-clause-pays
+
+pub statements::expression_statement-returns-clause-looks : goal.statements::expression_statement-returns-clause-looks
+statements::expression_statement-returns-clause-looks = statements.statements::expression_statement-returns-clause-looks
+
+pub statements::block_statement-block_like-requires : goal.statements::block_statement-block_like-requires
+statements::block_statement-block_like-requires = statements.statements::block_statement-block_like-requires
+
+pub statements::block_statement-after_block-frame-requires : goal.statements::block_statement-after_block-frame-requires
+statements::block_statement-after_block-frame-requires = statements.statements::block_statement-after_block-frame-requires
+
+pub statements::block_statement-returns-clause-anew : goal.statements::block_statement-returns-clause-anew
+statements::block_statement-returns-clause-anew = statements.statements::block_statement-returns-clause-anew
+
+pub statements::after_block-postfix-frame-requires : goal.statements::after_block-postfix-frame-requires
+statements::after_block-postfix-frame-requires = statements.statements::after_block-postfix-frame-requires
+
+pub statements::after_block-postfixes-frame-requires : goal.statements::after_block-postfixes-frame-requires
+statements::after_block-postfixes-frame-requires = statements.statements::after_block-postfixes-frame-requires
+
+pub statements::after_block-returns-then-at_more-clause-reads : goal.statements::after_block-returns-then-at_more-clause-reads
+statements::after_block-returns-then-at_more-clause-reads = statements.statements::after_block-returns-then-at_more-clause-reads
+
+pub statements::after_block-wrap-requires : goal.statements::after_block-wrap-requires
+statements::after_block-wrap-requires = statements.statements::after_block-wrap-requires
+
+pub statements::after_block-returns-then-at-clause-reads : goal.statements::after_block-returns-then-at-clause-reads
+statements::after_block-returns-then-at-clause-reads = statements.statements::after_block-returns-then-at-clause-reads
+
+pub statements::after_block-returns-then-at_list_end-clause-marker : goal.statements::after_block-returns-then-at_list_end-clause-marker
+statements::after_block-returns-then-at_list_end-clause-marker = statements.statements::after_block-returns-then-at_list_end-clause-marker
+
+pub statements::after_block-returns-then-at_list_end-clause-reads : goal.statements::after_block-returns-then-at_list_end-clause-reads
+statements::after_block-returns-then-at_list_end-clause-reads = statements.statements::after_block-returns-then-at_list_end-clause-reads
+
+pub statements::after_block-wrap-requires-2 : goal.statements::after_block-wrap-requires-2
+statements::after_block-wrap-requires-2 = statements.statements::after_block-wrap-requires-2
+
+pub statements::after_block-returns-clause-reads : goal.statements::after_block-returns-clause-reads
+statements::after_block-returns-clause-reads = statements.statements::after_block-returns-clause-reads
+
+pub statements::ended_expression-read_anew-requires : goal.statements::ended_expression-read_anew-requires
+statements::ended_expression-read_anew-requires = statements.statements::ended_expression-read_anew-requires
+
+pub statements::ended_expression-statement_end-frame-requires : goal.statements::ended_expression-statement_end-frame-requires
+statements::ended_expression-statement_end-frame-requires = statements.statements::ended_expression-statement_end-frame-requires
+
+pub statements::ended_expression-returns-clause-anew : goal.statements::ended_expression-returns-clause-anew
+statements::ended_expression-returns-clause-anew = statements.statements::ended_expression-returns-clause-anew
+
+pub statements::ended_expression-returns-clause-pays : goal.statements::ended_expression-returns-clause-pays
+statements::ended_expression-returns-clause-pays = statements.statements::ended_expression-returns-clause-pays
+
+pub statements::ended_expression-returns-clause-looks : goal.statements::ended_expression-returns-clause-looks
+statements::ended_expression-returns-clause-looks = statements.statements::ended_expression-returns-clause-looks
 
 pub types::any_type-returns-clause-gives : goal.types::any_type-returns-clause-gives
 types::any_type-returns-clause-gives = types.types::any_type-returns-clause-gives
@@ -1127,8 +2441,11 @@ types::after_element-returns-clause-reads = types.types::after_element-returns-c
 pub types::array_length-returns-clause-reads : goal.types::array_length-returns-clause-reads
 types::array_length-returns-clause-reads = types.types::array_length-returns-clause-reads
 
-pub read_by_hand-returns-in-AnyType-clause-looks : goal.read_by_hand-returns-in-AnyType-clause-looks
-read_by_hand-returns-in-AnyType-clause-looks = hands.read_by_hand-returns-in-AnyType-clause-looks
+pub types::ret_type-expect_type-requires : goal.types::ret_type-expect_type-requires
+types::ret_type-expect_type-requires = types.types::ret_type-expect_type-requires
 
-pub read_by_hand-any_type-requires : goal.read_by_hand-any_type-requires
-read_by_hand-any_type-requires = hands.read_by_hand-any_type-requires
+pub types::ret_type-complete-requires : goal.types::ret_type-complete-requires
+types::ret_type-complete-requires = types.types::ret_type-complete-requires
+
+pub types::ret_type-returns-clause-gives : goal.types::ret_type-returns-clause-gives
+types::ret_type-returns-clause-gives = types.types::ret_type-returns-clause-gives

@@ -8,12 +8,13 @@ use Rattle.rust_productions.specs.Turns.{TurnsFrom}
 use Rattle.grammar_reader.specs.ByHand.{args_of, element_of, list_turn}
 use Rattle.parser_input.specs.Kind.{raw_of}
 use Rattle.parser_input.specs.Kinds.{PATH, PATH_SEGMENT}
-use Rattle.rust_grammar.specs.Calls.{Ref}
-use Rattle.rust_grammar.specs.Notation.{◌▸◌, ◌!, ◌⟨◌⟩, ◌<⟨◌⟩, until}
+use Rattle.parser_events.specs.Forest.{ExpectedMatchArm}
+use Rattle.rust_grammar.specs.Calls.{MatchArm, Ref, SinglePattern}
+use Rattle.rust_grammar.specs.Notation.{◌or◌, ◌▸◌, ◌!, ◌⟨◌⟩, ◌<⟨◌⟩, more, until}
 use Rattle.rust_grammar.specs.Rule as rules
-use Rattle.rust_grammar.specs.Rule.{Call, One, Unless}
+use Rattle.rust_grammar.specs.Rule.{Call, One, Skip, Unless}
 use Rattle.rust_grammar.specs.Shared.{colons_before_more}
-use Rattle.rust_grammar.specs.Words.{'::', 'r_curly'}
+use Rattle.rust_grammar.specs.Words.{'::', '|', 'r_curly'}
 use Rattle.grammar_reader.proofs.Spending.{Spending}
 use Rattle.grammar_reader.proofs.Turning.{Midway}
 use Rattle.grammar_table.proofs.Sizes.{weight}
@@ -23,7 +24,7 @@ abbrev pub decreases-production : goal.decreases-production
 decreases-production l = 16384 * (32 * length (left l.p.now) + l.context.ranks) + 16383
 
 abbrev pub decreases-read_by_hand : goal.decreases-read_by_hand
-decreases-read_by_hand l = 524288 * tokens l.p.now + 20
+decreases-read_by_hand l = 524288 * tokens l.p.now + 40
 
 abbrev pub decreases-paths::path_with_args : goal.decreases-paths::path_with_args
 decreases-paths::path_with_args l = 524288 * tokens l.p.now + 8
@@ -62,13 +63,13 @@ abbrev pub decreases-lists::pattern_fields : goal.decreases-lists::pattern_field
 decreases-lists::pattern_fields l = 524288 * tokens l.p.now
 
 abbrev pub decreases-lists::rest_of_list : goal.decreases-lists::rest_of_list
-decreases-lists::rest_of_list l = 524288 * tokens l.p.now + 344067
+decreases-lists::rest_of_list l = 524288 * tokens l.p.now + 344068
 
 abbrev pub decreases-lists::elements : goal.decreases-lists::elements
-decreases-lists::elements l = 524288 * tokens l.p.now + 344066
+decreases-lists::elements l = 524288 * tokens l.p.now + 344067
 
 abbrev pub decreases-lists::turn : goal.decreases-lists::turn
-decreases-lists::turn l = 524288 * tokens l.p.now + 344065
+decreases-lists::turn l = 524288 * tokens l.p.now + 344066
 
 abbrev pub decreases-called::read_anew : goal.decreases-called::read_anew
 decreases-called::read_anew l = 524288 * tokens l.p.now + 344064
@@ -109,9 +110,6 @@ decreases-attributes::meta l = 524288 * tokens l.p.now + 13
 abbrev pub decreases-attributes::opt_value : goal.decreases-attributes::opt_value
 decreases-attributes::opt_value l = 524288 * tokens l.p.now + 12
 
-abbrev pub decreases-attributes::expect_expression : goal.decreases-attributes::expect_expression
-decreases-attributes::expect_expression l = 524288 * tokens l.p.now + 344070
-
 abbrev pub decreases-blocks::block : goal.decreases-blocks::block
 decreases-blocks::block l = 524288 * tokens l.p.now + 1
 
@@ -119,10 +117,10 @@ abbrev pub decreases-blocks::statement_list : goal.decreases-blocks::statement_l
 decreases-blocks::statement_list l = 524288 * tokens l.p.now
 
 abbrev pub decreases-blocks::statements : goal.decreases-blocks::statements
-decreases-blocks::statements l = 524288 * tokens l.p.now + 344066
+decreases-blocks::statements l = 524288 * tokens l.p.now + 344071
 
 abbrev pub decreases-blocks::statement_turn : goal.decreases-blocks::statement_turn
-decreases-blocks::statement_turn l = 524288 * tokens l.p.now + 344065
+decreases-blocks::statement_turn l = 524288 * tokens l.p.now + 344070
 
 abbrev pub invariant-blocks::statements-turns : goal.invariant-blocks::statements-turns
 invariant-blocks::statements-turns l = record {
@@ -175,6 +173,80 @@ decreases-types::after_element l = 524288 * tokens l.p.now + 1
 abbrev pub decreases-types::array_length : goal.decreases-types::array_length
 decreases-types::array_length l = 524288 * tokens l.p.now + 344071
 
+abbrev pub decreases-patterns::single_pattern : goal.decreases-patterns::single_pattern
+decreases-patterns::single_pattern l = 524288 * tokens l.p.now + 22
+
+abbrev pub decreases-patterns::inside : goal.decreases-patterns::inside
+decreases-patterns::inside l = 524288 * tokens l.p.now + 21
+
+abbrev pub decreases-patterns::expect_single : goal.decreases-patterns::expect_single
+decreases-patterns::expect_single l = 524288 * tokens l.p.now + 23
+
+abbrev pub decreases-patterns::ref_pat : goal.decreases-patterns::ref_pat
+decreases-patterns::ref_pat l = 524288 * tokens l.p.now
+
+abbrev pub decreases-patterns::slice_pat : goal.decreases-patterns::slice_pat
+decreases-patterns::slice_pat l = 524288 * tokens l.p.now
+
+abbrev pub decreases-patterns::tuple_pat : goal.decreases-patterns::tuple_pat
+decreases-patterns::tuple_pat l = 524288 * tokens l.p.now
+
+abbrev pub decreases-patterns::opt_at : goal.decreases-patterns::opt_at
+decreases-patterns::opt_at l = 524288 * tokens l.p.now
+
+abbrev pub decreases-patterns::ident_pat : goal.decreases-patterns::ident_pat
+decreases-patterns::ident_pat l = 524288 * tokens l.p.now + 1
+
+abbrev pub decreases-patterns::ident_after_mut : goal.decreases-patterns::ident_after_mut
+decreases-patterns::ident_after_mut l = 524288 * tokens l.p.now
+
+abbrev pub decreases-patterns::ident_after_ref : goal.decreases-patterns::ident_after_ref
+decreases-patterns::ident_after_ref l = 524288 * tokens l.p.now
+
+abbrev pub decreases-patterns::paren_pat : goal.decreases-patterns::paren_pat
+decreases-patterns::paren_pat l = 524288 * tokens l.p.now
+
+abbrev pub decreases-patterns::after_paren : goal.decreases-patterns::after_paren
+decreases-patterns::after_paren l = 524288 * tokens l.p.now + 26
+
+abbrev pub decreases-patterns::after_first : goal.decreases-patterns::after_first
+decreases-patterns::after_first l = 524288 * tokens l.p.now + 1
+
+abbrev pub decreases-patterns::path_pat : goal.decreases-patterns::path_pat
+decreases-patterns::path_pat l = 524288 * tokens l.p.now + 17
+
+abbrev pub decreases-patterns::after_path : goal.decreases-patterns::after_path
+decreases-patterns::after_path l = 524288 * tokens l.p.now + 9
+
+abbrev pub decreases-or_patterns::expect_pattern : goal.decreases-or_patterns::expect_pattern
+decreases-or_patterns::expect_pattern l = 524288 * tokens l.p.now + 25
+
+abbrev pub decreases-or_patterns::pattern : goal.decreases-or_patterns::pattern
+decreases-or_patterns::pattern l = 524288 * tokens l.p.now + 24
+
+abbrev pub decreases-or_patterns::alternatives : goal.decreases-or_patterns::alternatives
+decreases-or_patterns::alternatives l = 524288 * tokens l.p.now + 23
+
+abbrev pub decreases-or_patterns::one_further : goal.decreases-or_patterns::one_further
+decreases-or_patterns::one_further l = 524288 * tokens l.p.now
+
+abbrev pub decreases-or_patterns::further : goal.decreases-or_patterns::further
+decreases-or_patterns::further l = 524288 * tokens l.p.now + 1
+
+abbrev pub decreases-or_patterns::opt_further : goal.decreases-or_patterns::opt_further
+decreases-or_patterns::opt_further l = 524288 * tokens l.p.now + 2
+
+abbrev pub invariant-or_patterns::further-turns : goal.invariant-or_patterns::further-turns
+invariant-or_patterns::further-turns l = record {
+  input : l.p.input ≡ l.initial.p.input;
+  goes : (c : Bool) → TurnsFrom c (One '|' ▸ SinglePattern !) l.initial.p l.p;
+  left : tokens l.p ≤ tokens l.initial.p;
+  looks : spent l.p ≤ spent l.initial.p;
+}
+
+abbrev pub decreases-or_patterns::further-turns : goal.decreases-or_patterns::further-turns
+decreases-or_patterns::further-turns l = tokens l.p
+
 abbrev pub decreases-layers : goal.decreases-layers
 decreases-layers l = 16384 * (32 * l.began + l.context.ranks) + 16382
 
@@ -204,3 +276,208 @@ invariant-turns-turns l = record {
 
 abbrev pub decreases-turns-turns : goal.decreases-turns-turns
 decreases-turns-turns l = l.turns
+
+-- expressions by hand
+abbrev pub decreases-control::unsafe_block : goal.decreases-control::unsafe_block
+decreases-control::unsafe_block l = 524288 * tokens l.p.now
+
+abbrev pub decreases-control::if_expr : goal.decreases-control::if_expr
+decreases-control::if_expr l = 524288 * tokens l.p.now
+
+abbrev pub decreases-control::while_expr : goal.decreases-control::while_expr
+decreases-control::while_expr l = 524288 * tokens l.p.now
+
+abbrev pub decreases-control::loop_expr : goal.decreases-control::loop_expr
+decreases-control::loop_expr l = 524288 * tokens l.p.now
+
+abbrev pub decreases-control::for_expr : goal.decreases-control::for_expr
+decreases-control::for_expr l = 524288 * tokens l.p.now
+
+abbrev pub decreases-control::match_expr : goal.decreases-control::match_expr
+decreases-control::match_expr l = 524288 * tokens l.p.now
+
+abbrev pub decreases-control::match_arms : goal.decreases-control::match_arms
+decreases-control::match_arms l = 524288 * tokens l.p.now
+
+abbrev pub decreases-atoms::paren_expr : goal.decreases-atoms::paren_expr
+decreases-atoms::paren_expr l = 524288 * tokens l.p.now
+
+abbrev pub decreases-atoms::array_expr : goal.decreases-atoms::array_expr
+decreases-atoms::array_expr l = 524288 * tokens l.p.now
+
+abbrev pub decreases-atoms::value_expr : goal.decreases-atoms::value_expr
+decreases-atoms::value_expr l = 524288 * tokens l.p.now
+
+abbrev pub decreases-closures::closure_params : goal.decreases-closures::closure_params
+decreases-closures::closure_params l = 524288 * tokens l.p.now
+
+abbrev pub decreases-atoms::let_expr : goal.decreases-atoms::let_expr
+decreases-atoms::let_expr l = 524288 * tokens l.p.now
+
+abbrev pub decreases-operands::prefix_expr : goal.decreases-operands::prefix_expr
+decreases-operands::prefix_expr l = 524288 * tokens l.p.now
+
+abbrev pub decreases-operands::ref_expr : goal.decreases-operands::ref_expr
+decreases-operands::ref_expr l = 524288 * tokens l.p.now
+
+abbrev pub decreases-operands::index : goal.decreases-operands::index
+decreases-operands::index l = 524288 * tokens l.p.now
+
+abbrev pub decreases-operands::method_call : goal.decreases-operands::method_call
+decreases-operands::method_call l = 524288 * tokens l.p.now
+
+abbrev pub decreases-closures::opt_type : goal.decreases-closures::opt_type
+decreases-closures::opt_type l = 524288 * tokens l.p.now
+
+abbrev pub decreases-types::ret_type : goal.decreases-types::ret_type
+decreases-types::ret_type l = 524288 * tokens l.p.now
+
+abbrev pub decreases-operands::float : goal.decreases-operands::float
+decreases-operands::float l = 524288 * tokens l.p.now
+
+abbrev pub decreases-control::expect_statement_list : goal.decreases-control::expect_statement_list
+decreases-control::expect_statement_list l = 524288 * tokens l.p.now + 1
+
+abbrev pub decreases-control::expect_block : goal.decreases-control::expect_block
+decreases-control::expect_block l = 524288 * tokens l.p.now + 2
+
+abbrev pub decreases-control::expect_match_arms : goal.decreases-control::expect_match_arms
+decreases-control::expect_match_arms l = 524288 * tokens l.p.now + 1
+
+abbrev pub decreases-control::opt_else : goal.decreases-control::opt_else
+decreases-control::opt_else l = 524288 * tokens l.p.now + 1
+
+abbrev pub decreases-control::after_else : goal.decreases-control::after_else
+decreases-control::after_else l = 524288 * tokens l.p.now + 3
+
+abbrev pub decreases-control::block_like : goal.decreases-control::block_like
+decreases-control::block_like l = 524288 * tokens l.p.now + 5
+
+abbrev pub decreases-closures::expect_closure_params : goal.decreases-closures::expect_closure_params
+decreases-closures::expect_closure_params l = 524288 * tokens l.p.now + 1
+
+abbrev pub decreases-closures::move_closure : goal.decreases-closures::move_closure
+decreases-closures::move_closure l = 524288 * tokens l.p.now + 3
+
+abbrev pub decreases-closures::closure_expr : goal.decreases-closures::closure_expr
+decreases-closures::closure_expr l = 524288 * tokens l.p.now + 3
+
+abbrev pub decreases-atoms::after_first : goal.decreases-atoms::after_first
+decreases-atoms::after_first l = 524288 * tokens l.p.now + 1
+
+abbrev pub decreases-atoms::after_element : goal.decreases-atoms::after_element
+decreases-atoms::after_element l = 524288 * tokens l.p.now + 1
+
+abbrev pub decreases-atoms::after_path : goal.decreases-atoms::after_path
+decreases-atoms::after_path l = 524288 * tokens l.p.now + 2
+
+abbrev pub decreases-atoms::path_expr : goal.decreases-atoms::path_expr
+decreases-atoms::path_expr l = 524288 * tokens l.p.now + 12
+
+abbrev pub decreases-atoms::inside : goal.decreases-atoms::inside
+decreases-atoms::inside l = 524288 * tokens l.p.now + 30
+
+abbrev pub decreases-atoms::atom : goal.decreases-atoms::atom
+decreases-atoms::atom l = 524288 * tokens l.p.now + 31
+
+abbrev pub decreases-operands::operand : goal.decreases-operands::operand
+decreases-operands::operand l = 524288 * tokens l.p.now + 32
+
+abbrev pub decreases-operands::prefixed : goal.decreases-operands::prefixed
+decreases-operands::prefixed l = 524288 * tokens l.p.now + 33
+
+abbrev pub decreases-operands::postfix : goal.decreases-operands::postfix
+decreases-operands::postfix l = 524288 * tokens l.p.now + 1
+
+abbrev pub decreases-operands::postfixes : goal.decreases-operands::postfixes
+decreases-operands::postfixes l = 524288 * tokens l.p.now + 2
+
+abbrev pub decreases-operands::after_dot : goal.decreases-operands::after_dot
+decreases-operands::after_dot l = 524288 * tokens l.p.now + 3
+
+abbrev pub decreases-operands::expect_arguments : goal.decreases-operands::expect_arguments
+decreases-operands::expect_arguments l = 524288 * tokens l.p.now + 1
+
+abbrev pub decreases-paths::opt_generic_args : goal.decreases-paths::opt_generic_args
+decreases-paths::opt_generic_args l = 524288 * tokens l.p.now + 4
+
+abbrev pub decreases-closures::closure_param : goal.decreases-closures::closure_param
+decreases-closures::closure_param l = 524288 * tokens l.p.now + 40
+
+abbrev pub decreases-expressions::expect_expression : goal.decreases-expressions::expect_expression
+decreases-expressions::expect_expression l = 524288 * tokens l.p.now + 344065
+
+abbrev pub decreases-expressions::expect_condition : goal.decreases-expressions::expect_condition
+decreases-expressions::expect_condition l = 524288 * tokens l.p.now + 344068
+
+abbrev pub decreases-control::arms : goal.decreases-control::arms
+decreases-control::arms l = 524288 * tokens l.p.now + 344069
+
+abbrev pub decreases-control::arm_turn : goal.decreases-control::arm_turn
+decreases-control::arm_turn l = 524288 * tokens l.p.now + 344068
+
+abbrev pub decreases-atoms::after_paren : goal.decreases-atoms::after_paren
+decreases-atoms::after_paren l = 524288 * tokens l.p.now + 344069
+
+abbrev pub decreases-atoms::array_elements : goal.decreases-atoms::array_elements
+decreases-atoms::array_elements l = 524288 * tokens l.p.now + 344069
+
+abbrev pub decreases-atoms::opt_value : goal.decreases-atoms::opt_value
+decreases-atoms::opt_value l = 524288 * tokens l.p.now + 344069
+
+abbrev pub decreases-closures::closure_body : goal.decreases-closures::closure_body
+decreases-closures::closure_body l = 524288 * tokens l.p.now + 344069
+
+abbrev pub decreases-lists::read_element : goal.decreases-lists::read_element
+decreases-lists::read_element l = 524288 * tokens l.p.now + 344065
+
+abbrev pub decreases-statements::let_stmt : goal.decreases-statements::let_stmt
+decreases-statements::let_stmt l = 524288 * tokens l.p.now
+
+abbrev pub decreases-statements::let_else : goal.decreases-statements::let_else
+decreases-statements::let_else l = 524288 * tokens l.p.now
+
+abbrev pub decreases-statements::opt_value : goal.decreases-statements::opt_value
+decreases-statements::opt_value l = 524288 * tokens l.p.now
+
+abbrev pub decreases-statements::opt_else : goal.decreases-statements::opt_else
+decreases-statements::opt_else l = 524288 * tokens l.p.now + 1
+
+abbrev pub decreases-statements::after_block : goal.decreases-statements::after_block
+decreases-statements::after_block l = 524288 * tokens l.p.now + 3
+
+abbrev pub decreases-statements::block_statement : goal.decreases-statements::block_statement
+decreases-statements::block_statement l = 524288 * tokens l.p.now + 10
+
+abbrev pub decreases-statements::ended_expression : goal.decreases-statements::ended_expression
+decreases-statements::ended_expression l = 524288 * tokens l.p.now + 344065
+
+abbrev pub decreases-statements::expression_statement : goal.decreases-statements::expression_statement
+decreases-statements::expression_statement l = 524288 * tokens l.p.now + 344066
+
+abbrev pub decreases-statements::statement : goal.decreases-statements::statement
+decreases-statements::statement l = 524288 * tokens l.p.now + 344067
+
+abbrev pub invariant-control::arms-turns : goal.invariant-control::arms-turns
+invariant-control::arms-turns l = record {
+  input : l.p.input ≡ l.initial.p.input;
+  innermost : (n : ℕ) → IsInnermost n l.initial.p.nodes → IsInnermost n l.p.nodes;
+  goes : TurnsFrom false (Unless (until 'r_curly') (MatchArm or Skip ExpectedMatchArm)) l.initial.p l.p;
+  left : tokens l.p ≤ tokens l.initial.p;
+  looks : spent l.p ≤ spent l.initial.p;
+}
+
+abbrev pub decreases-control::arms-turns : goal.decreases-control::arms-turns
+decreases-control::arms-turns l = tokens l.p
+
+abbrev pub invariant-operands::postfixes-turns : goal.invariant-operands::postfixes-turns
+invariant-operands::postfixes-turns l = record {
+  input : l.p.input ≡ l.initial.p.input;
+  marker : IsInnermost l.frame l.p.nodes;
+  goes : (c : Bool) → TurnsFrom c (more rules.postfix) l.initial.p l.p;
+  left : tokens l.p ≤ tokens l.initial.p;
+  looks : spent l.p ≤ spent l.initial.p;
+}
+
+abbrev pub decreases-operands::postfixes-turns : goal.decreases-operands::postfixes-turns
+decreases-operands::postfixes-turns l = tokens l.p

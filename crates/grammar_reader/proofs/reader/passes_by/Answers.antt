@@ -6,7 +6,7 @@ use Rattle.rust_grammar.specs.Meaning.{meaning}
 use Rattle.rust_grammar.specs.Whole.{whole}
 use Rattle.rust_grammar.proofs.Plain.{and_r}
 use Rattle.grammar_table.specs.Data.{named}
-use Rattle.grammar_reader.specs.Told.{IsNext}
+use Rattle.first_sets.specs.Told.{IsNext}
 use Rattle.grammar_table.specs.declared.production.Production.{Production}
 use Rattle.grammar_reader.proofs.Telling.{sure, tail-passed}
 use Rattle.grammar_reader.proofs.reader.passes_by.Goals as goal

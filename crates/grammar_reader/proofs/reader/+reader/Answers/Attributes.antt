@@ -11,9 +11,6 @@ use Rattle.rust_grammar.specs.Rule.{begins, in_mode, anew, is_silent, passes, sh
 use Rattle.rust_grammar.specs.Statements.{statements}
 use Rattle.rust_grammar.specs.Types.{types}
 use Rattle.rust_grammar.specs.Whole.{rule, whole}
-use Rattle.grammar_reader.specs.declared.reader.lists.Element.TheVariants as elements
-use Rattle.grammar_reader.proofs.Called.{can-begin}
-use Rattle.grammar_reader.proofs.Elements.{begin-cost, element-cost}
 use Rattle.grammar_reader.proofs.Standing.{short-still}
 use Rattle.rust_productions.proofs.Begins.{saw-meta}
 use Rattle.rust_productions.proofs.ByHand.{after-look, does-then, reads-call, reads-missing, reads-mode, reads-node, reads-nothing, reads-then, reads-want}
@@ -71,20 +68,3 @@ attributes::opt_value-returns-then-at_token_tree-clause-reads t c = reads-here (
 pub attributes::opt_value-returns-else-at_token_tree-clause-reads : goal.attributes::opt_value-returns-else-at_token_tree-clause-reads
 unfolding look_of begins_below whole rule items statements expressions patterns types paths there_at shift passes is_silent begins in_mode anew row one_of any_of no_longer longest is_longer
 attributes::opt_value-returns-else-at_token_tree-clause-reads t c = reads-here (saw-so (c.at.ensures.sees c.args.condition) c.if-at.false and begun rules.token_tree (saw-before c.at.ensures.same (saw-so (c.at_token_tree.ensures.sees c.args.condition) c.if-at_token_tree.false)) nothing) (reads-nothing _ (does-then c.at.ensures.same c.at_token_tree.ensures.same))
-
-pub attributes::expect_expression-read_anew-requires : goal.attributes::expect_expression-read_anew-requires
-attributes::expect_expression-read_anew-requires t c = (omega arith, (short-still _ _ c.at_production.ensures.same.input c.requires.short, can-begin _ (saw-after c.at_production.ensures.same (saw-so c.at_production.ensures.sees c.if-at_production.true))))
-
-pub attributes::expect_expression-returns-then-at_production-clause-reads : goal.attributes::expect_expression-returns-then-at_production-clause-reads
-unfolding begins
-attributes::expect_expression-returns-then-at_production-clause-reads t c = reads-want _ (saw-so c.at_production.ensures.sees c.if-at_production.true) (after-look _ c.at_production.ensures.same (reads-call _ c.read_anew.ensures.gives))
-
-pub attributes::expect_expression-returns-clause-reads : goal.attributes::expect_expression-returns-clause-reads
-unfolding begins
-attributes::expect_expression-returns-clause-reads t c = reads-missing _ (saw-so c.at_production.ensures.sees c.if-at_production.false) (after-look _ c.at_production.ensures.same (c.error.ensures.reads c.args.condition))
-
-pub attributes::expect_expression-returns-then-at_production-clause-looks : goal.attributes::expect_expression-returns-then-at_production-clause-looks
-attributes::expect_expression-returns-then-at_production-clause-looks t c = omega (arith, begin-cost elements.Expression, c.at_production.ensures.looks, element-cost elements.Expression c.read_anew.ensures.looks)
-
-pub attributes::expect_expression-returns-clause-looks : goal.attributes::expect_expression-returns-clause-looks
-attributes::expect_expression-returns-clause-looks t c = omega (arith, begin-cost elements.Expression, c.at_production.ensures.looks, c.error.ensures.looks)

@@ -13,8 +13,9 @@ use Rattle.rust_grammar.specs.Rule.{begins, in_mode, anew, is_silent, passes, sh
 use Rattle.rust_grammar.specs.Statements.{statements}
 use Rattle.rust_grammar.specs.Types.{types}
 use Rattle.rust_grammar.specs.Whole.{rule, whole}
-use Rattle.grammar_reader.proofs.Called.{can-begin}
-use Rattle.grammar_reader.proofs.Elements.{next-there, over-at-close, repeated, repeated-ends, statement-begins, statement-cost, statement-pays}
+use Rattle.rust_grammar.specs.Words.{'r_curly'}
+use Rattle.grammar_reader.proofs.Elements.{next-there, over-at-close, repeated, repeated-ends, statement-begins}
+use Rattle.grammar_reader.proofs.Seeing.{some-left}
 use Rattle.grammar_reader.proofs.Standing.{short-still}
 use Rattle.rust_productions.specs.Looks.{tokens}
 use Rattle.rust_productions.proofs.ByHand.{after-look, does-then, reads-call, reads-mode, reads-node, reads-then, reads-unless}
@@ -33,16 +34,16 @@ blocks::statement_turn-returns-then-not-at_production-clause-ends t c = λ e. la
 pub blocks::statement_turn-returns-then-not-at_production-clause-looks : goal.blocks::statement_turn-returns-then-not-at_production-clause-looks
 blocks::statement_turn-returns-then-not-at_production-clause-looks t c = omega (arith, statement-begins, c.at_production.ensures.looks, c.at_list_end.ensures.looks)
 
-pub blocks::statement_turn-read_anew-requires : goal.blocks::statement_turn-read_anew-requires
-blocks::statement_turn-read_anew-requires t c = (omega arith, (short-still _ _ (c.at_production.ensures.same.input ∙ c.at_list_end.ensures.same.input) c.requires.short, can-begin _ (saw-after c.at_production.ensures.same (saw-so c.at_production.ensures.sees c.if-not-at_production.false))))
+pub blocks::statement_turn-statement-requires : goal.blocks::statement_turn-statement-requires
+blocks::statement_turn-statement-requires t c = (omega arith, (short-still _ _ (c.at_production.ensures.same.input ∙ c.at_list_end.ensures.same.input) c.requires.short, omega (arith, some-left 'r_curly' (saw-so (c.at_list_end.ensures.sees false) c.if-at_list_end.false), c.at_list_end.ensures.left, c.at_production.ensures.left)))
 
 pub blocks::statement_turn-returns-clause-goes : goal.blocks::statement_turn-returns-clause-goes
 unfolding tokens
-blocks::statement_turn-returns-clause-goes t c = λ e. next-turn false (repeated rules.statement R_CURLY) (repeated-ends rules.statement R_CURLY) _ _ _ first-turn (next-there rules.statement R_CURLY (saw-so (c.at_list_end.ensures.sees false) c.if-at_list_end.false) (saw-before c.at_list_end.ensures.same (saw-so c.at_production.ensures.sees c.if-not-at_production.false))) (after-look false c.at_list_end.ensures.same (after-look false c.at_production.ensures.same (reads-unless false (reads-call false c.read_anew.ensures.gives)))) (omega (arith, (ltb-true c.tokens_left.result c.tokens_left-before.result e), c.tokens_left.ensures, c.tokens_left-before.ensures, c.at_list_end.ensures.left, c.at_production.ensures.left))
+blocks::statement_turn-returns-clause-goes t c = λ e. next-turn false (repeated rules.statement R_CURLY) (repeated-ends rules.statement R_CURLY) _ _ _ first-turn (next-there rules.statement R_CURLY (saw-so (c.at_list_end.ensures.sees false) c.if-at_list_end.false) (saw-before c.at_list_end.ensures.same (saw-so c.at_production.ensures.sees c.if-not-at_production.false))) (after-look false c.at_list_end.ensures.same (after-look false c.at_production.ensures.same (reads-unless false (reads-call false c.statement.ensures.gives)))) (omega (arith, (ltb-true c.tokens_left.result c.tokens_left-before.result e), c.tokens_left.ensures, c.tokens_left-before.ensures, c.at_list_end.ensures.left, c.at_production.ensures.left))
 
 pub blocks::statement_turn-returns-clause-ends : goal.blocks::statement_turn-returns-clause-ends
 unfolding tokens
-blocks::statement_turn-returns-clause-ends t c = λ e. idle-turn false (repeated rules.statement R_CURLY) (repeated-ends rules.statement R_CURLY) _ _ _ first-turn (next-there rules.statement R_CURLY (saw-so (c.at_list_end.ensures.sees false) c.if-at_list_end.false) (saw-before c.at_list_end.ensures.same (saw-so c.at_production.ensures.sees c.if-not-at_production.false))) (after-look false c.at_list_end.ensures.same (after-look false c.at_production.ensures.same (reads-unless false (reads-call false c.read_anew.ensures.gives)))) (omega (arith, (ltb-false c.tokens_left.result c.tokens_left-before.result e), c.tokens_left.ensures, c.tokens_left-before.ensures, c.at_list_end.ensures.left, c.read_anew.ensures.left, c.at_production.ensures.left))
+blocks::statement_turn-returns-clause-ends t c = λ e. idle-turn false (repeated rules.statement R_CURLY) (repeated-ends rules.statement R_CURLY) _ _ _ first-turn (next-there rules.statement R_CURLY (saw-so (c.at_list_end.ensures.sees false) c.if-at_list_end.false) (saw-before c.at_list_end.ensures.same (saw-so c.at_production.ensures.sees c.if-not-at_production.false))) (after-look false c.at_list_end.ensures.same (after-look false c.at_production.ensures.same (reads-unless false (reads-call false c.statement.ensures.gives)))) (omega (arith, (ltb-false c.tokens_left.result c.tokens_left-before.result e), c.tokens_left.ensures, c.tokens_left-before.ensures, c.at_list_end.ensures.left, c.statement.ensures.left, c.at_production.ensures.left))
 
 pub blocks::statement_turn-returns-clause-fewer : goal.blocks::statement_turn-returns-clause-fewer
 unfolding tokens
@@ -50,10 +51,10 @@ blocks::statement_turn-returns-clause-fewer t c = λ e. omega (arith, (ltb-true 
 
 pub blocks::statement_turn-returns-clause-pays : goal.blocks::statement_turn-returns-clause-pays
 unfolding tokens
-blocks::statement_turn-returns-clause-pays t c = λ e. omega (arith, statement-begins, c.at_production.ensures.looks, c.at_list_end.ensures.looks, statement-pays c.read_anew.ensures.looks (omega (arith, (ltb-true c.tokens_left.result c.tokens_left-before.result e), c.tokens_left.ensures, c.tokens_left-before.ensures, c.at_production.ensures.left, c.at_list_end.ensures.left)))
+blocks::statement_turn-returns-clause-pays t c = λ e. omega (arith, statement-begins, c.at_production.ensures.looks, c.at_list_end.ensures.looks, c.statement.ensures.pays (omega (arith, (ltb-true c.tokens_left.result c.tokens_left-before.result e), c.tokens_left.ensures, c.tokens_left-before.ensures, c.at_production.ensures.left, c.at_list_end.ensures.left)))
 
 pub blocks::statement_turn-returns-clause-looks : goal.blocks::statement_turn-returns-clause-looks
-blocks::statement_turn-returns-clause-looks t c = omega (arith, statement-begins, c.at_production.ensures.looks, c.at_list_end.ensures.looks, statement-cost c.read_anew.ensures.looks)
+blocks::statement_turn-returns-clause-looks t c = omega (arith, statement-begins, c.at_production.ensures.looks, c.at_list_end.ensures.looks, c.statement.ensures.looks)
 
 pub blocks::statements-turns-preserved : goal.blocks::statements-turns-preserved
 blocks::statements-turns-preserved t c = record {

@@ -218,7 +218,12 @@ production-returns-2-clause-innermost t c = λ n i. c.read_by_hand.ensures.gives
 pub production-returns-2-clause-reads : goal.production-returns-2-clause-reads
 production-returns-2-clause-reads t c = λ s below low h b.
     let hand = c.in-Some-by_hand_before.hand in
-    hand-stands hand (named c.args.production) c.args.context.condition s below c.in-Some-by_hand_before.ensures.is c.if-not-node-2.true
+    let saw : Saw c.args.context.condition (looks (production_by_hand hand)) c.next_kind-next.new.p true = record {
+      at = λ r e.
+          subst (λ (x : Production). sees c.args.context.condition r (looks x) ≡ true) (sym c.in-Some-by_hand_before.ensures.is)
+          (c.in-Some-by_hand_before.ensures.begins c.args.context.condition r (next-there c.next_kind-next.result e c.next_kind-next.ensures.next));
+    } in
+    hand-stands hand (named c.args.production) c.args.context.condition s below c.in-Some-by_hand_before.ensures.is c.if-not-node-2.true saw c.read_by_hand.ensures.left
     (subst (λ (d : Bool). Gives (production_by_hand hand) d c.next_kind-next.new.p c.read_by_hand.new.p) c.condition.ensures c.read_by_hand.ensures.gives)
     (stands-still c.next_kind-next.ensures.same h)
 
@@ -274,3 +279,67 @@ read_by_hand-returns-in-AnyType-clause-looks t c = rw c.in-AnyType.is (omega (ar
 
 pub read_by_hand-any_type-requires : goal.read_by_hand-any_type-requires
 read_by_hand-any_type-requires t c = (omega arith, (c.requires.short, (subst (λ (h : ByHand). Saw c.args.condition (looks (production_by_hand h)) c.args.p.now true) c.in-AnyType.is (c.requires.begins c.args.condition), c.requires.some)))
+
+pub read_by_hand-returns-in-Pattern-clause-gives : goal.read_by_hand-returns-in-Pattern-clause-gives
+read_by_hand-returns-in-Pattern-clause-gives t c = rw c.in-Pattern.is (c.pattern.ensures.gives c.args.condition)
+
+pub read_by_hand-returns-in-Pattern-clause-looks : goal.read_by_hand-returns-in-Pattern-clause-looks
+unfolding debt_of rank
+read_by_hand-returns-in-Pattern-clause-looks t c = rw c.in-Pattern.is (omega (arith, c.pattern.ensures.looks))
+
+pub read_by_hand-pattern-requires : goal.read_by_hand-pattern-requires
+read_by_hand-pattern-requires t c = (omega arith, (c.requires.short, ((λ (d : Bool). subst (λ (h : ByHand). Saw d (looks (production_by_hand h)) c.args.p.now true) c.in-Pattern.is (c.requires.begins d)), c.requires.some)))
+
+pub read_by_hand-returns-in-SinglePattern-clause-gives : goal.read_by_hand-returns-in-SinglePattern-clause-gives
+read_by_hand-returns-in-SinglePattern-clause-gives t c = rw c.in-SinglePattern.is (c.single_pattern.ensures.gives c.args.condition)
+
+pub read_by_hand-returns-in-SinglePattern-clause-looks : goal.read_by_hand-returns-in-SinglePattern-clause-looks
+unfolding debt_of rank
+read_by_hand-returns-in-SinglePattern-clause-looks t c = rw c.in-SinglePattern.is (omega (arith, c.single_pattern.ensures.looks))
+
+pub read_by_hand-single_pattern-requires : goal.read_by_hand-single_pattern-requires
+read_by_hand-single_pattern-requires t c = (omega arith, (c.requires.short, ((λ (d : Bool). subst (λ (h : ByHand). Saw d (looks (production_by_hand h)) c.args.p.now true) c.in-SinglePattern.is (c.requires.begins d)), c.requires.some)))
+
+pub read_by_hand-returns-in-Atom-clause-gives : goal.read_by_hand-returns-in-Atom-clause-gives
+read_by_hand-returns-in-Atom-clause-gives t c = rw c.in-Atom.is (c.atom.ensures.gives)
+
+pub read_by_hand-returns-in-Atom-clause-looks : goal.read_by_hand-returns-in-Atom-clause-looks
+unfolding debt_of rank
+read_by_hand-returns-in-Atom-clause-looks t c = rw c.in-Atom.is (omega (arith, c.atom.ensures.looks))
+
+pub read_by_hand-atom-requires : goal.read_by_hand-atom-requires
+read_by_hand-atom-requires t c = (omega arith, (c.requires.short, (subst (λ (h : ByHand). Saw c.args.condition (looks (production_by_hand h)) c.args.p.now true) c.in-Atom.is (c.requires.begins c.args.condition), c.requires.some)))
+
+pub read_by_hand-returns-in-Prefixed-clause-gives : goal.read_by_hand-returns-in-Prefixed-clause-gives
+read_by_hand-returns-in-Prefixed-clause-gives t c = rw c.in-Prefixed.is (c.prefixed.ensures.gives)
+
+pub read_by_hand-returns-in-Prefixed-clause-looks : goal.read_by_hand-returns-in-Prefixed-clause-looks
+unfolding debt_of rank
+read_by_hand-returns-in-Prefixed-clause-looks t c = rw c.in-Prefixed.is (omega (arith, c.prefixed.ensures.looks))
+
+pub read_by_hand-prefixed-requires : goal.read_by_hand-prefixed-requires
+read_by_hand-prefixed-requires t c = (omega arith, (c.requires.short, (subst (λ (h : ByHand). Saw c.args.condition (looks (production_by_hand h)) c.args.p.now true) c.in-Prefixed.is (c.requires.begins c.args.condition), c.requires.some)))
+
+pub read_by_hand-returns-in-BlockLike-clause-gives : goal.read_by_hand-returns-in-BlockLike-clause-gives
+read_by_hand-returns-in-BlockLike-clause-gives t c = rw c.in-BlockLike.is (c.block_like.ensures.gives c.args.condition)
+
+pub read_by_hand-returns-in-BlockLike-clause-looks : goal.read_by_hand-returns-in-BlockLike-clause-looks
+unfolding debt_of rank
+read_by_hand-returns-in-BlockLike-clause-looks t c = rw c.in-BlockLike.is (omega (arith, c.block_like.ensures.looks))
+
+pub read_by_hand-block_like-requires : goal.read_by_hand-block_like-requires
+read_by_hand-block_like-requires t c = (omega arith, (c.requires.short, ((λ (d : Bool). subst (λ (h : ByHand). Saw d (looks (production_by_hand h)) c.args.p.now true) c.in-BlockLike.is (c.requires.begins d)), c.requires.some)))
+
+pub read_by_hand-returns-in-IfExpr-clause-gives : goal.read_by_hand-returns-in-IfExpr-clause-gives
+read_by_hand-returns-in-IfExpr-clause-gives t c = rw c.in-IfExpr.is (c.if_expr.ensures.gives c.args.condition)
+
+pub read_by_hand-returns-in-IfExpr-clause-looks : goal.read_by_hand-returns-in-IfExpr-clause-looks
+unfolding debt_of rank
+read_by_hand-returns-in-IfExpr-clause-looks t c = rw c.in-IfExpr.is (omega (arith, c.if_expr.ensures.looks))
+
+pub read_by_hand-returns-in-MatchArms-clause-gives : goal.read_by_hand-returns-in-MatchArms-clause-gives
+read_by_hand-returns-in-MatchArms-clause-gives t c = rw c.in-MatchArms.is (c.match_arms.ensures.gives c.args.condition)
+
+pub read_by_hand-returns-in-MatchArms-clause-looks : goal.read_by_hand-returns-in-MatchArms-clause-looks
+unfolding debt_of rank
+read_by_hand-returns-in-MatchArms-clause-looks t c = rw c.in-MatchArms.is (omega (arith, c.match_arms.ensures.looks))

@@ -1,8 +1,8 @@
 -- Lists, turn by turn.
-use Rattle.std.proofs.Common.{◌+◌, ◌≤◌, true, false, refl, subst, ◌∙◌, arith}
+use Rattle.std.proofs.Common.{◌+◌, ◌≤◌, true, false, refl, sym, subst, ◌∙◌, arith}
 use Rattle.std.proofs.lemmas.Bool.{ltb-true, ltb-false}
 use Rattle.parser_input.specs.Kind.{raw_of}
-use Rattle.rust_grammar.specs.Rule.{Production, Call, Star}
+use Rattle.rust_grammar.specs.Rule as rules
 use Rattle.rust_grammar.specs.Expressions.{expressions}
 use Rattle.rust_grammar.specs.Items.{items}
 use Rattle.rust_grammar.specs.Meaning.{begins_below, look_of}
@@ -12,18 +12,17 @@ use Rattle.rust_grammar.specs.Patterns.{patterns}
 use Rattle.rust_grammar.specs.Rule.{begins, in_mode, anew, is_silent, passes, shift, there_at}
 use Rattle.rust_grammar.specs.Statements.{statements}
 use Rattle.rust_grammar.specs.Types.{types}
-use Rattle.rust_grammar.specs.Whole.{rule, whole}
-use Rattle.grammar_table.specs.Data.{named}
-use Rattle.grammar_reader.specs.ByHand.{element_of, list_turn}
-use Rattle.grammar_reader.specs.Looks.{begin_looks, Costs}
-use Rattle.grammar_reader.specs.Prices.{debt_of, idle_of}
+use Rattle.rust_grammar.specs.Whole.{rank, rule, whole}
+use Rattle.grammar_reader.specs.ByHand.{element_of, list_turn, looks_in}
+use Rattle.grammar_reader.specs.Prices.{debt_of, idle_of, most, surely_takes}
+use Rattle.grammar_reader.specs.declared.reader.lists.Element.{Element}
 use Rattle.grammar_reader.proofs.Called.{can-begin}
-use Rattle.grammar_reader.proofs.Elements.{begin-cost, element-cost, element-pays, ends, more, over, over-there, reads-element, reads-stray, stray}
+use Rattle.grammar_reader.proofs.Elements.{element-pays, ends, few-looks-before, few-looks-in, more, over, over-there, read-cost, read-pays, reads-element, reads-stray, said-element, stray, sure-element}
+use Rattle.grammar_reader.proofs.Seeing.{param-left, pattern-begins}
 use Rattle.grammar_reader.proofs.Standing.{short-still}
 use Rattle.rust_productions.specs.Looks.{tokens, spent}
-use Rattle.rust_productions.specs.Reads.{Reads}
-use Rattle.rust_productions.specs.Turns.{TurnsFrom}
-use Rattle.rust_productions.proofs.ByHand.{after-look, does-then, reads-mode, reads-node, reads-then}
+use Rattle.rust_productions.specs.Reads.{looks, Reads, Saw}
+use Rattle.rust_productions.proofs.ByHand.{after-look, does-then, reads-call, reads-mode, reads-node, reads-then}
 use Rattle.rust_productions.proofs.Choices.{anew-after, gives-anew}
 use Rattle.rust_productions.proofs.Facts.{saw-so}
 use Rattle.rust_productions.proofs.Seen.{saw-after, saw-before}
@@ -33,60 +32,188 @@ use Rattle.grammar_reader.proofs.reader.+reader.Goals as goal
 pub lists::turn-returns-then-at_list_end-clause-ends : goal.lists::turn-returns-then-at_list_end-clause-ends
 lists::turn-returns-then-at_list_end-clause-ends t c = λ e. last-turn false (list_turn (raw_of c.args.list) (element_of c.args.element) (raw_of c.args.closing)) (ends (raw_of c.args.list) (element_of c.args.element) (raw_of c.args.closing)) _ _ _ first-turn (over (raw_of c.args.list) (element_of c.args.element) (raw_of c.args.closing) (saw-so (c.at_list_end.ensures.sees false) c.if-at_list_end.true)) c.at_list_end.ensures.same
 
-pub lists::turn-read_anew-requires : goal.lists::turn-read_anew-requires
-lists::turn-read_anew-requires t c = (omega arith, (short-still _ _ (c.at_production.ensures.same.input ∙ c.at_list_end.ensures.same.input) c.requires.short, can-begin _ (saw-after c.at_production.ensures.same (saw-so c.at_production.ensures.sees c.if-at_production.true))))
+pub lists::turn-read_element-requires : goal.lists::turn-read_element-requires
+lists::turn-read_element-requires t c = (omega arith, (short-still _ _ (c.at_element.ensures.same.input ∙ c.at_list_end.ensures.same.input) c.requires.short, saw-after c.at_element.ensures.same (saw-so c.at_element.ensures.sees c.if-at_element.true)))
 
-pub lists::turn-returns-then-at_production-clause-goes : goal.lists::turn-returns-then-at_production-clause-goes
+pub lists::turn-returns-then-at_element-clause-goes : goal.lists::turn-returns-then-at_element-clause-goes
 unfolding tokens
-lists::turn-returns-then-at_production-clause-goes t c = λ e. subst (λ (x : Production). TurnsFrom false (list_turn (raw_of c.args.list) x (raw_of c.args.closing)) c.args.p.now c.comma.new.p) c.production-called.ensures
-    (next-turn false (list_turn (raw_of c.args.list) (named c.production-called.result) (raw_of c.args.closing)) (ends (raw_of c.args.list) (named c.production-called.result) (raw_of c.args.closing)) _ _ _ first-turn (more (raw_of c.args.list) (named c.production-called.result) (raw_of c.args.closing) (saw-so (c.at_list_end.ensures.sees false) c.if-at_list_end.false) (saw-before c.at_list_end.ensures.same (saw-so c.at_production.ensures.sees c.if-at_production.true))) (after-look false c.at_list_end.ensures.same (after-look false c.at_production.ensures.same (reads-element (raw_of c.args.list) (named c.production-called.result) (raw_of c.args.closing) (saw-after c.at_production.ensures.same (saw-so c.at_production.ensures.sees c.if-at_production.true)) c.read_anew.ensures.gives (c.comma.ensures.reads false)))) (omega (arith, (ltb-true c.tokens_left.result c.tokens_left-before.result e), c.tokens_left.ensures, c.tokens_left-before.ensures, c.at_list_end.ensures.left)))
+lists::turn-returns-then-at_element-clause-goes t c = λ e. next-turn false (list_turn (raw_of c.args.list) (element_of c.args.element) (raw_of c.args.closing)) (ends (raw_of c.args.list) (element_of c.args.element) (raw_of c.args.closing)) _ _ _ first-turn (more (raw_of c.args.list) (element_of c.args.element) (raw_of c.args.closing) (said-element c.args.element) (sure-element c.args.element) (saw-so (c.at_list_end.ensures.sees false) c.if-at_list_end.false) (saw-before c.at_list_end.ensures.same (saw-so c.at_element.ensures.sees c.if-at_element.true))) (after-look false c.at_list_end.ensures.same (after-look false c.at_element.ensures.same (reads-element (raw_of c.args.list) (element_of c.args.element) (raw_of c.args.closing) (said-element c.args.element) (sure-element c.args.element) (saw-after c.at_element.ensures.same (saw-so c.at_element.ensures.sees c.if-at_element.true)) c.read_element.ensures.reads (c.comma.ensures.reads false)))) (omega (arith, (ltb-true c.tokens_left.result c.tokens_left-before.result e), c.tokens_left.ensures, c.tokens_left-before.ensures, c.at_list_end.ensures.left))
 
-pub lists::turn-returns-then-at_production-clause-ends : goal.lists::turn-returns-then-at_production-clause-ends
+pub lists::turn-returns-then-at_element-clause-ends : goal.lists::turn-returns-then-at_element-clause-ends
 unfolding tokens
-lists::turn-returns-then-at_production-clause-ends t c = λ e. subst (λ (x : Production). Reads false (Star (list_turn (raw_of c.args.list) x (raw_of c.args.closing))) c.args.p.now c.comma.new.p) c.production-called.ensures
-    (idle-turn false (list_turn (raw_of c.args.list) (named c.production-called.result) (raw_of c.args.closing)) (ends (raw_of c.args.list) (named c.production-called.result) (raw_of c.args.closing)) _ _ _ first-turn (more (raw_of c.args.list) (named c.production-called.result) (raw_of c.args.closing) (saw-so (c.at_list_end.ensures.sees false) c.if-at_list_end.false) (saw-before c.at_list_end.ensures.same (saw-so c.at_production.ensures.sees c.if-at_production.true))) (after-look false c.at_list_end.ensures.same (after-look false c.at_production.ensures.same (reads-element (raw_of c.args.list) (named c.production-called.result) (raw_of c.args.closing) (saw-after c.at_production.ensures.same (saw-so c.at_production.ensures.sees c.if-at_production.true)) c.read_anew.ensures.gives (c.comma.ensures.reads false)))) (omega (arith, (ltb-false c.tokens_left.result c.tokens_left-before.result e), c.tokens_left.ensures, c.tokens_left-before.ensures, c.at_list_end.ensures.left, c.comma.ensures.left, c.read_anew.ensures.left, c.at_production.ensures.left)))
+lists::turn-returns-then-at_element-clause-ends t c = λ e. idle-turn false (list_turn (raw_of c.args.list) (element_of c.args.element) (raw_of c.args.closing)) (ends (raw_of c.args.list) (element_of c.args.element) (raw_of c.args.closing)) _ _ _ first-turn (more (raw_of c.args.list) (element_of c.args.element) (raw_of c.args.closing) (said-element c.args.element) (sure-element c.args.element) (saw-so (c.at_list_end.ensures.sees false) c.if-at_list_end.false) (saw-before c.at_list_end.ensures.same (saw-so c.at_element.ensures.sees c.if-at_element.true))) (after-look false c.at_list_end.ensures.same (after-look false c.at_element.ensures.same (reads-element (raw_of c.args.list) (element_of c.args.element) (raw_of c.args.closing) (said-element c.args.element) (sure-element c.args.element) (saw-after c.at_element.ensures.same (saw-so c.at_element.ensures.sees c.if-at_element.true)) c.read_element.ensures.reads (c.comma.ensures.reads false)))) (omega (arith, (ltb-false c.tokens_left.result c.tokens_left-before.result e), c.tokens_left.ensures, c.tokens_left-before.ensures, c.at_list_end.ensures.left, c.comma.ensures.left, c.read_element.ensures.left, c.at_element.ensures.left))
 
-pub lists::turn-returns-then-at_production-clause-input : goal.lists::turn-returns-then-at_production-clause-input
-lists::turn-returns-then-at_production-clause-input t c = (c.comma.ensures.reads false).does.input ∙ c.read_anew.ensures.gives.does.input ∙ c.at_production.ensures.same.input ∙ c.at_list_end.ensures.same.input
+pub lists::turn-returns-then-at_element-clause-input : goal.lists::turn-returns-then-at_element-clause-input
+lists::turn-returns-then-at_element-clause-input t c = (c.comma.ensures.reads false).does.input ∙ c.read_element.ensures.reads.does.input ∙ c.at_element.ensures.same.input ∙ c.at_list_end.ensures.same.input
 
-pub lists::turn-returns-then-at_production-clause-innermost : goal.lists::turn-returns-then-at_production-clause-innermost
-lists::turn-returns-then-at_production-clause-innermost t c = λ n i. (c.comma.ensures.reads false).does.innermost n (c.read_anew.ensures.gives.does.innermost n (c.at_production.ensures.same.innermost n (c.at_list_end.ensures.same.innermost n i)))
+pub lists::turn-returns-then-at_element-clause-innermost : goal.lists::turn-returns-then-at_element-clause-innermost
+lists::turn-returns-then-at_element-clause-innermost t c = λ n i. (c.comma.ensures.reads false).does.innermost n (c.read_element.ensures.reads.does.innermost n (c.at_element.ensures.same.innermost n (c.at_list_end.ensures.same.innermost n i)))
 
-pub lists::turn-returns-then-at_production-clause-fewer : goal.lists::turn-returns-then-at_production-clause-fewer
+pub lists::turn-returns-then-at_element-clause-fewer : goal.lists::turn-returns-then-at_element-clause-fewer
 unfolding tokens
-lists::turn-returns-then-at_production-clause-fewer t c = λ e. omega (arith, (ltb-true c.tokens_left.result c.tokens_left-before.result e), c.tokens_left.ensures, c.tokens_left-before.ensures, c.at_list_end.ensures.left)
+lists::turn-returns-then-at_element-clause-fewer t c = λ e. omega (arith, (ltb-true c.tokens_left.result c.tokens_left-before.result e), c.tokens_left.ensures, c.tokens_left-before.ensures, c.at_list_end.ensures.left)
 
-pub lists::turn-returns-then-at_production-clause-pays : goal.lists::turn-returns-then-at_production-clause-pays
+pub lists::turn-returns-then-at_element-clause-pays : goal.lists::turn-returns-then-at_element-clause-pays
 unfolding tokens
-lists::turn-returns-then-at_production-clause-pays t c = λ e. omega (arith, begin-cost c.args.element, (subst (λ (x : Production). spent c.at_production.new.p ≤ spent c.at_list_end.new.p + begin_looks (Call x)) c.production-called.ensures c.at_production.ensures.looks), c.at_list_end.ensures.looks, element-pays c.args.element c.comma.new.p (subst (λ (x : Production). Costs (idle_of x) (debt_of x) c.at_production.new.p c.read_anew.new.p) c.production-called.ensures c.read_anew.ensures.looks) c.comma.ensures.left c.comma.ensures.looks c.comma.ensures.pays (omega (arith, (ltb-true c.tokens_left.result c.tokens_left-before.result e), c.tokens_left.ensures, c.tokens_left-before.ensures, c.at_production.ensures.left, c.at_list_end.ensures.left)))
+lists::turn-returns-then-at_element-clause-pays t c = λ e. omega (arith, few-looks-before c.args.element, c.at_element.ensures.looks, c.at_list_end.ensures.looks, element-pays c.at_element.new.p c.read_element.new.p c.comma.new.p (looks_in c.args.element) (few-looks-in c.args.element) c.read_element.ensures.pays c.read_element.ensures.looks c.read_element.ensures.left c.comma.ensures.left c.comma.ensures.looks c.comma.ensures.pays (omega (arith, (ltb-true c.tokens_left.result c.tokens_left-before.result e), c.tokens_left.ensures, c.tokens_left-before.ensures, c.at_element.ensures.left, c.at_list_end.ensures.left)))
 
-pub lists::turn-returns-then-at_production-clause-looks : goal.lists::turn-returns-then-at_production-clause-looks
-lists::turn-returns-then-at_production-clause-looks t c = omega (arith, begin-cost c.args.element, (subst (λ (x : Production). spent c.at_production.new.p ≤ spent c.at_list_end.new.p + begin_looks (Call x)) c.production-called.ensures c.at_production.ensures.looks), c.at_list_end.ensures.looks, element-cost c.args.element (subst (λ (x : Production). Costs (idle_of x) (debt_of x) c.at_production.new.p c.read_anew.new.p) c.production-called.ensures c.read_anew.ensures.looks), c.comma.ensures.looks)
+pub lists::turn-returns-then-at_element-clause-looks : goal.lists::turn-returns-then-at_element-clause-looks
+lists::turn-returns-then-at_element-clause-looks t c = omega (arith, c.at_element.ensures.looks, c.at_list_end.ensures.looks, c.read_element.ensures.looks, c.comma.ensures.looks)
 
 pub lists::turn-returns-then-at_unexpected-clause-goes : goal.lists::turn-returns-then-at_unexpected-clause-goes
 unfolding tokens
-lists::turn-returns-then-at_unexpected-clause-goes t c = λ e. subst (λ (x : Production). TurnsFrom false (list_turn (raw_of c.args.list) x (raw_of c.args.closing)) c.args.p.now c.skip.new.p) c.production-called.ensures
-    (next-turn false (list_turn (raw_of c.args.list) (named c.production-called.result) (raw_of c.args.closing)) (ends (raw_of c.args.list) (named c.production-called.result) (raw_of c.args.closing)) _ _ _ first-turn (stray (raw_of c.args.list) (named c.production-called.result) (raw_of c.args.closing) (saw-so (c.at_list_end.ensures.sees false) c.if-at_list_end.false) (saw-before c.at_list_end.ensures.same (saw-so c.at_production.ensures.sees c.if-at_production.false)) (saw-before c.at_list_end.ensures.same (saw-before c.at_production.ensures.same (saw-so (c.at_unexpected.ensures.sees false) c.if-at_unexpected.true)))) (after-look false c.at_list_end.ensures.same (after-look false c.at_production.ensures.same (reads-stray (raw_of c.args.list) (named c.production-called.result) (raw_of c.args.closing) (saw-after c.at_production.ensures.same (saw-so c.at_production.ensures.sees c.if-at_production.false)) (after-look false c.at_unexpected.ensures.same (c.skip.ensures.reads false))))) (omega (arith, c.skip.ensures.left, c.at_unexpected.ensures.left, c.at_production.ensures.left, c.at_list_end.ensures.left)))
+lists::turn-returns-then-at_unexpected-clause-goes t c = λ e. next-turn false (list_turn (raw_of c.args.list) (element_of c.args.element) (raw_of c.args.closing)) (ends (raw_of c.args.list) (element_of c.args.element) (raw_of c.args.closing)) _ _ _ first-turn (stray (raw_of c.args.list) (element_of c.args.element) (raw_of c.args.closing) (said-element c.args.element) (sure-element c.args.element) (saw-so (c.at_list_end.ensures.sees false) c.if-at_list_end.false) (saw-before c.at_list_end.ensures.same (saw-so c.at_element.ensures.sees c.if-at_element.false)) (saw-before c.at_list_end.ensures.same (saw-before c.at_element.ensures.same (saw-so (c.at_unexpected.ensures.sees false) c.if-at_unexpected.true)))) (after-look false c.at_list_end.ensures.same (after-look false c.at_element.ensures.same (reads-stray (raw_of c.args.list) (element_of c.args.element) (raw_of c.args.closing) (said-element c.args.element) (sure-element c.args.element) (saw-after c.at_element.ensures.same (saw-so c.at_element.ensures.sees c.if-at_element.false)) (after-look false c.at_unexpected.ensures.same (c.skip.ensures.reads false))))) (omega (arith, c.skip.ensures.left, c.at_unexpected.ensures.left, c.at_element.ensures.left, c.at_list_end.ensures.left))
 
 pub lists::turn-returns-then-at_unexpected-clause-input : goal.lists::turn-returns-then-at_unexpected-clause-input
-lists::turn-returns-then-at_unexpected-clause-input t c = (c.skip.ensures.reads false).does.input ∙ c.at_unexpected.ensures.same.input ∙ c.at_production.ensures.same.input ∙ c.at_list_end.ensures.same.input
+lists::turn-returns-then-at_unexpected-clause-input t c = (c.skip.ensures.reads false).does.input ∙ c.at_unexpected.ensures.same.input ∙ c.at_element.ensures.same.input ∙ c.at_list_end.ensures.same.input
 
 pub lists::turn-returns-then-at_unexpected-clause-innermost : goal.lists::turn-returns-then-at_unexpected-clause-innermost
-lists::turn-returns-then-at_unexpected-clause-innermost t c = λ n i. (c.skip.ensures.reads false).does.innermost n (c.at_unexpected.ensures.same.innermost n (c.at_production.ensures.same.innermost n (c.at_list_end.ensures.same.innermost n i)))
+lists::turn-returns-then-at_unexpected-clause-innermost t c = λ n i. (c.skip.ensures.reads false).does.innermost n (c.at_unexpected.ensures.same.innermost n (c.at_element.ensures.same.innermost n (c.at_list_end.ensures.same.innermost n i)))
 
 pub lists::turn-returns-then-at_unexpected-clause-pays : goal.lists::turn-returns-then-at_unexpected-clause-pays
-lists::turn-returns-then-at_unexpected-clause-pays t c = λ e. omega (arith, begin-cost c.args.element, (subst (λ (x : Production). spent c.at_production.new.p ≤ spent c.at_list_end.new.p + begin_looks (Call x)) c.production-called.ensures c.at_production.ensures.looks), c.at_list_end.ensures.looks, c.at_unexpected.ensures.looks, c.skip.ensures.looks)
+lists::turn-returns-then-at_unexpected-clause-pays t c = λ e. omega (arith, few-looks-before c.args.element, c.at_element.ensures.looks, c.at_list_end.ensures.looks, c.at_unexpected.ensures.looks, c.skip.ensures.looks)
 
 pub lists::turn-returns-then-at_unexpected-clause-looks : goal.lists::turn-returns-then-at_unexpected-clause-looks
-lists::turn-returns-then-at_unexpected-clause-looks t c = omega (arith, begin-cost c.args.element, (subst (λ (x : Production). spent c.at_production.new.p ≤ spent c.at_list_end.new.p + begin_looks (Call x)) c.production-called.ensures c.at_production.ensures.looks), c.at_list_end.ensures.looks, c.at_unexpected.ensures.looks, c.skip.ensures.looks)
+lists::turn-returns-then-at_unexpected-clause-looks t c = omega (arith, few-looks-before c.args.element, c.at_element.ensures.looks, c.at_list_end.ensures.looks, c.at_unexpected.ensures.looks, c.skip.ensures.looks)
 
 pub lists::turn-returns-clause-ends : goal.lists::turn-returns-clause-ends
-lists::turn-returns-clause-ends t c = λ e. subst (λ (x : Production). Reads false (Star (list_turn (raw_of c.args.list) x (raw_of c.args.closing))) c.args.p.now c.at_unexpected.new.p) c.production-called.ensures
-    (last-turn false (list_turn (raw_of c.args.list) (named c.production-called.result) (raw_of c.args.closing)) (ends (raw_of c.args.list) (named c.production-called.result) (raw_of c.args.closing)) _ _ _ first-turn (over-there (raw_of c.args.list) (named c.production-called.result) (raw_of c.args.closing) (saw-so (c.at_list_end.ensures.sees false) c.if-at_list_end.false) (saw-before c.at_list_end.ensures.same (saw-so c.at_production.ensures.sees c.if-at_production.false)) (saw-before c.at_list_end.ensures.same (saw-before c.at_production.ensures.same (saw-so (c.at_unexpected.ensures.sees false) c.if-at_unexpected.false))))
-    (does-then c.at_list_end.ensures.same (does-then c.at_production.ensures.same c.at_unexpected.ensures.same)))
+lists::turn-returns-clause-ends t c = λ e. last-turn false (list_turn (raw_of c.args.list) (element_of c.args.element) (raw_of c.args.closing)) (ends (raw_of c.args.list) (element_of c.args.element) (raw_of c.args.closing)) _ _ _ first-turn (over-there (raw_of c.args.list) (element_of c.args.element) (raw_of c.args.closing) (said-element c.args.element) (sure-element c.args.element) (saw-so (c.at_list_end.ensures.sees false) c.if-at_list_end.false) (saw-before c.at_list_end.ensures.same (saw-so c.at_element.ensures.sees c.if-at_element.false)) (saw-before c.at_list_end.ensures.same (saw-before c.at_element.ensures.same (saw-so (c.at_unexpected.ensures.sees false) c.if-at_unexpected.false)))) (does-then c.at_list_end.ensures.same (does-then c.at_element.ensures.same c.at_unexpected.ensures.same))
 
 pub lists::turn-returns-clause-looks : goal.lists::turn-returns-clause-looks
-lists::turn-returns-clause-looks t c = omega (arith, begin-cost c.args.element, (subst (λ (x : Production). spent c.at_production.new.p ≤ spent c.at_list_end.new.p + begin_looks (Call x)) c.production-called.ensures c.at_production.ensures.looks), c.at_list_end.ensures.looks, c.at_unexpected.ensures.looks)
+lists::turn-returns-clause-looks t c = omega (arith, c.at_element.ensures.looks, c.at_list_end.ensures.looks, c.at_unexpected.ensures.looks)
+
+pub lists::read_element-closure_param-requires : goal.lists::read_element-closure_param-requires
+lists::read_element-closure_param-requires t c =
+    let seen = subst (λ (e : Element). Saw false (begins looks (element_of e)) c.args.p.now true) c.in-ClosureParam.is c.requires.begins in
+    (omega arith, (c.requires.short, ((λ d. pattern-begins seen), param-left seen)))
+
+pub lists::read_element-read_anew-requires : goal.lists::read_element-read_anew-requires
+unfolding begins
+lists::read_element-read_anew-requires t c = (omega arith, (c.requires.short, can-begin rules.expression (subst (λ (e : Element). Saw false (begins looks (element_of e)) c.args.p.now true) c.in-Expression.is c.requires.begins)))
+
+pub lists::read_element-returns-in-Expression-clause-reads : goal.lists::read_element-returns-in-Expression-clause-reads
+unfolding most idle_of debt_of surely_takes rank
+lists::read_element-returns-in-Expression-clause-reads t c = subst (λ (e : Element). Reads false (element_of e) c.args.p.now c.read_anew.new.p) (sym c.in-Expression.is) (reads-call false c.read_anew.ensures.gives)
+
+pub lists::read_element-returns-in-Expression-clause-pays : goal.lists::read_element-returns-in-Expression-clause-pays
+unfolding most idle_of debt_of surely_takes rank
+lists::read_element-returns-in-Expression-clause-pays t c = read-pays 1000 rules.expression refl c.read_anew.ensures.looks
+
+pub lists::read_element-returns-in-Expression-clause-looks : goal.lists::read_element-returns-in-Expression-clause-looks
+unfolding most idle_of debt_of surely_takes rank
+lists::read_element-returns-in-Expression-clause-looks t c = subst (λ (e : Element). spent c.read_anew.new.p ≤ spent c.args.p.now + looks_in e) (sym c.in-Expression.is) (read-cost 600 rules.expression refl refl c.read_anew.ensures.looks)
+
+pub lists::read_element-read_anew-requires-in-FieldValue : goal.lists::read_element-read_anew-requires-in-FieldValue
+unfolding begins
+lists::read_element-read_anew-requires-in-FieldValue t c = (omega arith, (c.requires.short, can-begin rules.field_value (subst (λ (e : Element). Saw false (begins looks (element_of e)) c.args.p.now true) c.in-FieldValue.is c.requires.begins)))
+
+pub lists::read_element-returns-in-FieldValue-clause-reads : goal.lists::read_element-returns-in-FieldValue-clause-reads
+unfolding most idle_of debt_of surely_takes rank
+lists::read_element-returns-in-FieldValue-clause-reads t c = subst (λ (e : Element). Reads false (element_of e) c.args.p.now c.read_anew-in-FieldValue.new.p) (sym c.in-FieldValue.is) (reads-call false c.read_anew-in-FieldValue.ensures.gives)
+
+pub lists::read_element-returns-in-FieldValue-clause-pays : goal.lists::read_element-returns-in-FieldValue-clause-pays
+unfolding most idle_of debt_of surely_takes rank
+lists::read_element-returns-in-FieldValue-clause-pays t c = read-pays 1000 rules.field_value refl c.read_anew-in-FieldValue.ensures.looks
+
+pub lists::read_element-returns-in-FieldValue-clause-looks : goal.lists::read_element-returns-in-FieldValue-clause-looks
+unfolding most idle_of debt_of surely_takes rank
+lists::read_element-returns-in-FieldValue-clause-looks t c = subst (λ (e : Element). spent c.read_anew-in-FieldValue.new.p ≤ spent c.args.p.now + looks_in e) (sym c.in-FieldValue.is) (read-cost 600 rules.field_value refl refl c.read_anew-in-FieldValue.ensures.looks)
+
+pub lists::read_element-read_anew-requires-in-GenericArg : goal.lists::read_element-read_anew-requires-in-GenericArg
+unfolding begins
+lists::read_element-read_anew-requires-in-GenericArg t c = (omega arith, (c.requires.short, can-begin rules.generic_arg (subst (λ (e : Element). Saw false (begins looks (element_of e)) c.args.p.now true) c.in-GenericArg.is c.requires.begins)))
+
+pub lists::read_element-returns-in-GenericArg-clause-reads : goal.lists::read_element-returns-in-GenericArg-clause-reads
+unfolding most idle_of debt_of surely_takes rank
+lists::read_element-returns-in-GenericArg-clause-reads t c = subst (λ (e : Element). Reads false (element_of e) c.args.p.now c.read_anew-in-GenericArg.new.p) (sym c.in-GenericArg.is) (reads-call false c.read_anew-in-GenericArg.ensures.gives)
+
+pub lists::read_element-returns-in-GenericArg-clause-pays : goal.lists::read_element-returns-in-GenericArg-clause-pays
+unfolding most idle_of debt_of surely_takes rank
+lists::read_element-returns-in-GenericArg-clause-pays t c = read-pays 1000 rules.generic_arg refl c.read_anew-in-GenericArg.ensures.looks
+
+pub lists::read_element-returns-in-GenericArg-clause-looks : goal.lists::read_element-returns-in-GenericArg-clause-looks
+unfolding most idle_of debt_of surely_takes rank
+lists::read_element-returns-in-GenericArg-clause-looks t c = subst (λ (e : Element). spent c.read_anew-in-GenericArg.new.p ≤ spent c.args.p.now + looks_in e) (sym c.in-GenericArg.is) (read-cost 600 rules.generic_arg refl refl c.read_anew-in-GenericArg.ensures.looks)
+
+pub lists::read_element-read_anew-requires-in-GenericParam : goal.lists::read_element-read_anew-requires-in-GenericParam
+unfolding begins
+lists::read_element-read_anew-requires-in-GenericParam t c = (omega arith, (c.requires.short, can-begin rules.generic_param (subst (λ (e : Element). Saw false (begins looks (element_of e)) c.args.p.now true) c.in-GenericParam.is c.requires.begins)))
+
+pub lists::read_element-returns-in-GenericParam-clause-reads : goal.lists::read_element-returns-in-GenericParam-clause-reads
+unfolding most idle_of debt_of surely_takes rank
+lists::read_element-returns-in-GenericParam-clause-reads t c = subst (λ (e : Element). Reads false (element_of e) c.args.p.now c.read_anew-in-GenericParam.new.p) (sym c.in-GenericParam.is) (reads-call false c.read_anew-in-GenericParam.ensures.gives)
+
+pub lists::read_element-returns-in-GenericParam-clause-pays : goal.lists::read_element-returns-in-GenericParam-clause-pays
+unfolding most idle_of debt_of surely_takes rank
+lists::read_element-returns-in-GenericParam-clause-pays t c = read-pays 1000 rules.generic_param refl c.read_anew-in-GenericParam.ensures.looks
+
+pub lists::read_element-returns-in-GenericParam-clause-looks : goal.lists::read_element-returns-in-GenericParam-clause-looks
+unfolding most idle_of debt_of surely_takes rank
+lists::read_element-returns-in-GenericParam-clause-looks t c = subst (λ (e : Element). spent c.read_anew-in-GenericParam.new.p ≤ spent c.args.p.now + looks_in e) (sym c.in-GenericParam.is) (read-cost 600 rules.generic_param refl refl c.read_anew-in-GenericParam.ensures.looks)
+
+pub lists::read_element-read_anew-requires-in-Param : goal.lists::read_element-read_anew-requires-in-Param
+unfolding begins
+lists::read_element-read_anew-requires-in-Param t c = (omega arith, (c.requires.short, can-begin rules.param (subst (λ (e : Element). Saw false (begins looks (element_of e)) c.args.p.now true) c.in-Param.is c.requires.begins)))
+
+pub lists::read_element-returns-in-Param-clause-reads : goal.lists::read_element-returns-in-Param-clause-reads
+unfolding most idle_of debt_of surely_takes rank
+lists::read_element-returns-in-Param-clause-reads t c = subst (λ (e : Element). Reads false (element_of e) c.args.p.now c.read_anew-in-Param.new.p) (sym c.in-Param.is) (reads-call false c.read_anew-in-Param.ensures.gives)
+
+pub lists::read_element-returns-in-Param-clause-pays : goal.lists::read_element-returns-in-Param-clause-pays
+unfolding most idle_of debt_of surely_takes rank
+lists::read_element-returns-in-Param-clause-pays t c = read-pays 1000 rules.param refl c.read_anew-in-Param.ensures.looks
+
+pub lists::read_element-returns-in-Param-clause-looks : goal.lists::read_element-returns-in-Param-clause-looks
+unfolding most idle_of debt_of surely_takes rank
+lists::read_element-returns-in-Param-clause-looks t c = subst (λ (e : Element). spent c.read_anew-in-Param.new.p ≤ spent c.args.p.now + looks_in e) (sym c.in-Param.is) (read-cost 600 rules.param refl refl c.read_anew-in-Param.ensures.looks)
+
+pub lists::read_element-read_anew-requires-in-Pattern : goal.lists::read_element-read_anew-requires-in-Pattern
+unfolding begins
+lists::read_element-read_anew-requires-in-Pattern t c = (omega arith, (c.requires.short, can-begin rules.pattern (subst (λ (e : Element). Saw false (begins looks (element_of e)) c.args.p.now true) c.in-Pattern.is c.requires.begins)))
+
+pub lists::read_element-returns-in-Pattern-clause-reads : goal.lists::read_element-returns-in-Pattern-clause-reads
+unfolding most idle_of debt_of surely_takes rank
+lists::read_element-returns-in-Pattern-clause-reads t c = subst (λ (e : Element). Reads false (element_of e) c.args.p.now c.read_anew-in-Pattern.new.p) (sym c.in-Pattern.is) (reads-call false c.read_anew-in-Pattern.ensures.gives)
+
+pub lists::read_element-returns-in-Pattern-clause-pays : goal.lists::read_element-returns-in-Pattern-clause-pays
+unfolding most idle_of debt_of surely_takes rank
+lists::read_element-returns-in-Pattern-clause-pays t c = read-pays 1000 rules.pattern refl c.read_anew-in-Pattern.ensures.looks
+
+pub lists::read_element-returns-in-Pattern-clause-looks : goal.lists::read_element-returns-in-Pattern-clause-looks
+unfolding most idle_of debt_of surely_takes rank
+lists::read_element-returns-in-Pattern-clause-looks t c = subst (λ (e : Element). spent c.read_anew-in-Pattern.new.p ≤ spent c.args.p.now + looks_in e) (sym c.in-Pattern.is) (read-cost 600 rules.pattern refl refl c.read_anew-in-Pattern.ensures.looks)
+
+pub lists::read_element-read_anew-requires-in-PatternField : goal.lists::read_element-read_anew-requires-in-PatternField
+unfolding begins
+lists::read_element-read_anew-requires-in-PatternField t c = (omega arith, (c.requires.short, can-begin rules.pattern_field (subst (λ (e : Element). Saw false (begins looks (element_of e)) c.args.p.now true) c.in-PatternField.is c.requires.begins)))
+
+pub lists::read_element-returns-in-PatternField-clause-reads : goal.lists::read_element-returns-in-PatternField-clause-reads
+unfolding most idle_of debt_of surely_takes rank
+lists::read_element-returns-in-PatternField-clause-reads t c = subst (λ (e : Element). Reads false (element_of e) c.args.p.now c.read_anew-in-PatternField.new.p) (sym c.in-PatternField.is) (reads-call false c.read_anew-in-PatternField.ensures.gives)
+
+pub lists::read_element-returns-in-PatternField-clause-pays : goal.lists::read_element-returns-in-PatternField-clause-pays
+unfolding most idle_of debt_of surely_takes rank
+lists::read_element-returns-in-PatternField-clause-pays t c = read-pays 1000 rules.pattern_field refl c.read_anew-in-PatternField.ensures.looks
+
+pub lists::read_element-returns-in-PatternField-clause-looks : goal.lists::read_element-returns-in-PatternField-clause-looks
+unfolding most idle_of debt_of surely_takes rank
+lists::read_element-returns-in-PatternField-clause-looks t c = subst (λ (e : Element). spent c.read_anew-in-PatternField.new.p ≤ spent c.args.p.now + looks_in e) (sym c.in-PatternField.is) (read-cost 600 rules.pattern_field refl refl c.read_anew-in-PatternField.ensures.looks)
+
+pub lists::read_element-read_anew-requires-in-Type : goal.lists::read_element-read_anew-requires-in-Type
+unfolding begins
+lists::read_element-read_anew-requires-in-Type t c = (omega arith, (c.requires.short, can-begin rules.any_type (subst (λ (e : Element). Saw false (begins looks (element_of e)) c.args.p.now true) c.in-Type.is c.requires.begins)))
+
+pub lists::read_element-returns-in-Type-clause-reads : goal.lists::read_element-returns-in-Type-clause-reads
+unfolding most idle_of debt_of surely_takes rank
+lists::read_element-returns-in-Type-clause-reads t c = subst (λ (e : Element). Reads false (element_of e) c.args.p.now c.read_anew-in-Type.new.p) (sym c.in-Type.is) (reads-call false c.read_anew-in-Type.ensures.gives)
+
+pub lists::read_element-returns-in-Type-clause-pays : goal.lists::read_element-returns-in-Type-clause-pays
+unfolding most idle_of debt_of surely_takes rank
+lists::read_element-returns-in-Type-clause-pays t c = read-pays 1000 rules.any_type refl c.read_anew-in-Type.ensures.looks
+
+pub lists::read_element-returns-in-Type-clause-looks : goal.lists::read_element-returns-in-Type-clause-looks
+unfolding most idle_of debt_of surely_takes rank
+lists::read_element-returns-in-Type-clause-looks t c = subst (λ (e : Element). spent c.read_anew-in-Type.new.p ≤ spent c.args.p.now + looks_in e) (sym c.in-Type.is) (read-cost 600 rules.any_type refl refl c.read_anew-in-Type.ensures.looks)
 
 pub lists::elements-turns-preserved : goal.lists::elements-turns-preserved
 lists::elements-turns-preserved t c = record {

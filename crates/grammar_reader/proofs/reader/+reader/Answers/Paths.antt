@@ -22,7 +22,7 @@ use Rattle.grammar_reader.proofs.PathArgs.{args-begin, path-row, reads-in-place}
 use Rattle.grammar_reader.proofs.Standing.{short-still}
 use Rattle.rust_productions.specs.Looks.{tokens}
 use Rattle.rust_productions.specs.Reads.{Anew}
-use Rattle.rust_productions.proofs.ByHand.{after-look, completes-leave, completes-then, reads-call, reads-node, reads-none, reads-opt, reads-then, reads-unless, reads-when, reads-wrap}
+use Rattle.rust_productions.proofs.ByHand.{after-look, completes-leave, completes-then, reads-call, reads-node, reads-nothing, reads-none, reads-opt, reads-then, reads-unless, reads-when, reads-wrap}
 use Rattle.rust_productions.proofs.Choices.{anew-after, anew-completes, gives-anew, reads-here}
 use Rattle.rust_productions.proofs.Facts.{begun, nothing, saw-so}
 use Rattle.rust_productions.proofs.Seen.{ends-at-end, saw-after, saw-inside}
@@ -117,3 +117,14 @@ paths::path_with_args-next_segments-frame-requires t c = (omega arith, (short-st
 pub paths::path_with_args-returns-clause-gives : goal.paths::path_with_args-returns-clause-gives
 paths::path_with_args-returns-clause-gives t c = λ cond. gives-anew (subst (λ (r : Rule). Anew cond r c.args.p.now c.abandon.new.p) (sym (path-row c.args.mode))
     (anew-completes c.start-frame.ensures.opens (completes-then (c.first_segment.ensures.reads cond) (completes-leave (c.next_segments-frame.ensures.reads cond) c.abandon.ensures.leaves))))
+
+pub paths::opt_generic_args-generic_args-requires : goal.paths::opt_generic_args-generic_args-requires
+paths::opt_generic_args-generic_args-requires t c = (omega arith, (short-still _ _ c.at_generic_args.ensures.same.input c.requires.short, ((λ d. saw-after c.at_generic_args.ensures.same (saw-so (c.at_generic_args.ensures.sees d) c.if-at_generic_args.true)), omega (arith, c.at_generic_args.ensures.some c.if-at_generic_args.true, c.at_generic_args.ensures.left))))
+
+pub paths::opt_generic_args-returns-then-at_generic_args-clause-reads : goal.paths::opt_generic_args-returns-then-at_generic_args-clause-reads
+unfolding look_of begins_below whole rule items statements expressions patterns types paths there_at shift passes is_silent begins in_mode anew row one_of any_of no_longer longest is_longer
+paths::opt_generic_args-returns-then-at_generic_args-clause-reads t c = λ cond. reads-here (begun rules.generic_args (saw-so (c.at_generic_args.ensures.sees cond) c.if-at_generic_args.true) nothing) (after-look cond c.at_generic_args.ensures.same (reads-call cond (c.generic_args.ensures.gives cond)))
+
+pub paths::opt_generic_args-returns-else-at_generic_args-clause-reads : goal.paths::opt_generic_args-returns-else-at_generic_args-clause-reads
+unfolding look_of begins_below whole rule items statements expressions patterns types paths there_at shift passes is_silent begins in_mode anew row one_of any_of no_longer longest is_longer
+paths::opt_generic_args-returns-else-at_generic_args-clause-reads t c = λ cond. reads-here (begun rules.generic_args (saw-so (c.at_generic_args.ensures.sees cond) c.if-at_generic_args.false) nothing) (reads-nothing cond c.at_generic_args.ensures.same)

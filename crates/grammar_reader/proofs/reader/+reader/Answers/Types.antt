@@ -17,7 +17,7 @@ use Rattle.grammar_reader.proofs.PathArgs.{any-mode, as-word, bounds-begin, boun
 use Rattle.grammar_reader.proofs.Standing.{short-still}
 use Rattle.rust_productions.specs.Reads.{Saw}
 use Rattle.rust_productions.proofs.ByHand.{after-look, completes-leave, reads-call, reads-mode, reads-node, reads-then, reads-wrap}
-use Rattle.rust_productions.proofs.Choices.{anew-completes, gives-anew, reads-here}
+use Rattle.rust_productions.proofs.Choices.{anew-after, anew-completes, gives-anew, reads-here}
 use Rattle.rust_productions.proofs.Facts.{begun, nothing, saw-so, ◌and◌}
 use Rattle.rust_productions.proofs.Looking.{saw-arm, saw-not}
 use Rattle.rust_productions.proofs.Seen.{begins-else, saw-after, saw-before, saw-inside}
@@ -206,3 +206,13 @@ types::after_element-returns-clause-reads t c = λ cond. reads-here (saw-so (c.a
 
 pub types::array_length-returns-clause-reads : goal.types::array_length-returns-clause-reads
 types::array_length-returns-clause-reads t c = λ cond. reads-node cond c.start-node.ensures.opens (reads-mode cond c.expect_expression.ensures.reads) c.complete.ensures.closes
+
+pub types::ret_type-expect_type-requires : goal.types::ret_type-expect_type-requires
+types::ret_type-expect_type-requires t c = (omega arith, short-still _ _ ((c.take_pair.ensures.reads true 0 0).does.input ∙ c.start-node.ensures.opens.input) c.requires.short)
+
+pub types::ret_type-complete-requires : goal.types::ret_type-complete-requires
+types::ret_type-complete-requires t c = c.expect_type.ensures.reads.does.innermost _ ((c.take_pair.ensures.reads true 0 0).does.innermost _ c.start-node.ensures.marker)
+
+pub types::ret_type-returns-clause-gives : goal.types::ret_type-returns-clause-gives
+unfolding look_of begins_below whole rule items statements expressions patterns types paths there_at shift passes is_silent begins in_mode anew row one_of any_of no_longer longest is_longer
+types::ret_type-returns-clause-gives t c = gives-anew (anew-after refl (reads-node _ c.start-node.ensures.opens (reads-then _ (c.take_pair.ensures.reads c.args.condition _ _) c.expect_type.ensures.reads) c.complete.ensures.closes))

@@ -8,7 +8,7 @@ use Rattle.rust_grammar.specs.Whole.{rule, whole}
 use Rattle.rust_grammar.proofs.Elsewhere.{anew-seen}
 use Rattle.grammar_table.specs.Data.{named, plain}
 use Rattle.grammar_reader.specs.Looks.{asked, begin_looks}
-use Rattle.grammar_reader.specs.Told.{IsNext}
+use Rattle.first_sets.specs.Told.{IsNext}
 use Rattle.grammar_reader.proofs.Alternatives.{rest-less}
 use Rattle.grammar_reader.proofs.Asking.{anew-cost, or-asked, rule-cost}
 use Rattle.grammar_reader.proofs.Beginning.{shift-none}

@@ -1,0 +1,117 @@
+-- What was seen is seen in another form, or elsewhere.
+use Rattle.std.proofs.Common.{◌≡◌, ℕ, zero, suc, ◌<◌, ◌≤◌, ◌==◌, nat_lt, Bool, true, false, not, List, [], ◌∷◌, length, Some, refl, sym, ap, subst, ◌∙◌, arith, if◌then◌else◌, true≢false}
+use Rattle.std.proofs.lemmas.Bool.{eqb-true, lt-ltb, ltb-true}
+use Rattle.parser_input.specs.Input.{Token}
+use Rattle.parser_input.specs.Kinds.{EOF, L_CURLY}
+use Rattle.parser_events.specs.Forest as forest
+use Rattle.parser_events.specs.View.{View}
+use Rattle.rust_grammar.specs.Expressions.{expressions}
+use Rattle.rust_grammar.specs.Items.{items}
+use Rattle.rust_grammar.specs.Meaning.{begins_below}
+use Rattle.rust_grammar.specs.Notation.{any_of, is_longer, longest, no_longer, one_of, row, until}
+use Rattle.rust_grammar.specs.Paths.{paths}
+use Rattle.rust_grammar.specs.Patterns.{patterns}
+use Rattle.rust_grammar.specs.Statements.{statements}
+use Rattle.rust_grammar.specs.Types.{types}
+use Rattle.grammar_reader.specs.ByHand.{param_of_closure}
+use Rattle.parser_events.specs.Forest.{Message}
+use Rattle.rust_grammar.specs.Rule.{single_pattern, Production, Rule, Look, Both, Either, Kind, Left, Mode, Not, Spelling, Want, begins, in_mode, is_silent, passes, shift, there_at, anew}
+use Rattle.rust_grammar.specs.Laws.{reads}
+use Rattle.rust_grammar.specs.Meaning.{Reading, ahead, look_of, read, say, sees}
+use Rattle.rust_grammar.specs.Whole.{rule, whole}
+use Rattle.rust_grammar.specs.Words.{'ident', 'l_curly', '!'}
+use Rattle.rust_productions.specs.Looks.{tokens}
+use Rattle.rust_productions.specs.Reads.{looks, Closes, Reads, Saw}
+use Rattle.rust_productions.specs.Stands.{left}
+use Rattle.rust_productions.proofs.ByHand.{does-as}
+use Rattle.rust_productions.proofs.Facts.{Fact, Answers, Begins, Known, starts}
+use Rattle.rust_productions.proofs.Seen.{ends-at-end, saw-left, saw-right}
+use Rattle.grammar_reader.proofs.Beginning.{shift-none}
+use Rattle.grammar_reader.proofs.Looking.{mode-shift}
+
+-- in another mode
+mode-seen : (c d : Bool) (l : Look) (s : Reading) → sees c s (in_mode d l) ≡ sees d s l
+mode-seen c d l s = ap (λ (m : Look). sees c s m) (sym (shift-none (in_mode d l))) ∙ mode-shift c d s 0 l ∙ ap (λ (m : Look). sees d s m) (shift-none l)
+
+pub saw-mode : {c d b : Bool} {l : Look} {v : View} → Saw d l v b → Saw c (in_mode d l) v b
+saw-mode {c} {d} {b} {l} saw = record { at = λ s e. mode-seen c d l s ∙ saw.at s e }
+
+-- an expected part, read in another mode
+pub reads-expected : (c : Bool) {d : Bool} {a : Rule} {m : Message} {old new : View} → Reads d (Want a m) old new → Reads c (Want (Mode d a) m) old new
+unfolding read begins
+reads-expected c {d} {a} {m} p = record {
+  does = does-as (λ s e. ap (λ (b : Bool). if b then reads d a s else say m s) (sym (mode-seen c d (begins (look_of whole) a) s))) p.does;
+}
+
+-- after a node was closed
+pub saw-closed : {c b : Bool} {l : Look} {kind : ℕ} {old new : View} → Closes kind old new → Saw c l old b → Saw c l new b
+saw-closed o saw = record { at = λ s e. saw.at s (sym o.rest ∙ e) }
+
+-- a production that begins here, called anew
+pub begun-anew : (x : Production) {c b : Bool} {fs : List Fact} {v : View} → Saw c (anew (looks x)) v b → Known c fs v → Known c (Begins x b ∷ fs) v
+begun-anew x saw k = record { at = λ s e. (saw.at s e, k.at s e) }
+
+-- two things, of which the second is so
+pub saw-and : {c b : Bool} {l m : Look} {v : View} → Saw c l v b → Saw c m v true → Saw c (Both l m) v b
+unfolding sees
+saw-and {c} {b} {l} {m} f g = record { at = λ s e. subst (λ (d : Bool). (if sees c s l then d else false) ≡ b) (sym (g.at s e)) (alone (sees c s l) ∙ f.at s e) }
+  where
+    alone : (a : Bool) → (if a then true else false) ≡ a
+    alone true = refl
+    alone false = refl
+
+-- A token is left where a list has not ended.
+pub left-there : (x : Spelling) {c : Bool} {v : View} → Saw c (until x) v false → Saw c Left v true
+unfolding sees
+left-there x {c} {v} saw = record { at = λ s e. within s (nat_lt 0 (length s.rest)) refl (saw.at s e) }
+  where
+    within : (s : Reading) (b : Bool) → nat_lt 0 (length s.rest) ≡ b → (if not (nat_lt 0 (length s.rest)) then true else sees c s (row 0 (x ∷ []))) ≡ false → nat_lt 0 (length s.rest) ≡ true
+    within s true e f = e
+    within s false e f = absurd (true≢false (sym (ap (λ (d : Bool). if not d then true else sees c s (row 0 (x ∷ []))) e) ∙ f))
+
+pub some-left : (x : Spelling) {c : Bool} {v : View} → Saw c (until x) v false → 1 ≤ tokens v
+unfolding sees tokens
+some-left x {c} {v} saw = omega (arith, ltb-true 0 (length (left v)) ((left-there x saw).at (record { given = forest.End; rest = left v }) refl))
+
+pub some-saw : {c : Bool} {v : View} → 1 ≤ tokens v → Saw c Left v true
+unfolding sees tokens
+some-saw {c} {v} some = record { at = λ s e. lt-ltb 0 (length s.rest) (omega (arith, some, ap (λ (ts : List Token). length ts) e)) }
+
+-- so far ahead a token is left where its kind is not that of the end
+some-ahead : (n k : ℕ) (ts : List Token) → (ahead n ts).kind ≡ k → (k ≡ EOF → ⊥) → n < length ts
+unfolding ahead
+some-ahead n k [] e other = absurd (other (sym e))
+some-ahead zero k (t ∷ ts) e other = omega arith
+some-ahead (suc n) k (t ∷ ts) e other = let h = some-ahead n k ts e other in omega (arith, h)
+
+pub three-left : {c : Bool} {v : View} → Saw c (row 0 ('ident' ∷ '!' ∷ 'l_curly' ∷ [])) v true → 3 ≤ tokens v
+unfolding row there_at sees tokens
+three-left {c} {v} saw =
+    let third : ((ahead 2 (left v)).kind == L_CURLY) ≡ true = (saw-left (saw-right (saw-right saw))).at (record { given = forest.End; rest = left v }) refl in
+    let less = some-ahead 2 L_CURLY (left v) (eqb-true (ahead 2 (left v)).kind L_CURLY third) (λ e. absurd (omega (arith, e))) in
+    omega (arith, less)
+
+-- A token is left where a rule begins that does not begin at the end.
+pub begun-left : (a : Rule) {c : Bool} {v : View} → starts (Answers (Kind 0 EOF) true ∷ Answers Left false ∷ []) a ≡ Some false → Saw c (begins looks a) v true → 1 ≤ tokens v
+unfolding tokens
+begun-left a {c} {v} e saw = within (length (left v)) refl
+  where
+    here : Reading
+    here = record { given = forest.End; rest = left v }
+
+    within : (n : ℕ) → length (left v) ≡ n → 1 ≤ length (left v)
+    within zero none = absurd (true≢false (sym (saw.at here refl) ∙ ends-at-end c a e here none))
+    within (suc n) some = omega (arith, some)
+
+-- A parameter of a closure begins as its pattern does, in whatever mode.
+pub closure-param-begins : {b : Bool} {v : View} → Saw false (looks single_pattern) v b → Saw false (begins looks param_of_closure) v b
+unfolding look_of begins_below whole rule items statements expressions patterns types paths there_at shift passes is_silent begins in_mode anew row one_of any_of no_longer longest is_longer sees
+closure-param-begins saw = record { at = λ s e. saw.at s e }
+
+pub pattern-begins : {c b : Bool} {v : View} → Saw false (begins looks param_of_closure) v b → Saw c (looks single_pattern) v b
+unfolding look_of begins_below whole rule items statements expressions patterns types paths there_at shift passes is_silent begins in_mode anew row one_of any_of no_longer longest is_longer sees
+pattern-begins saw = record { at = λ s e. saw.at s e }
+
+pub param-left : {v : View} → Saw false (begins looks param_of_closure) v true → 1 ≤ tokens v
+unfolding look_of begins_below whole rule items statements expressions patterns types paths there_at shift passes is_silent begins in_mode anew row one_of any_of no_longer longest is_longer
+param-left saw = begun-left param_of_closure refl saw

@@ -1,0 +1,136 @@
+//! Closures.
+
+ghost use Rattle.std.specs.Prelude.{◌≡◌, ◌≤◌, ◌<◌, ◌+◌, ◌*◌, ◌^◌, Bool, true, false, length};
+ghost use Rattle.parser_input.specs.Kinds.{CLOSURE_EXPR};
+ghost use Rattle.rust_grammar.specs.Calls.{AnyType, Block, Operation, RetType};
+ghost use Rattle.rust_grammar.specs.Notation.{◌or◌, ◌▸◌, ⁅◌⁆, ◌!, ◌⟨◌⟩};
+ghost use Rattle.rust_grammar.specs.Rule as rules;
+ghost use Rattle.rust_grammar.specs.Rule.{One};
+ghost use Rattle.rust_grammar.specs.Words.{':', 'move'};
+ghost use Rattle.grammar_reader.specs.ByHand.{param_of_closure, params_of_closure};
+ghost use Rattle.rust_productions.specs.Looks.{tokens, spent};
+ghost use Rattle.rust_productions.specs.Reads.{looks, Reads, Saw};
+
+use crate::reader::control::expect_block;
+use crate::reader::expressions::{Level, expect_expression};
+use crate::reader::lists::{Element, rest_of_list};
+use crate::reader::patterns::single_pattern;
+use crate::reader::types::{expect_type, ret_type};
+use parser_events::message::Message;
+use parser_events::parser::Parser;
+use parser_input::syntax_kind::SyntaxKind;
+use rust_productions::grammar::{at, at_pair, complete, error, start, take};
+
+/// A closure.
+#[cycle(reader)]
+pub(crate) fn closure_expr(p: &mut Parser<'_>, condition: bool)
+    requires short { length p.old.input < 2 ^ 64 }
+    requires some { 1 ≤ tokens p.old }
+    ensures reads { Reads condition
+        (CLOSURE_EXPR ⟨ params_of_closure ▸ (RetType ▸ Block ! or Operation !) ⟩) p.old p.new }
+    ensures left { tokens p.new + 1 ≤ tokens p.old }
+    ensures looks { spent p.new + 3280 ≤ spent p.old }
+{
+    let node = start(p);
+    closure_params(p);
+    closure_body(p, condition);
+    complete(p, node, SyntaxKind::CLOSURE_EXPR);
+}
+
+/// A closure after `move`.
+#[cycle(reader)]
+pub(crate) fn move_closure(p: &mut Parser<'_>, condition: bool)
+    requires short { length p.old.input < 2 ^ 64 }
+    requires some { 1 ≤ tokens p.old }
+    ensures reads { Reads condition (CLOSURE_EXPR
+        ⟨ One 'move' ▸ params_of_closure ! ▸ (RetType ▸ Block ! or Operation !) ⟩) p.old p.new }
+    ensures left { tokens p.new + 1 ≤ tokens p.old }
+    ensures looks { spent p.new + 3280 ≤ spent p.old }
+{
+    let node = start(p);
+    take(p, SyntaxKind::MOVE_KW);
+    expect_closure_params(p);
+    closure_body(p, condition);
+    complete(p, node, SyntaxKind::CLOSURE_EXPR);
+}
+
+/// The parameters of a closure, or the message that they are missing.
+#[cycle(reader)]
+fn expect_closure_params(p: &mut Parser<'_>)
+    requires short { length p.old.input < 2 ^ 64 }
+    ensures reads { (c : Bool) → Reads c (params_of_closure !) p.old p.new }
+    ensures left { tokens p.new ≤ tokens p.old }
+    ensures looks { spent p.new ≤ spent p.old + 1 }
+{
+    if at(p, SyntaxKind::PIPE) {
+        closure_params(p);
+        return;
+    }
+    error(p, Message::Expected(SyntaxKind::PARAM_LIST));
+}
+
+/// The parameters of a closure.
+#[cycle(reader)]
+fn closure_params(p: &mut Parser<'_>)
+    requires short { length p.old.input < 2 ^ 64 }
+    requires some { 1 ≤ tokens p.old }
+    ensures reads { (c : Bool) → Reads c params_of_closure p.old p.new }
+    ensures left { tokens p.new + 1 ≤ tokens p.old }
+    ensures looks { spent p.new + 4075 ≤ spent p.old }
+{
+    let list = start(p);
+    take(p, SyntaxKind::PIPE);
+    rest_of_list(
+        p,
+        SyntaxKind::PARAM_LIST,
+        Element::ClosureParam,
+        SyntaxKind::PIPE,
+    );
+    complete(p, list, SyntaxKind::PARAM_LIST);
+}
+
+/// A parameter of a closure.
+#[cycle(reader)]
+pub(crate) fn closure_param(p: &mut Parser<'_>)
+    requires short { length p.old.input < 2 ^ 64 }
+    requires begins { (c : Bool) → Saw c (looks rules.single_pattern) p.old true }
+    requires some { 1 ≤ tokens p.old }
+    ensures reads { Reads false param_of_closure p.old p.new }
+    ensures left { tokens p.new + 1 ≤ tokens p.old }
+    ensures looks { spent p.new + 2900 ≤ spent p.old }
+{
+    let node = start(p);
+    single_pattern(p);
+    opt_type(p, false);
+    complete(p, node, SyntaxKind::PARAM);
+}
+
+/// The type after a colon, where there is one.
+#[cycle(reader)]
+pub(crate) fn opt_type(p: &mut Parser<'_>, condition: bool)
+    requires short { length p.old.input < 2 ^ 64 }
+    ensures reads { Reads condition ⁅ One ':' ▸ AnyType ! ⁆ p.old p.new }
+    ensures left { tokens p.new ≤ tokens p.old }
+    ensures looks { spent p.new ≤ spent p.old + 1 }
+{
+    if at(p, SyntaxKind::COLON) {
+        take(p, SyntaxKind::COLON);
+        expect_type(p, condition);
+    }
+}
+
+/// What a closure does: a block after a type, or an expression.
+#[cycle(reader)]
+fn closure_body(p: &mut Parser<'_>, condition: bool)
+    requires short { length p.old.input < 2 ^ 64 }
+    ensures reads { Reads condition (RetType ▸ Block ! or Operation !) p.old p.new }
+    ensures left { tokens p.new ≤ tokens p.old }
+    ensures looks { spent p.new ≤ spent p.old + 780 }
+{
+    if at_pair(p, SyntaxKind::MINUS, SyntaxKind::R_ANGLE) {
+        ret_type(p, condition);
+        expect_block(p);
+        return;
+    }
+    expect_expression(p, Level::Operation, condition);
+}

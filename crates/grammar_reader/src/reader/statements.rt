@@ -1,0 +1,298 @@
+//! Statements.
+
+ghost use Rattle.std.specs.Prelude.{◌≡◌, ◌≤◌, ◌<◌, ◌+◌, ◌*◌, ◌^◌, Bool, IsTrue, true, false, [], ◌∷◌, length};
+ghost use Rattle.parser_input.specs.Kinds.{EXPR_STMT, LET_ELSE, LET_STMT};
+ghost use Rattle.parser_events.specs.Forest.{ExpectedStatement};
+ghost use Rattle.parser_events.specs.Stack.{IsInnermost};
+ghost use Rattle.rust_grammar.specs.Calls.{AnyType, Block, BlockLike, Expression, Pattern};
+ghost use Rattle.rust_grammar.specs.Notation.{◌or◌, ◌▸◌, ⁅◌⁆, ◌!, ◌⁺, ◌⟨◌⟩, ◌<⟨◌⟩, ◌before◌, more, one_of, until};
+ghost use Rattle.rust_grammar.specs.Rule as rules;
+ghost use Rattle.rust_grammar.specs.Rule.{Nothing, One, Skip, When};
+ghost use Rattle.rust_grammar.specs.Words.{'semi', 'r_curly', '#', ':', '=', '!', 'else', 'fn', 'impl', 'let', 'trait'};
+ghost use Rattle.grammar_reader.specs.ByHand.{goes_on, item_begins};
+ghost use Rattle.rust_productions.specs.Looks.{tokens, spent};
+ghost use Rattle.rust_productions.specs.Reads.{looks, Anew, Does, Gives, Reads, Saw};
+
+use crate::reader::attributes::attribute;
+use crate::reader::called::{at_production, read_anew};
+use crate::reader::closures::opt_type;
+use crate::reader::control::{block_like, expect_block};
+use crate::reader::expressions::{Level, expect_expression};
+use crate::reader::operands::{postfix, postfixes};
+use crate::reader::or_patterns::expect_pattern;
+use grammar_table::production::Production;
+use parser_events::message::Message;
+use parser_events::parser::{Marker, Parser};
+use parser_input::syntax_kind::SyntaxKind;
+use rust_productions::grammar::expressions::at_block_like;
+use rust_productions::grammar::lists::at_list_end;
+use rust_productions::grammar::{
+    abandon, at, at_pair, at_second, complete, current, error, expect, nth, skip, start, take, wrap,
+};
+
+/// A statement of a block.
+#[cycle(reader)]
+pub(crate) fn statement(p: &mut Parser<'_>)
+    requires short { length p.old.input < 2 ^ 64 }
+    requires some { 1 ≤ tokens p.old }
+    ensures gives { Gives rules.statement false p.old p.new }
+    ensures left { tokens p.new ≤ tokens p.old }
+    ensures pays { tokens p.new < tokens p.old → spent p.new + 1500 ≤ spent p.old }
+    ensures looks { spent p.new ≤ spent p.old + 900 }
+{
+    match current(p) {
+        SyntaxKind::SEMICOLON => take(p, SyntaxKind::SEMICOLON),
+        SyntaxKind::LET_KW => let_stmt(p),
+        _ => {
+            if at_inner_attribute(p) {
+                attribute(p);
+                return;
+            }
+            if at_item(p) {
+                read_anew(p, Production::Item, false);
+                return;
+            }
+            expression_statement(p);
+        }
+    }
+}
+
+/// Whether an attribute of what holds the statements is next.
+fn at_inner_attribute(p: &mut Parser<'_>) -> bool
+    ensures sees { (c : Bool) → Saw c ('#' before '!') p.old result }
+    ensures some { IsTrue result → 1 ≤ tokens p.old }
+    ensures same { Does (λ s. s) p.old p.new }
+    ensures left { tokens p.new ≡ tokens p.old }
+    ensures looks { spent p.new ≤ spent p.old + 2 }
+{
+    if !at(p, SyntaxKind::POUND) {
+        return false;
+    }
+    at_second(p, SyntaxKind::BANG)
+}
+
+/// Whether an item begins here, among statements.
+fn at_item(p: &mut Parser<'_>) -> bool
+    ensures sees { (c : Bool) → Saw c item_begins p.old result }
+    ensures some { IsTrue result → 1 ≤ tokens p.old }
+    ensures same { Does (λ s. s) p.old p.new }
+    ensures left { tokens p.new ≡ tokens p.old }
+    ensures looks { spent p.new ≤ spent p.old + 2 }
+{
+    match current(p) {
+        SyntaxKind::POUND
+        | SyntaxKind::PUB_KW
+        | SyntaxKind::MOD_KW
+        | SyntaxKind::USE_KW
+        | SyntaxKind::STRUCT_KW
+        | SyntaxKind::ENUM_KW
+        | SyntaxKind::FN_KW
+        | SyntaxKind::CONST_KW
+        | SyntaxKind::STATIC_KW
+        | SyntaxKind::TYPE_KW
+        | SyntaxKind::IMPL_KW
+        | SyntaxKind::TRAIT_KW => true,
+        SyntaxKind::UNSAFE_KW => at_item_after_unsafe(p),
+        _ => false,
+    }
+}
+
+/// Whether a word is the next but one that begins an item after `unsafe`.
+fn at_item_after_unsafe(p: &mut Parser<'_>) -> bool
+    ensures sees { (c : Bool) → Saw c (one_of 1 ('fn' ∷ 'impl' ∷ 'trait' ∷ [])) p.old result }
+    ensures same { Does (λ s. s) p.old p.new }
+    ensures left { tokens p.new ≡ tokens p.old }
+    ensures looks { spent p.new ≤ spent p.old + 1 }
+{
+    match nth(p, 1) {
+        SyntaxKind::FN_KW | SyntaxKind::IMPL_KW | SyntaxKind::TRAIT_KW => true,
+        _ => false,
+    }
+}
+
+/// A `let`.
+#[cycle(reader)]
+fn let_stmt(p: &mut Parser<'_>)
+    requires short { length p.old.input < 2 ^ 64 }
+    requires some { 1 ≤ tokens p.old }
+    ensures reads { Reads false (LET_STMT ⟨ One 'let' ▸ Pattern ! ▸ ⁅ One ':' ▸ AnyType ! ⁆
+        ▸ ⁅ One '=' ▸ Expression ! ⁆ ▸ ⁅ LET_ELSE ⟨ One 'else' ▸ Block ! ⟩ ⁆ ▸ One 'semi' ! ⟩) p.old p.new }
+    ensures left { tokens p.new + 1 ≤ tokens p.old }
+    ensures looks { spent p.new + 4000 ≤ spent p.old }
+{
+    let node = start(p);
+    take(p, SyntaxKind::LET_KW);
+    expect_pattern(p);
+    opt_type(p, false);
+    opt_value(p);
+    opt_else(p);
+    expect(p, SyntaxKind::SEMICOLON);
+    complete(p, node, SyntaxKind::LET_STMT);
+}
+
+/// The value of a `let`, where there is one.
+#[cycle(reader)]
+fn opt_value(p: &mut Parser<'_>)
+    requires short { length p.old.input < 2 ^ 64 }
+    ensures reads { Reads false ⁅ One '=' ▸ Expression ! ⁆ p.old p.new }
+    ensures left { tokens p.new ≤ tokens p.old }
+    ensures looks { spent p.new ≤ spent p.old + 1 }
+{
+    if at(p, SyntaxKind::EQ) {
+        take(p, SyntaxKind::EQ);
+        expect_expression(p, Level::Expression, false);
+    }
+}
+
+/// What is done where the pattern of a `let` does not fit, if that is said.
+#[cycle(reader)]
+fn opt_else(p: &mut Parser<'_>)
+    requires short { length p.old.input < 2 ^ 64 }
+    ensures reads { (c : Bool) → Reads c ⁅ LET_ELSE ⟨ One 'else' ▸ Block ! ⟩ ⁆ p.old p.new }
+    ensures left { tokens p.new ≤ tokens p.old }
+    ensures looks { spent p.new ≤ spent p.old + 1 }
+{
+    if at(p, SyntaxKind::ELSE_KW) {
+        let_else(p);
+    }
+}
+
+/// What is done where the pattern of a `let` does not fit.
+#[cycle(reader)]
+fn let_else(p: &mut Parser<'_>)
+    requires short { length p.old.input < 2 ^ 64 }
+    requires some { 1 ≤ tokens p.old }
+    ensures reads { (c : Bool) → Reads c (LET_ELSE ⟨ One 'else' ▸ Block ! ⟩) p.old p.new }
+    ensures left { tokens p.new + 1 ≤ tokens p.old }
+    ensures looks { spent p.new + 4090 ≤ spent p.old }
+{
+    let node = start(p);
+    take(p, SyntaxKind::ELSE_KW);
+    expect_block(p);
+    complete(p, node, SyntaxKind::LET_ELSE);
+}
+
+/// An expression as a statement or as the last of its list, or a token that begins none.
+#[cycle(reader)]
+fn expression_statement(p: &mut Parser<'_>)
+    requires short { length p.old.input < 2 ^ 64 }
+    requires some { 1 ≤ tokens p.old }
+    ensures anew { Anew false (BlockLike ▸ (When goes_on ((more rules.postfix) ⁺ ▸ more rules.statement_end)
+        or EXPR_STMT <⟨ One 'semi' ⟩ or When (until 'r_curly') Nothing or EXPR_STMT <⟨ Nothing ⟩)
+        or Expression ▸ more rules.statement_end
+        or Skip ExpectedStatement) p.old p.new }
+    ensures left { tokens p.new ≤ tokens p.old }
+    ensures pays { tokens p.new < tokens p.old → spent p.new + 1550 ≤ spent p.old }
+    ensures looks { spent p.new ≤ spent p.old + 800 }
+{
+    if at_block_like(p) {
+        block_statement(p);
+        return;
+    }
+    if at_production(p, Production::Expression, false) {
+        ended_expression(p);
+        return;
+    }
+    skip(p, Message::ExpectedStatement);
+}
+
+/// An expression that ends in a block, with what stands after it.
+#[cycle(reader)]
+fn block_statement(p: &mut Parser<'_>)
+    requires short { length p.old.input < 2 ^ 64 }
+    requires begins { (c : Bool) → Saw c (looks rules.block_like) p.old true }
+    requires some { 1 ≤ tokens p.old }
+    ensures anew { (c : Bool) → Anew c
+        (BlockLike ▸ (When goes_on ((more rules.postfix) ⁺ ▸ more rules.statement_end)
+        or EXPR_STMT <⟨ One 'semi' ⟩ or When (until 'r_curly') Nothing or EXPR_STMT <⟨ Nothing ⟩)) p.old p.new }
+    ensures left { tokens p.new + 1 ≤ tokens p.old }
+    ensures looks { spent p.new + 2880 ≤ spent p.old }
+{
+    let frame = start(p);
+    block_like(p);
+    let frame = after_block(p, frame);
+    abandon(p, frame);
+}
+
+/// Whether an expression that ends in a block goes on, by a `?` or a dot that begins no range.
+fn at_more(p: &mut Parser<'_>) -> bool
+    ensures sees { (c : Bool) → Saw c goes_on p.old result }
+    ensures some { IsTrue result → 1 ≤ tokens p.old }
+    ensures same { Does (λ s. s) p.old p.new }
+    ensures left { tokens p.new ≡ tokens p.old }
+    ensures looks { spent p.new ≤ spent p.old + 3 }
+{
+    match current(p) {
+        SyntaxKind::QUESTION => true,
+        SyntaxKind::DOT => {
+            if at_pair(p, SyntaxKind::DOT, SyntaxKind::DOT) {
+                return false;
+            }
+            true
+        }
+        _ => false,
+    }
+}
+
+/// What stands after an expression that ends in a block.
+#[cycle(reader)]
+fn after_block(p: &mut Parser<'_>, frame: Marker) -> Marker
+    requires short { length p.old.input < 2 ^ 64 }
+    requires innermost { IsInnermost frame p.old.nodes }
+    ensures reads { (c : Bool) → Reads c
+        (When goes_on ((more rules.postfix) ⁺ ▸ more rules.statement_end)
+        or EXPR_STMT <⟨ One 'semi' ⟩ or When (until 'r_curly') Nothing or EXPR_STMT <⟨ Nothing ⟩) p.old p.new }
+    ensures marker { IsInnermost result p.new.nodes }
+    ensures left { tokens p.new ≤ tokens p.old }
+    ensures looks { spent p.new ≤ spent p.old + 6 }
+{
+    if at_more(p) {
+        let frame = postfix(p, frame);
+        let frame = postfixes(p, frame);
+        return statement_end(p, frame);
+    }
+    if at(p, SyntaxKind::SEMICOLON) {
+        take(p, SyntaxKind::SEMICOLON);
+        return wrap(p, frame, SyntaxKind::EXPR_STMT);
+    }
+    if at_list_end(p, SyntaxKind::R_CURLY) {
+        return frame;
+    }
+    wrap(p, frame, SyntaxKind::EXPR_STMT)
+}
+
+/// An expression with what stands after it.
+#[cycle(reader)]
+fn ended_expression(p: &mut Parser<'_>)
+    requires short { length p.old.input < 2 ^ 64 }
+    requires begins { Saw false (rules.anew (looks rules.expression)) p.old true }
+    ensures anew { Anew false (Expression ▸ more rules.statement_end) p.old p.new }
+    ensures left { tokens p.new ≤ tokens p.old }
+    ensures pays { tokens p.new < tokens p.old → spent p.new + 1790 ≤ spent p.old }
+    ensures looks { spent p.new ≤ spent p.old + 604 }
+{
+    let frame = start(p);
+    read_anew(p, Production::Expression, false);
+    let frame = statement_end(p, frame);
+    abandon(p, frame);
+}
+
+/// What stands after an expression that needs a `;`, unless it is the last of its list.
+fn statement_end(p: &mut Parser<'_>, frame: Marker) -> Marker
+    requires { IsInnermost frame p.old.nodes }
+    ensures reads { (c : Bool) → Reads c (more rules.statement_end) p.old p.new }
+    ensures marker { IsInnermost result p.new.nodes }
+    ensures left { tokens p.new ≤ tokens p.old }
+    ensures pays { tokens p.new < tokens p.old → spent p.new + 4000 ≤ spent p.old }
+    ensures looks { spent p.new ≤ spent p.old + 3 }
+{
+    if at(p, SyntaxKind::SEMICOLON) {
+        take(p, SyntaxKind::SEMICOLON);
+        return wrap(p, frame, SyntaxKind::EXPR_STMT);
+    }
+    if at_list_end(p, SyntaxKind::R_CURLY) {
+        return frame;
+    }
+    error(p, Message::Expected(SyntaxKind::SEMICOLON));
+    wrap(p, frame, SyntaxKind::EXPR_STMT)
+}
