@@ -57,14 +57,3 @@ pub costs-left : {i : Option ℕ} {d : ℕ} {old new : View} → Costs i d old n
 unfolding tokens
 costs-left (inl h) = omega (arith, h.none)
 costs-left (inr h) = omega (arith, h.some)
-
-pub costs-few : (i : Option ℕ) (n d : ℕ) {old new : View} → i ≡ Some n → d ≤ 4096 → Costs i d old new → spent new ≤ spent old + n
-unfolding tokens
-costs-few (Some m) n d e few (inl h) = let same : m ≡ n = (let f = e in cc) in omega (arith, h.none, h.looks, same)
-costs-few None n d e few (inl h) = absurd h.looks
-costs-few i n d e few (inr h) = omega (arith, few, h.looks)
-
-pub costs-paid : (i : Option ℕ) (d : ℕ) {old new : View} → Costs i d old new → tokens new < tokens old → spent new + 4096 ≤ spent old + d
-unfolding tokens
-costs-paid i d (inl h) less = absurd (omega (arith, h.none, less))
-costs-paid i d (inr h) less = omega (arith, h.looks)

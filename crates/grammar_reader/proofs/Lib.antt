@@ -20,3 +20,5 @@ pub mod Called
 pub mod Elements
 pub mod Operands
 pub mod PathArgs
+pub mod Operating
+pub mod AnyMode

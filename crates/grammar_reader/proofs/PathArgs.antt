@@ -1,5 +1,5 @@
 -- Where the arguments of a path begin, and how its row has them.
-use Rattle.std.proofs.Common.{◌≡◌, ◌+◌, ◌≤◌, ℕ, Bool, true, false, [], ◌∷◌, refl, arith, inl, inr, if◌then◌else◌}
+use Rattle.std.proofs.Common.{◌≡◌, ℕ, Bool, true, false, [], ◌∷◌, refl, if◌then◌else◌}
 use Rattle.parser_events.specs.View.{View}
 use Rattle.rust_grammar.specs.Expressions.{expressions}
 use Rattle.rust_grammar.specs.Items.{items}
@@ -15,14 +15,8 @@ use Rattle.rust_grammar.specs.Meaning.{Reading, read, sees}
 use Rattle.rust_grammar.specs.Notation.{◌before◌}
 use Rattle.rust_grammar.specs.Paths.{path_with}
 use Rattle.rust_grammar.specs.Rule as rules
-use Rattle.rust_grammar.specs.Begun.{asks_nothing}
-use Rattle.rust_grammar.specs.Whole.{rank}
 use Rattle.rust_grammar.specs.Rule.{Look, Rule, Both, Either, Node, Nothing, One, Then}
 use Rattle.rust_grammar.specs.Words.{joined, one, '::', '<'}
-use Rattle.grammar_reader.specs.CanRead.{CanBegin}
-use Rattle.grammar_reader.specs.Looks.{Costs}
-use Rattle.grammar_reader.specs.Prices.{debt_of, idle_of, surely_takes}
-use Rattle.rust_productions.specs.Looks.{tokens, spent}
 use Rattle.grammar_reader.specs.ByHand.{args_look, args_of, path_of}
 use Rattle.grammar_reader.specs.declared.reader.paths.Mode.{Mode}
 use Rattle.grammar_reader.specs.declared.reader.paths.Mode.TheVariants as modes
@@ -78,16 +72,6 @@ any-mode saw = record { at = λ s e. saw.at s e }
 pub as-word : {c : Bool} {k d w : ℕ} {r : Rule} {old new : View} → Reads c (Node k (Then (One (one d)) r)) old new → Reads c (Node k (Then (One (joined d (w ∷ []))) r)) old new
 unfolding read
 as-word p = record { does = does-as (λ s e. refl) p.does }
-
--- bounds can be read anywhere
-pub bounds-begin : (c : Bool) (v : View) → CanBegin rules.bounds c v
-unfolding asks_nothing
-bounds-begin c v s e = refl
-
-pub bounds-cost : {old new : View} → Costs (idle_of rules.bounds) (debt_of rules.bounds) old new → spent new ≤ spent old + 100
-unfolding tokens idle_of debt_of surely_takes rank
-bounds-cost (inl h) = omega (arith, h.none, h.looks)
-bounds-cost (inr h) = omega (arith, h.some, h.looks)
 
 -- parts one after the other, however they are grouped
 pub reads-flat : {c : Bool} {a b d : Rule} {old new : View} → Reads c (Then (Then a b) d) old new → Reads c (Then a (Then b d)) old new

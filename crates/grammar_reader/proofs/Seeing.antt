@@ -1,8 +1,8 @@
 -- What was seen is seen in another form, or elsewhere.
-use Rattle.std.proofs.Common.{◌≡◌, ℕ, zero, suc, ◌<◌, ◌≤◌, ◌==◌, nat_lt, Bool, true, false, not, List, [], ◌∷◌, length, Some, refl, sym, ap, subst, ◌∙◌, arith, if◌then◌else◌, true≢false}
+use Rattle.std.proofs.Common.{◌≡◌, ℕ, zero, suc, ◌<◌, ◌≤◌, ◌==◌, nat_lt, Bool, true, false, not, List, [], ◌∷◌, length, Option, Some, refl, sym, ap, subst, ◌∙◌, arith, if◌then◌else◌, true≢false}
 use Rattle.std.proofs.lemmas.Bool.{eqb-true, lt-ltb, ltb-true}
 use Rattle.parser_input.specs.Input.{Token}
-use Rattle.parser_input.specs.Kinds.{EOF, L_CURLY}
+use Rattle.parser_input.specs.Kinds.{DYN_KW, EOF, L_CURLY}
 use Rattle.parser_events.specs.Forest as forest
 use Rattle.parser_events.specs.View.{View}
 use Rattle.rust_grammar.specs.Expressions.{expressions}
@@ -15,16 +15,16 @@ use Rattle.rust_grammar.specs.Statements.{statements}
 use Rattle.rust_grammar.specs.Types.{types}
 use Rattle.grammar_reader.specs.ByHand.{param_of_closure}
 use Rattle.parser_events.specs.Forest.{Message}
-use Rattle.rust_grammar.specs.Rule.{single_pattern, Production, Rule, Look, Both, Either, Kind, Left, Mode, Not, Spelling, Want, begins, in_mode, is_silent, passes, shift, there_at, anew}
+use Rattle.rust_grammar.specs.Rule.{single_pattern, Production, Rule, Look, Both, Contextual, Either, Kind, Left, Mode, Not, Spelling, Want, begins, in_mode, is_silent, passes, shift, there_at, anew}
 use Rattle.rust_grammar.specs.Laws.{reads}
-use Rattle.rust_grammar.specs.Meaning.{Reading, ahead, look_of, read, say, sees}
+use Rattle.rust_grammar.specs.Meaning.{Reading, ahead, fresh, look_of, read, say, sees}
 use Rattle.rust_grammar.specs.Whole.{rule, whole}
 use Rattle.rust_grammar.specs.Words.{'ident', 'l_curly', '!'}
 use Rattle.rust_productions.specs.Looks.{tokens}
 use Rattle.rust_productions.specs.Reads.{looks, Closes, Reads, Saw}
 use Rattle.rust_productions.specs.Stands.{left}
 use Rattle.rust_productions.proofs.ByHand.{does-as}
-use Rattle.rust_productions.proofs.Facts.{Fact, Answers, Begins, Known, starts}
+use Rattle.rust_productions.proofs.Facts.{Fact, Answers, Begins, Known, Right, is_start, starts}
 use Rattle.rust_productions.proofs.Seen.{ends-at-end, saw-left, saw-right}
 use Rattle.grammar_reader.proofs.Beginning.{shift-none}
 use Rattle.grammar_reader.proofs.Looking.{mode-shift}
@@ -50,15 +50,6 @@ saw-closed o saw = record { at = λ s e. saw.at s (sym o.rest ∙ e) }
 -- a production that begins here, called anew
 pub begun-anew : (x : Production) {c b : Bool} {fs : List Fact} {v : View} → Saw c (anew (looks x)) v b → Known c fs v → Known c (Begins x b ∷ fs) v
 begun-anew x saw k = record { at = λ s e. (saw.at s e, k.at s e) }
-
--- two things, of which the second is so
-pub saw-and : {c b : Bool} {l m : Look} {v : View} → Saw c l v b → Saw c m v true → Saw c (Both l m) v b
-unfolding sees
-saw-and {c} {b} {l} {m} f g = record { at = λ s e. subst (λ (d : Bool). (if sees c s l then d else false) ≡ b) (sym (g.at s e)) (alone (sees c s l) ∙ f.at s e) }
-  where
-    alone : (a : Bool) → (if a then true else false) ≡ a
-    alone true = refl
-    alone false = refl
 
 -- A token is left where a list has not ended.
 pub left-there : (x : Spelling) {c : Bool} {v : View} → Saw c (until x) v false → Saw c Left v true
@@ -101,6 +92,29 @@ begun-left a {c} {v} e saw = within (length (left v)) refl
 
     within : (n : ℕ) → length (left v) ≡ n → 1 ≤ length (left v)
     within zero none = absurd (true≢false (sym (saw.at here refl) ∙ ends-at-end c a e here none))
+    within (suc n) some = omega (arith, some)
+
+-- The same of a rule that asks whether a word is `dyn`: behind the last token is none.
+abbrev at_the_end : List Fact
+at_the_end = Answers (Kind 0 EOF) true ∷ Answers Left false ∷ Answers (Contextual 0 DYN_KW) false ∷ []
+
+no-dyn : (c : Bool) (a : Rule) → starts at_the_end a ≡ Some false → (t : Reading) → length t.rest ≡ 0 → sees c t (begins looks a) ≡ false
+unfolding sees ahead fresh
+no-dyn c a is t none = subst (λ (o : Option Bool). Right c t (begins looks a) o) is (is_start c t at_the_end (known t.rest none) (known t.rest none) a)
+  where
+    known : (ts : List Token) → length ts ≡ 0 → ((ahead 0 ts).kind == EOF) ≡ true × (nat_lt 0 (length ts) ≡ false × (((ahead 0 ts).contextual == DYN_KW) ≡ false × Unit {0}))
+    known [] e = (refl, (refl, (refl, tt)))
+    known (x ∷ ts) e = absurd (let z : suc (length ts) ≡ 0 = e in cc)
+
+pub word-left : (a : Rule) {c : Bool} {v : View} → starts at_the_end a ≡ Some false → Saw c (begins looks a) v true → 1 ≤ tokens v
+unfolding tokens
+word-left a {c} {v} e saw = within (length (left v)) refl
+  where
+    here : Reading
+    here = record { given = forest.End; rest = left v }
+
+    within : (n : ℕ) → length (left v) ≡ n → 1 ≤ length (left v)
+    within zero none = absurd (true≢false (sym (saw.at here refl) ∙ no-dyn c a e here none))
     within (suc n) some = omega (arith, some)
 
 -- A parameter of a closure begins as its pattern does, in whatever mode.

@@ -19,6 +19,7 @@ use Rattle.grammar_reader.specs.declared.reader.paths.Mode.TheVariants as modes
 abbrev pub production_by_hand : ByHand → rules.Production
 production_by_hand hands.AnyType = rules.any_type
 production_by_hand hands.Arguments = rules.arguments
+production_by_hand hands.AssocItems = rules.assoc_items
 production_by_hand hands.Atom = rules.atom
 production_by_hand hands.Attribute = rules.attribute
 production_by_hand hands.Block = rules.block
@@ -28,6 +29,7 @@ production_by_hand hands.FieldValues = rules.field_values
 production_by_hand hands.GenericArgs = rules.generic_args
 production_by_hand hands.GenericParams = rules.generic_params
 production_by_hand hands.IfExpr = rules.if_expr
+production_by_hand hands.Item = rules.item
 production_by_hand hands.Lifetime = rules.lifetime
 production_by_hand hands.Literal = rules.literal
 production_by_hand hands.MatchArms = rules.match_arms
@@ -46,6 +48,7 @@ production_by_hand hands.TypePath = rules.type_path
 production_by_hand hands.UseList = rules.use_list
 production_by_hand hands.UseTree = rules.use_tree
 production_by_hand hands.Visibility = rules.visibility
+production_by_hand hands.WhereClause = rules.where_clause
 
 -- which operators an expression has outside of brackets
 abbrev pub level_of : Level → rules.Production
@@ -102,14 +105,3 @@ args_of mode = ⁅ When (args_look mode) GenericArgs ⁆
 abbrev pub path_of : Mode → rules.Production
 path_of modes.Expr = rules.expr_path
 path_of modes.Type = rules.type_path
-
--- Where an item begins among statements, and an expression that ends in a block goes on.
-abbrev pub item_begins : Look
-item_begins =
-    any_of
-    (one_of 0 ('#' ∷ 'pub' ∷ 'mod' ∷ 'use' ∷ 'struct' ∷ 'enum' ∷ 'fn' ∷ 'const' ∷ 'static' ∷ 'type' ∷ 'impl' ∷ 'trait' ∷ [])
-    ∷ 'unsafe' before_any ('fn' ∷ 'impl' ∷ 'trait' ∷ [])
-    ∷ [])
-
-abbrev pub goes_on : Look
-goes_on = Either (next '?') (Both (next 'dot') (Not (next 'dots')))

@@ -1,7 +1,9 @@
 -- Where a rule can be read: the tokens of its leaves are there, and the calls that it makes come to an end.
-use Rattle.std.specs.Prelude.{◌≡◌, ◌⊎◌, ℕ, Option, Some, None, ◌<◌, ◌≤◌, Bool, true, false, length}
-use Rattle.parser_input.specs.Kinds.{FLOAT_NUMBER}
-use Rattle.rust_grammar.specs.Rule.{Production, Rule, Nothing, One, Any, Then, Near, Or, Opt, Star, Node, Wrap, Want, Say, Skip, Split, When, Unless, Call, Continue, Mode, begins}
+use Rattle.std.specs.Prelude.{◌≡◌, ◌≢◌, ◌⊎◌, ℕ, Option, Some, None, ◌<◌, ◌≤◌, Bool, true, false, length}
+use Rattle.parser_input.specs.Kind.{raw_of}
+use Rattle.parser_input.specs.Kinds.{DOT, FLOAT_NUMBER}
+use Rattle.parser_input.specs.declared.syntax_kind.SyntaxKind.{SyntaxKind}
+use Rattle.rust_grammar.specs.Rule.{expression, operation, Production, Rule, Nothing, One, Any, Then, Near, Or, Opt, Star, Node, Wrap, Want, Say, Skip, Split, When, Unless, Call, Continue, Mode, begins}
 use Rattle.rust_grammar.specs.Meaning.{Reading, sees, fresh, ahead, look_of}
 use Rattle.rust_grammar.specs.Laws.{reads}
 use Rattle.rust_grammar.specs.Whole.{rank, whole}
@@ -64,3 +66,12 @@ pub record CanClimb (began ranks top : ℕ) (c : Bool) (s : Reading) : Type 0 wh
 -- A production can be read anew where a parser stands.
 abbrev pub CanBegin : Production → Bool → View → Type 0
 CanBegin x c v = (s : Reading) → left v ≡ s.rest → IsBegun x c (fresh s)
+
+-- An expression is an operation.
+abbrev pub IsOperation : Production → Type 0
+IsOperation x = (x ≡ expression) ⊎ (x ≡ operation)
+
+-- The kind of the next token is known, and is no dot: an operand is next where an operation begins.
+abbrev pub BeginsOperand : Option SyntaxKind → Type 0
+BeginsOperand None = ⊥
+BeginsOperand (Some kind) = raw_of kind ≢ DOT

@@ -17,6 +17,7 @@ use parser_input::syntax_kind::SyntaxKind;
 pub enum ByHand {
     AnyType,
     Arguments,
+    AssocItems,
     Atom,
     Attribute,
     Block,
@@ -26,6 +27,7 @@ pub enum ByHand {
     GenericArgs,
     GenericParams,
     IfExpr,
+    Item,
     Lifetime,
     Literal,
     MatchArms,
@@ -44,6 +46,7 @@ pub enum ByHand {
     UseList,
     UseTree,
     Visibility,
+    WhereClause,
 }
 
 /// The production as one with a function of its own, if it has one.
@@ -53,6 +56,7 @@ fn by_hand(production: Production) -> Option<ByHand>
     match production {
         Production::AnyType => Some(ByHand::AnyType),
         Production::Arguments => Some(ByHand::Arguments),
+        Production::AssocItems => Some(ByHand::AssocItems),
         Production::Atom => Some(ByHand::Atom),
         Production::Attribute => Some(ByHand::Attribute),
         Production::Block => Some(ByHand::Block),
@@ -62,6 +66,7 @@ fn by_hand(production: Production) -> Option<ByHand>
         Production::GenericArgs => Some(ByHand::GenericArgs),
         Production::GenericParams => Some(ByHand::GenericParams),
         Production::IfExpr => Some(ByHand::IfExpr),
+        Production::Item => Some(ByHand::Item),
         Production::Lifetime => Some(ByHand::Lifetime),
         Production::Literal => Some(ByHand::Literal),
         Production::MatchArms => Some(ByHand::MatchArms),
@@ -80,6 +85,7 @@ fn by_hand(production: Production) -> Option<ByHand>
         Production::UseList => Some(ByHand::UseList),
         Production::UseTree => Some(ByHand::UseTree),
         Production::Visibility => Some(ByHand::Visibility),
+        Production::WhereClause => Some(ByHand::WhereClause),
         _ => None,
     }
 }

@@ -2,16 +2,18 @@
 
 ghost use Rattle.std.specs.Prelude.{◌≡◌, ◌≤◌, ◌<◌, ◌+◌, ◌*◌, ◌^◌, ◌&&◌, ℕ, Bool, List, Option, Some, IfSome, IsTrue, true, false, length};
 ghost use Rattle.parser_input.specs.Kind.{raw_of};
+ghost use Rattle.parser_input.specs.Kinds.{DOT};
 ghost use Rattle.parser_events.specs.Marked.{Marked};
 ghost use Rattle.parser_events.specs.Stack.{IsInnermost};
 ghost use Rattle.parser_events.specs.View.{View};
 ghost use Rattle.rust_grammar.specs.Rule as rules;
+ghost use Rattle.rust_grammar.specs.Rule.{Kind};
 ghost use Rattle.rust_grammar.specs.Meaning.{Reading, after, fresh, meaning};
 ghost use Rattle.rust_grammar.specs.Whole.{rank, rule, whole};
 ghost use Rattle.rust_grammar.specs.Begun.{IsBegun};
 ghost use Rattle.rust_grammar.specs.Laws.{reads};
 ghost use Rattle.grammar_reader.specs.ByHand.{production_by_hand};
-ghost use Rattle.grammar_reader.specs.CanRead.{CanClimb, CanRead, HasRank, IsBelow, is_begun};
+ghost use Rattle.grammar_reader.specs.CanRead.{BeginsOperand, CanClimb, CanRead, HasRank, IsBelow, IsOperation, is_begun};
 ghost use Rattle.grammar_table.specs.Data.{named, plain};
 ghost use Rattle.grammar_table.specs.Layers.{layer_at};
 ghost use Rattle.grammar_reader.specs.Looks.{begin_looks, Costs};
@@ -31,6 +33,8 @@ use crate::reader::atoms::atom;
 use crate::reader::attributes::{attribute, meta};
 use crate::reader::blocks::{block, statement_list};
 use crate::reader::control::{block_like, if_expr, match_arms};
+use crate::reader::generics::where_clause;
+use crate::reader::items::{assoc_items, item};
 use crate::reader::lists::{arguments, field_values, generic_params, params, pattern_fields};
 use crate::reader::operands::prefixed;
 use crate::reader::or_patterns::pattern;
@@ -51,19 +55,29 @@ use rust_productions::grammar::token_trees::token_tree;
 use rust_productions::grammar::use_trees::{use_list, use_tree};
 use rust_productions::grammar::visibility::visibility;
 
+pub(crate) mod adt;
 pub(crate) mod atoms;
 pub(crate) mod attributes;
 pub(crate) mod blocks;
 pub(crate) mod called;
 pub(crate) mod closures;
+pub(crate) mod consts;
 pub(crate) mod control;
 pub(crate) mod expressions;
+pub(crate) mod fields;
+pub(crate) mod functions;
+pub(crate) mod generic_arg;
+pub(crate) mod generics;
+pub(crate) mod items;
 pub(crate) mod lists;
+pub(crate) mod match_arm;
 pub(crate) mod operands;
 pub(crate) mod or_patterns;
+pub(crate) mod param;
 pub(crate) mod paths;
 pub(crate) mod patterns;
 pub(crate) mod statements;
+pub(crate) mod traits;
 pub(crate) mod types;
 
 /// Whether the rule begins here.
@@ -123,6 +137,23 @@ fn passes_by(production: Production, next: Option<SyntaxKind>) -> bool
     }
 }
 
+/// Whether a production is an operation, and begins with an operand, as the kind of the next token
+/// tells.
+fn at_operand(production: Production, next: Option<SyntaxKind>) -> bool
+    ensures is { IsTrue result → IsOperation (named production) }
+    ensures operand { IsTrue result → BeginsOperand next }
+{
+    match production {
+        Production::Expression | Production::Operation => {
+            let Some(kind) = next else {
+                return false;
+            };
+            kind.to_raw() != SyntaxKind::DOT.to_raw()
+        }
+        _ => false,
+    }
+}
+
 /// Reads a production as a continuation of the present one. How many looks it makes is bounded by
 /// its rank, and by 4,096 for each token that it takes.
 #[cycle(reader)]
@@ -147,6 +178,9 @@ pub fn production(p: &mut Parser<'_>, node: Open, production: Production, contex
         return layers(p, node, height, began, context);
     }
     let next = next_kind(p);
+    if !node.given && at_operand(production, next) {
+        return operation(p, node, began, context);
+    }
     if !node.given
         && began > 0
         && let Some(hand) = by_hand_before(production, next)
@@ -177,6 +211,7 @@ fn read_by_hand(p: &mut Parser<'_>, hand: ByHand, condition: bool)
     match hand {
         ByHand::AnyType => any_type(p, condition),
         ByHand::Arguments => arguments(p),
+        ByHand::AssocItems => assoc_items(p),
         ByHand::Atom => atom(p, condition),
         ByHand::Attribute => attribute(p),
         ByHand::Block => block(p),
@@ -186,6 +221,7 @@ fn read_by_hand(p: &mut Parser<'_>, hand: ByHand, condition: bool)
         ByHand::GenericArgs => generic_args(p),
         ByHand::GenericParams => generic_params(p),
         ByHand::IfExpr => if_expr(p),
+        ByHand::Item => item(p, condition),
         ByHand::Lifetime => lifetime(p),
         ByHand::Literal => literal(p),
         ByHand::MatchArms => match_arms(p),
@@ -204,7 +240,40 @@ fn read_by_hand(p: &mut Parser<'_>, hand: ByHand, condition: bool)
         ByHand::UseList => use_list(p),
         ByHand::UseTree => use_tree(p),
         ByHand::Visibility => visibility(p),
+        ByHand::WhereClause => where_clause(p, condition),
     }
+}
+
+/// Reads an operation that begins with an operand: that with the operators after it, and what
+/// stands after those.
+#[cycle(reader)]
+fn operation(p: &mut Parser<'_>, node: Open, began: usize, context: Context) -> Open
+    requires short { length p.old.input < 2 ^ 64 }
+    requires few { context.ranks ≤ 20 }
+    requires here { began ≡ length (left p.old) }
+    requires marker { IsInnermost node.marker p.old.nodes }
+    requires nothing { node.given ≡ false }
+    requires operand { (c : Bool) → Saw c (Kind 0 DOT) p.old false }
+    ensures input { p.new.input ≡ p.old.input }
+    ensures marker { IsInnermost result.marker p.new.nodes }
+    ensures innermost { (n : ℕ) → IsInnermost n p.old.nodes → IsInnermost n p.new.nodes }
+    ensures reads { (s : Reading) (below : Option (List Marked)) → 15 ≤ context.ranks
+        → Stands node.given p.old s below → IsBegun rules.operation context.condition s
+        → Stands result.given p.new (meaning whole rules.operation context.condition s) below }
+    ensures looks { (s : Reading) (below : Option (List Marked)) → 15 ≤ context.ranks
+        → Stands node.given p.old s below → IsBegun rules.operation context.condition s
+        → Costs (Some 500) 2100 p.old p.new }
+{
+    if context.ranks() == 0 {
+        return node;
+    }
+    let operand = Context::new(context.condition(), context.ranks() - 1);
+    let node = layers(p, node, 10, began, operand);
+    let next = next_kind(p);
+    if passes_by(Production::OperationTail, next) {
+        return node;
+    }
+    go_on(p, node, Production::OperationTail, began, context)
 }
 
 /// Reads an operand and the operators after it, up to the layer of this height, where the present

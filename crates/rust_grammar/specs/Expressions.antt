@@ -35,7 +35,7 @@ condition = on Operation
 abbrev value : Rule
 value = ⁅ Unless body_begins Operation ⁆
 
-abbrev closure_params : Rule
+abbrev pub closure_params : Rule
 closure_params = PARAM_LIST ⟨ listed PARAM_LIST '|' (PARAM ⟨ SinglePattern ▸ ⁅ One ':' ▸ AnyType ! ⁆ ⟩) '|' ⟩
 
 -- what stands after a path: the rest of a macro call, the fields of a record, or nothing; `!=` is an operator

@@ -9,11 +9,11 @@ use Rattle.rust_grammar.specs.Notation.{◌or◌, ◌▸◌, ⁅◌⁆, ◌*, �
 use Rattle.rust_grammar.specs.Shared.{colons_before_more}
 
 -- items until the list ends; an attribute of what they stand in is no part of an item
-abbrev items_until : (ends : Look) → Rule
+abbrev pub items_until : (ends : Look) → Rule
 items_until ends = (Unless ends (When ('#' before '!') Attribute or Item)) *
 
 -- items in braces
-abbrev items_in_braces : Rule
+abbrev pub items_in_braces : Rule
 items_in_braces = One 'l_curly' ▸ off (items_until (until 'r_curly')) ▸ One 'r_curly' !
 
 -- where a bracket after `pub` belongs to it, and is not the type of a field
@@ -27,10 +27,10 @@ visibility_goes_on =
     ∷ [])
 
 -- the looks of a function, of its own `self`
-abbrev fn_begins : Look
+abbrev pub fn_begins : Look
 fn_begins = any_of (next 'fn' ∷ 'const' before 'fn' ∷ 'const' before 'unsafe' ∷ 'unsafe' before 'fn' ∷ [])
 
-abbrev self_begins : Look
+abbrev pub self_begins : Look
 self_begins = any_of (next 'self' ∷ 'mut' before 'self' ∷ '&' before 'self' ∷ row 0 ('&' ∷ 'mut' ∷ 'self' ∷ []) ∷ '&' before 'lifetime' ∷ [])
 
 -- inside a token tree: token trees, and any token but a closing bracket

@@ -8,7 +8,7 @@ use Rattle.rust_grammar.specs.Calls.{Item, Attribute, AnyType, Pattern, Statemen
 use Rattle.rust_grammar.specs.Notation.{◌or◌, ◌▸◌, ⁅◌⁆, ◌*, ◌⁺, ◌!, ◌⟨◌⟩, ◌<⟨◌⟩, more, off, at_end, next, ◌before◌, ◌before_any◌, any_of, one_of, until}
 
 -- where an item begins among statements; other items begin like expressions
-abbrev item_begins : Look
+abbrev pub item_begins : Look
 item_begins =
     any_of
     (one_of 0 ('#' ∷ 'pub' ∷ 'mod' ∷ 'use' ∷ 'struct' ∷ 'enum' ∷ 'fn' ∷ 'const' ∷ 'static' ∷ 'type' ∷ 'impl' ∷ 'trait' ∷ [])
@@ -16,7 +16,7 @@ item_begins =
     ∷ [])
 
 -- a `?`, or a dot that begins no range: an expression that ends in a block goes on
-abbrev goes_on : Look
+abbrev pub goes_on : Look
 goes_on = Either (next '?') (Both (next 'dot') (Not (next 'dots')))
 
 -- A list of statements: where it ends, one of its statements, and what stands after an expression in it.

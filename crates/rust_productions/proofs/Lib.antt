@@ -10,3 +10,5 @@ pub mod Seen
 pub mod Begins
 pub mod Powers
 pub mod Sums
+pub mod Given
+pub mod Words

@@ -79,7 +79,7 @@ saw-not {c} {n} {v} {result} {kind} differs saw = subst (λ (b : Bool). Saw c (K
     unequal true e = absurd (differs (raw_of-injective result kind (eqb-true _ _ e)))
     unequal false e = refl
 
-few-left : (n : ℕ) (ts : List Token) (k : ℕ) → (ahead n ts).kind ≡ k → k ≢ EOF → n + 1 ≤ length ts
+pub few-left : (n : ℕ) (ts : List Token) (k : ℕ) → (ahead n ts).kind ≡ k → k ≢ EOF → n + 1 ≤ length ts
 unfolding ahead
 few-left n [] k e some = absurd (some (sym e))
 few-left zero (t ∷ ts) k e some = omega arith

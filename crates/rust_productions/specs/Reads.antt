@@ -1,11 +1,11 @@
 -- What a function of the grammar makes of the parser.
-use Rattle.std.specs.Prelude.{◌≡◌, ℕ, suc, Bool, List, ◌∷◌}
+use Rattle.std.specs.Prelude.{◌≡◌, ℕ, suc, Bool, not, List, ◌∷◌}
 use Rattle.parser_events.specs.Marked.{Marked, ◌beside◌, marked}
 use Rattle.parser_events.specs.Stack.{IsInnermost}
 use Rattle.parser_events.specs.View.{View}
 use Rattle.rust_productions.specs.Stands.{left, Holds}
 use Rattle.rust_grammar.specs.Rule.{Production, Look, Rule}
-use Rattle.rust_grammar.specs.Meaning.{Reading, sees, fresh, after, read, look_of, meaning}
+use Rattle.rust_grammar.specs.Meaning.{Reading, sees, fresh, after, is_end, read, look_of, meaning}
 use Rattle.rust_grammar.specs.Whole.{whole}
 pub use Rattle.rust_productions.specs.Moves.{Does, Opens, Closes, Leaves}
 
@@ -35,6 +35,13 @@ pub record Completes (c : Bool) (r : Rule) (old new : View) : Type 0 where
   pub input : new.input ≡ old.input
   pub rest : (s : Reading) → left old ≡ s.rest → left new ≡ (read (look_of whole) (meaning whole) c r s).rest
   pub nodes : (s : Reading) (around : Marked) (below : List Marked) → left old ≡ s.rest → Holds old.nodes (marked s.given ∷ around ∷ below) → Holds new.nodes ((around beside marked (read (look_of whole) (meaning whole) c r s).given) ∷ below)
+  pub innermost : (level : ℕ) → IsInnermost (suc level) old.nodes → IsInnermost level new.nodes
+
+-- So it is where something was given in that node, or where nothing was.
+pub record CompletesWhere (given : Bool) (c : Bool) (r : Rule) (old new : View) : Type 0 where
+  pub input : new.input ≡ old.input
+  pub rest : (s : Reading) → is_end s.given ≡ not given → left old ≡ s.rest → left new ≡ (read (look_of whole) (meaning whole) c r s).rest
+  pub nodes : (s : Reading) (around : Marked) (below : List Marked) → is_end s.given ≡ not given → left old ≡ s.rest → Holds old.nodes (marked s.given ∷ around ∷ below) → Holds new.nodes ((around beside marked (read (look_of whole) (meaning whole) c r s).given) ∷ below)
   pub innermost : (level : ℕ) → IsInnermost (suc level) old.nodes → IsInnermost level new.nodes
 
 -- what a look answers there

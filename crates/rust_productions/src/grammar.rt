@@ -20,10 +20,10 @@ use parser_events::parser::{Marker, Parser};
 use parser_input::syntax_kind::SyntaxKind;
 
 pub mod expressions;
-pub(crate) mod generic_params;
+pub mod generic_params;
+pub mod items;
 pub mod lists;
 pub mod names;
-pub(crate) mod params;
 pub mod paths;
 pub mod patterns;
 pub mod token_trees;
@@ -61,7 +61,7 @@ pub fn at(p: &mut Parser<'_>, kind: SyntaxKind) -> bool
     ensures left { tokens p.new ≡ tokens p.old }
     ensures looks { spent p.new ≤ spent p.old + 1 }
 {
-    p.kind_at(0).to_raw() == kind.to_raw()
+    current(p).to_raw() == kind.to_raw()
 }
 
 /// Whether the token after the next one is of this kind.
@@ -208,9 +208,10 @@ pub fn eat(p: &mut Parser<'_>, kind: SyntaxKind)
     ensures left { tokens p.new ≤ tokens p.old }
     ensures looks { spent p.new ≤ spent p.old + 1 }
 {
-    if at(p, kind) {
-        take(p, kind);
+    if !at(p, kind) {
+        return;
     }
+    take(p, kind);
 }
 
 /// Takes the next token, or says that one of this kind is missing.

@@ -27,7 +27,7 @@ use parser_events::parser::{Marker, Parser};
 use parser_input::syntax_kind::SyntaxKind;
 use rust_productions::grammar::expressions::at_block_like;
 use rust_productions::grammar::names::{at_literal, literal};
-use rust_productions::grammar::token_trees::{at_token_tree, token_tree};
+use rust_productions::grammar::token_trees::expect_token_tree;
 use rust_productions::grammar::{
     abandon, at, at_pair, complete, current, error, expect, start, take, wrap,
 };
@@ -162,19 +162,6 @@ fn macro_call(p: &mut Parser<'_>)
 {
     take(p, SyntaxKind::BANG);
     expect_token_tree(p);
-}
-
-/// A token tree, or the message that it is missing.
-fn expect_token_tree(p: &mut Parser<'_>)
-    ensures reads { (c : Bool) → Reads c (TokenTree !) p.old p.new }
-    ensures left { tokens p.new ≤ tokens p.old }
-    ensures looks { spent p.new ≤ spent p.old + 1 }
-{
-    if at_token_tree(p) {
-        token_tree(p);
-        return;
-    }
-    error(p, Message::Expected(SyntaxKind::TOKEN_TREE));
 }
 
 /// An expression that begins with `(`: a tuple, or one in parentheses.

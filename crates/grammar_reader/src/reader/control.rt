@@ -14,10 +14,10 @@ ghost use Rattle.rust_productions.specs.Looks.{tokens, spent};
 ghost use Rattle.rust_productions.specs.Reads.{looks, Gives, Reads, Saw};
 ghost use Rattle.rust_productions.specs.Turns.{TurnsFrom};
 
-use crate::look::tokens_left;
 use crate::reader::blocks::{block, statement_list};
-use crate::reader::called::{at_production, read_anew};
+use crate::reader::called::at_production;
 use crate::reader::expressions::expect_condition;
+use crate::reader::match_arm::match_arm;
 use crate::reader::or_patterns::expect_pattern;
 use grammar_table::production::Production;
 use parser_events::message::Message;
@@ -270,10 +270,9 @@ fn arm_turn(p: &mut Parser<'_>) -> bool
     if at_list_end(p, SyntaxKind::R_CURLY) {
         return false;
     }
-    let before = tokens_left(p);
     if at_production(p, Production::MatchArm, false) {
-        read_anew(p, Production::MatchArm, false);
-        return tokens_left(p) < before;
+        match_arm(p, false);
+        return true;
     }
     skip(p, Message::ExpectedMatchArm);
     true

@@ -16,6 +16,12 @@ ghost use Rattle.rust_productions.specs.Turns.{TurnsFrom};
 use crate::look::tokens_left;
 use crate::reader::called::{at_production, read_anew};
 use crate::reader::closures::closure_param;
+use crate::reader::fields::{field_value, pattern_field};
+use crate::reader::generic_arg::generic_arg;
+use crate::reader::generics::generic_param;
+use crate::reader::or_patterns::pattern;
+use crate::reader::param::param;
+use crate::reader::types::any_type;
 use grammar_table::production::Production;
 use parser_events::message::Message;
 use parser_events::parser::Parser;
@@ -72,13 +78,13 @@ fn read_element(p: &mut Parser<'_>, element: Element)
     match element {
         Element::ClosureParam => closure_param(p),
         Element::Expression => read_anew(p, Production::Expression, false),
-        Element::FieldValue => read_anew(p, Production::FieldValue, false),
-        Element::GenericArg => read_anew(p, Production::GenericArg, false),
-        Element::GenericParam => read_anew(p, Production::GenericParam, false),
-        Element::Param => read_anew(p, Production::Param, false),
-        Element::Pattern => read_anew(p, Production::Pattern, false),
-        Element::PatternField => read_anew(p, Production::PatternField, false),
-        Element::Type => read_anew(p, Production::AnyType, false),
+        Element::FieldValue => field_value(p, false),
+        Element::GenericArg => generic_arg(p, false),
+        Element::GenericParam => generic_param(p, false),
+        Element::Param => param(p, false),
+        Element::Pattern => pattern(p),
+        Element::PatternField => pattern_field(p),
+        Element::Type => any_type(p, false),
     }
 }
 

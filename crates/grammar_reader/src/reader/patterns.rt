@@ -165,7 +165,7 @@ fn literal_pat(p: &mut Parser<'_>)
 }
 
 /// The two dots that stand for the rest.
-fn rest_pat(p: &mut Parser<'_>)
+pub(crate) fn rest_pat(p: &mut Parser<'_>)
     requires { 2 ≤ tokens p.old }
     ensures reads { (c : Bool) → Reads c (REST_PAT ⟨ One 'dots' ⟩) p.old p.new }
     ensures left { tokens p.new + 2 ≡ tokens p.old }

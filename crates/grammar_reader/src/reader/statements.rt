@@ -8,16 +8,17 @@ ghost use Rattle.rust_grammar.specs.Calls.{AnyType, Block, BlockLike, Expression
 ghost use Rattle.rust_grammar.specs.Notation.{◌or◌, ◌▸◌, ⁅◌⁆, ◌!, ◌⁺, ◌⟨◌⟩, ◌<⟨◌⟩, ◌before◌, more, one_of, until};
 ghost use Rattle.rust_grammar.specs.Rule as rules;
 ghost use Rattle.rust_grammar.specs.Rule.{Nothing, One, Skip, When};
+ghost use Rattle.rust_grammar.specs.Statements.{goes_on, item_begins};
 ghost use Rattle.rust_grammar.specs.Words.{'semi', 'r_curly', '#', ':', '=', '!', 'else', 'fn', 'impl', 'let', 'trait'};
-ghost use Rattle.grammar_reader.specs.ByHand.{goes_on, item_begins};
 ghost use Rattle.rust_productions.specs.Looks.{tokens, spent};
 ghost use Rattle.rust_productions.specs.Reads.{looks, Anew, Does, Gives, Reads, Saw};
 
 use crate::reader::attributes::attribute;
 use crate::reader::called::{at_production, read_anew};
 use crate::reader::closures::opt_type;
+use crate::reader::consts::opt_value;
 use crate::reader::control::{block_like, expect_block};
-use crate::reader::expressions::{Level, expect_expression};
+use crate::reader::items::item;
 use crate::reader::operands::{postfix, postfixes};
 use crate::reader::or_patterns::expect_pattern;
 use grammar_table::production::Production;
@@ -49,7 +50,7 @@ pub(crate) fn statement(p: &mut Parser<'_>)
                 return;
             }
             if at_item(p) {
-                read_anew(p, Production::Item, false);
+                item(p, false);
                 return;
             }
             expression_statement(p);
@@ -58,7 +59,7 @@ pub(crate) fn statement(p: &mut Parser<'_>)
 }
 
 /// Whether an attribute of what holds the statements is next.
-fn at_inner_attribute(p: &mut Parser<'_>) -> bool
+pub(crate) fn at_inner_attribute(p: &mut Parser<'_>) -> bool
     ensures sees { (c : Bool) → Saw c ('#' before '!') p.old result }
     ensures some { IsTrue result → 1 ≤ tokens p.old }
     ensures same { Does (λ s. s) p.old p.new }
@@ -124,24 +125,10 @@ fn let_stmt(p: &mut Parser<'_>)
     take(p, SyntaxKind::LET_KW);
     expect_pattern(p);
     opt_type(p, false);
-    opt_value(p);
+    opt_value(p, false);
     opt_else(p);
     expect(p, SyntaxKind::SEMICOLON);
     complete(p, node, SyntaxKind::LET_STMT);
-}
-
-/// The value of a `let`, where there is one.
-#[cycle(reader)]
-fn opt_value(p: &mut Parser<'_>)
-    requires short { length p.old.input < 2 ^ 64 }
-    ensures reads { Reads false ⁅ One '=' ▸ Expression ! ⁆ p.old p.new }
-    ensures left { tokens p.new ≤ tokens p.old }
-    ensures looks { spent p.new ≤ spent p.old + 1 }
-{
-    if at(p, SyntaxKind::EQ) {
-        take(p, SyntaxKind::EQ);
-        expect_expression(p, Level::Expression, false);
-    }
 }
 
 /// What is done where the pattern of a `let` does not fit, if that is said.

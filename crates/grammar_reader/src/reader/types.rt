@@ -1,7 +1,8 @@
 //! Types.
 
-ghost use Rattle.std.specs.Prelude.{◌≡◌, ◌≤◌, ◌<◌, ◌+◌, ◌*◌, ◌^◌, Bool, true, length};
+ghost use Rattle.std.specs.Prelude.{◌≡◌, ◌≢◌, ◌≤◌, ◌<◌, ◌+◌, ◌*◌, ◌^◌, Bool, true, length};
 ghost use Rattle.parser_input.specs.Kind.{raw_of};
+ghost use Rattle.parser_input.specs.Kinds as kinds;
 ghost use Rattle.parser_input.specs.Kinds.{ARRAY_TYPE, CONST_ARG, PAREN_TYPE, PTR_TYPE, PATH_TYPE, REF_TYPE, SLICE_TYPE, TUPLE_TYPE};
 ghost use Rattle.parser_events.specs.Stack.{IsInnermost};
 ghost use Rattle.rust_grammar.specs.Calls.{AnyType, Bounds, Expression, Lifetime, TypePath};
@@ -13,11 +14,10 @@ ghost use Rattle.rust_grammar.specs.Words.{one, 'comma', 'semi', 'l_paren', 'r_p
 ghost use Rattle.rust_productions.specs.Looks.{tokens, spent};
 ghost use Rattle.rust_productions.specs.Reads.{looks, Gives, Reads, Saw};
 
-use crate::reader::called::read_anew;
 use crate::reader::expressions::{Level, expect_expression};
+use crate::reader::generics::bounds;
 use crate::reader::lists::{Element, rest_of_list};
 use crate::reader::paths::{Mode, path_with_args};
-use grammar_table::production::Production;
 use parser_events::message::Message;
 use parser_events::parser::{Marker, Parser};
 use parser_input::syntax_kind::SyntaxKind;
@@ -74,21 +74,16 @@ fn inside(p: &mut Parser<'_>, frame: Marker, condition: bool) -> Marker
             frame
         }
         SyntaxKind::IMPL_KW => {
-            bounded_type(
-                p,
-                SyntaxKind::IMPL_KW,
-                SyntaxKind::IMPL_TRAIT_TYPE,
-                condition,
-            );
+            bounded_type(p, SyntaxKind::IMPL_KW, SyntaxKind::IMPL_TRAIT_TYPE);
             frame
         }
         SyntaxKind::DYN_KW => {
-            bounded_type(p, SyntaxKind::DYN_KW, SyntaxKind::DYN_TRAIT_TYPE, condition);
+            bounded_type(p, SyntaxKind::DYN_KW, SyntaxKind::DYN_TRAIT_TYPE);
             frame
         }
         _ => {
             if at_dyn_word(p) {
-                bounded_type(p, SyntaxKind::DYN_KW, SyntaxKind::DYN_TRAIT_TYPE, condition);
+                bounded_type(p, SyntaxKind::DYN_KW, SyntaxKind::DYN_TRAIT_TYPE);
                 return frame;
             }
             path_type(p);
@@ -111,22 +106,23 @@ pub(crate) fn word_type(p: &mut Parser<'_>, token: SyntaxKind, kind: SyntaxKind)
 
 /// A token and bounds after it, in a node of this kind.
 #[cycle(reader)]
-fn bounded_type(p: &mut Parser<'_>, token: SyntaxKind, kind: SyntaxKind, condition: bool)
+fn bounded_type(p: &mut Parser<'_>, token: SyntaxKind, kind: SyntaxKind)
     requires short { length p.old.input < 2 ^ 64 }
     requires some { 1 ≤ tokens p.old }
-    ensures reads { Reads condition (raw_of kind ⟨ One (one (raw_of token)) ▸ Bounds ⟩) p.old p.new }
+    ensures reads { (c : Bool) → Reads c
+        (raw_of kind ⟨ One (one (raw_of token)) ▸ Bounds ⟩) p.old p.new }
     ensures left { tokens p.new + 1 ≤ tokens p.old }
-    ensures looks { spent p.new + 3900 ≤ spent p.old }
+    ensures looks { spent p.new + 4090 ≤ spent p.old }
 {
     let node = start(p);
     take(p, token);
-    read_anew(p, Production::Bounds, condition);
+    bounds(p);
     complete(p, node, kind);
 }
 
 /// A path as a type.
 #[cycle(reader)]
-fn path_type(p: &mut Parser<'_>)
+pub(crate) fn path_type(p: &mut Parser<'_>)
     requires short { length p.old.input < 2 ^ 64 }
     requires begins { (c : Bool) → Saw c (looks rules.path) p.old true }
     requires some { 1 ≤ tokens p.old }
@@ -331,4 +327,19 @@ pub(crate) fn ret_type(p: &mut Parser<'_>, condition: bool)
     take_pair(p, SyntaxKind::THIN_ARROW);
     expect_type(p, condition);
     complete(p, node, SyntaxKind::RET_TYPE);
+}
+
+/// The type after this word, where that is next.
+#[cycle(reader)]
+pub(crate) fn opt_type_after(p: &mut Parser<'_>, word: SyntaxKind, condition: bool)
+    requires short { length p.old.input < 2 ^ 64 }
+    requires inside { raw_of word ≢ kinds.EOF }
+    ensures reads { Reads condition ⁅ One (one (raw_of word)) ▸ AnyType ! ⁆ p.old p.new }
+    ensures left { tokens p.new ≤ tokens p.old }
+    ensures looks { spent p.new ≤ spent p.old + 1 }
+{
+    if at(p, word) {
+        take(p, word);
+        expect_type(p, condition);
+    }
 }

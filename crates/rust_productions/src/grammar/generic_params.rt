@@ -1,6 +1,6 @@
 //! Generic parameters, bounds, and what `where` asks.
 
-ghost use Rattle.std.specs.Prelude.{◌≡◌, ◌+◌, ◌*◌, ◌≤◌, Bool, IsTrue};
+ghost use Rattle.std.specs.Prelude.{◌≡◌, ◌+◌, ◌≤◌, Bool, IsTrue};
 ghost use Rattle.rust_productions.specs.Looks.{tokens, spent};
 ghost use Rattle.rust_grammar.specs.Rule as rules;
 ghost use Rattle.rust_productions.specs.Reads.{looks, Does, Saw};
@@ -11,22 +11,8 @@ use crate::grammar::{at, current};
 use parser_events::parser::Parser;
 use parser_input::syntax_kind::SyntaxKind;
 
-/// Whether a generic parameter begins here.
-pub(crate) fn at_generic_param(p: &mut Parser<'_>) -> bool
-    ensures sees { (c : Bool) → Saw c (looks rules.generic_param) p.old result }
-    ensures some { IsTrue result → 1 ≤ tokens p.old }
-    ensures same { Does (λ s. s) p.old p.new }
-    ensures left { tokens p.new ≡ tokens p.old }
-    ensures looks { spent p.new ≤ spent p.old + 1 }
-{
-    match current(p) {
-        SyntaxKind::LIFETIME_IDENT | SyntaxKind::IDENT => true,
-        _ => false,
-    }
-}
-
 /// Whether a bound begins here.
-pub(crate) fn at_bound(p: &mut Parser<'_>) -> bool
+pub fn at_bound(p: &mut Parser<'_>) -> bool
     ensures sees { (c : Bool) → Saw c (looks rules.bound) p.old result }
     ensures some { IsTrue result → 1 ≤ tokens p.old }
     ensures same { Does (λ s. s) p.old p.new }
@@ -43,7 +29,7 @@ pub(crate) fn at_bound(p: &mut Parser<'_>) -> bool
 }
 
 /// Whether a part of a `where` begins here.
-pub(crate) fn at_where_pred(p: &mut Parser<'_>) -> bool
+pub fn at_where_pred(p: &mut Parser<'_>) -> bool
     ensures sees { (c : Bool) → Saw c (looks rules.where_pred) p.old result }
     ensures some { IsTrue result → 1 ≤ tokens p.old }
     ensures same { Does (λ s. s) p.old p.new }

@@ -1,7 +1,6 @@
 //! Patterns.
 
-ghost use Rattle.std.specs.Prelude.{◌≡◌, ◌+◌, ◌*◌, ◌≤◌, Bool, IsTrue, [], ◌∷◌};
-ghost use Rattle.parser_input.specs.Kinds as kinds;
+ghost use Rattle.std.specs.Prelude.{◌≡◌, ◌+◌, ◌≤◌, Bool, IsTrue};
 ghost use Rattle.rust_productions.specs.Looks.{tokens, spent};
 ghost use Rattle.rust_grammar.specs.Shared.{field_name};
 ghost use Rattle.rust_grammar.specs.Words.{':'};
@@ -66,9 +65,9 @@ pub fn at_pattern(p: &mut Parser<'_>) -> bool
 }
 
 /// Whether a field by name or number is next, with a colon after it.
-pub(crate) fn at_named_field(p: &mut Parser<'_>) -> bool
+pub fn at_named_field(p: &mut Parser<'_>) -> bool
     ensures sees { (c : Bool) → Saw c (begins looks (field_name ▹ One ':')) p.old result }
-    ensures some { IsTrue result → 1 ≤ tokens p.old }
+    ensures some { IsTrue result → 2 ≤ tokens p.old }
     ensures same { Does (λ s. s) p.old p.new }
     ensures left { tokens p.new ≡ tokens p.old }
     ensures looks { spent p.new ≤ spent p.old + 2 }
@@ -78,26 +77,6 @@ pub(crate) fn at_named_field(p: &mut Parser<'_>) -> bool
     }
     match current(p) {
         SyntaxKind::IDENT | SyntaxKind::INT_NUMBER => true,
-        _ => false,
-    }
-}
-
-/// Whether a field of a record pattern begins here.
-pub(crate) fn at_pattern_field(p: &mut Parser<'_>) -> bool
-    ensures sees { (c : Bool) → Saw c (looks rules.pattern_field) p.old result }
-    ensures some { IsTrue result → 1 ≤ tokens p.old }
-    ensures same { Does (λ s. s) p.old p.new }
-    ensures left { tokens p.new ≡ tokens p.old }
-    ensures looks { spent p.new ≤ spent p.old + 5 }
-{
-    if at_pair(p, SyntaxKind::DOT, SyntaxKind::DOT) {
-        return true;
-    }
-    if at_named_field(p) {
-        return true;
-    }
-    match current(p) {
-        SyntaxKind::REF_KW | SyntaxKind::MUT_KW | SyntaxKind::IDENT => true,
         _ => false,
     }
 }

@@ -8,12 +8,14 @@ ghost use Rattle.parser_events.specs.Forest.{Expected};
 ghost use Rattle.rust_productions.specs.Looks.{tokens, spent};
 ghost use Rattle.rust_grammar.specs.Notation.{◌or◌, ◌▸◌, ◌*, ◌!, ◌⟨◌⟩, one_of};
 ghost use Rattle.rust_grammar.specs.Words.{one, 'r_paren', 'r_curly', ']'};
+ghost use Rattle.rust_grammar.specs.Calls.{TokenTree};
 ghost use Rattle.rust_grammar.specs.Items.{inner_token};
 ghost use Rattle.rust_grammar.specs.Rule as rules;
 ghost use Rattle.rust_grammar.specs.Rule.{Left, Both, Either, Not, Want, One};
 ghost use Rattle.rust_productions.specs.Reads.{looks, Does, Gives, Reads, Saw};
 
-use crate::grammar::{complete, current, expect, start, take, take_any};
+use crate::grammar::{complete, current, error, expect, start, take, take_any};
+use parser_events::message::Message;
 use parser_events::parser::Parser;
 use parser_input::syntax_kind::SyntaxKind;
 
@@ -106,4 +108,17 @@ pub fn token_tree(p: &mut Parser<'_>)
         SyntaxKind::L_BRACK => bracketed(p, SyntaxKind::L_BRACK, SyntaxKind::R_BRACK),
         _ => bracketed(p, SyntaxKind::L_CURLY, SyntaxKind::R_CURLY),
     }
+}
+
+/// A token tree, or the message that it is missing.
+pub fn expect_token_tree(p: &mut Parser<'_>)
+    ensures reads { (c : Bool) → Reads c (TokenTree !) p.old p.new }
+    ensures left { tokens p.new ≤ tokens p.old }
+    ensures looks { spent p.new ≤ spent p.old + 1 }
+{
+    if at_token_tree(p) {
+        token_tree(p);
+        return;
+    }
+    error(p, Message::Expected(SyntaxKind::TOKEN_TREE));
 }

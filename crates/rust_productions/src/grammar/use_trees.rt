@@ -17,7 +17,9 @@ ghost use Rattle.rust_productions.specs.Reads.{looks, Does, Gives, Reads, Saw};
 use crate::grammar::lists::{at_list_end, at_unexpected, comma};
 use crate::grammar::names::expect_name;
 use crate::grammar::paths::{at_colons, at_path, path};
-use crate::grammar::{at, at_third, complete, current, expect, skip, start, take, take_pair};
+use crate::grammar::{
+    at, at_third, complete, current, error, expect, skip, start, take, take_pair,
+};
 use parser_events::message::Message;
 use parser_events::parser::Parser;
 use parser_input::syntax_kind::SyntaxKind;
@@ -62,6 +64,19 @@ fn at_use_tree(p: &mut Parser<'_>) -> bool
     }
 }
 
+/// A use tree, or the message that it is missing.
+pub(crate) fn expect_use_tree(p: &mut Parser<'_>)
+    ensures reads { (c : Bool) → Reads c (UseTree !) p.old p.new }
+    ensures left { tokens p.new ≤ tokens p.old }
+    ensures looks { spent p.new ≤ spent p.old + 6 }
+{
+    if at_use_tree(p) {
+        use_tree(p);
+        return;
+    }
+    error(p, Message::Expected(SyntaxKind::USE_TREE));
+}
+
 /// A new name for what is used, or `_`.
 fn rename(p: &mut Parser<'_>)
     requires { 1 ≤ tokens p.old }
@@ -76,7 +91,7 @@ fn rename(p: &mut Parser<'_>)
 }
 
 /// A name or `_`, or the message that a name is missing.
-pub(crate) fn underscore_or_name(p: &mut Parser<'_>)
+pub fn underscore_or_name(p: &mut Parser<'_>)
     ensures reads { (c : Bool) → Reads c (One '_' or Name !) p.old p.new }
     ensures left { tokens p.new ≤ tokens p.old }
     ensures looks { spent p.new ≤ spent p.old + 2 }

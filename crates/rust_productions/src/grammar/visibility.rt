@@ -68,7 +68,7 @@ pub fn visibility(p: &mut Parser<'_>)
 }
 
 /// A visibility, where there is one.
-pub(crate) fn opt_visibility(p: &mut Parser<'_>)
+pub fn opt_visibility(p: &mut Parser<'_>)
     ensures reads { (c : Bool) → Reads c ⁅ Visibility ⁆ p.old p.new }
     ensures left { tokens p.new ≤ tokens p.old }
     ensures looks { spent p.new ≤ spent p.old + 1 }

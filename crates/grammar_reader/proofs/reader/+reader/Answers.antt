@@ -1,17 +1,28 @@
 -- Form by form.
+mod Adt
 mod Atoms
 mod Attributes
 mod Blocks
 mod Climbing
+mod Consts
 mod Control
 mod Expressions
+mod Fields
+mod Functions
+mod GenericArg
+mod Generics
 mod Hands
+mod Items
 mod Lists
 mod Looks
+mod MatchArm
 mod Operands
+mod Operating
+mod Param
 mod Paths
 mod Patterns
 mod Statements
+mod Traits
 mod Types
 use Rattle.std.proofs.Common.{◌≡◌, Some, ℕ, ◌+◌, ◌-◌, ◌*◌, ◌<◌, ◌≤◌, Bool, true, false, List, Option, refl, sym, ap, subst, ◌∙◌, arith, inr, length, if◌then◌else◌}
 use Rattle.parser_events.specs.Marked.{marked}
@@ -41,20 +52,31 @@ use Rattle.grammar_reader.proofs.Calling.{Reads, Spends, called-under}
 use Rattle.grammar_reader.proofs.Turning.{no-turn, last-turn, next-turn, zero-turns}
 use Rattle.grammar_reader.proofs.reader.+reader.Goals as goal
 use Rattle.grammar_reader.proofs.reader.+reader.Goals.{call-then-given, call-else-given}
-use Rattle.grammar_reader.proofs.reader.+reader.Answers.Attributes as attributes
+use Rattle.grammar_reader.proofs.reader.+reader.Answers.Adt as adt
 use Rattle.grammar_reader.proofs.reader.+reader.Answers.Atoms as atoms
+use Rattle.grammar_reader.proofs.reader.+reader.Answers.Attributes as attributes
 use Rattle.grammar_reader.proofs.reader.+reader.Answers.Blocks as blocks
+use Rattle.grammar_reader.proofs.reader.+reader.Answers.Climbing as climbing
+use Rattle.grammar_reader.proofs.reader.+reader.Answers.Consts as consts
 use Rattle.grammar_reader.proofs.reader.+reader.Answers.Control as control
 use Rattle.grammar_reader.proofs.reader.+reader.Answers.Expressions as expressions
+use Rattle.grammar_reader.proofs.reader.+reader.Answers.Fields as fields
+use Rattle.grammar_reader.proofs.reader.+reader.Answers.Functions as functions
+use Rattle.grammar_reader.proofs.reader.+reader.Answers.GenericArg as generic_arg
+use Rattle.grammar_reader.proofs.reader.+reader.Answers.Generics as generics
+use Rattle.grammar_reader.proofs.reader.+reader.Answers.Hands as hands
+use Rattle.grammar_reader.proofs.reader.+reader.Answers.Items as items
 use Rattle.grammar_reader.proofs.reader.+reader.Answers.Lists as lists
+use Rattle.grammar_reader.proofs.reader.+reader.Answers.Looks as looks
+use Rattle.grammar_reader.proofs.reader.+reader.Answers.MatchArm as match_arm
 use Rattle.grammar_reader.proofs.reader.+reader.Answers.Operands as operands
+use Rattle.grammar_reader.proofs.reader.+reader.Answers.Operating as operating
+use Rattle.grammar_reader.proofs.reader.+reader.Answers.Param as param
 use Rattle.grammar_reader.proofs.reader.+reader.Answers.Paths as paths
 use Rattle.grammar_reader.proofs.reader.+reader.Answers.Patterns as patterns
 use Rattle.grammar_reader.proofs.reader.+reader.Answers.Statements as statements
+use Rattle.grammar_reader.proofs.reader.+reader.Answers.Traits as traits
 use Rattle.grammar_reader.proofs.reader.+reader.Answers.Types as types
-use Rattle.grammar_reader.proofs.reader.+reader.Answers.Hands as hands
-use Rattle.grammar_reader.proofs.reader.+reader.Answers.Looks as looks
-use Rattle.grammar_reader.proofs.reader.+reader.Answers.Climbing as climbing
 
 pub call-returns-in_default-clause-reads : goal.call-returns-in_default-clause-reads
 call-returns-in_default-clause-reads t c = λ x s below low h b e.
@@ -144,39 +166,6 @@ production-returns-clause-looks t c = λ s below low h b.
     let e = c.in-Some.ensures.layer in
     subst (λ (x : Production). Costs (idle_of x) (debt_of x) c.args.p.now c.layers.new.p) (sym e)
     (c.layers.ensures.looks s below (subst (λ (x : Production). rank x ≤ c.args.context.ranks) e low) h (subst (λ (x : Production). IsBegun x c.args.context.condition s) e b))
-
-pub climb-read-node-requires : goal.climb-read-node-requires
-climb-read-node-requires = climbing.climb-read-node-requires
-
-pub layers-returns-then-ranks-eq0-clause-reads : goal.layers-returns-then-ranks-eq0-clause-reads
-layers-returns-then-ranks-eq0-clause-reads = climbing.layers-returns-then-ranks-eq0-clause-reads
-
-pub layers-returns-then-ranks-eq0-clause-looks : goal.layers-returns-then-ranks-eq0-clause-looks
-layers-returns-then-ranks-eq0-clause-looks = climbing.layers-returns-then-ranks-eq0-clause-looks
-
-pub layers-returns-clause-reads : goal.layers-returns-clause-reads
-layers-returns-clause-reads = climbing.layers-returns-clause-reads
-
-pub layers-returns-clause-looks : goal.layers-returns-clause-looks
-layers-returns-clause-looks = climbing.layers-returns-clause-looks
-
-pub climb-returns-then-height-top-clause-reads : goal.climb-returns-then-height-top-clause-reads
-climb-returns-then-height-top-clause-reads = climbing.climb-returns-then-height-top-clause-reads
-
-pub climb-returns-then-height-top-clause-looks : goal.climb-returns-then-height-top-clause-looks
-climb-returns-then-height-top-clause-looks = climbing.climb-returns-then-height-top-clause-looks
-
-pub climb-returns-then-upper-top-clause-reads : goal.climb-returns-then-upper-top-clause-reads
-climb-returns-then-upper-top-clause-reads = climbing.climb-returns-then-upper-top-clause-reads
-
-pub climb-returns-then-upper-top-clause-looks : goal.climb-returns-then-upper-top-clause-looks
-climb-returns-then-upper-top-clause-looks = climbing.climb-returns-then-upper-top-clause-looks
-
-pub climb-returns-clause-reads : goal.climb-returns-clause-reads
-climb-returns-clause-reads = climbing.climb-returns-clause-reads
-
-pub climb-returns-clause-looks : goal.climb-returns-clause-looks
-climb-returns-clause-looks = climbing.climb-returns-clause-looks
 
 pub read-read-node-requires : goal.read-read-node-requires
 unfolding size
@@ -464,359 +453,77 @@ production-returns-3-clause-looks t c = λ s below low h b.
     (tested 1 (idle (rule x)) (debt (rule x)) {old = c.args.p.now} {mid = c.next_kind-next.new.p} (same-length (ap left c.next_kind-next.ensures.same)) c.next_kind-next.ensures.looks
     (part.costs c.next_kind-next.new.p c.read.new.p (c.read.ensures.looks x s below low still can (part.paid (rule-paid x (rule x) refl)))))
 
-pub read-returns-in-Nothing-clause-looks : goal.read-returns-in-Nothing-clause-looks
-read-returns-in-Nothing-clause-looks = looks.read-returns-in-Nothing-clause-looks
+pub adt::struct_item-opt_generic_params-requires : goal.adt::struct_item-opt_generic_params-requires
+adt::struct_item-opt_generic_params-requires = adt.adt::struct_item-opt_generic_params-requires
 
-pub read-returns-in-One-clause-looks : goal.read-returns-in-One-clause-looks
-read-returns-in-One-clause-looks = looks.read-returns-in-One-clause-looks
+pub adt::struct_item-fields-requires : goal.adt::struct_item-fields-requires
+adt::struct_item-fields-requires = adt.adt::struct_item-fields-requires
 
-pub read-returns-in-Any-clause-looks : goal.read-returns-in-Any-clause-looks
-read-returns-in-Any-clause-looks = looks.read-returns-in-Any-clause-looks
+pub adt::struct_item-complete-requires : goal.adt::struct_item-complete-requires
+adt::struct_item-complete-requires = adt.adt::struct_item-complete-requires
 
-pub read-returns-in-Then-clause-looks : goal.read-returns-in-Then-clause-looks
-read-returns-in-Then-clause-looks = looks.read-returns-in-Then-clause-looks
+pub adt::struct_item-returns-clause-completes : goal.adt::struct_item-returns-clause-completes
+adt::struct_item-returns-clause-completes = adt.adt::struct_item-returns-clause-completes
 
-pub read-returns-in-Near-clause-looks : goal.read-returns-in-Near-clause-looks
-read-returns-in-Near-clause-looks = looks.read-returns-in-Near-clause-looks
+pub adt::fields-read_anew-requires : goal.adt::fields-read_anew-requires
+adt::fields-read_anew-requires = adt.adt::fields-read_anew-requires
 
-pub read-returns-then-at-clause-looks : goal.read-returns-then-at-clause-looks
-read-returns-then-at-clause-looks = looks.read-returns-then-at-clause-looks
+pub adt::fields-opt_where_clause-requires : goal.adt::fields-opt_where_clause-requires
+adt::fields-opt_where_clause-requires = adt.adt::fields-opt_where_clause-requires
 
-pub read-returns-else-at-clause-looks : goal.read-returns-else-at-clause-looks
-read-returns-else-at-clause-looks = looks.read-returns-else-at-clause-looks
+pub adt::fields-returns-then-at-clause-reads : goal.adt::fields-returns-then-at-clause-reads
+adt::fields-returns-then-at-clause-reads = adt.adt::fields-returns-then-at-clause-reads
 
-pub read-returns-then-at-2-clause-looks : goal.read-returns-then-at-2-clause-looks
-read-returns-then-at-2-clause-looks = looks.read-returns-then-at-2-clause-looks
+pub adt::fields-returns-then-at-clause-looks : goal.adt::fields-returns-then-at-clause-looks
+adt::fields-returns-then-at-clause-looks = adt.adt::fields-returns-then-at-clause-looks
 
-pub read-returns-then-at-3-clause-looks : goal.read-returns-then-at-3-clause-looks
-read-returns-then-at-3-clause-looks = looks.read-returns-then-at-3-clause-looks
+pub adt::fields-opt_where_clause-requires-2 : goal.adt::fields-opt_where_clause-requires-2
+adt::fields-opt_where_clause-requires-2 = adt.adt::fields-opt_where_clause-requires-2
 
-pub read-returns-else-at-2-clause-looks : goal.read-returns-else-at-2-clause-looks
-read-returns-else-at-2-clause-looks = looks.read-returns-else-at-2-clause-looks
+pub adt::fields-record_fields-requires : goal.adt::fields-record_fields-requires
+adt::fields-record_fields-requires = adt.adt::fields-record_fields-requires
 
-pub read-returns-else-at-3-clause-looks : goal.read-returns-else-at-3-clause-looks
-read-returns-else-at-3-clause-looks = looks.read-returns-else-at-3-clause-looks
+pub adt::fields-returns-clause-reads : goal.adt::fields-returns-clause-reads
+adt::fields-returns-clause-reads = adt.adt::fields-returns-clause-reads
 
-pub read-returns-in-When-clause-looks : goal.read-returns-in-When-clause-looks
-read-returns-in-When-clause-looks = looks.read-returns-in-When-clause-looks
+pub adt::record_fields-read_anew-requires : goal.adt::record_fields-read_anew-requires
+adt::record_fields-read_anew-requires = adt.adt::record_fields-read_anew-requires
 
-pub read-returns-in-Unless-clause-looks : goal.read-returns-in-Unless-clause-looks
-read-returns-in-Unless-clause-looks = looks.read-returns-in-Unless-clause-looks
+pub adt::record_fields-returns-then-at-clause-reads : goal.adt::record_fields-returns-then-at-clause-reads
+adt::record_fields-returns-then-at-clause-reads = adt.adt::record_fields-returns-then-at-clause-reads
 
-pub read-returns-in-Mode-clause-looks : goal.read-returns-in-Mode-clause-looks
-read-returns-in-Mode-clause-looks = looks.read-returns-in-Mode-clause-looks
+pub adt::record_fields-returns-then-at-clause-looks : goal.adt::record_fields-returns-then-at-clause-looks
+adt::record_fields-returns-then-at-clause-looks = adt.adt::record_fields-returns-then-at-clause-looks
 
-pub read-returns-in-Star-clause-looks : goal.read-returns-in-Star-clause-looks
-read-returns-in-Star-clause-looks = looks.read-returns-in-Star-clause-looks
+pub adt::record_fields-returns-clause-reads : goal.adt::record_fields-returns-clause-reads
+adt::record_fields-returns-clause-reads = adt.adt::record_fields-returns-clause-reads
 
-pub read-returns-in-Node-clause-looks : goal.read-returns-in-Node-clause-looks
-read-returns-in-Node-clause-looks = looks.read-returns-in-Node-clause-looks
+pub adt::enum_item-opt_generic_params-requires : goal.adt::enum_item-opt_generic_params-requires
+adt::enum_item-opt_generic_params-requires = adt.adt::enum_item-opt_generic_params-requires
 
-pub read-returns-in-Wrap-clause-looks : goal.read-returns-in-Wrap-clause-looks
-read-returns-in-Wrap-clause-looks = looks.read-returns-in-Wrap-clause-looks
+pub adt::enum_item-opt_where_clause-requires : goal.adt::enum_item-opt_where_clause-requires
+adt::enum_item-opt_where_clause-requires = adt.adt::enum_item-opt_where_clause-requires
 
-pub read-returns-in-Say-clause-looks : goal.read-returns-in-Say-clause-looks
-read-returns-in-Say-clause-looks = looks.read-returns-in-Say-clause-looks
+pub adt::enum_item-expect_variants-requires : goal.adt::enum_item-expect_variants-requires
+adt::enum_item-expect_variants-requires = adt.adt::enum_item-expect_variants-requires
 
-pub read-returns-in-Skip-clause-looks : goal.read-returns-in-Skip-clause-looks
-read-returns-in-Skip-clause-looks = looks.read-returns-in-Skip-clause-looks
+pub adt::enum_item-complete-requires : goal.adt::enum_item-complete-requires
+adt::enum_item-complete-requires = adt.adt::enum_item-complete-requires
 
-pub read-returns-in-Split-clause-looks : goal.read-returns-in-Split-clause-looks
-read-returns-in-Split-clause-looks = looks.read-returns-in-Split-clause-looks
+pub adt::enum_item-returns-clause-completes : goal.adt::enum_item-returns-clause-completes
+adt::enum_item-returns-clause-completes = adt.adt::enum_item-returns-clause-completes
 
-pub read-returns-in-Call-clause-looks : goal.read-returns-in-Call-clause-looks
-read-returns-in-Call-clause-looks = looks.read-returns-in-Call-clause-looks
+pub adt::expect_variants-read_anew-requires : goal.adt::expect_variants-read_anew-requires
+adt::expect_variants-read_anew-requires = adt.adt::expect_variants-read_anew-requires
 
-pub read-returns-in-Continue-clause-looks : goal.read-returns-in-Continue-clause-looks
-read-returns-in-Continue-clause-looks = looks.read-returns-in-Continue-clause-looks
+pub adt::expect_variants-returns-then-at-clause-reads : goal.adt::expect_variants-returns-then-at-clause-reads
+adt::expect_variants-returns-then-at-clause-reads = adt.adt::expect_variants-returns-then-at-clause-reads
 
-pub read-returns-in-Part-clause-looks : goal.read-returns-in-Part-clause-looks
-read-returns-in-Part-clause-looks = looks.read-returns-in-Part-clause-looks
+pub adt::expect_variants-returns-then-at-clause-looks : goal.adt::expect_variants-returns-then-at-clause-looks
+adt::expect_variants-returns-then-at-clause-looks = adt.adt::expect_variants-returns-then-at-clause-looks
 
-pub turns-returns-then-not-at-clause-looks : goal.turns-returns-then-not-at-clause-looks
-turns-returns-then-not-at-clause-looks = looks.turns-returns-then-not-at-clause-looks
-
-pub turns-returns-then-tokens_left-before-clause-looks : goal.turns-returns-then-tokens_left-before-clause-looks
-turns-returns-then-tokens_left-before-clause-looks = looks.turns-returns-then-tokens_left-before-clause-looks
-
-pub turns-returns-clause-looks : goal.turns-returns-clause-looks
-turns-returns-clause-looks = looks.turns-returns-clause-looks
-
-pub read_by_hand-returns-in-Arguments-clause-gives : goal.read_by_hand-returns-in-Arguments-clause-gives
-read_by_hand-returns-in-Arguments-clause-gives = hands.read_by_hand-returns-in-Arguments-clause-gives
-
-pub read_by_hand-returns-in-Arguments-clause-looks : goal.read_by_hand-returns-in-Arguments-clause-looks
-read_by_hand-returns-in-Arguments-clause-looks = hands.read_by_hand-returns-in-Arguments-clause-looks
-
-pub read_by_hand-returns-in-Attribute-clause-gives : goal.read_by_hand-returns-in-Attribute-clause-gives
-read_by_hand-returns-in-Attribute-clause-gives = hands.read_by_hand-returns-in-Attribute-clause-gives
-
-pub read_by_hand-returns-in-Attribute-clause-looks : goal.read_by_hand-returns-in-Attribute-clause-looks
-read_by_hand-returns-in-Attribute-clause-looks = hands.read_by_hand-returns-in-Attribute-clause-looks
-
-pub read_by_hand-returns-in-Block-clause-gives : goal.read_by_hand-returns-in-Block-clause-gives
-read_by_hand-returns-in-Block-clause-gives = hands.read_by_hand-returns-in-Block-clause-gives
-
-pub read_by_hand-returns-in-Block-clause-looks : goal.read_by_hand-returns-in-Block-clause-looks
-read_by_hand-returns-in-Block-clause-looks = hands.read_by_hand-returns-in-Block-clause-looks
-
-pub read_by_hand-returns-in-ExprPath-clause-gives : goal.read_by_hand-returns-in-ExprPath-clause-gives
-read_by_hand-returns-in-ExprPath-clause-gives = hands.read_by_hand-returns-in-ExprPath-clause-gives
-
-pub read_by_hand-returns-in-ExprPath-clause-looks : goal.read_by_hand-returns-in-ExprPath-clause-looks
-read_by_hand-returns-in-ExprPath-clause-looks = hands.read_by_hand-returns-in-ExprPath-clause-looks
-
-pub read_by_hand-returns-in-FieldValues-clause-gives : goal.read_by_hand-returns-in-FieldValues-clause-gives
-read_by_hand-returns-in-FieldValues-clause-gives = hands.read_by_hand-returns-in-FieldValues-clause-gives
-
-pub read_by_hand-returns-in-FieldValues-clause-looks : goal.read_by_hand-returns-in-FieldValues-clause-looks
-read_by_hand-returns-in-FieldValues-clause-looks = hands.read_by_hand-returns-in-FieldValues-clause-looks
-
-pub read_by_hand-returns-in-GenericArgs-clause-gives : goal.read_by_hand-returns-in-GenericArgs-clause-gives
-read_by_hand-returns-in-GenericArgs-clause-gives = hands.read_by_hand-returns-in-GenericArgs-clause-gives
-
-pub read_by_hand-returns-in-GenericArgs-clause-looks : goal.read_by_hand-returns-in-GenericArgs-clause-looks
-read_by_hand-returns-in-GenericArgs-clause-looks = hands.read_by_hand-returns-in-GenericArgs-clause-looks
-
-pub read_by_hand-returns-in-GenericParams-clause-gives : goal.read_by_hand-returns-in-GenericParams-clause-gives
-read_by_hand-returns-in-GenericParams-clause-gives = hands.read_by_hand-returns-in-GenericParams-clause-gives
-
-pub read_by_hand-returns-in-GenericParams-clause-looks : goal.read_by_hand-returns-in-GenericParams-clause-looks
-read_by_hand-returns-in-GenericParams-clause-looks = hands.read_by_hand-returns-in-GenericParams-clause-looks
-
-pub read_by_hand-returns-in-Lifetime-clause-gives : goal.read_by_hand-returns-in-Lifetime-clause-gives
-read_by_hand-returns-in-Lifetime-clause-gives = hands.read_by_hand-returns-in-Lifetime-clause-gives
-
-pub read_by_hand-returns-in-Lifetime-clause-looks : goal.read_by_hand-returns-in-Lifetime-clause-looks
-read_by_hand-returns-in-Lifetime-clause-looks = hands.read_by_hand-returns-in-Lifetime-clause-looks
-
-pub read_by_hand-returns-in-Literal-clause-gives : goal.read_by_hand-returns-in-Literal-clause-gives
-read_by_hand-returns-in-Literal-clause-gives = hands.read_by_hand-returns-in-Literal-clause-gives
-
-pub read_by_hand-returns-in-Literal-clause-looks : goal.read_by_hand-returns-in-Literal-clause-looks
-read_by_hand-returns-in-Literal-clause-looks = hands.read_by_hand-returns-in-Literal-clause-looks
-
-pub read_by_hand-returns-in-Meta-clause-looks : goal.read_by_hand-returns-in-Meta-clause-looks
-read_by_hand-returns-in-Meta-clause-looks = hands.read_by_hand-returns-in-Meta-clause-looks
-
-pub read_by_hand-returns-in-Name-clause-gives : goal.read_by_hand-returns-in-Name-clause-gives
-read_by_hand-returns-in-Name-clause-gives = hands.read_by_hand-returns-in-Name-clause-gives
-
-pub read_by_hand-returns-in-Name-clause-looks : goal.read_by_hand-returns-in-Name-clause-looks
-read_by_hand-returns-in-Name-clause-looks = hands.read_by_hand-returns-in-Name-clause-looks
-
-pub read_by_hand-returns-in-NameRef-clause-gives : goal.read_by_hand-returns-in-NameRef-clause-gives
-read_by_hand-returns-in-NameRef-clause-gives = hands.read_by_hand-returns-in-NameRef-clause-gives
-
-pub read_by_hand-returns-in-NameRef-clause-looks : goal.read_by_hand-returns-in-NameRef-clause-looks
-read_by_hand-returns-in-NameRef-clause-looks = hands.read_by_hand-returns-in-NameRef-clause-looks
-
-pub read_by_hand-returns-in-Params-clause-gives : goal.read_by_hand-returns-in-Params-clause-gives
-read_by_hand-returns-in-Params-clause-gives = hands.read_by_hand-returns-in-Params-clause-gives
-
-pub read_by_hand-returns-in-Params-clause-looks : goal.read_by_hand-returns-in-Params-clause-looks
-read_by_hand-returns-in-Params-clause-looks = hands.read_by_hand-returns-in-Params-clause-looks
-
-pub read_by_hand-returns-in-Path-clause-gives : goal.read_by_hand-returns-in-Path-clause-gives
-read_by_hand-returns-in-Path-clause-gives = hands.read_by_hand-returns-in-Path-clause-gives
-
-pub read_by_hand-returns-in-Path-clause-looks : goal.read_by_hand-returns-in-Path-clause-looks
-read_by_hand-returns-in-Path-clause-looks = hands.read_by_hand-returns-in-Path-clause-looks
-
-pub read_by_hand-returns-in-PatternFields-clause-gives : goal.read_by_hand-returns-in-PatternFields-clause-gives
-read_by_hand-returns-in-PatternFields-clause-gives = hands.read_by_hand-returns-in-PatternFields-clause-gives
-
-pub read_by_hand-returns-in-PatternFields-clause-looks : goal.read_by_hand-returns-in-PatternFields-clause-looks
-read_by_hand-returns-in-PatternFields-clause-looks = hands.read_by_hand-returns-in-PatternFields-clause-looks
-
-pub read_by_hand-returns-in-StatementList-clause-gives : goal.read_by_hand-returns-in-StatementList-clause-gives
-read_by_hand-returns-in-StatementList-clause-gives = hands.read_by_hand-returns-in-StatementList-clause-gives
-
-pub read_by_hand-returns-in-StatementList-clause-looks : goal.read_by_hand-returns-in-StatementList-clause-looks
-read_by_hand-returns-in-StatementList-clause-looks = hands.read_by_hand-returns-in-StatementList-clause-looks
-
-pub read_by_hand-returns-in-TokenTree-clause-gives : goal.read_by_hand-returns-in-TokenTree-clause-gives
-read_by_hand-returns-in-TokenTree-clause-gives = hands.read_by_hand-returns-in-TokenTree-clause-gives
-
-pub read_by_hand-returns-in-TokenTree-clause-looks : goal.read_by_hand-returns-in-TokenTree-clause-looks
-read_by_hand-returns-in-TokenTree-clause-looks = hands.read_by_hand-returns-in-TokenTree-clause-looks
-
-pub read_by_hand-returns-in-TypePath-clause-gives : goal.read_by_hand-returns-in-TypePath-clause-gives
-read_by_hand-returns-in-TypePath-clause-gives = hands.read_by_hand-returns-in-TypePath-clause-gives
-
-pub read_by_hand-returns-in-TypePath-clause-looks : goal.read_by_hand-returns-in-TypePath-clause-looks
-read_by_hand-returns-in-TypePath-clause-looks = hands.read_by_hand-returns-in-TypePath-clause-looks
-
-pub read_by_hand-returns-in-UseList-clause-gives : goal.read_by_hand-returns-in-UseList-clause-gives
-read_by_hand-returns-in-UseList-clause-gives = hands.read_by_hand-returns-in-UseList-clause-gives
-
-pub read_by_hand-returns-in-UseList-clause-looks : goal.read_by_hand-returns-in-UseList-clause-looks
-read_by_hand-returns-in-UseList-clause-looks = hands.read_by_hand-returns-in-UseList-clause-looks
-
-pub read_by_hand-returns-in-UseTree-clause-gives : goal.read_by_hand-returns-in-UseTree-clause-gives
-read_by_hand-returns-in-UseTree-clause-gives = hands.read_by_hand-returns-in-UseTree-clause-gives
-
-pub read_by_hand-returns-in-UseTree-clause-looks : goal.read_by_hand-returns-in-UseTree-clause-looks
-read_by_hand-returns-in-UseTree-clause-looks = hands.read_by_hand-returns-in-UseTree-clause-looks
-
-pub read_by_hand-returns-in-Visibility-clause-gives : goal.read_by_hand-returns-in-Visibility-clause-gives
-read_by_hand-returns-in-Visibility-clause-gives = hands.read_by_hand-returns-in-Visibility-clause-gives
-
-pub read_by_hand-returns-in-Visibility-clause-looks : goal.read_by_hand-returns-in-Visibility-clause-looks
-read_by_hand-returns-in-Visibility-clause-looks = hands.read_by_hand-returns-in-Visibility-clause-looks
-
-pub read_by_hand-path_with_args-requires : goal.read_by_hand-path_with_args-requires
-read_by_hand-path_with_args-requires = hands.read_by_hand-path_with_args-requires
-
-pub read_by_hand-path_with_args-requires-in-TypePath : goal.read_by_hand-path_with_args-requires-in-TypePath
-read_by_hand-path_with_args-requires-in-TypePath = hands.read_by_hand-path_with_args-requires-in-TypePath
-
-pub read_by_hand-generic_args-requires : goal.read_by_hand-generic_args-requires
-read_by_hand-generic_args-requires = hands.read_by_hand-generic_args-requires
-
-pub read_by_hand-meta-requires : goal.read_by_hand-meta-requires
-read_by_hand-meta-requires = hands.read_by_hand-meta-requires
-
-pub read_by_hand-path-requires-clause-begins : goal.read_by_hand-path-requires-clause-begins
-read_by_hand-path-requires-clause-begins = hands.read_by_hand-path-requires-clause-begins
-
-pub read_by_hand-use_tree-requires-clause-begins : goal.read_by_hand-use_tree-requires-clause-begins
-read_by_hand-use_tree-requires-clause-begins = hands.read_by_hand-use_tree-requires-clause-begins
-
-pub production-read_by_hand-requires : goal.production-read_by_hand-requires
-production-read_by_hand-requires = hands.production-read_by_hand-requires
-
-pub production-returns-2-clause-input : goal.production-returns-2-clause-input
-production-returns-2-clause-input = hands.production-returns-2-clause-input
-
-pub production-returns-2-clause-marker : goal.production-returns-2-clause-marker
-production-returns-2-clause-marker = hands.production-returns-2-clause-marker
-
-pub production-returns-2-clause-innermost : goal.production-returns-2-clause-innermost
-production-returns-2-clause-innermost = hands.production-returns-2-clause-innermost
-
-pub production-returns-2-clause-reads : goal.production-returns-2-clause-reads
-production-returns-2-clause-reads = hands.production-returns-2-clause-reads
-
-pub production-returns-2-clause-looks : goal.production-returns-2-clause-looks
-production-returns-2-clause-looks = hands.production-returns-2-clause-looks
-
-pub called::read_anew-production-node-requires : goal.called::read_anew-production-node-requires
-called::read_anew-production-node-requires = hands.called::read_anew-production-node-requires
-
-pub called::read_anew-returns-clause-gives : goal.called::read_anew-returns-clause-gives
-called::read_anew-returns-clause-gives = hands.called::read_anew-returns-clause-gives
-
-pub called::read_anew-returns-clause-looks : goal.called::read_anew-returns-clause-looks
-called::read_anew-returns-clause-looks = hands.called::read_anew-returns-clause-looks
-
-pub called::read_anew-returns-clause-left : goal.called::read_anew-returns-clause-left
-called::read_anew-returns-clause-left = hands.called::read_anew-returns-clause-left
-
-pub read_by_hand-returns-in-AnyType-clause-looks : goal.read_by_hand-returns-in-AnyType-clause-looks
-read_by_hand-returns-in-AnyType-clause-looks = hands.read_by_hand-returns-in-AnyType-clause-looks
-
-pub read_by_hand-any_type-requires : goal.read_by_hand-any_type-requires
-read_by_hand-any_type-requires = hands.read_by_hand-any_type-requires
-
-pub read_by_hand-returns-in-Pattern-clause-gives : goal.read_by_hand-returns-in-Pattern-clause-gives
-read_by_hand-returns-in-Pattern-clause-gives = hands.read_by_hand-returns-in-Pattern-clause-gives
-
-pub read_by_hand-returns-in-Pattern-clause-looks : goal.read_by_hand-returns-in-Pattern-clause-looks
-read_by_hand-returns-in-Pattern-clause-looks = hands.read_by_hand-returns-in-Pattern-clause-looks
-
-pub read_by_hand-pattern-requires : goal.read_by_hand-pattern-requires
-read_by_hand-pattern-requires = hands.read_by_hand-pattern-requires
-
-pub read_by_hand-returns-in-SinglePattern-clause-gives : goal.read_by_hand-returns-in-SinglePattern-clause-gives
-read_by_hand-returns-in-SinglePattern-clause-gives = hands.read_by_hand-returns-in-SinglePattern-clause-gives
-
-pub read_by_hand-returns-in-SinglePattern-clause-looks : goal.read_by_hand-returns-in-SinglePattern-clause-looks
-read_by_hand-returns-in-SinglePattern-clause-looks = hands.read_by_hand-returns-in-SinglePattern-clause-looks
-
-pub read_by_hand-single_pattern-requires : goal.read_by_hand-single_pattern-requires
-read_by_hand-single_pattern-requires = hands.read_by_hand-single_pattern-requires
-
-pub read_by_hand-returns-in-Atom-clause-gives : goal.read_by_hand-returns-in-Atom-clause-gives
-read_by_hand-returns-in-Atom-clause-gives = hands.read_by_hand-returns-in-Atom-clause-gives
-
-pub read_by_hand-returns-in-Atom-clause-looks : goal.read_by_hand-returns-in-Atom-clause-looks
-read_by_hand-returns-in-Atom-clause-looks = hands.read_by_hand-returns-in-Atom-clause-looks
-
-pub read_by_hand-atom-requires : goal.read_by_hand-atom-requires
-read_by_hand-atom-requires = hands.read_by_hand-atom-requires
-
-pub read_by_hand-returns-in-Prefixed-clause-gives : goal.read_by_hand-returns-in-Prefixed-clause-gives
-read_by_hand-returns-in-Prefixed-clause-gives = hands.read_by_hand-returns-in-Prefixed-clause-gives
-
-pub read_by_hand-returns-in-Prefixed-clause-looks : goal.read_by_hand-returns-in-Prefixed-clause-looks
-read_by_hand-returns-in-Prefixed-clause-looks = hands.read_by_hand-returns-in-Prefixed-clause-looks
-
-pub read_by_hand-prefixed-requires : goal.read_by_hand-prefixed-requires
-read_by_hand-prefixed-requires = hands.read_by_hand-prefixed-requires
-
-pub read_by_hand-returns-in-BlockLike-clause-gives : goal.read_by_hand-returns-in-BlockLike-clause-gives
-read_by_hand-returns-in-BlockLike-clause-gives = hands.read_by_hand-returns-in-BlockLike-clause-gives
-
-pub read_by_hand-returns-in-BlockLike-clause-looks : goal.read_by_hand-returns-in-BlockLike-clause-looks
-read_by_hand-returns-in-BlockLike-clause-looks = hands.read_by_hand-returns-in-BlockLike-clause-looks
-
-pub read_by_hand-block_like-requires : goal.read_by_hand-block_like-requires
-read_by_hand-block_like-requires = hands.read_by_hand-block_like-requires
-
-pub read_by_hand-returns-in-IfExpr-clause-gives : goal.read_by_hand-returns-in-IfExpr-clause-gives
-read_by_hand-returns-in-IfExpr-clause-gives = hands.read_by_hand-returns-in-IfExpr-clause-gives
-
-pub read_by_hand-returns-in-IfExpr-clause-looks : goal.read_by_hand-returns-in-IfExpr-clause-looks
-read_by_hand-returns-in-IfExpr-clause-looks = hands.read_by_hand-returns-in-IfExpr-clause-looks
-
-pub read_by_hand-returns-in-MatchArms-clause-gives : goal.read_by_hand-returns-in-MatchArms-clause-gives
-read_by_hand-returns-in-MatchArms-clause-gives = hands.read_by_hand-returns-in-MatchArms-clause-gives
-
-pub read_by_hand-returns-in-MatchArms-clause-looks : goal.read_by_hand-returns-in-MatchArms-clause-looks
-read_by_hand-returns-in-MatchArms-clause-looks = hands.read_by_hand-returns-in-MatchArms-clause-looks
-
-pub attributes::attribute-expect_meta-requires : goal.attributes::attribute-expect_meta-requires
-attributes::attribute-expect_meta-requires = attributes.attributes::attribute-expect_meta-requires
-
-pub attributes::attribute-complete-requires : goal.attributes::attribute-complete-requires
-attributes::attribute-complete-requires = attributes.attributes::attribute-complete-requires
-
-pub attributes::attribute-returns-clause-gives : goal.attributes::attribute-returns-clause-gives
-attributes::attribute-returns-clause-gives = attributes.attributes::attribute-returns-clause-gives
-
-pub attributes::expect_meta-meta-requires : goal.attributes::expect_meta-meta-requires
-attributes::expect_meta-meta-requires = attributes.attributes::expect_meta-meta-requires
-
-pub attributes::expect_meta-returns-then-at_path-clause-reads : goal.attributes::expect_meta-returns-then-at_path-clause-reads
-attributes::expect_meta-returns-then-at_path-clause-reads = attributes.attributes::expect_meta-returns-then-at_path-clause-reads
-
-pub attributes::expect_meta-returns-clause-reads : goal.attributes::expect_meta-returns-clause-reads
-attributes::expect_meta-returns-clause-reads = attributes.attributes::expect_meta-returns-clause-reads
-
-pub attributes::meta-path-requires-clause-begins : goal.attributes::meta-path-requires-clause-begins
-attributes::meta-path-requires-clause-begins = attributes.attributes::meta-path-requires-clause-begins
-
-pub attributes::meta-opt_value-requires : goal.attributes::meta-opt_value-requires
-attributes::meta-opt_value-requires = attributes.attributes::meta-opt_value-requires
-
-pub attributes::meta-complete-requires : goal.attributes::meta-complete-requires
-attributes::meta-complete-requires = attributes.attributes::meta-complete-requires
-
-pub attributes::meta-returns-clause-gives : goal.attributes::meta-returns-clause-gives
-attributes::meta-returns-clause-gives = attributes.attributes::meta-returns-clause-gives
-
-pub attributes::opt_value-expect_expression-requires : goal.attributes::opt_value-expect_expression-requires
-attributes::opt_value-expect_expression-requires = attributes.attributes::opt_value-expect_expression-requires
-
-pub attributes::opt_value-returns-then-at-clause-reads : goal.attributes::opt_value-returns-then-at-clause-reads
-attributes::opt_value-returns-then-at-clause-reads = attributes.attributes::opt_value-returns-then-at-clause-reads
-
-pub attributes::opt_value-returns-then-at_token_tree-clause-reads : goal.attributes::opt_value-returns-then-at_token_tree-clause-reads
-attributes::opt_value-returns-then-at_token_tree-clause-reads = attributes.attributes::opt_value-returns-then-at_token_tree-clause-reads
-
-pub attributes::opt_value-returns-else-at_token_tree-clause-reads : goal.attributes::opt_value-returns-else-at_token_tree-clause-reads
-attributes::opt_value-returns-else-at_token_tree-clause-reads = attributes.attributes::opt_value-returns-else-at_token_tree-clause-reads
+pub adt::expect_variants-returns-clause-reads : goal.adt::expect_variants-returns-clause-reads
+adt::expect_variants-returns-clause-reads = adt.adt::expect_variants-returns-clause-reads
 
 pub atoms::atom-inside-frame-requires : goal.atoms::atom-inside-frame-requires
 atoms::atom-inside-frame-requires = atoms.atoms::atom-inside-frame-requires
@@ -1142,6 +849,48 @@ atoms::let_expr-complete-requires = atoms.atoms::let_expr-complete-requires
 pub atoms::let_expr-returns-clause-reads : goal.atoms::let_expr-returns-clause-reads
 atoms::let_expr-returns-clause-reads = atoms.atoms::let_expr-returns-clause-reads
 
+pub attributes::attribute-expect_meta-requires : goal.attributes::attribute-expect_meta-requires
+attributes::attribute-expect_meta-requires = attributes.attributes::attribute-expect_meta-requires
+
+pub attributes::attribute-complete-requires : goal.attributes::attribute-complete-requires
+attributes::attribute-complete-requires = attributes.attributes::attribute-complete-requires
+
+pub attributes::attribute-returns-clause-gives : goal.attributes::attribute-returns-clause-gives
+attributes::attribute-returns-clause-gives = attributes.attributes::attribute-returns-clause-gives
+
+pub attributes::expect_meta-meta-requires : goal.attributes::expect_meta-meta-requires
+attributes::expect_meta-meta-requires = attributes.attributes::expect_meta-meta-requires
+
+pub attributes::expect_meta-returns-then-at_path-clause-reads : goal.attributes::expect_meta-returns-then-at_path-clause-reads
+attributes::expect_meta-returns-then-at_path-clause-reads = attributes.attributes::expect_meta-returns-then-at_path-clause-reads
+
+pub attributes::expect_meta-returns-clause-reads : goal.attributes::expect_meta-returns-clause-reads
+attributes::expect_meta-returns-clause-reads = attributes.attributes::expect_meta-returns-clause-reads
+
+pub attributes::meta-path-requires-clause-begins : goal.attributes::meta-path-requires-clause-begins
+attributes::meta-path-requires-clause-begins = attributes.attributes::meta-path-requires-clause-begins
+
+pub attributes::meta-opt_value-requires : goal.attributes::meta-opt_value-requires
+attributes::meta-opt_value-requires = attributes.attributes::meta-opt_value-requires
+
+pub attributes::meta-complete-requires : goal.attributes::meta-complete-requires
+attributes::meta-complete-requires = attributes.attributes::meta-complete-requires
+
+pub attributes::meta-returns-clause-gives : goal.attributes::meta-returns-clause-gives
+attributes::meta-returns-clause-gives = attributes.attributes::meta-returns-clause-gives
+
+pub attributes::opt_value-expect_expression-requires : goal.attributes::opt_value-expect_expression-requires
+attributes::opt_value-expect_expression-requires = attributes.attributes::opt_value-expect_expression-requires
+
+pub attributes::opt_value-returns-then-at-clause-reads : goal.attributes::opt_value-returns-then-at-clause-reads
+attributes::opt_value-returns-then-at-clause-reads = attributes.attributes::opt_value-returns-then-at-clause-reads
+
+pub attributes::opt_value-returns-then-at_token_tree-clause-reads : goal.attributes::opt_value-returns-then-at_token_tree-clause-reads
+attributes::opt_value-returns-then-at_token_tree-clause-reads = attributes.attributes::opt_value-returns-then-at_token_tree-clause-reads
+
+pub attributes::opt_value-returns-else-at_token_tree-clause-reads : goal.attributes::opt_value-returns-else-at_token_tree-clause-reads
+attributes::opt_value-returns-else-at_token_tree-clause-reads = attributes.attributes::opt_value-returns-else-at_token_tree-clause-reads
+
 pub blocks::statement_turn-returns-then-at_list_end-clause-ends : goal.blocks::statement_turn-returns-then-at_list_end-clause-ends
 blocks::statement_turn-returns-then-at_list_end-clause-ends = blocks.blocks::statement_turn-returns-then-at_list_end-clause-ends
 
@@ -1189,6 +938,93 @@ blocks::block-complete-requires = blocks.blocks::block-complete-requires
 
 pub blocks::block-returns-clause-gives : goal.blocks::block-returns-clause-gives
 blocks::block-returns-clause-gives = blocks.blocks::block-returns-clause-gives
+
+pub climb-read-node-requires : goal.climb-read-node-requires
+climb-read-node-requires = climbing.climb-read-node-requires
+
+pub layers-returns-then-ranks-eq0-clause-reads : goal.layers-returns-then-ranks-eq0-clause-reads
+layers-returns-then-ranks-eq0-clause-reads = climbing.layers-returns-then-ranks-eq0-clause-reads
+
+pub layers-returns-then-ranks-eq0-clause-looks : goal.layers-returns-then-ranks-eq0-clause-looks
+layers-returns-then-ranks-eq0-clause-looks = climbing.layers-returns-then-ranks-eq0-clause-looks
+
+pub layers-returns-clause-reads : goal.layers-returns-clause-reads
+layers-returns-clause-reads = climbing.layers-returns-clause-reads
+
+pub layers-returns-clause-looks : goal.layers-returns-clause-looks
+layers-returns-clause-looks = climbing.layers-returns-clause-looks
+
+pub climb-returns-then-height-top-clause-reads : goal.climb-returns-then-height-top-clause-reads
+climb-returns-then-height-top-clause-reads = climbing.climb-returns-then-height-top-clause-reads
+
+pub climb-returns-then-height-top-clause-looks : goal.climb-returns-then-height-top-clause-looks
+climb-returns-then-height-top-clause-looks = climbing.climb-returns-then-height-top-clause-looks
+
+pub climb-returns-then-upper-top-clause-reads : goal.climb-returns-then-upper-top-clause-reads
+climb-returns-then-upper-top-clause-reads = climbing.climb-returns-then-upper-top-clause-reads
+
+pub climb-returns-then-upper-top-clause-looks : goal.climb-returns-then-upper-top-clause-looks
+climb-returns-then-upper-top-clause-looks = climbing.climb-returns-then-upper-top-clause-looks
+
+pub climb-returns-clause-reads : goal.climb-returns-clause-reads
+climb-returns-clause-reads = climbing.climb-returns-clause-reads
+
+pub climb-returns-clause-looks : goal.climb-returns-clause-looks
+climb-returns-clause-looks = climbing.climb-returns-clause-looks
+
+pub consts::const_item-typed_value-requires : goal.consts::const_item-typed_value-requires
+consts::const_item-typed_value-requires = consts.consts::const_item-typed_value-requires
+
+pub consts::const_item-complete-requires : goal.consts::const_item-complete-requires
+consts::const_item-complete-requires = consts.consts::const_item-complete-requires
+
+pub consts::const_item-returns-clause-completes : goal.consts::const_item-returns-clause-completes
+consts::const_item-returns-clause-completes = consts.consts::const_item-returns-clause-completes
+
+pub consts::static_item-typed_value-requires : goal.consts::static_item-typed_value-requires
+consts::static_item-typed_value-requires = consts.consts::static_item-typed_value-requires
+
+pub consts::static_item-complete-requires : goal.consts::static_item-complete-requires
+consts::static_item-complete-requires = consts.consts::static_item-complete-requires
+
+pub consts::static_item-returns-clause-completes : goal.consts::static_item-returns-clause-completes
+consts::static_item-returns-clause-completes = consts.consts::static_item-returns-clause-completes
+
+pub consts::typed_value-expect_type-requires : goal.consts::typed_value-expect_type-requires
+consts::typed_value-expect_type-requires = consts.consts::typed_value-expect_type-requires
+
+pub consts::typed_value-opt_value-requires : goal.consts::typed_value-opt_value-requires
+consts::typed_value-opt_value-requires = consts.consts::typed_value-opt_value-requires
+
+pub consts::typed_value-returns-clause-reads : goal.consts::typed_value-returns-clause-reads
+consts::typed_value-returns-clause-reads = consts.consts::typed_value-returns-clause-reads
+
+pub consts::opt_value-expect_expression-requires : goal.consts::opt_value-expect_expression-requires
+consts::opt_value-expect_expression-requires = consts.consts::opt_value-expect_expression-requires
+
+pub consts::opt_value-returns-then-at-clause-reads : goal.consts::opt_value-returns-then-at-clause-reads
+consts::opt_value-returns-then-at-clause-reads = consts.consts::opt_value-returns-then-at-clause-reads
+
+pub consts::opt_value-returns-else-at-clause-reads : goal.consts::opt_value-returns-else-at-clause-reads
+consts::opt_value-returns-else-at-clause-reads = consts.consts::opt_value-returns-else-at-clause-reads
+
+pub consts::type_alias-opt_generic_params-requires : goal.consts::type_alias-opt_generic_params-requires
+consts::type_alias-opt_generic_params-requires = consts.consts::type_alias-opt_generic_params-requires
+
+pub consts::type_alias-bounds_after_colon-requires : goal.consts::type_alias-bounds_after_colon-requires
+consts::type_alias-bounds_after_colon-requires = consts.consts::type_alias-bounds_after_colon-requires
+
+pub consts::type_alias-opt_where_clause-requires : goal.consts::type_alias-opt_where_clause-requires
+consts::type_alias-opt_where_clause-requires = consts.consts::type_alias-opt_where_clause-requires
+
+pub consts::type_alias-opt_type_after-requires : goal.consts::type_alias-opt_type_after-requires
+consts::type_alias-opt_type_after-requires = consts.consts::type_alias-opt_type_after-requires
+
+pub consts::type_alias-complete-requires : goal.consts::type_alias-complete-requires
+consts::type_alias-complete-requires = consts.consts::type_alias-complete-requires
+
+pub consts::type_alias-returns-clause-completes : goal.consts::type_alias-returns-clause-completes
+consts::type_alias-returns-clause-completes = consts.consts::type_alias-returns-clause-completes
 
 pub control::block_like-block-requires : goal.control::block_like-block-requires
 control::block_like-block-requires = control.control::block_like-block-requires
@@ -1376,17 +1212,17 @@ control::arms-returns-clause-reads = control.control::arms-returns-clause-reads
 pub control::arm_turn-returns-then-at_list_end-clause-ends : goal.control::arm_turn-returns-then-at_list_end-clause-ends
 control::arm_turn-returns-then-at_list_end-clause-ends = control.control::arm_turn-returns-then-at_list_end-clause-ends
 
-pub control::arm_turn-read_anew-requires : goal.control::arm_turn-read_anew-requires
-control::arm_turn-read_anew-requires = control.control::arm_turn-read_anew-requires
+pub control::arm_turn-match_arm-requires : goal.control::arm_turn-match_arm-requires
+control::arm_turn-match_arm-requires = control.control::arm_turn-match_arm-requires
 
 pub control::arm_turn-returns-then-at_production-clause-goes : goal.control::arm_turn-returns-then-at_production-clause-goes
 control::arm_turn-returns-then-at_production-clause-goes = control.control::arm_turn-returns-then-at_production-clause-goes
 
-pub control::arm_turn-returns-then-at_production-clause-ends : goal.control::arm_turn-returns-then-at_production-clause-ends
-control::arm_turn-returns-then-at_production-clause-ends = control.control::arm_turn-returns-then-at_production-clause-ends
+pub control::arm_turn-returns-then-at_production-clause-input : goal.control::arm_turn-returns-then-at_production-clause-input
+control::arm_turn-returns-then-at_production-clause-input = control.control::arm_turn-returns-then-at_production-clause-input
 
-pub control::arm_turn-returns-then-at_production-clause-fewer : goal.control::arm_turn-returns-then-at_production-clause-fewer
-control::arm_turn-returns-then-at_production-clause-fewer = control.control::arm_turn-returns-then-at_production-clause-fewer
+pub control::arm_turn-returns-then-at_production-clause-innermost : goal.control::arm_turn-returns-then-at_production-clause-innermost
+control::arm_turn-returns-then-at_production-clause-innermost = control.control::arm_turn-returns-then-at_production-clause-innermost
 
 pub control::arm_turn-returns-then-at_production-clause-pays : goal.control::arm_turn-returns-then-at_production-clause-pays
 control::arm_turn-returns-then-at_production-clause-pays = control.control::arm_turn-returns-then-at_production-clause-pays
@@ -1429,6 +1265,849 @@ expressions::expect_expression-returns-clause-looks = expressions.expressions::e
 
 pub expressions::expect_condition-returns-clause-reads : goal.expressions::expect_condition-returns-clause-reads
 expressions::expect_condition-returns-clause-reads = expressions.expressions::expect_condition-returns-clause-reads
+
+pub fields::field_value-named_value-requires : goal.fields::field_value-named_value-requires
+fields::field_value-named_value-requires = fields.fields::field_value-named_value-requires
+
+pub fields::field_value-returns-then-at_named_field-clause-gives : goal.fields::field_value-returns-then-at_named_field-clause-gives
+fields::field_value-returns-then-at_named_field-clause-gives = fields.fields::field_value-returns-then-at_named_field-clause-gives
+
+pub fields::field_value-other_fields-requires : goal.fields::field_value-other_fields-requires
+fields::field_value-other_fields-requires = fields.fields::field_value-other_fields-requires
+
+pub fields::field_value-returns-then-at_pair-clause-gives : goal.fields::field_value-returns-then-at_pair-clause-gives
+fields::field_value-returns-then-at_pair-clause-gives = fields.fields::field_value-returns-then-at_pair-clause-gives
+
+pub fields::field_value-path_value-requires : goal.fields::field_value-path_value-requires
+fields::field_value-path_value-requires = fields.fields::field_value-path_value-requires
+
+pub fields::field_value-returns-clause-gives : goal.fields::field_value-returns-clause-gives
+fields::field_value-returns-clause-gives = fields.fields::field_value-returns-clause-gives
+
+pub fields::named_value-expect_expression-requires : goal.fields::named_value-expect_expression-requires
+fields::named_value-expect_expression-requires = fields.fields::named_value-expect_expression-requires
+
+pub fields::named_value-complete-requires : goal.fields::named_value-complete-requires
+fields::named_value-complete-requires = fields.fields::named_value-complete-requires
+
+pub fields::named_value-returns-clause-reads : goal.fields::named_value-returns-clause-reads
+fields::named_value-returns-clause-reads = fields.fields::named_value-returns-clause-reads
+
+pub fields::other_fields-opt_expression-requires : goal.fields::other_fields-opt_expression-requires
+fields::other_fields-opt_expression-requires = fields.fields::other_fields-opt_expression-requires
+
+pub fields::other_fields-returns-clause-reads : goal.fields::other_fields-returns-clause-reads
+fields::other_fields-returns-clause-reads = fields.fields::other_fields-returns-clause-reads
+
+pub fields::opt_expression-read_anew-requires : goal.fields::opt_expression-read_anew-requires
+fields::opt_expression-read_anew-requires = fields.fields::opt_expression-read_anew-requires
+
+pub fields::opt_expression-returns-then-at_production-clause-reads : goal.fields::opt_expression-returns-then-at_production-clause-reads
+fields::opt_expression-returns-then-at_production-clause-reads = fields.fields::opt_expression-returns-then-at_production-clause-reads
+
+pub fields::opt_expression-returns-else-at_production-clause-reads : goal.fields::opt_expression-returns-else-at_production-clause-reads
+fields::opt_expression-returns-else-at_production-clause-reads = fields.fields::opt_expression-returns-else-at_production-clause-reads
+
+pub fields::opt_expression-returns-then-at_production-clause-looks : goal.fields::opt_expression-returns-then-at_production-clause-looks
+fields::opt_expression-returns-then-at_production-clause-looks = fields.fields::opt_expression-returns-then-at_production-clause-looks
+
+pub fields::opt_expression-returns-else-at_production-clause-looks : goal.fields::opt_expression-returns-else-at_production-clause-looks
+fields::opt_expression-returns-else-at_production-clause-looks = fields.fields::opt_expression-returns-else-at_production-clause-looks
+
+pub fields::path_value-path_with_args-requires : goal.fields::path_value-path_with_args-requires
+fields::path_value-path_with_args-requires = fields.fields::path_value-path_with_args-requires
+
+pub fields::path_value-complete-requires : goal.fields::path_value-complete-requires
+fields::path_value-complete-requires = fields.fields::path_value-complete-requires
+
+pub fields::path_value-complete-requires-2 : goal.fields::path_value-complete-requires-2
+fields::path_value-complete-requires-2 = fields.fields::path_value-complete-requires-2
+
+pub fields::path_value-returns-clause-reads : goal.fields::path_value-returns-clause-reads
+fields::path_value-returns-clause-reads = fields.fields::path_value-returns-clause-reads
+
+pub fields::pattern_field-returns-then-at_pair-clause-gives : goal.fields::pattern_field-returns-then-at_pair-clause-gives
+fields::pattern_field-returns-then-at_pair-clause-gives = fields.fields::pattern_field-returns-then-at_pair-clause-gives
+
+pub fields::pattern_field-named_pattern-requires : goal.fields::pattern_field-named_pattern-requires
+fields::pattern_field-named_pattern-requires = fields.fields::pattern_field-named_pattern-requires
+
+pub fields::pattern_field-returns-then-at_named_field-clause-gives : goal.fields::pattern_field-returns-then-at_named_field-clause-gives
+fields::pattern_field-returns-then-at_named_field-clause-gives = fields.fields::pattern_field-returns-then-at_named_field-clause-gives
+
+pub fields::pattern_field-shorthand-requires-clause-begins : goal.fields::pattern_field-shorthand-requires-clause-begins
+fields::pattern_field-shorthand-requires-clause-begins = fields.fields::pattern_field-shorthand-requires-clause-begins
+
+pub fields::pattern_field-returns-clause-gives : goal.fields::pattern_field-returns-clause-gives
+fields::pattern_field-returns-clause-gives = fields.fields::pattern_field-returns-clause-gives
+
+pub fields::named_pattern-expect_pattern-requires : goal.fields::named_pattern-expect_pattern-requires
+fields::named_pattern-expect_pattern-requires = fields.fields::named_pattern-expect_pattern-requires
+
+pub fields::named_pattern-complete-requires : goal.fields::named_pattern-complete-requires
+fields::named_pattern-complete-requires = fields.fields::named_pattern-complete-requires
+
+pub fields::named_pattern-returns-clause-reads : goal.fields::named_pattern-returns-clause-reads
+fields::named_pattern-returns-clause-reads = fields.fields::named_pattern-returns-clause-reads
+
+pub functions::fn_item-fn_words-requires : goal.functions::fn_item-fn_words-requires
+functions::fn_item-fn_words-requires = functions.functions::fn_item-fn_words-requires
+
+pub functions::fn_item-opt_generic_params-requires : goal.functions::fn_item-opt_generic_params-requires
+functions::fn_item-opt_generic_params-requires = functions.functions::fn_item-opt_generic_params-requires
+
+pub functions::fn_item-expect_params-requires : goal.functions::fn_item-expect_params-requires
+functions::fn_item-expect_params-requires = functions.functions::fn_item-expect_params-requires
+
+pub functions::fn_item-opt_ret_type-requires : goal.functions::fn_item-opt_ret_type-requires
+functions::fn_item-opt_ret_type-requires = functions.functions::fn_item-opt_ret_type-requires
+
+pub functions::fn_item-opt_where_clause-requires : goal.functions::fn_item-opt_where_clause-requires
+functions::fn_item-opt_where_clause-requires = functions.functions::fn_item-opt_where_clause-requires
+
+pub functions::fn_item-fn_body-requires : goal.functions::fn_item-fn_body-requires
+functions::fn_item-fn_body-requires = functions.functions::fn_item-fn_body-requires
+
+pub functions::fn_item-complete-requires : goal.functions::fn_item-complete-requires
+functions::fn_item-complete-requires = functions.functions::fn_item-complete-requires
+
+pub functions::fn_item-returns-clause-completes : goal.functions::fn_item-returns-clause-completes
+functions::fn_item-returns-clause-completes = functions.functions::fn_item-returns-clause-completes
+
+pub functions::expect_params-params-requires : goal.functions::expect_params-params-requires
+functions::expect_params-params-requires = functions.functions::expect_params-params-requires
+
+pub functions::expect_params-returns-then-at-clause-reads : goal.functions::expect_params-returns-then-at-clause-reads
+functions::expect_params-returns-then-at-clause-reads = functions.functions::expect_params-returns-then-at-clause-reads
+
+pub functions::expect_params-returns-clause-reads : goal.functions::expect_params-returns-clause-reads
+functions::expect_params-returns-clause-reads = functions.functions::expect_params-returns-clause-reads
+
+pub functions::opt_ret_type-ret_type-requires : goal.functions::opt_ret_type-ret_type-requires
+functions::opt_ret_type-ret_type-requires = functions.functions::opt_ret_type-ret_type-requires
+
+pub functions::opt_ret_type-returns-then-at_pair-clause-reads : goal.functions::opt_ret_type-returns-then-at_pair-clause-reads
+functions::opt_ret_type-returns-then-at_pair-clause-reads = functions.functions::opt_ret_type-returns-then-at_pair-clause-reads
+
+pub functions::opt_ret_type-returns-else-at_pair-clause-reads : goal.functions::opt_ret_type-returns-else-at_pair-clause-reads
+functions::opt_ret_type-returns-else-at_pair-clause-reads = functions.functions::opt_ret_type-returns-else-at_pair-clause-reads
+
+pub functions::fn_body-block-requires : goal.functions::fn_body-block-requires
+functions::fn_body-block-requires = functions.functions::fn_body-block-requires
+
+pub functions::fn_body-returns-then-at-clause-reads : goal.functions::fn_body-returns-then-at-clause-reads
+functions::fn_body-returns-then-at-clause-reads = functions.functions::fn_body-returns-then-at-clause-reads
+
+pub functions::fn_body-returns-clause-reads : goal.functions::fn_body-returns-clause-reads
+functions::fn_body-returns-clause-reads = functions.functions::fn_body-returns-clause-reads
+
+pub generic_arg::generic_arg-returns-in-LIFETIME_IDENT-clause-gives : goal.generic_arg::generic_arg-returns-in-LIFETIME_IDENT-clause-gives
+generic_arg::generic_arg-returns-in-LIFETIME_IDENT-clause-gives = generic_arg.generic_arg::generic_arg-returns-in-LIFETIME_IDENT-clause-gives
+
+pub generic_arg::generic_arg-returns-in-MINUS-clause-gives : goal.generic_arg::generic_arg-returns-in-MINUS-clause-gives
+generic_arg::generic_arg-returns-in-MINUS-clause-gives = generic_arg.generic_arg::generic_arg-returns-in-MINUS-clause-gives
+
+pub generic_arg::generic_arg-word_arg-requires : goal.generic_arg::generic_arg-word_arg-requires
+generic_arg::generic_arg-word_arg-requires = generic_arg.generic_arg::generic_arg-word_arg-requires
+
+pub generic_arg::generic_arg-returns-in-IDENT-clause-gives : goal.generic_arg::generic_arg-returns-in-IDENT-clause-gives
+generic_arg::generic_arg-returns-in-IDENT-clause-gives = generic_arg.generic_arg::generic_arg-returns-in-IDENT-clause-gives
+
+pub generic_arg::generic_arg-returns-then-at_literal-clause-gives : goal.generic_arg::generic_arg-returns-then-at_literal-clause-gives
+generic_arg::generic_arg-returns-then-at_literal-clause-gives = generic_arg.generic_arg::generic_arg-returns-then-at_literal-clause-gives
+
+pub generic_arg::generic_arg-type_arg-requires : goal.generic_arg::generic_arg-type_arg-requires
+generic_arg::generic_arg-type_arg-requires = generic_arg.generic_arg::generic_arg-type_arg-requires
+
+pub generic_arg::generic_arg-returns-else-at_literal-clause-gives : goal.generic_arg::generic_arg-returns-else-at_literal-clause-gives
+generic_arg::generic_arg-returns-else-at_literal-clause-gives = generic_arg.generic_arg::generic_arg-returns-else-at_literal-clause-gives
+
+pub generic_arg::word_arg-assoc_type_arg-requires : goal.generic_arg::word_arg-assoc_type_arg-requires
+generic_arg::word_arg-assoc_type_arg-requires = generic_arg.generic_arg::word_arg-assoc_type_arg-requires
+
+pub generic_arg::word_arg-returns-then-at_second-clause-reads : goal.generic_arg::word_arg-returns-then-at_second-clause-reads
+generic_arg::word_arg-returns-then-at_second-clause-reads = generic_arg.generic_arg::word_arg-returns-then-at_second-clause-reads
+
+pub generic_arg::word_arg-type_arg-requires : goal.generic_arg::word_arg-type_arg-requires
+generic_arg::word_arg-type_arg-requires = generic_arg.generic_arg::word_arg-type_arg-requires
+
+pub generic_arg::word_arg-returns-clause-reads : goal.generic_arg::word_arg-returns-clause-reads
+generic_arg::word_arg-returns-clause-reads = generic_arg.generic_arg::word_arg-returns-clause-reads
+
+pub generic_arg::assoc_type_arg-expect_type-requires : goal.generic_arg::assoc_type_arg-expect_type-requires
+generic_arg::assoc_type_arg-expect_type-requires = generic_arg.generic_arg::assoc_type_arg-expect_type-requires
+
+pub generic_arg::assoc_type_arg-complete-requires : goal.generic_arg::assoc_type_arg-complete-requires
+generic_arg::assoc_type_arg-complete-requires = generic_arg.generic_arg::assoc_type_arg-complete-requires
+
+pub generic_arg::assoc_type_arg-returns-clause-reads : goal.generic_arg::assoc_type_arg-returns-clause-reads
+generic_arg::assoc_type_arg-returns-clause-reads = generic_arg.generic_arg::assoc_type_arg-returns-clause-reads
+
+pub generic_arg::type_arg-any_type-requires : goal.generic_arg::type_arg-any_type-requires
+generic_arg::type_arg-any_type-requires = generic_arg.generic_arg::type_arg-any_type-requires
+
+pub generic_arg::type_arg-complete-requires : goal.generic_arg::type_arg-complete-requires
+generic_arg::type_arg-complete-requires = generic_arg.generic_arg::type_arg-complete-requires
+
+pub generic_arg::type_arg-returns-clause-reads : goal.generic_arg::type_arg-returns-clause-reads
+generic_arg::type_arg-returns-clause-reads = generic_arg.generic_arg::type_arg-returns-clause-reads
+
+pub generics::bound-lifetime_or_path-requires : goal.generics::bound-lifetime_or_path-requires
+generics::bound-lifetime_or_path-requires = generics.generics::bound-lifetime_or_path-requires
+
+pub generics::bound-complete-requires : goal.generics::bound-complete-requires
+generics::bound-complete-requires = generics.generics::bound-complete-requires
+
+pub generics::bound-returns-clause-gives : goal.generics::bound-returns-clause-gives
+generics::bound-returns-clause-gives = generics.generics::bound-returns-clause-gives
+
+pub generics::lifetime_or_path-returns-in-LIFETIME_IDENT-clause-reads : goal.generics::lifetime_or_path-returns-in-LIFETIME_IDENT-clause-reads
+generics::lifetime_or_path-returns-in-LIFETIME_IDENT-clause-reads = generics.generics::lifetime_or_path-returns-in-LIFETIME_IDENT-clause-reads
+
+pub generics::lifetime_or_path-path_after_question-requires : goal.generics::lifetime_or_path-path_after_question-requires
+generics::lifetime_or_path-path_after_question-requires = generics.generics::lifetime_or_path-path_after_question-requires
+
+pub generics::lifetime_or_path-returns-in-QUESTION-clause-reads : goal.generics::lifetime_or_path-returns-in-QUESTION-clause-reads
+generics::lifetime_or_path-returns-in-QUESTION-clause-reads = generics.generics::lifetime_or_path-returns-in-QUESTION-clause-reads
+
+pub generics::lifetime_or_path-path_type-requires : goal.generics::lifetime_or_path-path_type-requires
+generics::lifetime_or_path-path_type-requires = generics.generics::lifetime_or_path-path_type-requires
+
+pub generics::lifetime_or_path-returns-in_default-clause-reads : goal.generics::lifetime_or_path-returns-in_default-clause-reads
+generics::lifetime_or_path-returns-in_default-clause-reads = generics.generics::lifetime_or_path-returns-in_default-clause-reads
+
+pub generics::path_after_question-expect_path_type-requires : goal.generics::path_after_question-expect_path_type-requires
+generics::path_after_question-expect_path_type-requires = generics.generics::path_after_question-expect_path_type-requires
+
+pub generics::path_after_question-returns-clause-reads : goal.generics::path_after_question-returns-clause-reads
+generics::path_after_question-returns-clause-reads = generics.generics::path_after_question-returns-clause-reads
+
+pub generics::expect_path_type-path_type-requires : goal.generics::expect_path_type-path_type-requires
+generics::expect_path_type-path_type-requires = generics.generics::expect_path_type-path_type-requires
+
+pub generics::expect_path_type-returns-then-at_path-clause-reads : goal.generics::expect_path_type-returns-then-at_path-clause-reads
+generics::expect_path_type-returns-then-at_path-clause-reads = generics.generics::expect_path_type-returns-then-at_path-clause-reads
+
+pub generics::expect_path_type-returns-clause-reads : goal.generics::expect_path_type-returns-clause-reads
+generics::expect_path_type-returns-clause-reads = generics.generics::expect_path_type-returns-clause-reads
+
+pub generics::bounds-opt_bounds-requires : goal.generics::bounds-opt_bounds-requires
+generics::bounds-opt_bounds-requires = generics.generics::bounds-opt_bounds-requires
+
+pub generics::bounds-complete-requires : goal.generics::bounds-complete-requires
+generics::bounds-complete-requires = generics.generics::bounds-complete-requires
+
+pub generics::bounds-returns-clause-gives : goal.generics::bounds-returns-clause-gives
+generics::bounds-returns-clause-gives = generics.generics::bounds-returns-clause-gives
+
+pub generics::opt_bounds-bound-requires : goal.generics::opt_bounds-bound-requires
+generics::opt_bounds-bound-requires = generics.generics::opt_bounds-bound-requires
+
+pub generics::opt_bounds-further_bounds-requires : goal.generics::opt_bounds-further_bounds-requires
+generics::opt_bounds-further_bounds-requires = generics.generics::opt_bounds-further_bounds-requires
+
+pub generics::opt_bounds-returns-then-at_bound-clause-reads : goal.generics::opt_bounds-returns-then-at_bound-clause-reads
+generics::opt_bounds-returns-then-at_bound-clause-reads = generics.generics::opt_bounds-returns-then-at_bound-clause-reads
+
+pub generics::opt_bounds-returns-else-at_bound-clause-reads : goal.generics::opt_bounds-returns-else-at_bound-clause-reads
+generics::opt_bounds-returns-else-at_bound-clause-reads = generics.generics::opt_bounds-returns-else-at_bound-clause-reads
+
+pub generics::further_bounds-turns-preserved : goal.generics::further_bounds-turns-preserved
+generics::further_bounds-turns-preserved = generics.generics::further_bounds-turns-preserved
+
+pub generics::further_bounds-returns-clause-reads : goal.generics::further_bounds-returns-clause-reads
+generics::further_bounds-returns-clause-reads = generics.generics::further_bounds-returns-clause-reads
+
+pub generics::further_bound-opt_bound-requires : goal.generics::further_bound-opt_bound-requires
+generics::further_bound-opt_bound-requires = generics.generics::further_bound-opt_bound-requires
+
+pub generics::further_bound-returns-clause-reads : goal.generics::further_bound-returns-clause-reads
+generics::further_bound-returns-clause-reads = generics.generics::further_bound-returns-clause-reads
+
+pub generics::opt_bound-bound-requires : goal.generics::opt_bound-bound-requires
+generics::opt_bound-bound-requires = generics.generics::opt_bound-bound-requires
+
+pub generics::opt_bound-returns-then-at_bound-clause-reads : goal.generics::opt_bound-returns-then-at_bound-clause-reads
+generics::opt_bound-returns-then-at_bound-clause-reads = generics.generics::opt_bound-returns-then-at_bound-clause-reads
+
+pub generics::opt_bound-returns-else-at_bound-clause-reads : goal.generics::opt_bound-returns-else-at_bound-clause-reads
+generics::opt_bound-returns-else-at_bound-clause-reads = generics.generics::opt_bound-returns-else-at_bound-clause-reads
+
+pub generics::bounds_after_colon-bounds-requires : goal.generics::bounds_after_colon-bounds-requires
+generics::bounds_after_colon-bounds-requires = generics.generics::bounds_after_colon-bounds-requires
+
+pub generics::bounds_after_colon-returns-then-at-clause-reads : goal.generics::bounds_after_colon-returns-then-at-clause-reads
+generics::bounds_after_colon-returns-then-at-clause-reads = generics.generics::bounds_after_colon-returns-then-at-clause-reads
+
+pub generics::bounds_after_colon-returns-else-at-clause-reads : goal.generics::bounds_after_colon-returns-else-at-clause-reads
+generics::bounds_after_colon-returns-else-at-clause-reads = generics.generics::bounds_after_colon-returns-else-at-clause-reads
+
+pub generics::lifetime_param-bounds_after_colon-requires : goal.generics::lifetime_param-bounds_after_colon-requires
+generics::lifetime_param-bounds_after_colon-requires = generics.generics::lifetime_param-bounds_after_colon-requires
+
+pub generics::lifetime_param-complete-requires : goal.generics::lifetime_param-complete-requires
+generics::lifetime_param-complete-requires = generics.generics::lifetime_param-complete-requires
+
+pub generics::lifetime_param-returns-clause-reads : goal.generics::lifetime_param-returns-clause-reads
+generics::lifetime_param-returns-clause-reads = generics.generics::lifetime_param-returns-clause-reads
+
+pub generics::type_param-bounds_after_colon-requires : goal.generics::type_param-bounds_after_colon-requires
+generics::type_param-bounds_after_colon-requires = generics.generics::type_param-bounds_after_colon-requires
+
+pub generics::type_param-opt_type_after-requires : goal.generics::type_param-opt_type_after-requires
+generics::type_param-opt_type_after-requires = generics.generics::type_param-opt_type_after-requires
+
+pub generics::type_param-complete-requires : goal.generics::type_param-complete-requires
+generics::type_param-complete-requires = generics.generics::type_param-complete-requires
+
+pub generics::type_param-returns-clause-reads : goal.generics::type_param-returns-clause-reads
+generics::type_param-returns-clause-reads = generics.generics::type_param-returns-clause-reads
+
+pub generics::generic_param-lifetime_param-requires : goal.generics::generic_param-lifetime_param-requires
+generics::generic_param-lifetime_param-requires = generics.generics::generic_param-lifetime_param-requires
+
+pub generics::generic_param-type_param-requires : goal.generics::generic_param-type_param-requires
+generics::generic_param-type_param-requires = generics.generics::generic_param-type_param-requires
+
+pub generics::generic_param-returns-then-at-clause-gives : goal.generics::generic_param-returns-then-at-clause-gives
+generics::generic_param-returns-then-at-clause-gives = generics.generics::generic_param-returns-then-at-clause-gives
+
+pub generics::generic_param-returns-clause-gives : goal.generics::generic_param-returns-clause-gives
+generics::generic_param-returns-clause-gives = generics.generics::generic_param-returns-clause-gives
+
+pub generics::lifetime_or_type-any_type-requires : goal.generics::lifetime_or_type-any_type-requires
+generics::lifetime_or_type-any_type-requires = generics.generics::lifetime_or_type-any_type-requires
+
+pub generics::lifetime_or_type-returns-then-at-clause-reads : goal.generics::lifetime_or_type-returns-then-at-clause-reads
+generics::lifetime_or_type-returns-then-at-clause-reads = generics.generics::lifetime_or_type-returns-then-at-clause-reads
+
+pub generics::lifetime_or_type-returns-clause-reads : goal.generics::lifetime_or_type-returns-clause-reads
+generics::lifetime_or_type-returns-clause-reads = generics.generics::lifetime_or_type-returns-clause-reads
+
+pub generics::where_pred-lifetime_or_type-requires : goal.generics::where_pred-lifetime_or_type-requires
+generics::where_pred-lifetime_or_type-requires = generics.generics::where_pred-lifetime_or_type-requires
+
+pub generics::where_pred-bounds-requires : goal.generics::where_pred-bounds-requires
+generics::where_pred-bounds-requires = generics.generics::where_pred-bounds-requires
+
+pub generics::where_pred-complete-requires : goal.generics::where_pred-complete-requires
+generics::where_pred-complete-requires = generics.generics::where_pred-complete-requires
+
+pub generics::where_pred-returns-clause-gives : goal.generics::where_pred-returns-clause-gives
+generics::where_pred-returns-clause-gives = generics.generics::where_pred-returns-clause-gives
+
+pub generics::where_clause-opt_preds-requires : goal.generics::where_clause-opt_preds-requires
+generics::where_clause-opt_preds-requires = generics.generics::where_clause-opt_preds-requires
+
+pub generics::where_clause-complete-requires : goal.generics::where_clause-complete-requires
+generics::where_clause-complete-requires = generics.generics::where_clause-complete-requires
+
+pub generics::where_clause-returns-clause-gives : goal.generics::where_clause-returns-clause-gives
+generics::where_clause-returns-clause-gives = generics.generics::where_clause-returns-clause-gives
+
+pub generics::opt_preds-where_pred-requires : goal.generics::opt_preds-where_pred-requires
+generics::opt_preds-where_pred-requires = generics.generics::opt_preds-where_pred-requires
+
+pub generics::opt_preds-further_preds-requires : goal.generics::opt_preds-further_preds-requires
+generics::opt_preds-further_preds-requires = generics.generics::opt_preds-further_preds-requires
+
+pub generics::opt_preds-returns-then-at_where_pred-clause-reads : goal.generics::opt_preds-returns-then-at_where_pred-clause-reads
+generics::opt_preds-returns-then-at_where_pred-clause-reads = generics.generics::opt_preds-returns-then-at_where_pred-clause-reads
+
+pub generics::opt_preds-returns-else-at_where_pred-clause-reads : goal.generics::opt_preds-returns-else-at_where_pred-clause-reads
+generics::opt_preds-returns-else-at_where_pred-clause-reads = generics.generics::opt_preds-returns-else-at_where_pred-clause-reads
+
+pub generics::further_preds-turns-preserved : goal.generics::further_preds-turns-preserved
+generics::further_preds-turns-preserved = generics.generics::further_preds-turns-preserved
+
+pub generics::further_preds-returns-clause-reads : goal.generics::further_preds-returns-clause-reads
+generics::further_preds-returns-clause-reads = generics.generics::further_preds-returns-clause-reads
+
+pub generics::further_pred-opt_pred-requires : goal.generics::further_pred-opt_pred-requires
+generics::further_pred-opt_pred-requires = generics.generics::further_pred-opt_pred-requires
+
+pub generics::further_pred-returns-clause-reads : goal.generics::further_pred-returns-clause-reads
+generics::further_pred-returns-clause-reads = generics.generics::further_pred-returns-clause-reads
+
+pub generics::opt_pred-where_pred-requires : goal.generics::opt_pred-where_pred-requires
+generics::opt_pred-where_pred-requires = generics.generics::opt_pred-where_pred-requires
+
+pub generics::opt_pred-returns-then-at_where_pred-clause-reads : goal.generics::opt_pred-returns-then-at_where_pred-clause-reads
+generics::opt_pred-returns-then-at_where_pred-clause-reads = generics.generics::opt_pred-returns-then-at_where_pred-clause-reads
+
+pub generics::opt_pred-returns-else-at_where_pred-clause-reads : goal.generics::opt_pred-returns-else-at_where_pred-clause-reads
+generics::opt_pred-returns-else-at_where_pred-clause-reads = generics.generics::opt_pred-returns-else-at_where_pred-clause-reads
+
+pub read_by_hand-returns-in-Arguments-clause-gives : goal.read_by_hand-returns-in-Arguments-clause-gives
+read_by_hand-returns-in-Arguments-clause-gives = hands.read_by_hand-returns-in-Arguments-clause-gives
+
+pub read_by_hand-returns-in-Arguments-clause-looks : goal.read_by_hand-returns-in-Arguments-clause-looks
+read_by_hand-returns-in-Arguments-clause-looks = hands.read_by_hand-returns-in-Arguments-clause-looks
+
+pub read_by_hand-returns-in-Attribute-clause-gives : goal.read_by_hand-returns-in-Attribute-clause-gives
+read_by_hand-returns-in-Attribute-clause-gives = hands.read_by_hand-returns-in-Attribute-clause-gives
+
+pub read_by_hand-returns-in-Attribute-clause-looks : goal.read_by_hand-returns-in-Attribute-clause-looks
+read_by_hand-returns-in-Attribute-clause-looks = hands.read_by_hand-returns-in-Attribute-clause-looks
+
+pub read_by_hand-returns-in-Block-clause-gives : goal.read_by_hand-returns-in-Block-clause-gives
+read_by_hand-returns-in-Block-clause-gives = hands.read_by_hand-returns-in-Block-clause-gives
+
+pub read_by_hand-returns-in-Block-clause-looks : goal.read_by_hand-returns-in-Block-clause-looks
+read_by_hand-returns-in-Block-clause-looks = hands.read_by_hand-returns-in-Block-clause-looks
+
+pub read_by_hand-returns-in-ExprPath-clause-gives : goal.read_by_hand-returns-in-ExprPath-clause-gives
+read_by_hand-returns-in-ExprPath-clause-gives = hands.read_by_hand-returns-in-ExprPath-clause-gives
+
+pub read_by_hand-returns-in-ExprPath-clause-looks : goal.read_by_hand-returns-in-ExprPath-clause-looks
+read_by_hand-returns-in-ExprPath-clause-looks = hands.read_by_hand-returns-in-ExprPath-clause-looks
+
+pub read_by_hand-returns-in-FieldValues-clause-gives : goal.read_by_hand-returns-in-FieldValues-clause-gives
+read_by_hand-returns-in-FieldValues-clause-gives = hands.read_by_hand-returns-in-FieldValues-clause-gives
+
+pub read_by_hand-returns-in-FieldValues-clause-looks : goal.read_by_hand-returns-in-FieldValues-clause-looks
+read_by_hand-returns-in-FieldValues-clause-looks = hands.read_by_hand-returns-in-FieldValues-clause-looks
+
+pub read_by_hand-returns-in-GenericArgs-clause-gives : goal.read_by_hand-returns-in-GenericArgs-clause-gives
+read_by_hand-returns-in-GenericArgs-clause-gives = hands.read_by_hand-returns-in-GenericArgs-clause-gives
+
+pub read_by_hand-returns-in-GenericArgs-clause-looks : goal.read_by_hand-returns-in-GenericArgs-clause-looks
+read_by_hand-returns-in-GenericArgs-clause-looks = hands.read_by_hand-returns-in-GenericArgs-clause-looks
+
+pub read_by_hand-returns-in-GenericParams-clause-gives : goal.read_by_hand-returns-in-GenericParams-clause-gives
+read_by_hand-returns-in-GenericParams-clause-gives = hands.read_by_hand-returns-in-GenericParams-clause-gives
+
+pub read_by_hand-returns-in-GenericParams-clause-looks : goal.read_by_hand-returns-in-GenericParams-clause-looks
+read_by_hand-returns-in-GenericParams-clause-looks = hands.read_by_hand-returns-in-GenericParams-clause-looks
+
+pub read_by_hand-returns-in-Lifetime-clause-gives : goal.read_by_hand-returns-in-Lifetime-clause-gives
+read_by_hand-returns-in-Lifetime-clause-gives = hands.read_by_hand-returns-in-Lifetime-clause-gives
+
+pub read_by_hand-returns-in-Lifetime-clause-looks : goal.read_by_hand-returns-in-Lifetime-clause-looks
+read_by_hand-returns-in-Lifetime-clause-looks = hands.read_by_hand-returns-in-Lifetime-clause-looks
+
+pub read_by_hand-returns-in-Literal-clause-gives : goal.read_by_hand-returns-in-Literal-clause-gives
+read_by_hand-returns-in-Literal-clause-gives = hands.read_by_hand-returns-in-Literal-clause-gives
+
+pub read_by_hand-returns-in-Literal-clause-looks : goal.read_by_hand-returns-in-Literal-clause-looks
+read_by_hand-returns-in-Literal-clause-looks = hands.read_by_hand-returns-in-Literal-clause-looks
+
+pub read_by_hand-returns-in-Meta-clause-looks : goal.read_by_hand-returns-in-Meta-clause-looks
+read_by_hand-returns-in-Meta-clause-looks = hands.read_by_hand-returns-in-Meta-clause-looks
+
+pub read_by_hand-returns-in-Name-clause-gives : goal.read_by_hand-returns-in-Name-clause-gives
+read_by_hand-returns-in-Name-clause-gives = hands.read_by_hand-returns-in-Name-clause-gives
+
+pub read_by_hand-returns-in-Name-clause-looks : goal.read_by_hand-returns-in-Name-clause-looks
+read_by_hand-returns-in-Name-clause-looks = hands.read_by_hand-returns-in-Name-clause-looks
+
+pub read_by_hand-returns-in-NameRef-clause-gives : goal.read_by_hand-returns-in-NameRef-clause-gives
+read_by_hand-returns-in-NameRef-clause-gives = hands.read_by_hand-returns-in-NameRef-clause-gives
+
+pub read_by_hand-returns-in-NameRef-clause-looks : goal.read_by_hand-returns-in-NameRef-clause-looks
+read_by_hand-returns-in-NameRef-clause-looks = hands.read_by_hand-returns-in-NameRef-clause-looks
+
+pub read_by_hand-returns-in-Params-clause-gives : goal.read_by_hand-returns-in-Params-clause-gives
+read_by_hand-returns-in-Params-clause-gives = hands.read_by_hand-returns-in-Params-clause-gives
+
+pub read_by_hand-returns-in-Params-clause-looks : goal.read_by_hand-returns-in-Params-clause-looks
+read_by_hand-returns-in-Params-clause-looks = hands.read_by_hand-returns-in-Params-clause-looks
+
+pub read_by_hand-returns-in-Path-clause-gives : goal.read_by_hand-returns-in-Path-clause-gives
+read_by_hand-returns-in-Path-clause-gives = hands.read_by_hand-returns-in-Path-clause-gives
+
+pub read_by_hand-returns-in-Path-clause-looks : goal.read_by_hand-returns-in-Path-clause-looks
+read_by_hand-returns-in-Path-clause-looks = hands.read_by_hand-returns-in-Path-clause-looks
+
+pub read_by_hand-returns-in-PatternFields-clause-gives : goal.read_by_hand-returns-in-PatternFields-clause-gives
+read_by_hand-returns-in-PatternFields-clause-gives = hands.read_by_hand-returns-in-PatternFields-clause-gives
+
+pub read_by_hand-returns-in-PatternFields-clause-looks : goal.read_by_hand-returns-in-PatternFields-clause-looks
+read_by_hand-returns-in-PatternFields-clause-looks = hands.read_by_hand-returns-in-PatternFields-clause-looks
+
+pub read_by_hand-returns-in-StatementList-clause-gives : goal.read_by_hand-returns-in-StatementList-clause-gives
+read_by_hand-returns-in-StatementList-clause-gives = hands.read_by_hand-returns-in-StatementList-clause-gives
+
+pub read_by_hand-returns-in-StatementList-clause-looks : goal.read_by_hand-returns-in-StatementList-clause-looks
+read_by_hand-returns-in-StatementList-clause-looks = hands.read_by_hand-returns-in-StatementList-clause-looks
+
+pub read_by_hand-returns-in-TokenTree-clause-gives : goal.read_by_hand-returns-in-TokenTree-clause-gives
+read_by_hand-returns-in-TokenTree-clause-gives = hands.read_by_hand-returns-in-TokenTree-clause-gives
+
+pub read_by_hand-returns-in-TokenTree-clause-looks : goal.read_by_hand-returns-in-TokenTree-clause-looks
+read_by_hand-returns-in-TokenTree-clause-looks = hands.read_by_hand-returns-in-TokenTree-clause-looks
+
+pub read_by_hand-returns-in-TypePath-clause-gives : goal.read_by_hand-returns-in-TypePath-clause-gives
+read_by_hand-returns-in-TypePath-clause-gives = hands.read_by_hand-returns-in-TypePath-clause-gives
+
+pub read_by_hand-returns-in-TypePath-clause-looks : goal.read_by_hand-returns-in-TypePath-clause-looks
+read_by_hand-returns-in-TypePath-clause-looks = hands.read_by_hand-returns-in-TypePath-clause-looks
+
+pub read_by_hand-returns-in-UseList-clause-gives : goal.read_by_hand-returns-in-UseList-clause-gives
+read_by_hand-returns-in-UseList-clause-gives = hands.read_by_hand-returns-in-UseList-clause-gives
+
+pub read_by_hand-returns-in-UseList-clause-looks : goal.read_by_hand-returns-in-UseList-clause-looks
+read_by_hand-returns-in-UseList-clause-looks = hands.read_by_hand-returns-in-UseList-clause-looks
+
+pub read_by_hand-returns-in-UseTree-clause-gives : goal.read_by_hand-returns-in-UseTree-clause-gives
+read_by_hand-returns-in-UseTree-clause-gives = hands.read_by_hand-returns-in-UseTree-clause-gives
+
+pub read_by_hand-returns-in-UseTree-clause-looks : goal.read_by_hand-returns-in-UseTree-clause-looks
+read_by_hand-returns-in-UseTree-clause-looks = hands.read_by_hand-returns-in-UseTree-clause-looks
+
+pub read_by_hand-returns-in-Visibility-clause-gives : goal.read_by_hand-returns-in-Visibility-clause-gives
+read_by_hand-returns-in-Visibility-clause-gives = hands.read_by_hand-returns-in-Visibility-clause-gives
+
+pub read_by_hand-returns-in-Visibility-clause-looks : goal.read_by_hand-returns-in-Visibility-clause-looks
+read_by_hand-returns-in-Visibility-clause-looks = hands.read_by_hand-returns-in-Visibility-clause-looks
+
+pub read_by_hand-returns-in-WhereClause-clause-gives : goal.read_by_hand-returns-in-WhereClause-clause-gives
+read_by_hand-returns-in-WhereClause-clause-gives = hands.read_by_hand-returns-in-WhereClause-clause-gives
+
+pub read_by_hand-returns-in-WhereClause-clause-looks : goal.read_by_hand-returns-in-WhereClause-clause-looks
+read_by_hand-returns-in-WhereClause-clause-looks = hands.read_by_hand-returns-in-WhereClause-clause-looks
+
+pub read_by_hand-path_with_args-requires : goal.read_by_hand-path_with_args-requires
+read_by_hand-path_with_args-requires = hands.read_by_hand-path_with_args-requires
+
+pub read_by_hand-path_with_args-requires-in-TypePath : goal.read_by_hand-path_with_args-requires-in-TypePath
+read_by_hand-path_with_args-requires-in-TypePath = hands.read_by_hand-path_with_args-requires-in-TypePath
+
+pub read_by_hand-generic_args-requires : goal.read_by_hand-generic_args-requires
+read_by_hand-generic_args-requires = hands.read_by_hand-generic_args-requires
+
+pub read_by_hand-meta-requires : goal.read_by_hand-meta-requires
+read_by_hand-meta-requires = hands.read_by_hand-meta-requires
+
+pub read_by_hand-path-requires-clause-begins : goal.read_by_hand-path-requires-clause-begins
+read_by_hand-path-requires-clause-begins = hands.read_by_hand-path-requires-clause-begins
+
+pub read_by_hand-use_tree-requires-clause-begins : goal.read_by_hand-use_tree-requires-clause-begins
+read_by_hand-use_tree-requires-clause-begins = hands.read_by_hand-use_tree-requires-clause-begins
+
+pub production-read_by_hand-requires : goal.production-read_by_hand-requires
+production-read_by_hand-requires = hands.production-read_by_hand-requires
+
+pub production-returns-2-clause-input : goal.production-returns-2-clause-input
+production-returns-2-clause-input = hands.production-returns-2-clause-input
+
+pub production-returns-2-clause-marker : goal.production-returns-2-clause-marker
+production-returns-2-clause-marker = hands.production-returns-2-clause-marker
+
+pub production-returns-2-clause-innermost : goal.production-returns-2-clause-innermost
+production-returns-2-clause-innermost = hands.production-returns-2-clause-innermost
+
+pub production-returns-2-clause-reads : goal.production-returns-2-clause-reads
+production-returns-2-clause-reads = hands.production-returns-2-clause-reads
+
+pub production-returns-2-clause-looks : goal.production-returns-2-clause-looks
+production-returns-2-clause-looks = hands.production-returns-2-clause-looks
+
+pub called::read_anew-production-node-requires : goal.called::read_anew-production-node-requires
+called::read_anew-production-node-requires = hands.called::read_anew-production-node-requires
+
+pub called::read_anew-returns-clause-gives : goal.called::read_anew-returns-clause-gives
+called::read_anew-returns-clause-gives = hands.called::read_anew-returns-clause-gives
+
+pub called::read_anew-returns-clause-looks : goal.called::read_anew-returns-clause-looks
+called::read_anew-returns-clause-looks = hands.called::read_anew-returns-clause-looks
+
+pub called::read_anew-returns-clause-left : goal.called::read_anew-returns-clause-left
+called::read_anew-returns-clause-left = hands.called::read_anew-returns-clause-left
+
+pub read_by_hand-returns-in-AnyType-clause-looks : goal.read_by_hand-returns-in-AnyType-clause-looks
+read_by_hand-returns-in-AnyType-clause-looks = hands.read_by_hand-returns-in-AnyType-clause-looks
+
+pub read_by_hand-any_type-requires : goal.read_by_hand-any_type-requires
+read_by_hand-any_type-requires = hands.read_by_hand-any_type-requires
+
+pub read_by_hand-returns-in-Pattern-clause-gives : goal.read_by_hand-returns-in-Pattern-clause-gives
+read_by_hand-returns-in-Pattern-clause-gives = hands.read_by_hand-returns-in-Pattern-clause-gives
+
+pub read_by_hand-returns-in-Pattern-clause-looks : goal.read_by_hand-returns-in-Pattern-clause-looks
+read_by_hand-returns-in-Pattern-clause-looks = hands.read_by_hand-returns-in-Pattern-clause-looks
+
+pub read_by_hand-pattern-requires : goal.read_by_hand-pattern-requires
+read_by_hand-pattern-requires = hands.read_by_hand-pattern-requires
+
+pub read_by_hand-returns-in-SinglePattern-clause-gives : goal.read_by_hand-returns-in-SinglePattern-clause-gives
+read_by_hand-returns-in-SinglePattern-clause-gives = hands.read_by_hand-returns-in-SinglePattern-clause-gives
+
+pub read_by_hand-returns-in-SinglePattern-clause-looks : goal.read_by_hand-returns-in-SinglePattern-clause-looks
+read_by_hand-returns-in-SinglePattern-clause-looks = hands.read_by_hand-returns-in-SinglePattern-clause-looks
+
+pub read_by_hand-single_pattern-requires : goal.read_by_hand-single_pattern-requires
+read_by_hand-single_pattern-requires = hands.read_by_hand-single_pattern-requires
+
+pub read_by_hand-returns-in-Atom-clause-gives : goal.read_by_hand-returns-in-Atom-clause-gives
+read_by_hand-returns-in-Atom-clause-gives = hands.read_by_hand-returns-in-Atom-clause-gives
+
+pub read_by_hand-returns-in-Atom-clause-looks : goal.read_by_hand-returns-in-Atom-clause-looks
+read_by_hand-returns-in-Atom-clause-looks = hands.read_by_hand-returns-in-Atom-clause-looks
+
+pub read_by_hand-atom-requires : goal.read_by_hand-atom-requires
+read_by_hand-atom-requires = hands.read_by_hand-atom-requires
+
+pub read_by_hand-returns-in-Prefixed-clause-gives : goal.read_by_hand-returns-in-Prefixed-clause-gives
+read_by_hand-returns-in-Prefixed-clause-gives = hands.read_by_hand-returns-in-Prefixed-clause-gives
+
+pub read_by_hand-returns-in-Prefixed-clause-looks : goal.read_by_hand-returns-in-Prefixed-clause-looks
+read_by_hand-returns-in-Prefixed-clause-looks = hands.read_by_hand-returns-in-Prefixed-clause-looks
+
+pub read_by_hand-prefixed-requires : goal.read_by_hand-prefixed-requires
+read_by_hand-prefixed-requires = hands.read_by_hand-prefixed-requires
+
+pub read_by_hand-returns-in-BlockLike-clause-gives : goal.read_by_hand-returns-in-BlockLike-clause-gives
+read_by_hand-returns-in-BlockLike-clause-gives = hands.read_by_hand-returns-in-BlockLike-clause-gives
+
+pub read_by_hand-returns-in-BlockLike-clause-looks : goal.read_by_hand-returns-in-BlockLike-clause-looks
+read_by_hand-returns-in-BlockLike-clause-looks = hands.read_by_hand-returns-in-BlockLike-clause-looks
+
+pub read_by_hand-block_like-requires : goal.read_by_hand-block_like-requires
+read_by_hand-block_like-requires = hands.read_by_hand-block_like-requires
+
+pub read_by_hand-returns-in-IfExpr-clause-gives : goal.read_by_hand-returns-in-IfExpr-clause-gives
+read_by_hand-returns-in-IfExpr-clause-gives = hands.read_by_hand-returns-in-IfExpr-clause-gives
+
+pub read_by_hand-returns-in-IfExpr-clause-looks : goal.read_by_hand-returns-in-IfExpr-clause-looks
+read_by_hand-returns-in-IfExpr-clause-looks = hands.read_by_hand-returns-in-IfExpr-clause-looks
+
+pub read_by_hand-returns-in-MatchArms-clause-gives : goal.read_by_hand-returns-in-MatchArms-clause-gives
+read_by_hand-returns-in-MatchArms-clause-gives = hands.read_by_hand-returns-in-MatchArms-clause-gives
+
+pub read_by_hand-returns-in-MatchArms-clause-looks : goal.read_by_hand-returns-in-MatchArms-clause-looks
+read_by_hand-returns-in-MatchArms-clause-looks = hands.read_by_hand-returns-in-MatchArms-clause-looks
+
+pub read_by_hand-returns-in-AssocItems-clause-gives : goal.read_by_hand-returns-in-AssocItems-clause-gives
+read_by_hand-returns-in-AssocItems-clause-gives = hands.read_by_hand-returns-in-AssocItems-clause-gives
+
+pub read_by_hand-returns-in-AssocItems-clause-looks : goal.read_by_hand-returns-in-AssocItems-clause-looks
+read_by_hand-returns-in-AssocItems-clause-looks = hands.read_by_hand-returns-in-AssocItems-clause-looks
+
+pub read_by_hand-returns-in-Item-clause-gives : goal.read_by_hand-returns-in-Item-clause-gives
+read_by_hand-returns-in-Item-clause-gives = hands.read_by_hand-returns-in-Item-clause-gives
+
+pub read_by_hand-returns-in-Item-clause-looks : goal.read_by_hand-returns-in-Item-clause-looks
+read_by_hand-returns-in-Item-clause-looks = hands.read_by_hand-returns-in-Item-clause-looks
+
+pub items::item-attributed_item-requires : goal.items::item-attributed_item-requires
+items::item-attributed_item-requires = items.items::item-attributed_item-requires
+
+pub items::item-visible_item-requires : goal.items::item-visible_item-requires
+items::item-visible_item-requires = items.items::item-visible_item-requires
+
+pub items::item-bare_item-requires : goal.items::item-bare_item-requires
+items::item-bare_item-requires = items.items::item-bare_item-requires
+
+pub items::item-returns-in-POUND-clause-gives : goal.items::item-returns-in-POUND-clause-gives
+items::item-returns-in-POUND-clause-gives = items.items::item-returns-in-POUND-clause-gives
+
+pub items::item-returns-in-PUB_KW-clause-gives : goal.items::item-returns-in-PUB_KW-clause-gives
+items::item-returns-in-PUB_KW-clause-gives = items.items::item-returns-in-PUB_KW-clause-gives
+
+pub items::item-returns-in_default-clause-gives : goal.items::item-returns-in_default-clause-gives
+items::item-returns-in_default-clause-gives = items.items::item-returns-in_default-clause-gives
+
+pub items::attributed_item-attribute-requires : goal.items::attributed_item-attribute-requires
+items::attributed_item-attribute-requires = items.items::attributed_item-attribute-requires
+
+pub items::attributed_item-attributes-requires : goal.items::attributed_item-attributes-requires
+items::attributed_item-attributes-requires = items.items::attributed_item-attributes-requires
+
+pub items::attributed_item-body-requires : goal.items::attributed_item-body-requires
+items::attributed_item-body-requires = items.items::attributed_item-body-requires
+
+pub items::attributed_item-returns-clause-anew : goal.items::attributed_item-returns-clause-anew
+items::attributed_item-returns-clause-anew = items.items::attributed_item-returns-clause-anew
+
+pub items::visible_item-body-requires : goal.items::visible_item-body-requires
+items::visible_item-body-requires = items.items::visible_item-body-requires
+
+pub items::visible_item-returns-clause-anew : goal.items::visible_item-returns-clause-anew
+items::visible_item-returns-clause-anew = items.items::visible_item-returns-clause-anew
+
+pub items::bare_item-body-requires : goal.items::bare_item-body-requires
+items::bare_item-body-requires = items.items::bare_item-body-requires
+
+pub items::bare_item-returns-clause-anew : goal.items::bare_item-returns-clause-anew
+items::bare_item-returns-clause-anew = items.items::bare_item-returns-clause-anew
+
+pub items::bare_item-returns-clause-left : goal.items::bare_item-returns-clause-left
+items::bare_item-returns-clause-left = items.items::bare_item-returns-clause-left
+
+pub items::bare_item-returns-clause-looks : goal.items::bare_item-returns-clause-looks
+items::bare_item-returns-clause-looks = items.items::bare_item-returns-clause-looks
+
+pub items::attributes-attribute-requires : goal.items::attributes-attribute-requires
+items::attributes-attribute-requires = items.items::attributes-attribute-requires
+
+pub items::attributes-turns-preserved : goal.items::attributes-turns-preserved
+items::attributes-turns-preserved = items.items::attributes-turns-preserved
+
+pub items::attributes-returns-clause-reads : goal.items::attributes-returns-clause-reads
+items::attributes-returns-clause-reads = items.items::attributes-returns-clause-reads
+
+pub items::body-module-requires : goal.items::body-module-requires
+items::body-module-requires = items.items::body-module-requires
+
+pub items::body-returns-in-MOD_KW-clause-completes : goal.items::body-returns-in-MOD_KW-clause-completes
+items::body-returns-in-MOD_KW-clause-completes = items.items::body-returns-in-MOD_KW-clause-completes
+
+pub items::body-use_item-requires : goal.items::body-use_item-requires
+items::body-use_item-requires = items.items::body-use_item-requires
+
+pub items::body-returns-in-USE_KW-clause-completes : goal.items::body-returns-in-USE_KW-clause-completes
+items::body-returns-in-USE_KW-clause-completes = items.items::body-returns-in-USE_KW-clause-completes
+
+pub items::body-struct_item-requires : goal.items::body-struct_item-requires
+items::body-struct_item-requires = items.items::body-struct_item-requires
+
+pub items::body-returns-in-STRUCT_KW-clause-completes : goal.items::body-returns-in-STRUCT_KW-clause-completes
+items::body-returns-in-STRUCT_KW-clause-completes = items.items::body-returns-in-STRUCT_KW-clause-completes
+
+pub items::body-enum_item-requires : goal.items::body-enum_item-requires
+items::body-enum_item-requires = items.items::body-enum_item-requires
+
+pub items::body-returns-in-ENUM_KW-clause-completes : goal.items::body-returns-in-ENUM_KW-clause-completes
+items::body-returns-in-ENUM_KW-clause-completes = items.items::body-returns-in-ENUM_KW-clause-completes
+
+pub items::body-static_item-requires : goal.items::body-static_item-requires
+items::body-static_item-requires = items.items::body-static_item-requires
+
+pub items::body-returns-in-STATIC_KW-clause-completes : goal.items::body-returns-in-STATIC_KW-clause-completes
+items::body-returns-in-STATIC_KW-clause-completes = items.items::body-returns-in-STATIC_KW-clause-completes
+
+pub items::body-type_alias-requires : goal.items::body-type_alias-requires
+items::body-type_alias-requires = items.items::body-type_alias-requires
+
+pub items::body-returns-in-TYPE_KW-clause-completes : goal.items::body-returns-in-TYPE_KW-clause-completes
+items::body-returns-in-TYPE_KW-clause-completes = items.items::body-returns-in-TYPE_KW-clause-completes
+
+pub items::body-returns-then-at_fn-clause-completes : goal.items::body-returns-then-at_fn-clause-completes
+items::body-returns-then-at_fn-clause-completes = items.items::body-returns-then-at_fn-clause-completes
+
+pub items::body-fn_item-requires : goal.items::body-fn_item-requires
+items::body-fn_item-requires = items.items::body-fn_item-requires
+
+pub items::body-returns-then-at-clause-completes : goal.items::body-returns-then-at-clause-completes
+items::body-returns-then-at-clause-completes = items.items::body-returns-then-at-clause-completes
+
+pub items::body-const_item-requires : goal.items::body-const_item-requires
+items::body-const_item-requires = items.items::body-const_item-requires
+
+pub items::body-returns-then-at_unsafe-clause-completes : goal.items::body-returns-then-at_unsafe-clause-completes
+items::body-returns-then-at_unsafe-clause-completes = items.items::body-returns-then-at_unsafe-clause-completes
+
+pub items::body-impl_item-requires : goal.items::body-impl_item-requires
+items::body-impl_item-requires = items.items::body-impl_item-requires
+
+pub items::body-returns-then-at_unsafe-2-clause-completes : goal.items::body-returns-then-at_unsafe-2-clause-completes
+items::body-returns-then-at_unsafe-2-clause-completes = items.items::body-returns-then-at_unsafe-2-clause-completes
+
+pub items::body-trait_item-requires : goal.items::body-trait_item-requires
+items::body-trait_item-requires = items.items::body-trait_item-requires
+
+pub items::body-returns-then-at_path-clause-completes : goal.items::body-returns-then-at_path-clause-completes
+items::body-returns-then-at_path-clause-completes = items.items::body-returns-then-at_path-clause-completes
+
+pub items::body-path_item-requires : goal.items::body-path_item-requires
+items::body-path_item-requires = items.items::body-path_item-requires
+
+pub items::body-returns-else-at_path-clause-completes : goal.items::body-returns-else-at_path-clause-completes
+items::body-returns-else-at_path-clause-completes = items.items::body-returns-else-at_path-clause-completes
+
+pub items::body-no_item-requires : goal.items::body-no_item-requires
+items::body-no_item-requires = items.items::body-no_item-requires
+
+pub items::body-returns-else-at_path-clause-takes : goal.items::body-returns-else-at_path-clause-takes
+items::body-returns-else-at_path-clause-takes = items.items::body-returns-else-at_path-clause-takes
+
+pub items::body-returns-else-at_path-clause-pays : goal.items::body-returns-else-at_path-clause-pays
+items::body-returns-else-at_path-clause-pays = items.items::body-returns-else-at_path-clause-pays
+
+pub items::module-module_items-requires : goal.items::module-module_items-requires
+items::module-module_items-requires = items.items::module-module_items-requires
+
+pub items::module-complete-requires : goal.items::module-complete-requires
+items::module-complete-requires = items.items::module-complete-requires
+
+pub items::module-returns-clause-completes : goal.items::module-returns-clause-completes
+items::module-returns-clause-completes = items.items::module-returns-clause-completes
+
+pub items::module_items-item_list-requires : goal.items::module_items-item_list-requires
+items::module_items-item_list-requires = items.items::module_items-item_list-requires
+
+pub items::module_items-returns-then-at-clause-reads : goal.items::module_items-returns-then-at-clause-reads
+items::module_items-returns-then-at-clause-reads = items.items::module_items-returns-then-at-clause-reads
+
+pub items::module_items-returns-clause-reads : goal.items::module_items-returns-clause-reads
+items::module_items-returns-clause-reads = items.items::module_items-returns-clause-reads
+
+pub items::item_list-items-requires : goal.items::item_list-items-requires
+items::item_list-items-requires = items.items::item_list-items-requires
+
+pub items::item_list-complete-requires : goal.items::item_list-complete-requires
+items::item_list-complete-requires = items.items::item_list-complete-requires
+
+pub items::item_list-returns-clause-reads : goal.items::item_list-returns-clause-reads
+items::item_list-returns-clause-reads = items.items::item_list-returns-clause-reads
+
+pub items::assoc_items-item_list-requires : goal.items::assoc_items-item_list-requires
+items::assoc_items-item_list-requires = items.items::assoc_items-item_list-requires
+
+pub items::assoc_items-returns-clause-gives : goal.items::assoc_items-returns-clause-gives
+items::assoc_items-returns-clause-gives = items.items::assoc_items-returns-clause-gives
+
+pub items::opt_generic_params-generic_params-requires : goal.items::opt_generic_params-generic_params-requires
+items::opt_generic_params-generic_params-requires = items.items::opt_generic_params-generic_params-requires
+
+pub items::opt_generic_params-returns-then-at-clause-reads : goal.items::opt_generic_params-returns-then-at-clause-reads
+items::opt_generic_params-returns-then-at-clause-reads = items.items::opt_generic_params-returns-then-at-clause-reads
+
+pub items::opt_generic_params-returns-else-at-clause-reads : goal.items::opt_generic_params-returns-else-at-clause-reads
+items::opt_generic_params-returns-else-at-clause-reads = items.items::opt_generic_params-returns-else-at-clause-reads
+
+pub items::opt_where_clause-where_clause-requires : goal.items::opt_where_clause-where_clause-requires
+items::opt_where_clause-where_clause-requires = items.items::opt_where_clause-where_clause-requires
+
+pub items::opt_where_clause-returns-then-at-clause-reads : goal.items::opt_where_clause-returns-then-at-clause-reads
+items::opt_where_clause-returns-then-at-clause-reads = items.items::opt_where_clause-returns-then-at-clause-reads
+
+pub items::opt_where_clause-returns-else-at-clause-reads : goal.items::opt_where_clause-returns-else-at-clause-reads
+items::opt_where_clause-returns-else-at-clause-reads = items.items::opt_where_clause-returns-else-at-clause-reads
+
+pub items::item_turn-returns-then-at_list_end-clause-ends : goal.items::item_turn-returns-then-at_list_end-clause-ends
+items::item_turn-returns-then-at_list_end-clause-ends = items.items::item_turn-returns-then-at_list_end-clause-ends
+
+pub items::item_turn-attribute-requires : goal.items::item_turn-attribute-requires
+items::item_turn-attribute-requires = items.items::item_turn-attribute-requires
+
+pub items::item_turn-returns-then-at_inner_attribute-clause-goes : goal.items::item_turn-returns-then-at_inner_attribute-clause-goes
+items::item_turn-returns-then-at_inner_attribute-clause-goes = items.items::item_turn-returns-then-at_inner_attribute-clause-goes
+
+pub items::item_turn-returns-then-at_inner_attribute-clause-input : goal.items::item_turn-returns-then-at_inner_attribute-clause-input
+items::item_turn-returns-then-at_inner_attribute-clause-input = items.items::item_turn-returns-then-at_inner_attribute-clause-input
+
+pub items::item_turn-returns-then-at_inner_attribute-clause-innermost : goal.items::item_turn-returns-then-at_inner_attribute-clause-innermost
+items::item_turn-returns-then-at_inner_attribute-clause-innermost = items.items::item_turn-returns-then-at_inner_attribute-clause-innermost
+
+pub items::item_turn-item-requires : goal.items::item_turn-item-requires
+items::item_turn-item-requires = items.items::item_turn-item-requires
+
+pub items::item_turn-returns-clause-goes : goal.items::item_turn-returns-clause-goes
+items::item_turn-returns-clause-goes = items.items::item_turn-returns-clause-goes
+
+pub items::item_turn-returns-clause-input : goal.items::item_turn-returns-clause-input
+items::item_turn-returns-clause-input = items.items::item_turn-returns-clause-input
+
+pub items::item_turn-returns-clause-innermost : goal.items::item_turn-returns-clause-innermost
+items::item_turn-returns-clause-innermost = items.items::item_turn-returns-clause-innermost
+
+pub items::items-turns-preserved : goal.items::items-turns-preserved
+items::items-turns-preserved = items.items::items-turns-preserved
+
+pub items::items-returns-clause-reads : goal.items::items-returns-clause-reads
+items::items-returns-clause-reads = items.items::items-returns-clause-reads
 
 pub lists::turn-returns-then-at_list_end-clause-ends : goal.lists::turn-returns-then-at_list_end-clause-ends
 lists::turn-returns-then-at_list_end-clause-ends = lists.lists::turn-returns-then-at_list_end-clause-ends
@@ -1493,89 +2172,47 @@ lists::read_element-returns-in-Expression-clause-pays = lists.lists::read_elemen
 pub lists::read_element-returns-in-Expression-clause-looks : goal.lists::read_element-returns-in-Expression-clause-looks
 lists::read_element-returns-in-Expression-clause-looks = lists.lists::read_element-returns-in-Expression-clause-looks
 
-pub lists::read_element-read_anew-requires-in-FieldValue : goal.lists::read_element-read_anew-requires-in-FieldValue
-lists::read_element-read_anew-requires-in-FieldValue = lists.lists::read_element-read_anew-requires-in-FieldValue
+pub lists::read_element-field_value-requires : goal.lists::read_element-field_value-requires
+lists::read_element-field_value-requires = lists.lists::read_element-field_value-requires
 
 pub lists::read_element-returns-in-FieldValue-clause-reads : goal.lists::read_element-returns-in-FieldValue-clause-reads
 lists::read_element-returns-in-FieldValue-clause-reads = lists.lists::read_element-returns-in-FieldValue-clause-reads
 
-pub lists::read_element-returns-in-FieldValue-clause-pays : goal.lists::read_element-returns-in-FieldValue-clause-pays
-lists::read_element-returns-in-FieldValue-clause-pays = lists.lists::read_element-returns-in-FieldValue-clause-pays
-
-pub lists::read_element-returns-in-FieldValue-clause-looks : goal.lists::read_element-returns-in-FieldValue-clause-looks
-lists::read_element-returns-in-FieldValue-clause-looks = lists.lists::read_element-returns-in-FieldValue-clause-looks
-
-pub lists::read_element-read_anew-requires-in-GenericArg : goal.lists::read_element-read_anew-requires-in-GenericArg
-lists::read_element-read_anew-requires-in-GenericArg = lists.lists::read_element-read_anew-requires-in-GenericArg
+pub lists::read_element-generic_arg-requires : goal.lists::read_element-generic_arg-requires
+lists::read_element-generic_arg-requires = lists.lists::read_element-generic_arg-requires
 
 pub lists::read_element-returns-in-GenericArg-clause-reads : goal.lists::read_element-returns-in-GenericArg-clause-reads
 lists::read_element-returns-in-GenericArg-clause-reads = lists.lists::read_element-returns-in-GenericArg-clause-reads
 
-pub lists::read_element-returns-in-GenericArg-clause-pays : goal.lists::read_element-returns-in-GenericArg-clause-pays
-lists::read_element-returns-in-GenericArg-clause-pays = lists.lists::read_element-returns-in-GenericArg-clause-pays
-
-pub lists::read_element-returns-in-GenericArg-clause-looks : goal.lists::read_element-returns-in-GenericArg-clause-looks
-lists::read_element-returns-in-GenericArg-clause-looks = lists.lists::read_element-returns-in-GenericArg-clause-looks
-
-pub lists::read_element-read_anew-requires-in-GenericParam : goal.lists::read_element-read_anew-requires-in-GenericParam
-lists::read_element-read_anew-requires-in-GenericParam = lists.lists::read_element-read_anew-requires-in-GenericParam
+pub lists::read_element-generic_param-requires : goal.lists::read_element-generic_param-requires
+lists::read_element-generic_param-requires = lists.lists::read_element-generic_param-requires
 
 pub lists::read_element-returns-in-GenericParam-clause-reads : goal.lists::read_element-returns-in-GenericParam-clause-reads
 lists::read_element-returns-in-GenericParam-clause-reads = lists.lists::read_element-returns-in-GenericParam-clause-reads
 
-pub lists::read_element-returns-in-GenericParam-clause-pays : goal.lists::read_element-returns-in-GenericParam-clause-pays
-lists::read_element-returns-in-GenericParam-clause-pays = lists.lists::read_element-returns-in-GenericParam-clause-pays
-
-pub lists::read_element-returns-in-GenericParam-clause-looks : goal.lists::read_element-returns-in-GenericParam-clause-looks
-lists::read_element-returns-in-GenericParam-clause-looks = lists.lists::read_element-returns-in-GenericParam-clause-looks
-
-pub lists::read_element-read_anew-requires-in-Param : goal.lists::read_element-read_anew-requires-in-Param
-lists::read_element-read_anew-requires-in-Param = lists.lists::read_element-read_anew-requires-in-Param
+pub lists::read_element-param-requires : goal.lists::read_element-param-requires
+lists::read_element-param-requires = lists.lists::read_element-param-requires
 
 pub lists::read_element-returns-in-Param-clause-reads : goal.lists::read_element-returns-in-Param-clause-reads
 lists::read_element-returns-in-Param-clause-reads = lists.lists::read_element-returns-in-Param-clause-reads
 
-pub lists::read_element-returns-in-Param-clause-pays : goal.lists::read_element-returns-in-Param-clause-pays
-lists::read_element-returns-in-Param-clause-pays = lists.lists::read_element-returns-in-Param-clause-pays
-
-pub lists::read_element-returns-in-Param-clause-looks : goal.lists::read_element-returns-in-Param-clause-looks
-lists::read_element-returns-in-Param-clause-looks = lists.lists::read_element-returns-in-Param-clause-looks
-
-pub lists::read_element-read_anew-requires-in-Pattern : goal.lists::read_element-read_anew-requires-in-Pattern
-lists::read_element-read_anew-requires-in-Pattern = lists.lists::read_element-read_anew-requires-in-Pattern
+pub lists::read_element-pattern-requires : goal.lists::read_element-pattern-requires
+lists::read_element-pattern-requires = lists.lists::read_element-pattern-requires
 
 pub lists::read_element-returns-in-Pattern-clause-reads : goal.lists::read_element-returns-in-Pattern-clause-reads
 lists::read_element-returns-in-Pattern-clause-reads = lists.lists::read_element-returns-in-Pattern-clause-reads
 
-pub lists::read_element-returns-in-Pattern-clause-pays : goal.lists::read_element-returns-in-Pattern-clause-pays
-lists::read_element-returns-in-Pattern-clause-pays = lists.lists::read_element-returns-in-Pattern-clause-pays
-
-pub lists::read_element-returns-in-Pattern-clause-looks : goal.lists::read_element-returns-in-Pattern-clause-looks
-lists::read_element-returns-in-Pattern-clause-looks = lists.lists::read_element-returns-in-Pattern-clause-looks
-
-pub lists::read_element-read_anew-requires-in-PatternField : goal.lists::read_element-read_anew-requires-in-PatternField
-lists::read_element-read_anew-requires-in-PatternField = lists.lists::read_element-read_anew-requires-in-PatternField
+pub lists::read_element-pattern_field-requires : goal.lists::read_element-pattern_field-requires
+lists::read_element-pattern_field-requires = lists.lists::read_element-pattern_field-requires
 
 pub lists::read_element-returns-in-PatternField-clause-reads : goal.lists::read_element-returns-in-PatternField-clause-reads
 lists::read_element-returns-in-PatternField-clause-reads = lists.lists::read_element-returns-in-PatternField-clause-reads
 
-pub lists::read_element-returns-in-PatternField-clause-pays : goal.lists::read_element-returns-in-PatternField-clause-pays
-lists::read_element-returns-in-PatternField-clause-pays = lists.lists::read_element-returns-in-PatternField-clause-pays
-
-pub lists::read_element-returns-in-PatternField-clause-looks : goal.lists::read_element-returns-in-PatternField-clause-looks
-lists::read_element-returns-in-PatternField-clause-looks = lists.lists::read_element-returns-in-PatternField-clause-looks
-
-pub lists::read_element-read_anew-requires-in-Type : goal.lists::read_element-read_anew-requires-in-Type
-lists::read_element-read_anew-requires-in-Type = lists.lists::read_element-read_anew-requires-in-Type
+pub lists::read_element-any_type-requires : goal.lists::read_element-any_type-requires
+lists::read_element-any_type-requires = lists.lists::read_element-any_type-requires
 
 pub lists::read_element-returns-in-Type-clause-reads : goal.lists::read_element-returns-in-Type-clause-reads
 lists::read_element-returns-in-Type-clause-reads = lists.lists::read_element-returns-in-Type-clause-reads
-
-pub lists::read_element-returns-in-Type-clause-pays : goal.lists::read_element-returns-in-Type-clause-pays
-lists::read_element-returns-in-Type-clause-pays = lists.lists::read_element-returns-in-Type-clause-pays
-
-pub lists::read_element-returns-in-Type-clause-looks : goal.lists::read_element-returns-in-Type-clause-looks
-lists::read_element-returns-in-Type-clause-looks = lists.lists::read_element-returns-in-Type-clause-looks
 
 pub lists::elements-turns-preserved : goal.lists::elements-turns-preserved
 lists::elements-turns-preserved = lists.lists::elements-turns-preserved
@@ -1630,6 +2267,123 @@ lists::pattern_fields-complete-requires = lists.lists::pattern_fields-complete-r
 
 pub lists::pattern_fields-returns-clause-gives : goal.lists::pattern_fields-returns-clause-gives
 lists::pattern_fields-returns-clause-gives = lists.lists::pattern_fields-returns-clause-gives
+
+pub read-returns-in-Nothing-clause-looks : goal.read-returns-in-Nothing-clause-looks
+read-returns-in-Nothing-clause-looks = looks.read-returns-in-Nothing-clause-looks
+
+pub read-returns-in-One-clause-looks : goal.read-returns-in-One-clause-looks
+read-returns-in-One-clause-looks = looks.read-returns-in-One-clause-looks
+
+pub read-returns-in-Any-clause-looks : goal.read-returns-in-Any-clause-looks
+read-returns-in-Any-clause-looks = looks.read-returns-in-Any-clause-looks
+
+pub read-returns-in-Then-clause-looks : goal.read-returns-in-Then-clause-looks
+read-returns-in-Then-clause-looks = looks.read-returns-in-Then-clause-looks
+
+pub read-returns-in-Near-clause-looks : goal.read-returns-in-Near-clause-looks
+read-returns-in-Near-clause-looks = looks.read-returns-in-Near-clause-looks
+
+pub read-returns-then-at-clause-looks : goal.read-returns-then-at-clause-looks
+read-returns-then-at-clause-looks = looks.read-returns-then-at-clause-looks
+
+pub read-returns-else-at-clause-looks : goal.read-returns-else-at-clause-looks
+read-returns-else-at-clause-looks = looks.read-returns-else-at-clause-looks
+
+pub read-returns-then-at-2-clause-looks : goal.read-returns-then-at-2-clause-looks
+read-returns-then-at-2-clause-looks = looks.read-returns-then-at-2-clause-looks
+
+pub read-returns-then-at-3-clause-looks : goal.read-returns-then-at-3-clause-looks
+read-returns-then-at-3-clause-looks = looks.read-returns-then-at-3-clause-looks
+
+pub read-returns-else-at-2-clause-looks : goal.read-returns-else-at-2-clause-looks
+read-returns-else-at-2-clause-looks = looks.read-returns-else-at-2-clause-looks
+
+pub read-returns-else-at-3-clause-looks : goal.read-returns-else-at-3-clause-looks
+read-returns-else-at-3-clause-looks = looks.read-returns-else-at-3-clause-looks
+
+pub read-returns-in-When-clause-looks : goal.read-returns-in-When-clause-looks
+read-returns-in-When-clause-looks = looks.read-returns-in-When-clause-looks
+
+pub read-returns-in-Unless-clause-looks : goal.read-returns-in-Unless-clause-looks
+read-returns-in-Unless-clause-looks = looks.read-returns-in-Unless-clause-looks
+
+pub read-returns-in-Mode-clause-looks : goal.read-returns-in-Mode-clause-looks
+read-returns-in-Mode-clause-looks = looks.read-returns-in-Mode-clause-looks
+
+pub read-returns-in-Star-clause-looks : goal.read-returns-in-Star-clause-looks
+read-returns-in-Star-clause-looks = looks.read-returns-in-Star-clause-looks
+
+pub read-returns-in-Node-clause-looks : goal.read-returns-in-Node-clause-looks
+read-returns-in-Node-clause-looks = looks.read-returns-in-Node-clause-looks
+
+pub read-returns-in-Wrap-clause-looks : goal.read-returns-in-Wrap-clause-looks
+read-returns-in-Wrap-clause-looks = looks.read-returns-in-Wrap-clause-looks
+
+pub read-returns-in-Say-clause-looks : goal.read-returns-in-Say-clause-looks
+read-returns-in-Say-clause-looks = looks.read-returns-in-Say-clause-looks
+
+pub read-returns-in-Skip-clause-looks : goal.read-returns-in-Skip-clause-looks
+read-returns-in-Skip-clause-looks = looks.read-returns-in-Skip-clause-looks
+
+pub read-returns-in-Split-clause-looks : goal.read-returns-in-Split-clause-looks
+read-returns-in-Split-clause-looks = looks.read-returns-in-Split-clause-looks
+
+pub read-returns-in-Call-clause-looks : goal.read-returns-in-Call-clause-looks
+read-returns-in-Call-clause-looks = looks.read-returns-in-Call-clause-looks
+
+pub read-returns-in-Continue-clause-looks : goal.read-returns-in-Continue-clause-looks
+read-returns-in-Continue-clause-looks = looks.read-returns-in-Continue-clause-looks
+
+pub read-returns-in-Part-clause-looks : goal.read-returns-in-Part-clause-looks
+read-returns-in-Part-clause-looks = looks.read-returns-in-Part-clause-looks
+
+pub turns-returns-then-not-at-clause-looks : goal.turns-returns-then-not-at-clause-looks
+turns-returns-then-not-at-clause-looks = looks.turns-returns-then-not-at-clause-looks
+
+pub turns-returns-then-tokens_left-before-clause-looks : goal.turns-returns-then-tokens_left-before-clause-looks
+turns-returns-then-tokens_left-before-clause-looks = looks.turns-returns-then-tokens_left-before-clause-looks
+
+pub turns-returns-clause-looks : goal.turns-returns-clause-looks
+turns-returns-clause-looks = looks.turns-returns-clause-looks
+
+pub match_arm::match_arm-pattern-requires : goal.match_arm::match_arm-pattern-requires
+match_arm::match_arm-pattern-requires = match_arm.match_arm::match_arm-pattern-requires
+
+pub match_arm::match_arm-opt_guard-requires : goal.match_arm::match_arm-opt_guard-requires
+match_arm::match_arm-opt_guard-requires = match_arm.match_arm::match_arm-opt_guard-requires
+
+pub match_arm::match_arm-arm_value-requires : goal.match_arm::match_arm-arm_value-requires
+match_arm::match_arm-arm_value-requires = match_arm.match_arm::match_arm-arm_value-requires
+
+pub match_arm::match_arm-complete-requires : goal.match_arm::match_arm-complete-requires
+match_arm::match_arm-complete-requires = match_arm.match_arm::match_arm-complete-requires
+
+pub match_arm::match_arm-returns-clause-gives : goal.match_arm::match_arm-returns-clause-gives
+match_arm::match_arm-returns-clause-gives = match_arm.match_arm::match_arm-returns-clause-gives
+
+pub match_arm::opt_guard-expect_condition-requires : goal.match_arm::opt_guard-expect_condition-requires
+match_arm::opt_guard-expect_condition-requires = match_arm.match_arm::opt_guard-expect_condition-requires
+
+pub match_arm::opt_guard-complete-requires : goal.match_arm::opt_guard-complete-requires
+match_arm::opt_guard-complete-requires = match_arm.match_arm::opt_guard-complete-requires
+
+pub match_arm::opt_guard-returns-then-at-clause-reads : goal.match_arm::opt_guard-returns-then-at-clause-reads
+match_arm::opt_guard-returns-then-at-clause-reads = match_arm.match_arm::opt_guard-returns-then-at-clause-reads
+
+pub match_arm::opt_guard-returns-else-at-clause-reads : goal.match_arm::opt_guard-returns-else-at-clause-reads
+match_arm::opt_guard-returns-else-at-clause-reads = match_arm.match_arm::opt_guard-returns-else-at-clause-reads
+
+pub match_arm::arm_value-block_like-requires : goal.match_arm::arm_value-block_like-requires
+match_arm::arm_value-block_like-requires = match_arm.match_arm::arm_value-block_like-requires
+
+pub match_arm::arm_value-returns-then-at_block_like-clause-reads : goal.match_arm::arm_value-returns-then-at_block_like-clause-reads
+match_arm::arm_value-returns-then-at_block_like-clause-reads = match_arm.match_arm::arm_value-returns-then-at_block_like-clause-reads
+
+pub match_arm::arm_value-expect_expression-requires : goal.match_arm::arm_value-expect_expression-requires
+match_arm::arm_value-expect_expression-requires = match_arm.match_arm::arm_value-expect_expression-requires
+
+pub match_arm::arm_value-returns-clause-reads : goal.match_arm::arm_value-returns-clause-reads
+match_arm::arm_value-returns-clause-reads = match_arm.match_arm::arm_value-returns-clause-reads
 
 pub operands::prefixed-prefix_expr-requires : goal.operands::prefixed-prefix_expr-requires
 operands::prefixed-prefix_expr-requires = operands.operands::prefixed-prefix_expr-requires
@@ -1792,6 +2546,102 @@ operands::float-returns-then-joint-clause-reads = operands.operands::float-retur
 
 pub operands::float-returns-clause-reads : goal.operands::float-returns-clause-reads
 operands::float-returns-clause-reads = operands.operands::float-returns-clause-reads
+
+pub production-operation-requires : goal.production-operation-requires
+production-operation-requires = operating.production-operation-requires
+
+pub production-returns-then-at_operand-clause-reads : goal.production-returns-then-at_operand-clause-reads
+production-returns-then-at_operand-clause-reads = operating.production-returns-then-at_operand-clause-reads
+
+pub production-returns-then-at_operand-clause-looks : goal.production-returns-then-at_operand-clause-looks
+production-returns-then-at_operand-clause-looks = operating.production-returns-then-at_operand-clause-looks
+
+pub operation-returns-then-ranks-eq0-clause-reads : goal.operation-returns-then-ranks-eq0-clause-reads
+operation-returns-then-ranks-eq0-clause-reads = operating.operation-returns-then-ranks-eq0-clause-reads
+
+pub operation-returns-then-ranks-eq0-clause-looks : goal.operation-returns-then-ranks-eq0-clause-looks
+operation-returns-then-ranks-eq0-clause-looks = operating.operation-returns-then-ranks-eq0-clause-looks
+
+pub operation-returns-then-passes_by-clause-reads : goal.operation-returns-then-passes_by-clause-reads
+operation-returns-then-passes_by-clause-reads = operating.operation-returns-then-passes_by-clause-reads
+
+pub operation-returns-then-passes_by-clause-looks : goal.operation-returns-then-passes_by-clause-looks
+operation-returns-then-passes_by-clause-looks = operating.operation-returns-then-passes_by-clause-looks
+
+pub operation-returns-clause-reads : goal.operation-returns-clause-reads
+operation-returns-clause-reads = operating.operation-returns-clause-reads
+
+pub operation-returns-clause-looks : goal.operation-returns-clause-looks
+operation-returns-clause-looks = operating.operation-returns-clause-looks
+
+pub param::param-self_param-requires : goal.param::param-self_param-requires
+param::param-self_param-requires = param.param::param-self_param-requires
+
+pub param::param-returns-then-at_self-clause-gives : goal.param::param-returns-then-at_self-clause-gives
+param::param-returns-then-at_self-clause-gives = param.param::param-returns-then-at_self-clause-gives
+
+pub param::param-pattern_param-requires : goal.param::param-pattern_param-requires
+param::param-pattern_param-requires = param.param::param-pattern_param-requires
+
+pub param::param-returns-clause-gives : goal.param::param-returns-clause-gives
+param::param-returns-clause-gives = param.param::param-returns-clause-gives
+
+pub param::pattern_param-pattern-requires : goal.param::pattern_param-pattern-requires
+param::pattern_param-pattern-requires = param.param::pattern_param-pattern-requires
+
+pub param::pattern_param-expect_type-requires : goal.param::pattern_param-expect_type-requires
+param::pattern_param-expect_type-requires = param.param::pattern_param-expect_type-requires
+
+pub param::pattern_param-complete-requires : goal.param::pattern_param-complete-requires
+param::pattern_param-complete-requires = param.param::pattern_param-complete-requires
+
+pub param::pattern_param-returns-clause-reads : goal.param::pattern_param-returns-clause-reads
+param::pattern_param-returns-clause-reads = param.param::pattern_param-returns-clause-reads
+
+pub param::self_param-self_after_ref-requires : goal.param::self_param-self_after_ref-requires
+param::self_param-self_after_ref-requires = param.param::self_param-self_after_ref-requires
+
+pub param::self_param-self_after_mut-requires : goal.param::self_param-self_after_mut-requires
+param::self_param-self_after_mut-requires = param.param::self_param-self_after_mut-requires
+
+pub param::self_param-self_alone-requires : goal.param::self_param-self_alone-requires
+param::self_param-self_alone-requires = param.param::self_param-self_alone-requires
+
+pub param::self_param-returns-in-AMP-clause-gives : goal.param::self_param-returns-in-AMP-clause-gives
+param::self_param-returns-in-AMP-clause-gives = param.param::self_param-returns-in-AMP-clause-gives
+
+pub param::self_param-returns-in-MUT_KW-clause-gives : goal.param::self_param-returns-in-MUT_KW-clause-gives
+param::self_param-returns-in-MUT_KW-clause-gives = param.param::self_param-returns-in-MUT_KW-clause-gives
+
+pub param::self_param-returns-in_default-clause-gives : goal.param::self_param-returns-in_default-clause-gives
+param::self_param-returns-in_default-clause-gives = param.param::self_param-returns-in_default-clause-gives
+
+pub param::self_after_ref-opt_type-requires : goal.param::self_after_ref-opt_type-requires
+param::self_after_ref-opt_type-requires = param.param::self_after_ref-opt_type-requires
+
+pub param::self_after_ref-complete-requires : goal.param::self_after_ref-complete-requires
+param::self_after_ref-complete-requires = param.param::self_after_ref-complete-requires
+
+pub param::self_after_ref-returns-clause-reads : goal.param::self_after_ref-returns-clause-reads
+param::self_after_ref-returns-clause-reads = param.param::self_after_ref-returns-clause-reads
+
+pub param::self_after_mut-opt_type-requires : goal.param::self_after_mut-opt_type-requires
+param::self_after_mut-opt_type-requires = param.param::self_after_mut-opt_type-requires
+
+pub param::self_after_mut-complete-requires : goal.param::self_after_mut-complete-requires
+param::self_after_mut-complete-requires = param.param::self_after_mut-complete-requires
+
+pub param::self_after_mut-returns-clause-reads : goal.param::self_after_mut-returns-clause-reads
+param::self_after_mut-returns-clause-reads = param.param::self_after_mut-returns-clause-reads
+
+pub param::self_alone-opt_type-requires : goal.param::self_alone-opt_type-requires
+param::self_alone-opt_type-requires = param.param::self_alone-opt_type-requires
+
+pub param::self_alone-complete-requires : goal.param::self_alone-complete-requires
+param::self_alone-complete-requires = param.param::self_alone-complete-requires
+
+pub param::self_alone-returns-clause-reads : goal.param::self_alone-returns-clause-reads
+param::self_alone-returns-clause-reads = param.param::self_alone-returns-clause-reads
 
 pub paths::generic_args-rest_of_list-requires : goal.paths::generic_args-rest_of_list-requires
 paths::generic_args-rest_of_list-requires = paths.paths::generic_args-rest_of_list-requires
@@ -2153,14 +3003,8 @@ statements::statement-returns-then-at_inner_attribute-clause-gives = statements.
 pub statements::statement-returns-then-at_item-clause-gives : goal.statements::statement-returns-then-at_item-clause-gives
 statements::statement-returns-then-at_item-clause-gives = statements.statements::statement-returns-then-at_item-clause-gives
 
-pub statements::statement-read_anew-requires : goal.statements::statement-read_anew-requires
-statements::statement-read_anew-requires = statements.statements::statement-read_anew-requires
-
-pub statements::statement-returns-then-at_item-clause-pays : goal.statements::statement-returns-then-at_item-clause-pays
-statements::statement-returns-then-at_item-clause-pays = statements.statements::statement-returns-then-at_item-clause-pays
-
-pub statements::statement-returns-then-at_item-clause-looks : goal.statements::statement-returns-then-at_item-clause-looks
-statements::statement-returns-then-at_item-clause-looks = statements.statements::statement-returns-then-at_item-clause-looks
+pub statements::statement-item-requires : goal.statements::statement-item-requires
+statements::statement-item-requires = statements.statements::statement-item-requires
 
 pub statements::statement-expression_statement-requires : goal.statements::statement-expression_statement-requires
 statements::statement-expression_statement-requires = statements.statements::statement-expression_statement-requires
@@ -2188,15 +3032,6 @@ statements::let_stmt-complete-requires = statements.statements::let_stmt-complet
 
 pub statements::let_stmt-returns-clause-reads : goal.statements::let_stmt-returns-clause-reads
 statements::let_stmt-returns-clause-reads = statements.statements::let_stmt-returns-clause-reads
-
-pub statements::opt_value-expect_expression-requires : goal.statements::opt_value-expect_expression-requires
-statements::opt_value-expect_expression-requires = statements.statements::opt_value-expect_expression-requires
-
-pub statements::opt_value-returns-then-at-clause-reads : goal.statements::opt_value-returns-then-at-clause-reads
-statements::opt_value-returns-then-at-clause-reads = statements.statements::opt_value-returns-then-at-clause-reads
-
-pub statements::opt_value-returns-else-at-clause-reads : goal.statements::opt_value-returns-else-at-clause-reads
-statements::opt_value-returns-else-at-clause-reads = statements.statements::opt_value-returns-else-at-clause-reads
 
 pub statements::opt_else-let_else-requires : goal.statements::opt_else-let_else-requires
 statements::opt_else-let_else-requires = statements.statements::opt_else-let_else-requires
@@ -2294,6 +3129,60 @@ statements::ended_expression-returns-clause-pays = statements.statements::ended_
 pub statements::ended_expression-returns-clause-looks : goal.statements::ended_expression-returns-clause-looks
 statements::ended_expression-returns-clause-looks = statements.statements::ended_expression-returns-clause-looks
 
+pub traits::impl_item-unsafe_word-requires : goal.traits::impl_item-unsafe_word-requires
+traits::impl_item-unsafe_word-requires = traits.traits::impl_item-unsafe_word-requires
+
+pub traits::impl_item-opt_generic_params-requires : goal.traits::impl_item-opt_generic_params-requires
+traits::impl_item-opt_generic_params-requires = traits.traits::impl_item-opt_generic_params-requires
+
+pub traits::impl_item-expect_type-requires : goal.traits::impl_item-expect_type-requires
+traits::impl_item-expect_type-requires = traits.traits::impl_item-expect_type-requires
+
+pub traits::impl_item-opt_type_after-requires : goal.traits::impl_item-opt_type_after-requires
+traits::impl_item-opt_type_after-requires = traits.traits::impl_item-opt_type_after-requires
+
+pub traits::impl_item-opt_where_clause-requires : goal.traits::impl_item-opt_where_clause-requires
+traits::impl_item-opt_where_clause-requires = traits.traits::impl_item-opt_where_clause-requires
+
+pub traits::impl_item-expect_assoc_items-requires : goal.traits::impl_item-expect_assoc_items-requires
+traits::impl_item-expect_assoc_items-requires = traits.traits::impl_item-expect_assoc_items-requires
+
+pub traits::impl_item-complete-requires : goal.traits::impl_item-complete-requires
+traits::impl_item-complete-requires = traits.traits::impl_item-complete-requires
+
+pub traits::impl_item-returns-clause-completes : goal.traits::impl_item-returns-clause-completes
+traits::impl_item-returns-clause-completes = traits.traits::impl_item-returns-clause-completes
+
+pub traits::trait_item-unsafe_word-requires : goal.traits::trait_item-unsafe_word-requires
+traits::trait_item-unsafe_word-requires = traits.traits::trait_item-unsafe_word-requires
+
+pub traits::trait_item-opt_generic_params-requires : goal.traits::trait_item-opt_generic_params-requires
+traits::trait_item-opt_generic_params-requires = traits.traits::trait_item-opt_generic_params-requires
+
+pub traits::trait_item-bounds_after_colon-requires : goal.traits::trait_item-bounds_after_colon-requires
+traits::trait_item-bounds_after_colon-requires = traits.traits::trait_item-bounds_after_colon-requires
+
+pub traits::trait_item-opt_where_clause-requires : goal.traits::trait_item-opt_where_clause-requires
+traits::trait_item-opt_where_clause-requires = traits.traits::trait_item-opt_where_clause-requires
+
+pub traits::trait_item-expect_assoc_items-requires : goal.traits::trait_item-expect_assoc_items-requires
+traits::trait_item-expect_assoc_items-requires = traits.traits::trait_item-expect_assoc_items-requires
+
+pub traits::trait_item-complete-requires : goal.traits::trait_item-complete-requires
+traits::trait_item-complete-requires = traits.traits::trait_item-complete-requires
+
+pub traits::trait_item-returns-clause-completes : goal.traits::trait_item-returns-clause-completes
+traits::trait_item-returns-clause-completes = traits.traits::trait_item-returns-clause-completes
+
+pub traits::expect_assoc_items-assoc_items-requires : goal.traits::expect_assoc_items-assoc_items-requires
+traits::expect_assoc_items-assoc_items-requires = traits.traits::expect_assoc_items-assoc_items-requires
+
+pub traits::expect_assoc_items-returns-then-at-clause-reads : goal.traits::expect_assoc_items-returns-then-at-clause-reads
+traits::expect_assoc_items-returns-then-at-clause-reads = traits.traits::expect_assoc_items-returns-then-at-clause-reads
+
+pub traits::expect_assoc_items-returns-clause-reads : goal.traits::expect_assoc_items-returns-clause-reads
+traits::expect_assoc_items-returns-clause-reads = traits.traits::expect_assoc_items-returns-clause-reads
+
 pub types::any_type-returns-clause-gives : goal.types::any_type-returns-clause-gives
 types::any_type-returns-clause-gives = types.types::any_type-returns-clause-gives
 
@@ -2336,8 +3225,8 @@ types::inside-returns-else-at_dyn_word = types.types::inside-returns-else-at_dyn
 pub types::inside-path_type-requires : goal.types::inside-path_type-requires
 types::inside-path_type-requires = types.types::inside-path_type-requires
 
-pub types::bounded_type-read_anew-requires : goal.types::bounded_type-read_anew-requires
-types::bounded_type-read_anew-requires = types.types::bounded_type-read_anew-requires
+pub types::bounded_type-bounds-requires : goal.types::bounded_type-bounds-requires
+types::bounded_type-bounds-requires = types.types::bounded_type-bounds-requires
 
 pub types::bounded_type-complete-requires : goal.types::bounded_type-complete-requires
 types::bounded_type-complete-requires = types.types::bounded_type-complete-requires
@@ -2345,8 +3234,11 @@ types::bounded_type-complete-requires = types.types::bounded_type-complete-requi
 pub types::bounded_type-returns-clause-reads : goal.types::bounded_type-returns-clause-reads
 types::bounded_type-returns-clause-reads = types.types::bounded_type-returns-clause-reads
 
-pub types::bounded_type-returns-clause-looks : goal.types::bounded_type-returns-clause-looks
-types::bounded_type-returns-clause-looks = types.types::bounded_type-returns-clause-looks
+pub types::inside-returns-in-IMPL_KW-clause-marker : goal.types::inside-returns-in-IMPL_KW-clause-marker
+types::inside-returns-in-IMPL_KW-clause-marker = types.types::inside-returns-in-IMPL_KW-clause-marker
+
+pub types::inside-returns-in-DYN_KW-clause-marker : goal.types::inside-returns-in-DYN_KW-clause-marker
+types::inside-returns-in-DYN_KW-clause-marker = types.types::inside-returns-in-DYN_KW-clause-marker
 
 pub types::path_type-path_with_args-requires : goal.types::path_type-path_with_args-requires
 types::path_type-path_with_args-requires = types.types::path_type-path_with_args-requires
@@ -2449,3 +3341,12 @@ types::ret_type-complete-requires = types.types::ret_type-complete-requires
 
 pub types::ret_type-returns-clause-gives : goal.types::ret_type-returns-clause-gives
 types::ret_type-returns-clause-gives = types.types::ret_type-returns-clause-gives
+
+pub types::opt_type_after-expect_type-requires : goal.types::opt_type_after-expect_type-requires
+types::opt_type_after-expect_type-requires = types.types::opt_type_after-expect_type-requires
+
+pub types::opt_type_after-returns-then-at-clause-reads : goal.types::opt_type_after-returns-then-at-clause-reads
+types::opt_type_after-returns-then-at-clause-reads = types.types::opt_type_after-returns-then-at-clause-reads
+
+pub types::opt_type_after-returns-else-at-clause-reads : goal.types::opt_type_after-returns-else-at-clause-reads
+types::opt_type_after-returns-else-at-clause-reads = types.types::opt_type_after-returns-else-at-clause-reads

@@ -9,12 +9,12 @@ use Rattle.grammar_reader.specs.ByHand.{args_of, element_of, list_turn}
 use Rattle.parser_input.specs.Kind.{raw_of}
 use Rattle.parser_input.specs.Kinds.{PATH, PATH_SEGMENT}
 use Rattle.parser_events.specs.Forest.{ExpectedMatchArm}
-use Rattle.rust_grammar.specs.Calls.{MatchArm, Ref, SinglePattern}
-use Rattle.rust_grammar.specs.Notation.{◌or◌, ◌▸◌, ◌!, ◌⟨◌⟩, ◌<⟨◌⟩, more, until}
+use Rattle.rust_grammar.specs.Calls.{Attribute, Item, MatchArm, Ref, SinglePattern, Bound, WherePred}
+use Rattle.rust_grammar.specs.Notation.{◌or◌, ◌▸◌, ◌!, ◌⟨◌⟩, ◌<⟨◌⟩, ◌before◌, more, until, ⁅◌⁆}
 use Rattle.rust_grammar.specs.Rule as rules
-use Rattle.rust_grammar.specs.Rule.{Call, One, Skip, Unless}
+use Rattle.rust_grammar.specs.Rule.{Call, One, Skip, Unless, When}
 use Rattle.rust_grammar.specs.Shared.{colons_before_more}
-use Rattle.rust_grammar.specs.Words.{'::', '|', 'r_curly'}
+use Rattle.rust_grammar.specs.Words.{'::', '|', '#', '!', 'r_curly', '+', 'comma'}
 use Rattle.grammar_reader.proofs.Spending.{Spending}
 use Rattle.grammar_reader.proofs.Turning.{Midway}
 use Rattle.grammar_table.proofs.Sizes.{weight}
@@ -247,6 +247,9 @@ invariant-or_patterns::further-turns l = record {
 abbrev pub decreases-or_patterns::further-turns : goal.decreases-or_patterns::further-turns
 decreases-or_patterns::further-turns l = tokens l.p
 
+abbrev pub decreases-operation : goal.decreases-operation
+decreases-operation l = 16384 * (32 * l.began + l.context.ranks) + 16382
+
 abbrev pub decreases-layers : goal.decreases-layers
 decreases-layers l = 16384 * (32 * l.began + l.context.ranks) + 16382
 
@@ -437,9 +440,6 @@ decreases-statements::let_stmt l = 524288 * tokens l.p.now
 abbrev pub decreases-statements::let_else : goal.decreases-statements::let_else
 decreases-statements::let_else l = 524288 * tokens l.p.now
 
-abbrev pub decreases-statements::opt_value : goal.decreases-statements::opt_value
-decreases-statements::opt_value l = 524288 * tokens l.p.now
-
 abbrev pub decreases-statements::opt_else : goal.decreases-statements::opt_else
 decreases-statements::opt_else l = 524288 * tokens l.p.now + 1
 
@@ -481,3 +481,267 @@ invariant-operands::postfixes-turns l = record {
 
 abbrev pub decreases-operands::postfixes-turns : goal.decreases-operands::postfixes-turns
 decreases-operands::postfixes-turns l = tokens l.p
+
+-- items by hand
+abbrev pub decreases-items::item : goal.decreases-items::item
+decreases-items::item l = 524288 * tokens l.p.now + 3
+
+abbrev pub decreases-items::attributed_item : goal.decreases-items::attributed_item
+decreases-items::attributed_item l = 524288 * tokens l.p.now + 2
+
+abbrev pub decreases-items::visible_item : goal.decreases-items::visible_item
+decreases-items::visible_item l = 524288 * tokens l.p.now
+
+abbrev pub decreases-items::bare_item : goal.decreases-items::bare_item
+decreases-items::bare_item l = 524288 * tokens l.p.now + 2
+
+abbrev pub decreases-items::attributes : goal.decreases-items::attributes
+decreases-items::attributes l = 524288 * tokens l.p.now + 1
+
+abbrev pub decreases-items::body : goal.decreases-items::body
+decreases-items::body l = 524288 * tokens l.p.now + 1
+
+abbrev pub decreases-items::module : goal.decreases-items::module
+decreases-items::module l = 524288 * tokens l.p.now
+
+abbrev pub decreases-items::module_items : goal.decreases-items::module_items
+decreases-items::module_items l = 524288 * tokens l.p.now + 1
+
+abbrev pub decreases-items::item_list : goal.decreases-items::item_list
+decreases-items::item_list l = 524288 * tokens l.p.now
+
+abbrev pub decreases-items::item_turn : goal.decreases-items::item_turn
+decreases-items::item_turn l = 524288 * tokens l.p.now + 4
+
+abbrev pub decreases-items::items : goal.decreases-items::items
+decreases-items::items l = 524288 * tokens l.p.now + 5
+
+abbrev pub decreases-items::assoc_items : goal.decreases-items::assoc_items
+decreases-items::assoc_items l = 524288 * tokens l.p.now + 1
+
+abbrev pub decreases-items::opt_generic_params : goal.decreases-items::opt_generic_params
+decreases-items::opt_generic_params l = 524288 * tokens l.p.now + 1
+
+abbrev pub decreases-items::opt_where_clause : goal.decreases-items::opt_where_clause
+decreases-items::opt_where_clause l = 524288 * tokens l.p.now + 1
+
+abbrev pub decreases-adt::struct_item : goal.decreases-adt::struct_item
+decreases-adt::struct_item l = 524288 * tokens l.p.now
+
+abbrev pub decreases-adt::fields : goal.decreases-adt::fields
+decreases-adt::fields l = 524288 * tokens l.p.now + 344066
+
+abbrev pub decreases-adt::record_fields : goal.decreases-adt::record_fields
+decreases-adt::record_fields l = 524288 * tokens l.p.now + 344065
+
+abbrev pub decreases-adt::enum_item : goal.decreases-adt::enum_item
+decreases-adt::enum_item l = 524288 * tokens l.p.now
+
+abbrev pub decreases-adt::expect_variants : goal.decreases-adt::expect_variants
+decreases-adt::expect_variants l = 524288 * tokens l.p.now + 344065
+
+abbrev pub decreases-consts::const_item : goal.decreases-consts::const_item
+decreases-consts::const_item l = 524288 * tokens l.p.now
+
+abbrev pub decreases-consts::static_item : goal.decreases-consts::static_item
+decreases-consts::static_item l = 524288 * tokens l.p.now
+
+abbrev pub decreases-consts::typed_value : goal.decreases-consts::typed_value
+decreases-consts::typed_value l = 524288 * tokens l.p.now + 20
+
+abbrev pub decreases-consts::opt_value : goal.decreases-consts::opt_value
+decreases-consts::opt_value l = 524288 * tokens l.p.now
+
+abbrev pub decreases-consts::type_alias : goal.decreases-consts::type_alias
+decreases-consts::type_alias l = 524288 * tokens l.p.now
+
+abbrev pub decreases-functions::fn_item : goal.decreases-functions::fn_item
+decreases-functions::fn_item l = 524288 * tokens l.p.now
+
+abbrev pub decreases-functions::expect_params : goal.decreases-functions::expect_params
+decreases-functions::expect_params l = 524288 * tokens l.p.now + 1
+
+abbrev pub decreases-functions::opt_ret_type : goal.decreases-functions::opt_ret_type
+decreases-functions::opt_ret_type l = 524288 * tokens l.p.now + 1
+
+abbrev pub decreases-functions::fn_body : goal.decreases-functions::fn_body
+decreases-functions::fn_body l = 524288 * tokens l.p.now + 2
+
+abbrev pub decreases-traits::impl_item : goal.decreases-traits::impl_item
+decreases-traits::impl_item l = 524288 * tokens l.p.now
+
+abbrev pub decreases-traits::trait_item : goal.decreases-traits::trait_item
+decreases-traits::trait_item l = 524288 * tokens l.p.now
+
+abbrev pub decreases-traits::expect_assoc_items : goal.decreases-traits::expect_assoc_items
+decreases-traits::expect_assoc_items l = 524288 * tokens l.p.now + 2
+
+abbrev pub decreases-types::opt_type_after : goal.decreases-types::opt_type_after
+decreases-types::opt_type_after l = 524288 * tokens l.p.now
+
+abbrev pub invariant-items::attributes-turns : goal.invariant-items::attributes-turns
+invariant-items::attributes-turns l = record {
+  input : l.p.input ≡ l.initial.p.input;
+  innermost : (n : ℕ) → IsInnermost n l.initial.p.nodes → IsInnermost n l.p.nodes;
+  goes : (c : Bool) → TurnsFrom c (Call rules.attribute) l.initial.p l.p;
+  left : tokens l.p ≤ tokens l.initial.p;
+  looks : spent l.p ≤ spent l.initial.p;
+}
+
+abbrev pub decreases-items::attributes-turns : goal.decreases-items::attributes-turns
+decreases-items::attributes-turns l = tokens l.p
+
+abbrev pub invariant-items::items-turns : goal.invariant-items::items-turns
+invariant-items::items-turns l = record {
+  input : l.p.input ≡ l.initial.p.input;
+  innermost : (n : ℕ) → IsInnermost n l.initial.p.nodes → IsInnermost n l.p.nodes;
+  goes : TurnsFrom false (Unless (until 'r_curly') (When ('#' before '!') Attribute or Item)) l.initial.p l.p;
+  left : tokens l.p ≤ tokens l.initial.p;
+  looks : spent l.p ≤ spent l.initial.p;
+}
+
+abbrev pub decreases-items::items-turns : goal.decreases-items::items-turns
+decreases-items::items-turns l = tokens l.p
+
+-- generics, fields, arms and parameters by hand
+abbrev pub decreases-generics::bound : goal.decreases-generics::bound
+decreases-generics::bound l = 524288 * tokens l.p.now + 18
+
+abbrev pub decreases-generics::lifetime_or_path : goal.decreases-generics::lifetime_or_path
+decreases-generics::lifetime_or_path l = 524288 * tokens l.p.now + 17
+
+abbrev pub decreases-generics::path_after_question : goal.decreases-generics::path_after_question
+decreases-generics::path_after_question l = 524288 * tokens l.p.now
+
+abbrev pub decreases-generics::expect_path_type : goal.decreases-generics::expect_path_type
+decreases-generics::expect_path_type l = 524288 * tokens l.p.now + 17
+
+abbrev pub decreases-generics::bounds : goal.decreases-generics::bounds
+decreases-generics::bounds l = 524288 * tokens l.p.now + 20
+
+abbrev pub decreases-generics::opt_bounds : goal.decreases-generics::opt_bounds
+decreases-generics::opt_bounds l = 524288 * tokens l.p.now + 19
+
+abbrev pub decreases-generics::further_bounds : goal.decreases-generics::further_bounds
+decreases-generics::further_bounds l = 524288 * tokens l.p.now + 1
+
+abbrev pub decreases-generics::further_bound : goal.decreases-generics::further_bound
+decreases-generics::further_bound l = 524288 * tokens l.p.now
+
+abbrev pub decreases-generics::opt_bound : goal.decreases-generics::opt_bound
+decreases-generics::opt_bound l = 524288 * tokens l.p.now + 19
+
+abbrev pub decreases-generics::bounds_after_colon : goal.decreases-generics::bounds_after_colon
+decreases-generics::bounds_after_colon l = 524288 * tokens l.p.now
+
+abbrev pub decreases-generics::lifetime_param : goal.decreases-generics::lifetime_param
+decreases-generics::lifetime_param l = 524288 * tokens l.p.now
+
+abbrev pub decreases-generics::type_param : goal.decreases-generics::type_param
+decreases-generics::type_param l = 524288 * tokens l.p.now
+
+abbrev pub decreases-generics::generic_param : goal.decreases-generics::generic_param
+decreases-generics::generic_param l = 524288 * tokens l.p.now + 1
+
+abbrev pub decreases-generics::lifetime_or_type : goal.decreases-generics::lifetime_or_type
+decreases-generics::lifetime_or_type l = 524288 * tokens l.p.now + 19
+
+abbrev pub decreases-generics::where_pred : goal.decreases-generics::where_pred
+decreases-generics::where_pred l = 524288 * tokens l.p.now + 20
+
+abbrev pub decreases-generics::where_clause : goal.decreases-generics::where_clause
+decreases-generics::where_clause l = 524288 * tokens l.p.now
+
+abbrev pub decreases-generics::opt_preds : goal.decreases-generics::opt_preds
+decreases-generics::opt_preds l = 524288 * tokens l.p.now + 21
+
+abbrev pub decreases-generics::further_preds : goal.decreases-generics::further_preds
+decreases-generics::further_preds l = 524288 * tokens l.p.now + 1
+
+abbrev pub decreases-generics::further_pred : goal.decreases-generics::further_pred
+decreases-generics::further_pred l = 524288 * tokens l.p.now
+
+abbrev pub decreases-generics::opt_pred : goal.decreases-generics::opt_pred
+decreases-generics::opt_pred l = 524288 * tokens l.p.now + 21
+
+abbrev pub decreases-generic_arg::generic_arg : goal.decreases-generic_arg::generic_arg
+decreases-generic_arg::generic_arg l = 524288 * tokens l.p.now + 21
+
+abbrev pub decreases-generic_arg::word_arg : goal.decreases-generic_arg::word_arg
+decreases-generic_arg::word_arg l = 524288 * tokens l.p.now + 20
+
+abbrev pub decreases-generic_arg::assoc_type_arg : goal.decreases-generic_arg::assoc_type_arg
+decreases-generic_arg::assoc_type_arg l = 524288 * tokens l.p.now
+
+abbrev pub decreases-generic_arg::type_arg : goal.decreases-generic_arg::type_arg
+decreases-generic_arg::type_arg l = 524288 * tokens l.p.now + 19
+
+abbrev pub decreases-fields::field_value : goal.decreases-fields::field_value
+decreases-fields::field_value l = 524288 * tokens l.p.now + 10
+
+abbrev pub decreases-fields::named_value : goal.decreases-fields::named_value
+decreases-fields::named_value l = 524288 * tokens l.p.now
+
+abbrev pub decreases-fields::other_fields : goal.decreases-fields::other_fields
+decreases-fields::other_fields l = 524288 * tokens l.p.now
+
+abbrev pub decreases-fields::opt_expression : goal.decreases-fields::opt_expression
+decreases-fields::opt_expression l = 524288 * tokens l.p.now + 344065
+
+abbrev pub decreases-fields::path_value : goal.decreases-fields::path_value
+decreases-fields::path_value l = 524288 * tokens l.p.now + 9
+
+abbrev pub decreases-fields::pattern_field : goal.decreases-fields::pattern_field
+decreases-fields::pattern_field l = 524288 * tokens l.p.now + 1
+
+abbrev pub decreases-fields::named_pattern : goal.decreases-fields::named_pattern
+decreases-fields::named_pattern l = 524288 * tokens l.p.now
+
+abbrev pub decreases-match_arm::match_arm : goal.decreases-match_arm::match_arm
+decreases-match_arm::match_arm l = 524288 * tokens l.p.now + 25
+
+abbrev pub decreases-match_arm::opt_guard : goal.decreases-match_arm::opt_guard
+decreases-match_arm::opt_guard l = 524288 * tokens l.p.now
+
+abbrev pub decreases-match_arm::arm_value : goal.decreases-match_arm::arm_value
+decreases-match_arm::arm_value l = 524288 * tokens l.p.now + 344066
+
+abbrev pub decreases-param::param : goal.decreases-param::param
+decreases-param::param l = 524288 * tokens l.p.now + 26
+
+abbrev pub decreases-param::pattern_param : goal.decreases-param::pattern_param
+decreases-param::pattern_param l = 524288 * tokens l.p.now + 25
+
+abbrev pub decreases-param::self_param : goal.decreases-param::self_param
+decreases-param::self_param l = 524288 * tokens l.p.now + 1
+
+abbrev pub decreases-param::self_after_ref : goal.decreases-param::self_after_ref
+decreases-param::self_after_ref l = 524288 * tokens l.p.now
+
+abbrev pub decreases-param::self_after_mut : goal.decreases-param::self_after_mut
+decreases-param::self_after_mut l = 524288 * tokens l.p.now
+
+abbrev pub decreases-param::self_alone : goal.decreases-param::self_alone
+decreases-param::self_alone l = 524288 * tokens l.p.now
+
+abbrev pub invariant-generics::further_bounds-turns : goal.invariant-generics::further_bounds-turns
+invariant-generics::further_bounds-turns l = record {
+  input : l.p.input ≡ l.initial.p.input;
+  goes : (c : Bool) → TurnsFrom c (One '+' ▸ ⁅ Bound ⁆) l.initial.p l.p;
+  left : tokens l.p ≤ tokens l.initial.p;
+  looks : spent l.p ≤ spent l.initial.p;
+}
+
+abbrev pub decreases-generics::further_bounds-turns : goal.decreases-generics::further_bounds-turns
+decreases-generics::further_bounds-turns l = tokens l.p
+
+abbrev pub invariant-generics::further_preds-turns : goal.invariant-generics::further_preds-turns
+invariant-generics::further_preds-turns l = record {
+  input : l.p.input ≡ l.initial.p.input;
+  goes : TurnsFrom l.condition (One 'comma' ▸ ⁅ WherePred ⁆) l.initial.p l.p;
+  left : tokens l.p ≤ tokens l.initial.p;
+  looks : spent l.p ≤ spent l.initial.p;
+}
+
+abbrev pub decreases-generics::further_preds-turns : goal.decreases-generics::further_preds-turns
+decreases-generics::further_preds-turns l = tokens l.p

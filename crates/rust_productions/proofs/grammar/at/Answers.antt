@@ -1,20 +1,17 @@
 -- The look is at the tokens left.
-use Rattle.std.proofs.Common.{◌∙◌}
-use Rattle.rust_productions.proofs.Looking.{saw-kind, some-ahead, same-tokens, one-look}
-use Rattle.rust_productions.proofs.Moves.{does-look}
+use Rattle.std.proofs.Common.{ℕ, nat_eq, ap, sym, ◌∙◌}
+use Rattle.std.proofs.lemmas.Bool.{eqb-true}
+use Rattle.parser_input.specs.Kind.{raw_of}
+use Rattle.rust_productions.proofs.Facts.{saw-so}
 use Rattle.rust_productions.proofs.grammar.at.Goals as goal
 
 pub returns-clause-sees : goal.returns-clause-sees
-returns-clause-sees c cond = saw-kind cond 0 c.args.p.now _ _ _ (c.to_raw.ensures.number ∙ c.kind_at.ensures.kind) c.to_raw-2.ensures.number
+returns-clause-sees c cond =
+    saw-so (c.current.ensures.sees cond _) (sym (ap (λ (n : ℕ). nat_eq n c.to_raw-2.result) c.to_raw.ensures.number ∙ ap (λ (n : ℕ). nat_eq (raw_of c.current.result) n) c.to_raw-2.ensures.number))
 
 pub returns-clause-some : goal.returns-clause-some
-returns-clause-some c is some = some-ahead 0 c.args.p.now _ _ _ (c.to_raw.ensures.number ∙ c.kind_at.ensures.kind) is c.to_raw-2.ensures.number some
+returns-clause-some c is some =
+    c.current.ensures.some (λ z. some (sym c.to_raw-2.ensures.number ∙ sym (eqb-true _ _ is) ∙ c.to_raw.ensures.number ∙ z))
 
 pub returns-clause-same : goal.returns-clause-same
-returns-clause-same c = does-look _ _ _ c.kind_at.ensures.same
-
-pub returns-clause-left : goal.returns-clause-left
-returns-clause-left c = same-tokens _ _ _ c.kind_at.ensures.same
-
-pub returns-clause-looks : goal.returns-clause-looks
-returns-clause-looks c = one-look _ _ c.kind_at.ensures.same
+returns-clause-same c = c.current.ensures.same

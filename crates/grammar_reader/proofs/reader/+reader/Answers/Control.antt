@@ -4,7 +4,7 @@ use Rattle.std.proofs.lemmas.Bool.{ltb-true, ltb-false}
 use Rattle.parser_events.specs.Forest.{ExpectedMatchArm}
 use Rattle.rust_grammar.specs.Calls.{MatchArm}
 use Rattle.rust_grammar.specs.Notation.{◌or◌, until}
-use Rattle.rust_grammar.specs.Rule.{Skip, Unless}
+use Rattle.rust_grammar.specs.Rule.{Call, Skip, Unless}
 use Rattle.rust_grammar.specs.Words.{'ident', 'l_curly', 'r_curly', '!'}
 use Rattle.rust_grammar.specs.Rule as rules
 use Rattle.rust_grammar.specs.Expressions.{expressions}
@@ -20,7 +20,8 @@ use Rattle.rust_grammar.specs.Whole.{rank, rule, whole}
 use Rattle.grammar_reader.specs.Prices.{debt_of, idle_of, most, surely_takes}
 use Rattle.grammar_reader.proofs.Called.{can-begin}
 use Rattle.grammar_reader.proofs.Elements.{arm-begins, read-cost, read-pays}
-use Rattle.grammar_reader.proofs.Seeing.{begun-anew, left-there, some-left, three-left}
+use Rattle.grammar_reader.proofs.AnyMode.{arm-anywhere}
+use Rattle.grammar_reader.proofs.Seeing.{begun-anew, begun-left, left-there, some-left, three-left}
 use Rattle.grammar_reader.proofs.Standing.{short-still}
 use Rattle.rust_productions.specs.Looks.{tokens, spent}
 use Rattle.rust_productions.specs.Reads.{looks, Reads, Saw}
@@ -246,28 +247,27 @@ pub control::arm_turn-returns-then-at_list_end-clause-ends : goal.control::arm_t
 unfolding look_of begins_below whole rule items statements expressions patterns types paths there_at shift passes is_silent begins in_mode anew row one_of any_of no_longer longest is_longer
 control::arm_turn-returns-then-at_list_end-clause-ends t c = λ e. last-turn false (Unless (until 'r_curly') (MatchArm or Skip ExpectedMatchArm)) (ends-at-end false (Unless (until 'r_curly') (MatchArm or Skip ExpectedMatchArm)) refl) _ _ _ first-turn (starts-here (Unless (until 'r_curly') (MatchArm or Skip ExpectedMatchArm)) (saw-so (c.at_list_end.ensures.sees false) c.if-at_list_end.true and nothing) refl) c.at_list_end.ensures.same
 
-pub control::arm_turn-read_anew-requires : goal.control::arm_turn-read_anew-requires
-control::arm_turn-read_anew-requires t c = (omega arith, (short-still _ _ (c.at_production.ensures.same.input ∙ c.at_list_end.ensures.same.input) c.requires.short, can-begin _ (saw-after c.at_production.ensures.same (saw-so c.at_production.ensures.sees c.if-at_production.true))))
+pub control::arm_turn-match_arm-requires : goal.control::arm_turn-match_arm-requires
+unfolding look_of begins_below whole rule items statements expressions patterns types paths there_at shift passes is_silent begins in_mode anew row one_of any_of no_longer longest is_longer
+control::arm_turn-match_arm-requires t c =
+    let seen = saw-after c.at_production.ensures.same (saw-so c.at_production.ensures.sees c.if-at_production.true) in
+    (omega arith, (short-still _ _ (c.at_production.ensures.same.input ∙ c.at_list_end.ensures.same.input) c.requires.short, ((λ d. arm-anywhere seen), begun-left (Call rules.match_arm) refl seen)))
 
 pub control::arm_turn-returns-then-at_production-clause-goes : goal.control::arm_turn-returns-then-at_production-clause-goes
 unfolding tokens look_of begins_below whole rule items statements expressions patterns types paths there_at shift passes is_silent begins in_mode anew row one_of any_of no_longer longest is_longer
-control::arm_turn-returns-then-at_production-clause-goes t c = λ e. next-turn false (Unless (until 'r_curly') (MatchArm or Skip ExpectedMatchArm)) (ends-at-end false (Unless (until 'r_curly') (MatchArm or Skip ExpectedMatchArm)) refl) _ _ _ first-turn (starts-here (Unless (until 'r_curly') (MatchArm or Skip ExpectedMatchArm)) (saw-so (c.at_list_end.ensures.sees false) c.if-at_list_end.false and begun-anew rules.match_arm (saw-before c.at_list_end.ensures.same (saw-so c.at_production.ensures.sees c.if-at_production.true)) nothing) refl) (reads-here (begun-anew rules.match_arm (saw-before c.at_list_end.ensures.same (saw-so c.at_production.ensures.sees c.if-at_production.true)) nothing) (after-look false c.at_list_end.ensures.same (after-look false c.at_production.ensures.same (reads-call false c.read_anew.ensures.gives)))) (omega (arith, (ltb-true c.tokens_left.result c.tokens_left-before.result e), c.tokens_left.ensures, c.tokens_left-before.ensures, c.at_list_end.ensures.left))
+control::arm_turn-returns-then-at_production-clause-goes t c = λ e. next-turn false (Unless (until 'r_curly') (MatchArm or Skip ExpectedMatchArm)) (ends-at-end false (Unless (until 'r_curly') (MatchArm or Skip ExpectedMatchArm)) refl) _ _ _ first-turn (starts-here (Unless (until 'r_curly') (MatchArm or Skip ExpectedMatchArm)) (saw-so (c.at_list_end.ensures.sees false) c.if-at_list_end.false and begun-anew rules.match_arm (saw-before c.at_list_end.ensures.same (saw-so c.at_production.ensures.sees c.if-at_production.true)) nothing) refl) (reads-here (begun-anew rules.match_arm (saw-before c.at_list_end.ensures.same (saw-so c.at_production.ensures.sees c.if-at_production.true)) nothing) (after-look false c.at_list_end.ensures.same (after-look false c.at_production.ensures.same (reads-call false c.match_arm.ensures.gives)))) (omega (arith, c.match_arm.ensures.left, c.at_production.ensures.left, c.at_list_end.ensures.left))
 
-pub control::arm_turn-returns-then-at_production-clause-ends : goal.control::arm_turn-returns-then-at_production-clause-ends
-unfolding tokens look_of begins_below whole rule items statements expressions patterns types paths there_at shift passes is_silent begins in_mode anew row one_of any_of no_longer longest is_longer
-control::arm_turn-returns-then-at_production-clause-ends t c = λ e. idle-turn false (Unless (until 'r_curly') (MatchArm or Skip ExpectedMatchArm)) (ends-at-end false (Unless (until 'r_curly') (MatchArm or Skip ExpectedMatchArm)) refl) _ _ _ first-turn (starts-here (Unless (until 'r_curly') (MatchArm or Skip ExpectedMatchArm)) (saw-so (c.at_list_end.ensures.sees false) c.if-at_list_end.false and begun-anew rules.match_arm (saw-before c.at_list_end.ensures.same (saw-so c.at_production.ensures.sees c.if-at_production.true)) nothing) refl) (reads-here (begun-anew rules.match_arm (saw-before c.at_list_end.ensures.same (saw-so c.at_production.ensures.sees c.if-at_production.true)) nothing) (after-look false c.at_list_end.ensures.same (after-look false c.at_production.ensures.same (reads-call false c.read_anew.ensures.gives)))) (omega (arith, (ltb-false c.tokens_left.result c.tokens_left-before.result e), c.tokens_left.ensures, c.tokens_left-before.ensures, c.at_list_end.ensures.left, c.read_anew.ensures.left, c.at_production.ensures.left))
+pub control::arm_turn-returns-then-at_production-clause-input : goal.control::arm_turn-returns-then-at_production-clause-input
+control::arm_turn-returns-then-at_production-clause-input t c = c.match_arm.ensures.gives.does.input ∙ c.at_production.ensures.same.input ∙ c.at_list_end.ensures.same.input
 
-pub control::arm_turn-returns-then-at_production-clause-fewer : goal.control::arm_turn-returns-then-at_production-clause-fewer
-unfolding tokens
-control::arm_turn-returns-then-at_production-clause-fewer t c = λ e. omega (arith, (ltb-true c.tokens_left.result c.tokens_left-before.result e), c.tokens_left.ensures, c.tokens_left-before.ensures, c.at_list_end.ensures.left)
+pub control::arm_turn-returns-then-at_production-clause-innermost : goal.control::arm_turn-returns-then-at_production-clause-innermost
+control::arm_turn-returns-then-at_production-clause-innermost t c = λ n i. c.match_arm.ensures.gives.does.innermost n (c.at_production.ensures.same.innermost n (c.at_list_end.ensures.same.innermost n i))
 
 pub control::arm_turn-returns-then-at_production-clause-pays : goal.control::arm_turn-returns-then-at_production-clause-pays
-unfolding tokens most idle_of debt_of surely_takes rank
-control::arm_turn-returns-then-at_production-clause-pays t c = λ e. omega (arith, arm-begins, c.at_production.ensures.looks, c.at_list_end.ensures.looks, read-pays 1000 rules.match_arm refl c.read_anew.ensures.looks (omega (arith, (ltb-true c.tokens_left.result c.tokens_left-before.result e), c.tokens_left.ensures, c.tokens_left-before.ensures, c.at_list_end.ensures.left, c.at_production.ensures.left)))
+control::arm_turn-returns-then-at_production-clause-pays t c = λ e. omega (arith, arm-begins, c.at_production.ensures.looks, c.at_list_end.ensures.looks, c.match_arm.ensures.looks)
 
 pub control::arm_turn-returns-then-at_production-clause-looks : goal.control::arm_turn-returns-then-at_production-clause-looks
-unfolding most idle_of debt_of surely_takes rank
-control::arm_turn-returns-then-at_production-clause-looks t c = omega (arith, arm-begins, c.at_production.ensures.looks, c.at_list_end.ensures.looks, read-cost 900 rules.match_arm refl refl c.read_anew.ensures.looks)
+control::arm_turn-returns-then-at_production-clause-looks t c = omega (arith, arm-begins, c.at_production.ensures.looks, c.at_list_end.ensures.looks, c.match_arm.ensures.looks)
 
 pub control::arm_turn-skip-requires : goal.control::arm_turn-skip-requires
 control::arm_turn-skip-requires t c = omega (arith, some-left 'r_curly' (saw-so (c.at_list_end.ensures.sees false) c.if-at_list_end.false), c.at_list_end.ensures.left, c.at_production.ensures.left)

@@ -170,6 +170,13 @@ pub read_by_hand-returns-in-Visibility-clause-looks : goal.read_by_hand-returns-
 unfolding debt_of rank
 read_by_hand-returns-in-Visibility-clause-looks t c = rw c.in-Visibility.is (omega (arith, c.visibility.ensures.looks))
 
+pub read_by_hand-returns-in-WhereClause-clause-gives : goal.read_by_hand-returns-in-WhereClause-clause-gives
+read_by_hand-returns-in-WhereClause-clause-gives t c = rw c.in-WhereClause.is c.where_clause.ensures.gives
+
+pub read_by_hand-returns-in-WhereClause-clause-looks : goal.read_by_hand-returns-in-WhereClause-clause-looks
+unfolding debt_of rank
+read_by_hand-returns-in-WhereClause-clause-looks t c = rw c.in-WhereClause.is (omega (arith, c.where_clause.ensures.looks))
+
 pub read_by_hand-path_with_args-requires : goal.read_by_hand-path_with_args-requires
 read_by_hand-path_with_args-requires t c = (omega arith, (c.requires.short, ((λ (d : Bool). subst (λ (l : Look). Saw d l c.args.p.now true) (paths-begin modes.Expr) (subst (λ (h : ByHand). Saw d (looks (production_by_hand h)) c.args.p.now true) c.in-ExprPath.is (c.requires.begins d))), c.requires.some)))
 
@@ -223,7 +230,7 @@ production-returns-2-clause-reads t c = λ s below low h b.
           subst (λ (x : Production). sees c.args.context.condition r (looks x) ≡ true) (sym c.in-Some-by_hand_before.ensures.is)
           (c.in-Some-by_hand_before.ensures.begins c.args.context.condition r (next-there c.next_kind-next.result e c.next_kind-next.ensures.next));
     } in
-    hand-stands hand (named c.args.production) c.args.context.condition s below c.in-Some-by_hand_before.ensures.is c.if-not-node-2.true saw c.read_by_hand.ensures.left
+    hand-stands hand (named c.args.production) c.args.context.condition s below c.in-Some-by_hand_before.ensures.is c.if-not-node-3.true saw c.read_by_hand.ensures.left
     (subst (λ (d : Bool). Gives (production_by_hand hand) d c.next_kind-next.new.p c.read_by_hand.new.p) c.condition.ensures c.read_by_hand.ensures.gives)
     (stands-still c.next_kind-next.ensures.same h)
 
@@ -343,3 +350,17 @@ read_by_hand-returns-in-MatchArms-clause-gives t c = rw c.in-MatchArms.is (c.mat
 pub read_by_hand-returns-in-MatchArms-clause-looks : goal.read_by_hand-returns-in-MatchArms-clause-looks
 unfolding debt_of rank
 read_by_hand-returns-in-MatchArms-clause-looks t c = rw c.in-MatchArms.is (omega (arith, c.match_arms.ensures.looks))
+
+pub read_by_hand-returns-in-AssocItems-clause-gives : goal.read_by_hand-returns-in-AssocItems-clause-gives
+read_by_hand-returns-in-AssocItems-clause-gives t c = rw c.in-AssocItems.is (c.assoc_items.ensures.gives c.args.condition)
+
+pub read_by_hand-returns-in-AssocItems-clause-looks : goal.read_by_hand-returns-in-AssocItems-clause-looks
+unfolding debt_of rank
+read_by_hand-returns-in-AssocItems-clause-looks t c = rw c.in-AssocItems.is (omega (arith, c.assoc_items.ensures.looks))
+
+pub read_by_hand-returns-in-Item-clause-gives : goal.read_by_hand-returns-in-Item-clause-gives
+read_by_hand-returns-in-Item-clause-gives t c = rw c.in-Item.is c.item.ensures.gives
+
+pub read_by_hand-returns-in-Item-clause-looks : goal.read_by_hand-returns-in-Item-clause-looks
+unfolding debt_of rank
+read_by_hand-returns-in-Item-clause-looks t c = rw c.in-Item.is (omega (arith, c.item.ensures.looks))

@@ -3,6 +3,7 @@ use Rattle.std.proofs.Common.{◌+◌, ◌≤◌, true, false, refl, sym, subst,
 use Rattle.std.proofs.lemmas.Bool.{ltb-true, ltb-false}
 use Rattle.parser_input.specs.Kind.{raw_of}
 use Rattle.rust_grammar.specs.Rule as rules
+use Rattle.rust_grammar.specs.Rule.{Call}
 use Rattle.rust_grammar.specs.Expressions.{expressions}
 use Rattle.rust_grammar.specs.Items.{items}
 use Rattle.rust_grammar.specs.Meaning.{begins_below, look_of}
@@ -18,7 +19,8 @@ use Rattle.grammar_reader.specs.Prices.{debt_of, idle_of, most, surely_takes}
 use Rattle.grammar_reader.specs.declared.reader.lists.Element.{Element}
 use Rattle.grammar_reader.proofs.Called.{can-begin}
 use Rattle.grammar_reader.proofs.Elements.{element-pays, ends, few-looks-before, few-looks-in, more, over, over-there, read-cost, read-pays, reads-element, reads-stray, said-element, stray, sure-element}
-use Rattle.grammar_reader.proofs.Seeing.{param-left, pattern-begins}
+use Rattle.grammar_reader.proofs.AnyMode.{param-anywhere, pattern-anywhere, pattern-field-anywhere}
+use Rattle.grammar_reader.proofs.Seeing.{begun-left, param-left, pattern-begins, word-left}
 use Rattle.grammar_reader.proofs.Standing.{short-still}
 use Rattle.rust_productions.specs.Looks.{tokens, spent}
 use Rattle.rust_productions.specs.Reads.{looks, Reads, Saw}
@@ -103,117 +105,66 @@ pub lists::read_element-returns-in-Expression-clause-looks : goal.lists::read_el
 unfolding most idle_of debt_of surely_takes rank
 lists::read_element-returns-in-Expression-clause-looks t c = subst (λ (e : Element). spent c.read_anew.new.p ≤ spent c.args.p.now + looks_in e) (sym c.in-Expression.is) (read-cost 600 rules.expression refl refl c.read_anew.ensures.looks)
 
-pub lists::read_element-read_anew-requires-in-FieldValue : goal.lists::read_element-read_anew-requires-in-FieldValue
-unfolding begins
-lists::read_element-read_anew-requires-in-FieldValue t c = (omega arith, (c.requires.short, can-begin rules.field_value (subst (λ (e : Element). Saw false (begins looks (element_of e)) c.args.p.now true) c.in-FieldValue.is c.requires.begins)))
+pub lists::read_element-field_value-requires : goal.lists::read_element-field_value-requires
+unfolding look_of begins_below whole rule items statements expressions patterns types paths there_at shift passes is_silent begins in_mode anew row one_of any_of no_longer longest is_longer
+lists::read_element-field_value-requires t c =
+    let seen = subst (λ (e : Element). Saw false (begins looks (element_of e)) c.args.p.now true) c.in-FieldValue.is c.requires.begins in
+    (omega arith, (c.requires.short, (seen, begun-left (Call rules.field_value) refl seen)))
 
 pub lists::read_element-returns-in-FieldValue-clause-reads : goal.lists::read_element-returns-in-FieldValue-clause-reads
-unfolding most idle_of debt_of surely_takes rank
-lists::read_element-returns-in-FieldValue-clause-reads t c = subst (λ (e : Element). Reads false (element_of e) c.args.p.now c.read_anew-in-FieldValue.new.p) (sym c.in-FieldValue.is) (reads-call false c.read_anew-in-FieldValue.ensures.gives)
+lists::read_element-returns-in-FieldValue-clause-reads t c = subst (λ (e : Element). Reads false (element_of e) c.args.p.now c.field_value.new.p) (sym c.in-FieldValue.is) (reads-call false c.field_value.ensures.gives)
 
-pub lists::read_element-returns-in-FieldValue-clause-pays : goal.lists::read_element-returns-in-FieldValue-clause-pays
-unfolding most idle_of debt_of surely_takes rank
-lists::read_element-returns-in-FieldValue-clause-pays t c = read-pays 1000 rules.field_value refl c.read_anew-in-FieldValue.ensures.looks
-
-pub lists::read_element-returns-in-FieldValue-clause-looks : goal.lists::read_element-returns-in-FieldValue-clause-looks
-unfolding most idle_of debt_of surely_takes rank
-lists::read_element-returns-in-FieldValue-clause-looks t c = subst (λ (e : Element). spent c.read_anew-in-FieldValue.new.p ≤ spent c.args.p.now + looks_in e) (sym c.in-FieldValue.is) (read-cost 600 rules.field_value refl refl c.read_anew-in-FieldValue.ensures.looks)
-
-pub lists::read_element-read_anew-requires-in-GenericArg : goal.lists::read_element-read_anew-requires-in-GenericArg
-unfolding begins
-lists::read_element-read_anew-requires-in-GenericArg t c = (omega arith, (c.requires.short, can-begin rules.generic_arg (subst (λ (e : Element). Saw false (begins looks (element_of e)) c.args.p.now true) c.in-GenericArg.is c.requires.begins)))
+pub lists::read_element-generic_arg-requires : goal.lists::read_element-generic_arg-requires
+unfolding look_of begins_below whole rule items statements expressions patterns types paths there_at shift passes is_silent begins in_mode anew row one_of any_of no_longer longest is_longer
+lists::read_element-generic_arg-requires t c =
+    let seen = subst (λ (e : Element). Saw false (begins looks (element_of e)) c.args.p.now true) c.in-GenericArg.is c.requires.begins in
+    (omega arith, (c.requires.short, (seen, word-left (Call rules.generic_arg) refl seen)))
 
 pub lists::read_element-returns-in-GenericArg-clause-reads : goal.lists::read_element-returns-in-GenericArg-clause-reads
-unfolding most idle_of debt_of surely_takes rank
-lists::read_element-returns-in-GenericArg-clause-reads t c = subst (λ (e : Element). Reads false (element_of e) c.args.p.now c.read_anew-in-GenericArg.new.p) (sym c.in-GenericArg.is) (reads-call false c.read_anew-in-GenericArg.ensures.gives)
+lists::read_element-returns-in-GenericArg-clause-reads t c = subst (λ (e : Element). Reads false (element_of e) c.args.p.now c.generic_arg.new.p) (sym c.in-GenericArg.is) (reads-call false c.generic_arg.ensures.gives)
 
-pub lists::read_element-returns-in-GenericArg-clause-pays : goal.lists::read_element-returns-in-GenericArg-clause-pays
-unfolding most idle_of debt_of surely_takes rank
-lists::read_element-returns-in-GenericArg-clause-pays t c = read-pays 1000 rules.generic_arg refl c.read_anew-in-GenericArg.ensures.looks
-
-pub lists::read_element-returns-in-GenericArg-clause-looks : goal.lists::read_element-returns-in-GenericArg-clause-looks
-unfolding most idle_of debt_of surely_takes rank
-lists::read_element-returns-in-GenericArg-clause-looks t c = subst (λ (e : Element). spent c.read_anew-in-GenericArg.new.p ≤ spent c.args.p.now + looks_in e) (sym c.in-GenericArg.is) (read-cost 600 rules.generic_arg refl refl c.read_anew-in-GenericArg.ensures.looks)
-
-pub lists::read_element-read_anew-requires-in-GenericParam : goal.lists::read_element-read_anew-requires-in-GenericParam
-unfolding begins
-lists::read_element-read_anew-requires-in-GenericParam t c = (omega arith, (c.requires.short, can-begin rules.generic_param (subst (λ (e : Element). Saw false (begins looks (element_of e)) c.args.p.now true) c.in-GenericParam.is c.requires.begins)))
+pub lists::read_element-generic_param-requires : goal.lists::read_element-generic_param-requires
+unfolding look_of begins_below whole rule items statements expressions patterns types paths there_at shift passes is_silent begins in_mode anew row one_of any_of no_longer longest is_longer
+lists::read_element-generic_param-requires t c = (omega arith, (c.requires.short, begun-left (Call rules.generic_param) refl (subst (λ (e : Element). Saw false (begins looks (element_of e)) c.args.p.now true) c.in-GenericParam.is c.requires.begins)))
 
 pub lists::read_element-returns-in-GenericParam-clause-reads : goal.lists::read_element-returns-in-GenericParam-clause-reads
-unfolding most idle_of debt_of surely_takes rank
-lists::read_element-returns-in-GenericParam-clause-reads t c = subst (λ (e : Element). Reads false (element_of e) c.args.p.now c.read_anew-in-GenericParam.new.p) (sym c.in-GenericParam.is) (reads-call false c.read_anew-in-GenericParam.ensures.gives)
+lists::read_element-returns-in-GenericParam-clause-reads t c = subst (λ (e : Element). Reads false (element_of e) c.args.p.now c.generic_param.new.p) (sym c.in-GenericParam.is) (reads-call false c.generic_param.ensures.gives)
 
-pub lists::read_element-returns-in-GenericParam-clause-pays : goal.lists::read_element-returns-in-GenericParam-clause-pays
-unfolding most idle_of debt_of surely_takes rank
-lists::read_element-returns-in-GenericParam-clause-pays t c = read-pays 1000 rules.generic_param refl c.read_anew-in-GenericParam.ensures.looks
-
-pub lists::read_element-returns-in-GenericParam-clause-looks : goal.lists::read_element-returns-in-GenericParam-clause-looks
-unfolding most idle_of debt_of surely_takes rank
-lists::read_element-returns-in-GenericParam-clause-looks t c = subst (λ (e : Element). spent c.read_anew-in-GenericParam.new.p ≤ spent c.args.p.now + looks_in e) (sym c.in-GenericParam.is) (read-cost 600 rules.generic_param refl refl c.read_anew-in-GenericParam.ensures.looks)
-
-pub lists::read_element-read_anew-requires-in-Param : goal.lists::read_element-read_anew-requires-in-Param
-unfolding begins
-lists::read_element-read_anew-requires-in-Param t c = (omega arith, (c.requires.short, can-begin rules.param (subst (λ (e : Element). Saw false (begins looks (element_of e)) c.args.p.now true) c.in-Param.is c.requires.begins)))
+pub lists::read_element-param-requires : goal.lists::read_element-param-requires
+unfolding look_of begins_below whole rule items statements expressions patterns types paths there_at shift passes is_silent begins in_mode anew row one_of any_of no_longer longest is_longer
+lists::read_element-param-requires t c =
+    let seen = subst (λ (e : Element). Saw false (begins looks (element_of e)) c.args.p.now true) c.in-Param.is c.requires.begins in
+    (omega arith, (c.requires.short, ((λ d. param-anywhere seen), begun-left (Call rules.param) refl seen)))
 
 pub lists::read_element-returns-in-Param-clause-reads : goal.lists::read_element-returns-in-Param-clause-reads
-unfolding most idle_of debt_of surely_takes rank
-lists::read_element-returns-in-Param-clause-reads t c = subst (λ (e : Element). Reads false (element_of e) c.args.p.now c.read_anew-in-Param.new.p) (sym c.in-Param.is) (reads-call false c.read_anew-in-Param.ensures.gives)
+lists::read_element-returns-in-Param-clause-reads t c = subst (λ (e : Element). Reads false (element_of e) c.args.p.now c.param.new.p) (sym c.in-Param.is) (reads-call false c.param.ensures.gives)
 
-pub lists::read_element-returns-in-Param-clause-pays : goal.lists::read_element-returns-in-Param-clause-pays
-unfolding most idle_of debt_of surely_takes rank
-lists::read_element-returns-in-Param-clause-pays t c = read-pays 1000 rules.param refl c.read_anew-in-Param.ensures.looks
-
-pub lists::read_element-returns-in-Param-clause-looks : goal.lists::read_element-returns-in-Param-clause-looks
-unfolding most idle_of debt_of surely_takes rank
-lists::read_element-returns-in-Param-clause-looks t c = subst (λ (e : Element). spent c.read_anew-in-Param.new.p ≤ spent c.args.p.now + looks_in e) (sym c.in-Param.is) (read-cost 600 rules.param refl refl c.read_anew-in-Param.ensures.looks)
-
-pub lists::read_element-read_anew-requires-in-Pattern : goal.lists::read_element-read_anew-requires-in-Pattern
-unfolding begins
-lists::read_element-read_anew-requires-in-Pattern t c = (omega arith, (c.requires.short, can-begin rules.pattern (subst (λ (e : Element). Saw false (begins looks (element_of e)) c.args.p.now true) c.in-Pattern.is c.requires.begins)))
+pub lists::read_element-pattern-requires : goal.lists::read_element-pattern-requires
+unfolding look_of begins_below whole rule items statements expressions patterns types paths there_at shift passes is_silent begins in_mode anew row one_of any_of no_longer longest is_longer
+lists::read_element-pattern-requires t c =
+    let seen = subst (λ (e : Element). Saw false (begins looks (element_of e)) c.args.p.now true) c.in-Pattern.is c.requires.begins in
+    (omega arith, (c.requires.short, ((λ d. pattern-anywhere seen), begun-left (Call rules.pattern) refl seen)))
 
 pub lists::read_element-returns-in-Pattern-clause-reads : goal.lists::read_element-returns-in-Pattern-clause-reads
-unfolding most idle_of debt_of surely_takes rank
-lists::read_element-returns-in-Pattern-clause-reads t c = subst (λ (e : Element). Reads false (element_of e) c.args.p.now c.read_anew-in-Pattern.new.p) (sym c.in-Pattern.is) (reads-call false c.read_anew-in-Pattern.ensures.gives)
+lists::read_element-returns-in-Pattern-clause-reads t c = subst (λ (e : Element). Reads false (element_of e) c.args.p.now c.pattern.new.p) (sym c.in-Pattern.is) (reads-call false (c.pattern.ensures.gives false))
 
-pub lists::read_element-returns-in-Pattern-clause-pays : goal.lists::read_element-returns-in-Pattern-clause-pays
-unfolding most idle_of debt_of surely_takes rank
-lists::read_element-returns-in-Pattern-clause-pays t c = read-pays 1000 rules.pattern refl c.read_anew-in-Pattern.ensures.looks
-
-pub lists::read_element-returns-in-Pattern-clause-looks : goal.lists::read_element-returns-in-Pattern-clause-looks
-unfolding most idle_of debt_of surely_takes rank
-lists::read_element-returns-in-Pattern-clause-looks t c = subst (λ (e : Element). spent c.read_anew-in-Pattern.new.p ≤ spent c.args.p.now + looks_in e) (sym c.in-Pattern.is) (read-cost 600 rules.pattern refl refl c.read_anew-in-Pattern.ensures.looks)
-
-pub lists::read_element-read_anew-requires-in-PatternField : goal.lists::read_element-read_anew-requires-in-PatternField
-unfolding begins
-lists::read_element-read_anew-requires-in-PatternField t c = (omega arith, (c.requires.short, can-begin rules.pattern_field (subst (λ (e : Element). Saw false (begins looks (element_of e)) c.args.p.now true) c.in-PatternField.is c.requires.begins)))
+pub lists::read_element-pattern_field-requires : goal.lists::read_element-pattern_field-requires
+unfolding look_of begins_below whole rule items statements expressions patterns types paths there_at shift passes is_silent begins in_mode anew row one_of any_of no_longer longest is_longer
+lists::read_element-pattern_field-requires t c =
+    let seen = subst (λ (e : Element). Saw false (begins looks (element_of e)) c.args.p.now true) c.in-PatternField.is c.requires.begins in
+    (omega arith, (c.requires.short, ((λ d. pattern-field-anywhere seen), begun-left (Call rules.pattern_field) refl seen)))
 
 pub lists::read_element-returns-in-PatternField-clause-reads : goal.lists::read_element-returns-in-PatternField-clause-reads
-unfolding most idle_of debt_of surely_takes rank
-lists::read_element-returns-in-PatternField-clause-reads t c = subst (λ (e : Element). Reads false (element_of e) c.args.p.now c.read_anew-in-PatternField.new.p) (sym c.in-PatternField.is) (reads-call false c.read_anew-in-PatternField.ensures.gives)
+lists::read_element-returns-in-PatternField-clause-reads t c = subst (λ (e : Element). Reads false (element_of e) c.args.p.now c.pattern_field.new.p) (sym c.in-PatternField.is) (reads-call false (c.pattern_field.ensures.gives false))
 
-pub lists::read_element-returns-in-PatternField-clause-pays : goal.lists::read_element-returns-in-PatternField-clause-pays
-unfolding most idle_of debt_of surely_takes rank
-lists::read_element-returns-in-PatternField-clause-pays t c = read-pays 1000 rules.pattern_field refl c.read_anew-in-PatternField.ensures.looks
-
-pub lists::read_element-returns-in-PatternField-clause-looks : goal.lists::read_element-returns-in-PatternField-clause-looks
-unfolding most idle_of debt_of surely_takes rank
-lists::read_element-returns-in-PatternField-clause-looks t c = subst (λ (e : Element). spent c.read_anew-in-PatternField.new.p ≤ spent c.args.p.now + looks_in e) (sym c.in-PatternField.is) (read-cost 600 rules.pattern_field refl refl c.read_anew-in-PatternField.ensures.looks)
-
-pub lists::read_element-read_anew-requires-in-Type : goal.lists::read_element-read_anew-requires-in-Type
-unfolding begins
-lists::read_element-read_anew-requires-in-Type t c = (omega arith, (c.requires.short, can-begin rules.any_type (subst (λ (e : Element). Saw false (begins looks (element_of e)) c.args.p.now true) c.in-Type.is c.requires.begins)))
+pub lists::read_element-any_type-requires : goal.lists::read_element-any_type-requires
+unfolding look_of begins_below whole rule items statements expressions patterns types paths there_at shift passes is_silent begins in_mode anew row one_of any_of no_longer longest is_longer
+lists::read_element-any_type-requires t c =
+    let seen = subst (λ (e : Element). Saw false (begins looks (element_of e)) c.args.p.now true) c.in-Type.is c.requires.begins in
+    (omega arith, (c.requires.short, (seen, word-left (Call rules.any_type) refl seen)))
 
 pub lists::read_element-returns-in-Type-clause-reads : goal.lists::read_element-returns-in-Type-clause-reads
-unfolding most idle_of debt_of surely_takes rank
-lists::read_element-returns-in-Type-clause-reads t c = subst (λ (e : Element). Reads false (element_of e) c.args.p.now c.read_anew-in-Type.new.p) (sym c.in-Type.is) (reads-call false c.read_anew-in-Type.ensures.gives)
-
-pub lists::read_element-returns-in-Type-clause-pays : goal.lists::read_element-returns-in-Type-clause-pays
-unfolding most idle_of debt_of surely_takes rank
-lists::read_element-returns-in-Type-clause-pays t c = read-pays 1000 rules.any_type refl c.read_anew-in-Type.ensures.looks
-
-pub lists::read_element-returns-in-Type-clause-looks : goal.lists::read_element-returns-in-Type-clause-looks
-unfolding most idle_of debt_of surely_takes rank
-lists::read_element-returns-in-Type-clause-looks t c = subst (λ (e : Element). spent c.read_anew-in-Type.new.p ≤ spent c.args.p.now + looks_in e) (sym c.in-Type.is) (read-cost 600 rules.any_type refl refl c.read_anew-in-Type.ensures.looks)
+lists::read_element-returns-in-Type-clause-reads t c = subst (λ (e : Element). Reads false (element_of e) c.args.p.now c.any_type.new.p) (sym c.in-Type.is) (reads-call false c.any_type.ensures.gives)
 
 pub lists::elements-turns-preserved : goal.lists::elements-turns-preserved
 lists::elements-turns-preserved t c = record {

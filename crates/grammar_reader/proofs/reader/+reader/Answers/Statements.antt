@@ -47,19 +47,10 @@ statements::statement-returns-then-at_inner_attribute-clause-gives t c = gives-a
 
 pub statements::statement-returns-then-at_item-clause-gives : goal.statements::statement-returns-then-at_item-clause-gives
 unfolding look_of begins_below whole rule items statements expressions patterns types paths there_at shift passes is_silent begins in_mode anew row one_of any_of no_longer longest is_longer
-statements::statement-returns-then-at_item-clause-gives t c = gives-anew (anew-here (saw-not c.in_default.not-SEMICOLON (c.current.ensures.sees false) and saw-not c.in_default.not-LET_KW (c.current.ensures.sees false) and saw-before c.current.ensures.same (saw-so (c.at_inner_attribute.ensures.sees false) c.if-at_inner_attribute.false) and saw-before c.current.ensures.same (saw-before c.at_inner_attribute.ensures.same (saw-so (c.at_item.ensures.sees false) c.if-at_item.true)) and nothing) (anew-look c.current.ensures.same (anew-look c.at_inner_attribute.ensures.same (anew-look c.at_item.ensures.same (anew-after refl (reads-call false c.read_anew.ensures.gives))))))
+statements::statement-returns-then-at_item-clause-gives t c = gives-anew (anew-here (saw-not c.in_default.not-SEMICOLON (c.current.ensures.sees false) and saw-not c.in_default.not-LET_KW (c.current.ensures.sees false) and saw-before c.current.ensures.same (saw-so (c.at_inner_attribute.ensures.sees false) c.if-at_inner_attribute.false) and saw-before c.current.ensures.same (saw-before c.at_inner_attribute.ensures.same (saw-so (c.at_item.ensures.sees false) c.if-at_item.true)) and nothing) (anew-look c.current.ensures.same (anew-look c.at_inner_attribute.ensures.same (anew-look c.at_item.ensures.same (anew-after refl (reads-call false c.item.ensures.gives))))))
 
-pub statements::statement-read_anew-requires : goal.statements::statement-read_anew-requires
-unfolding look_of begins_below whole rule items statements expressions patterns types paths there_at shift passes is_silent begins in_mode anew row one_of any_of no_longer longest is_longer
-statements::statement-read_anew-requires t c = (omega arith, (short-still _ _ (c.at_item.ensures.same.input ∙ c.at_inner_attribute.ensures.same.input ∙ c.current.ensures.same.input) c.requires.short, can-begin rules.item {c = false} {v = c.at_item.new.p} (saw-told (some-saw (omega (arith, c.requires.some, c.current.ensures.left, c.at_inner_attribute.ensures.left, c.at_item.ensures.left)) and nothing) refl)))
-
-pub statements::statement-returns-then-at_item-clause-pays : goal.statements::statement-returns-then-at_item-clause-pays
-unfolding debt_of rank
-statements::statement-returns-then-at_item-clause-pays t c = λ e. omega (arith, c.current.ensures.looks, c.at_inner_attribute.ensures.looks, c.at_item.ensures.looks, read-pays 2000 rules.item refl c.read_anew.ensures.looks (omega (arith, e, c.current.ensures.left, c.at_inner_attribute.ensures.left, c.at_item.ensures.left)))
-
-pub statements::statement-returns-then-at_item-clause-looks : goal.statements::statement-returns-then-at_item-clause-looks
-unfolding most idle_of debt_of surely_takes rank
-statements::statement-returns-then-at_item-clause-looks t c = omega (arith, c.current.ensures.looks, c.at_inner_attribute.ensures.looks, c.at_item.ensures.looks, read-cost 600 rules.item refl refl c.read_anew.ensures.looks)
+pub statements::statement-item-requires : goal.statements::statement-item-requires
+statements::statement-item-requires t c = (omega arith, (short-still _ _ (c.at_item.ensures.same.input ∙ c.at_inner_attribute.ensures.same.input ∙ c.current.ensures.same.input) c.requires.short, omega (arith, c.requires.some, c.current.ensures.left, c.at_inner_attribute.ensures.left, c.at_item.ensures.left)))
 
 pub statements::statement-expression_statement-requires : goal.statements::statement-expression_statement-requires
 statements::statement-expression_statement-requires t c = (omega arith, (short-still _ _ (c.at_item.ensures.same.input ∙ c.at_inner_attribute.ensures.same.input ∙ c.current.ensures.same.input) c.requires.short, omega arith))
@@ -88,17 +79,6 @@ statements::let_stmt-complete-requires t c = (c.expect.ensures.reads true).does.
 
 pub statements::let_stmt-returns-clause-reads : goal.statements::let_stmt-returns-clause-reads
 statements::let_stmt-returns-clause-reads t c = reads-node false c.start-node.ensures.opens (reads-then false (c.take.ensures.reads false) (reads-then false (c.expect_pattern.ensures.reads false) (reads-then false c.opt_type.ensures.reads (reads-then false c.opt_value.ensures.reads (reads-then false (c.opt_else.ensures.reads false) (c.expect.ensures.reads false)))))) c.complete.ensures.closes
-
-pub statements::opt_value-expect_expression-requires : goal.statements::opt_value-expect_expression-requires
-statements::opt_value-expect_expression-requires t c = (omega arith, short-still _ _ ((c.take.ensures.reads true).does.input ∙ c.at.ensures.same.input) c.requires.short)
-
-pub statements::opt_value-returns-then-at-clause-reads : goal.statements::opt_value-returns-then-at-clause-reads
-unfolding look_of begins_below whole rule items statements expressions patterns types paths there_at shift passes is_silent begins in_mode anew row one_of any_of no_longer longest is_longer
-statements::opt_value-returns-then-at-clause-reads t c = reads-here (saw-so (c.at.ensures.sees false) c.if-at.true and nothing) (after-look false c.at.ensures.same (reads-then false (c.take.ensures.reads false) c.expect_expression.ensures.reads))
-
-pub statements::opt_value-returns-else-at-clause-reads : goal.statements::opt_value-returns-else-at-clause-reads
-unfolding look_of begins_below whole rule items statements expressions patterns types paths there_at shift passes is_silent begins in_mode anew row one_of any_of no_longer longest is_longer
-statements::opt_value-returns-else-at-clause-reads t c = reads-here (saw-so (c.at.ensures.sees false) c.if-at.false and nothing) (reads-nothing false c.at.ensures.same)
 
 pub statements::opt_else-let_else-requires : goal.statements::opt_else-let_else-requires
 statements::opt_else-let_else-requires t c = (omega arith, (short-still _ _ c.at.ensures.same.input c.requires.short, omega arith))

@@ -13,10 +13,10 @@ use Rattle.rust_grammar.specs.Statements.{statements}
 use Rattle.rust_grammar.specs.Types.{types}
 use Rattle.rust_grammar.specs.Whole.{rule, whole}
 use Rattle.grammar_reader.specs.declared.reader.paths.Mode.TheVariants as modes
-use Rattle.grammar_reader.proofs.PathArgs.{any-mode, as-word, bounds-begin, bounds-cost, paths-begin}
+use Rattle.grammar_reader.proofs.PathArgs.{any-mode, as-word, paths-begin}
 use Rattle.grammar_reader.proofs.Standing.{short-still}
 use Rattle.rust_productions.specs.Reads.{Saw}
-use Rattle.rust_productions.proofs.ByHand.{after-look, completes-leave, reads-call, reads-mode, reads-node, reads-then, reads-wrap}
+use Rattle.rust_productions.proofs.ByHand.{after-look, completes-leave, reads-call, reads-mode, reads-node, reads-none, reads-opt, reads-then, reads-wrap}
 use Rattle.rust_productions.proofs.Choices.{anew-after, anew-completes, gives-anew, reads-here}
 use Rattle.rust_productions.proofs.Facts.{begun, nothing, saw-so, ◌and◌}
 use Rattle.rust_productions.proofs.Looking.{saw-arm, saw-not}
@@ -52,11 +52,11 @@ types::inside-returns-in-AMP-clause-reads t c = reads-here (saw-arm c.in-AMP.is 
 
 pub types::inside-returns-in-IMPL_KW-clause-reads : goal.types::inside-returns-in-IMPL_KW-clause-reads
 unfolding look_of begins_below whole rule items statements expressions patterns types paths there_at shift passes is_silent begins in_mode anew row one_of any_of no_longer longest is_longer
-types::inside-returns-in-IMPL_KW-clause-reads t c = reads-here (saw-arm c.in-IMPL_KW.is (c.current.ensures.sees c.args.condition) and nothing) (after-look _ c.current.ensures.same c.bounded_type.ensures.reads)
+types::inside-returns-in-IMPL_KW-clause-reads t c = reads-here (saw-arm c.in-IMPL_KW.is (c.current.ensures.sees c.args.condition) and nothing) (after-look _ c.current.ensures.same (c.bounded_type.ensures.reads c.args.condition))
 
 pub types::inside-returns-in-DYN_KW-clause-reads : goal.types::inside-returns-in-DYN_KW-clause-reads
 unfolding look_of begins_below whole rule items statements expressions patterns types paths there_at shift passes is_silent begins in_mode anew row one_of any_of no_longer longest is_longer
-types::inside-returns-in-DYN_KW-clause-reads t c = reads-here (saw-arm c.in-DYN_KW.is (c.current.ensures.sees c.args.condition) and nothing) (after-look _ c.current.ensures.same c.bounded_type-in-DYN_KW.ensures.reads)
+types::inside-returns-in-DYN_KW-clause-reads t c = reads-here (saw-arm c.in-DYN_KW.is (c.current.ensures.sees c.args.condition) and nothing) (after-look _ c.current.ensures.same (c.bounded_type-in-DYN_KW.ensures.reads c.args.condition))
 
 pub types::inside-returns-in-BANG-clause-marker : goal.types::inside-returns-in-BANG-clause-marker
 types::inside-returns-in-BANG-clause-marker t c = (c.word_type.ensures.reads true).does.innermost _ (c.current.ensures.same.innermost _ c.requires.innermost)
@@ -67,8 +67,8 @@ types::inside-returns-in-UNDERSCORE-clause-marker t c = (c.word_type-in-UNDERSCO
 pub types::inside-returns-then-at_dyn_word : goal.types::inside-returns-then-at_dyn_word
 unfolding look_of begins_below whole rule items statements expressions patterns types paths there_at shift passes is_silent begins in_mode anew row one_of any_of no_longer longest is_longer
 types::inside-returns-then-at_dyn_word t c = record {
-  reads = reads-here (saw-not c.in_default.not-L_PAREN (c.current.ensures.sees c.args.condition) and saw-not c.in_default.not-L_BRACK (c.current.ensures.sees c.args.condition) and saw-not c.in_default.not-BANG (c.current.ensures.sees c.args.condition) and saw-not c.in_default.not-UNDERSCORE (c.current.ensures.sees c.args.condition) and saw-not c.in_default.not-STAR (c.current.ensures.sees c.args.condition) and saw-not c.in_default.not-AMP (c.current.ensures.sees c.args.condition) and saw-not c.in_default.not-IMPL_KW (c.current.ensures.sees c.args.condition) and saw-not c.in_default.not-DYN_KW (c.current.ensures.sees c.args.condition) and saw-before c.current.ensures.same (saw-so (c.at_dyn_word.ensures.sees c.args.condition) c.if-at_dyn_word.true) and nothing) (after-look _ c.current.ensures.same (after-look _ c.at_dyn_word.ensures.same (as-word c.bounded_type-then-at_dyn_word.ensures.reads)));
-  marker = c.bounded_type-then-at_dyn_word.ensures.reads.does.innermost _ (c.at_dyn_word.ensures.same.innermost _ (c.current.ensures.same.innermost _ c.requires.innermost));
+  reads = reads-here (saw-not c.in_default.not-L_PAREN (c.current.ensures.sees c.args.condition) and saw-not c.in_default.not-L_BRACK (c.current.ensures.sees c.args.condition) and saw-not c.in_default.not-BANG (c.current.ensures.sees c.args.condition) and saw-not c.in_default.not-UNDERSCORE (c.current.ensures.sees c.args.condition) and saw-not c.in_default.not-STAR (c.current.ensures.sees c.args.condition) and saw-not c.in_default.not-AMP (c.current.ensures.sees c.args.condition) and saw-not c.in_default.not-IMPL_KW (c.current.ensures.sees c.args.condition) and saw-not c.in_default.not-DYN_KW (c.current.ensures.sees c.args.condition) and saw-before c.current.ensures.same (saw-so (c.at_dyn_word.ensures.sees c.args.condition) c.if-at_dyn_word.true) and nothing) (after-look _ c.current.ensures.same (after-look _ c.at_dyn_word.ensures.same (as-word (c.bounded_type-then-at_dyn_word.ensures.reads c.args.condition))));
+  marker = (c.bounded_type-then-at_dyn_word.ensures.reads true).does.innermost _ (c.at_dyn_word.ensures.same.innermost _ (c.current.ensures.same.innermost _ c.requires.innermost));
   left = omega (arith, c.bounded_type-then-at_dyn_word.ensures.left, c.at_dyn_word.ensures.left, c.current.ensures.left);
   looks = omega (arith, c.bounded_type-then-at_dyn_word.ensures.looks, c.at_dyn_word.ensures.looks, c.current.ensures.looks);
 }
@@ -94,17 +94,20 @@ types::inside-path_type-requires t c =
       ),
     )
 
-pub types::bounded_type-read_anew-requires : goal.types::bounded_type-read_anew-requires
-types::bounded_type-read_anew-requires t c = (omega arith, (short-still _ _ ((c.take.ensures.reads true).does.input ∙ c.start-node.ensures.opens.input) c.requires.short, bounds-begin c.args.condition c.take.new.p))
+pub types::bounded_type-bounds-requires : goal.types::bounded_type-bounds-requires
+types::bounded_type-bounds-requires t c = (omega arith, short-still _ _ ((c.take.ensures.reads true).does.input ∙ c.start-node.ensures.opens.input) c.requires.short)
 
 pub types::bounded_type-complete-requires : goal.types::bounded_type-complete-requires
-types::bounded_type-complete-requires t c = c.read_anew.ensures.gives.does.innermost _ ((c.take.ensures.reads true).does.innermost _ c.start-node.ensures.marker)
+types::bounded_type-complete-requires t c = (c.bounds.ensures.gives true).does.innermost _ ((c.take.ensures.reads true).does.innermost _ c.start-node.ensures.marker)
 
 pub types::bounded_type-returns-clause-reads : goal.types::bounded_type-returns-clause-reads
-types::bounded_type-returns-clause-reads t c = reads-node _ c.start-node.ensures.opens (reads-then _ (c.take.ensures.reads c.args.condition) (reads-call _ c.read_anew.ensures.gives)) c.complete.ensures.closes
+types::bounded_type-returns-clause-reads t c = λ cond. reads-node cond c.start-node.ensures.opens (reads-then cond (c.take.ensures.reads cond) (reads-call cond (c.bounds.ensures.gives cond))) c.complete.ensures.closes
 
-pub types::bounded_type-returns-clause-looks : goal.types::bounded_type-returns-clause-looks
-types::bounded_type-returns-clause-looks t c = omega (arith, c.start-node.ensures.looks, c.take.ensures.looks, bounds-cost c.read_anew.ensures.looks, c.complete.ensures.looks)
+pub types::inside-returns-in-IMPL_KW-clause-marker : goal.types::inside-returns-in-IMPL_KW-clause-marker
+types::inside-returns-in-IMPL_KW-clause-marker t c = (c.bounded_type.ensures.reads true).does.innermost _ (c.current.ensures.same.innermost _ c.requires.innermost)
+
+pub types::inside-returns-in-DYN_KW-clause-marker : goal.types::inside-returns-in-DYN_KW-clause-marker
+types::inside-returns-in-DYN_KW-clause-marker t c = (c.bounded_type-in-DYN_KW.ensures.reads true).does.innermost _ (c.current.ensures.same.innermost _ c.requires.innermost)
 
 pub types::path_type-path_with_args-requires : goal.types::path_type-path_with_args-requires
 types::path_type-path_with_args-requires t c = (omega arith, (short-still _ _ c.start-node.ensures.opens.input c.requires.short, (λ d. saw-inside c.start-node.ensures.opens (c.requires.begins d), omega arith)))
@@ -216,3 +219,14 @@ types::ret_type-complete-requires t c = c.expect_type.ensures.reads.does.innermo
 pub types::ret_type-returns-clause-gives : goal.types::ret_type-returns-clause-gives
 unfolding look_of begins_below whole rule items statements expressions patterns types paths there_at shift passes is_silent begins in_mode anew row one_of any_of no_longer longest is_longer
 types::ret_type-returns-clause-gives t c = gives-anew (anew-after refl (reads-node _ c.start-node.ensures.opens (reads-then _ (c.take_pair.ensures.reads c.args.condition _ _) c.expect_type.ensures.reads) c.complete.ensures.closes))
+
+pub types::opt_type_after-expect_type-requires : goal.types::opt_type_after-expect_type-requires
+types::opt_type_after-expect_type-requires t c = (omega arith, short-still _ _ ((c.take.ensures.reads true).does.input ∙ c.at.ensures.same.input) c.requires.short)
+
+pub types::opt_type_after-returns-then-at-clause-reads : goal.types::opt_type_after-returns-then-at-clause-reads
+unfolding look_of begins_below whole rule items statements expressions patterns types paths there_at shift passes is_silent begins in_mode anew row one_of any_of no_longer longest is_longer
+types::opt_type_after-returns-then-at-clause-reads t c = reads-opt _ (saw-so (c.at.ensures.sees c.args.condition) c.if-at.true) (after-look _ c.at.ensures.same (reads-then _ (c.take.ensures.reads c.args.condition) c.expect_type.ensures.reads))
+
+pub types::opt_type_after-returns-else-at-clause-reads : goal.types::opt_type_after-returns-else-at-clause-reads
+unfolding look_of begins_below whole rule items statements expressions patterns types paths there_at shift passes is_silent begins in_mode anew row one_of any_of no_longer longest is_longer
+types::opt_type_after-returns-else-at-clause-reads t c = reads-none _ (saw-so (c.at.ensures.sees c.args.condition) c.if-at.false) c.at.ensures.same

@@ -1,0 +1,32 @@
+-- Where patterns, their fields, arms and parameters begin does not go by the mode.
+use Rattle.std.proofs.Common.{Bool, false}
+use Rattle.parser_events.specs.View.{View}
+use Rattle.rust_grammar.specs.Expressions.{expressions}
+use Rattle.rust_grammar.specs.Items.{items}
+use Rattle.rust_grammar.specs.Meaning.{begins_below, look_of, sees}
+use Rattle.rust_grammar.specs.Notation.{any_of, is_longer, no_longer, longest, one_of, row}
+use Rattle.rust_grammar.specs.Paths.{paths}
+use Rattle.rust_grammar.specs.Patterns.{patterns}
+use Rattle.rust_grammar.specs.Rule as rules
+use Rattle.rust_grammar.specs.Rule.{Call, begins, in_mode, anew, is_silent, passes, shift, there_at}
+use Rattle.rust_grammar.specs.Statements.{statements}
+use Rattle.rust_grammar.specs.Types.{types}
+use Rattle.rust_grammar.specs.Whole.{rule, whole}
+use Rattle.rust_productions.specs.Reads.{looks, Saw}
+
+pub pattern-field-anywhere : {c b : Bool} {v : View} → Saw false (begins looks (Call rules.pattern_field)) v b → Saw c (looks rules.pattern_field) v b
+unfolding look_of begins_below whole rule items statements expressions patterns types paths there_at shift passes is_silent begins in_mode anew row one_of any_of no_longer longest is_longer sees
+pattern-field-anywhere saw = record { at = λ s e. saw.at s e }
+
+pub pattern-anywhere : {c b : Bool} {v : View} → Saw false (begins looks (Call rules.pattern)) v b → Saw c (looks rules.pattern) v b
+unfolding look_of begins_below whole rule items statements expressions patterns types paths there_at shift passes is_silent begins in_mode anew row one_of any_of no_longer longest is_longer sees
+pattern-anywhere saw = record { at = λ s e. saw.at s e }
+
+-- an arm begins as its pattern does
+pub arm-anywhere : {c b : Bool} {v : View} → Saw false (anew (looks rules.match_arm)) v b → Saw c (looks rules.pattern) v b
+unfolding look_of begins_below whole rule items statements expressions patterns types paths there_at shift passes is_silent begins in_mode anew row one_of any_of no_longer longest is_longer sees
+arm-anywhere saw = record { at = λ s e. saw.at s e }
+
+pub param-anywhere : {c b : Bool} {v : View} → Saw false (begins looks (Call rules.param)) v b → Saw c (looks rules.param) v b
+unfolding look_of begins_below whole rule items statements expressions patterns types paths there_at shift passes is_silent begins in_mode anew row one_of any_of no_longer longest is_longer sees
+param-anywhere saw = record { at = λ s e. saw.at s e }

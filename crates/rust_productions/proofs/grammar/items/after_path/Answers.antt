@@ -1,0 +1,33 @@
+-- Each path reads what the rule comes to there.
+use Rattle.std.proofs.Common.{◌≡◌, ℕ, ◌≤◌, Bool, true, false, [], ◌∷◌, inl, inr, refl, sym, ap, ◌∙◌, arith, true≢false}
+use Rattle.rust_grammar.specs.Expressions.{expressions}
+use Rattle.rust_grammar.specs.Items.{items}
+use Rattle.rust_grammar.specs.Meaning.{begins_below, look_of}
+use Rattle.rust_grammar.specs.Notation.{any_of, is_longer, no_longer, longest, one_of, row}
+use Rattle.rust_grammar.specs.Paths.{paths}
+use Rattle.rust_grammar.specs.Patterns.{patterns}
+use Rattle.rust_grammar.specs.Rule.{begins, in_mode, anew, is_silent, passes, shift, there_at}
+use Rattle.rust_grammar.specs.Statements.{statements}
+use Rattle.rust_grammar.specs.Types.{types}
+use Rattle.rust_grammar.specs.Whole.{rule, whole}
+use Rattle.rust_grammar.specs.Rule as rules
+use Rattle.rust_productions.proofs.ByHand.{after-look, completes-leave, completes-look, completes-then, completes-wrap, does-then, reads-call, reads-nothing, reads-then}
+use Rattle.rust_productions.proofs.Choices.{completes-here, reads-here}
+use Rattle.rust_productions.proofs.Facts.{begun, nothing, saw-so, ◌and◌}
+use Rattle.rust_productions.proofs.Looking.{saw-arm, saw-not}
+use Rattle.rust_productions.proofs.Seen.{saw-after, saw-always, saw-before, saw-either-left, saw-either-right, saw-else, saw-left, saw-no-left, saw-right, saw-told}
+use Rattle.rust_productions.proofs.grammar.items.after_path.Goals as goal
+
+pub complete-requires : goal.complete-requires
+complete-requires c = (c.macro_tokens.ensures.reads true).does.innermost _ ((c.take.ensures.reads true).does.innermost _ (c.at.ensures.same.innermost _ c.requires))
+
+pub returns-then-at-clause-completes : goal.returns-then-at-clause-completes
+unfolding look_of begins_below whole rule items statements expressions patterns types paths there_at shift passes is_silent begins in_mode anew row one_of any_of no_longer longest is_longer
+returns-then-at-clause-completes c = λ cond. completes-here (saw-so (c.at.ensures.sees cond) c.if-at.true and nothing) (completes-look c.at.ensures.same (completes-wrap (reads-then cond (c.take.ensures.reads cond) (c.macro_tokens.ensures.reads cond)) c.complete.ensures.closes))
+
+pub complete-requires-2 : goal.complete-requires-2
+complete-requires-2 c = (c.error.ensures.reads true).does.innermost _ (c.at.ensures.same.innermost _ c.requires)
+
+pub returns-clause-completes : goal.returns-clause-completes
+unfolding look_of begins_below whole rule items statements expressions patterns types paths there_at shift passes is_silent begins in_mode anew row one_of any_of no_longer longest is_longer
+returns-clause-completes c = λ cond. completes-here (saw-so (c.at.ensures.sees cond) c.if-at.false and nothing) (completes-look c.at.ensures.same (completes-wrap (c.error.ensures.reads cond) c.complete-2.ensures.closes))

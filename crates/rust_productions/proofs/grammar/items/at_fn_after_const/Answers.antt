@@ -1,0 +1,27 @@
+-- Each path sees what the look asks.
+use Rattle.std.proofs.Common.{◌≡◌, ℕ, ◌≤◌, Bool, true, false, [], ◌∷◌, inl, inr, refl, sym, ap, ◌∙◌, arith, true≢false}
+use Rattle.rust_grammar.specs.Expressions.{expressions}
+use Rattle.rust_grammar.specs.Items.{items}
+use Rattle.rust_grammar.specs.Meaning.{begins_below, look_of}
+use Rattle.rust_grammar.specs.Notation.{any_of, is_longer, no_longer, longest, one_of, row}
+use Rattle.rust_grammar.specs.Paths.{paths}
+use Rattle.rust_grammar.specs.Patterns.{patterns}
+use Rattle.rust_grammar.specs.Rule.{begins, in_mode, anew, is_silent, passes, shift, there_at}
+use Rattle.rust_grammar.specs.Statements.{statements}
+use Rattle.rust_grammar.specs.Types.{types}
+use Rattle.rust_grammar.specs.Whole.{rule, whole}
+use Rattle.rust_grammar.specs.Rule as rules
+use Rattle.rust_productions.proofs.ByHand.{after-look, completes-leave, completes-look, completes-then, completes-wrap, does-then, reads-call, reads-nothing, reads-then}
+use Rattle.rust_productions.proofs.Choices.{completes-here, reads-here}
+use Rattle.rust_productions.proofs.Facts.{begun, nothing, saw-so, ◌and◌}
+use Rattle.rust_productions.proofs.Looking.{saw-arm, saw-not}
+use Rattle.rust_productions.proofs.Seen.{saw-after, saw-always, saw-before, saw-either-left, saw-either-right, saw-else, saw-left, saw-no-left, saw-right, saw-told}
+use Rattle.rust_productions.proofs.grammar.items.at_fn_after_const.Goals as goal
+
+pub returns-in-FN_KW-clause-sees : goal.returns-in-FN_KW-clause-sees
+unfolding look_of begins_below whole rule items statements expressions patterns types paths there_at shift passes is_silent begins in_mode anew row one_of any_of no_longer longest is_longer
+returns-in-FN_KW-clause-sees c cond = elim c.in-FN_KW.is [ inl a ↦ saw-told (saw-left (c.requires cond) and saw-arm a (c.nth.ensures.sees cond) and nothing) refl | inr b ↦ saw-told (saw-left (c.requires cond) and saw-arm b (c.nth.ensures.sees cond) and nothing) refl ]
+
+pub returns-in_default-clause-sees : goal.returns-in_default-clause-sees
+unfolding look_of begins_below whole rule items statements expressions patterns types paths there_at shift passes is_silent begins in_mode anew row one_of any_of no_longer longest is_longer
+returns-in_default-clause-sees c cond = saw-told (saw-left (c.requires cond) and saw-not c.in_default.not-FN_KW (c.nth.ensures.sees cond) and saw-not c.in_default.not-UNSAFE_KW (c.nth.ensures.sees cond) and nothing) refl

@@ -1,0 +1,41 @@
+-- Each path sees what the look asks.
+use Rattle.std.proofs.Common.{◌≡◌, ℕ, ◌≤◌, Bool, true, false, [], ◌∷◌, inl, inr, refl, sym, ap, ◌∙◌, arith, true≢false}
+use Rattle.rust_grammar.specs.Expressions.{expressions}
+use Rattle.rust_grammar.specs.Items.{items}
+use Rattle.rust_grammar.specs.Meaning.{begins_below, look_of}
+use Rattle.rust_grammar.specs.Notation.{any_of, is_longer, no_longer, longest, one_of, row}
+use Rattle.rust_grammar.specs.Paths.{paths}
+use Rattle.rust_grammar.specs.Patterns.{patterns}
+use Rattle.rust_grammar.specs.Rule.{begins, in_mode, anew, is_silent, passes, shift, there_at}
+use Rattle.rust_grammar.specs.Statements.{statements}
+use Rattle.rust_grammar.specs.Types.{types}
+use Rattle.rust_grammar.specs.Whole.{rule, whole}
+use Rattle.rust_grammar.specs.Rule as rules
+use Rattle.rust_productions.proofs.ByHand.{after-look, completes-leave, completes-look, completes-then, completes-wrap, does-then, reads-call, reads-nothing, reads-then}
+use Rattle.rust_productions.proofs.Choices.{completes-here, reads-here}
+use Rattle.rust_productions.proofs.Facts.{begun, nothing, saw-so, ◌and◌}
+use Rattle.rust_productions.proofs.Looking.{saw-arm, saw-not}
+use Rattle.rust_productions.proofs.Seen.{saw-after, saw-always, saw-before, saw-either-left, saw-either-right, saw-else, saw-left, saw-no-left, saw-right, saw-told}
+use Rattle.rust_productions.proofs.Words.{saw-both}
+use Rattle.rust_productions.proofs.grammar.items.at_unsafe.Goals as goal
+
+pub returns-then-at-clause-sees : goal.returns-then-at-clause-sees
+unfolding look_of begins_below whole rule items statements expressions patterns types paths there_at shift passes is_silent begins in_mode anew row one_of any_of no_longer longest is_longer
+returns-then-at-clause-sees c cond = saw-either-left (saw-always (saw-so (c.at.ensures.sees cond) c.if-at.true))
+
+pub returns-then-not-at-clause-sees : goal.returns-then-not-at-clause-sees
+unfolding look_of begins_below whole rule items statements expressions patterns types paths there_at shift passes is_silent begins in_mode anew row one_of any_of no_longer longest is_longer
+returns-then-not-at-clause-sees c cond = saw-either-right (saw-always (saw-so (c.at.ensures.sees cond) c.if-at.false)) (saw-no-left (saw-before c.at.ensures.same (saw-so (c.at-2.ensures.sees cond) c.if-not-at.true)))
+
+pub returns-then-not-at-clause-same : goal.returns-then-not-at-clause-same
+returns-then-not-at-clause-same c = does-then c.at.ensures.same c.at-2.ensures.same
+
+pub returns-clause-sees : goal.returns-clause-sees
+unfolding look_of begins_below whole rule items statements expressions patterns types paths there_at shift passes is_silent begins in_mode anew row one_of any_of no_longer longest is_longer
+returns-clause-sees c cond = saw-either-right (saw-always (saw-so (c.at.ensures.sees cond) c.if-at.false)) (saw-both (saw-before c.at.ensures.same (saw-so (c.at-2.ensures.sees cond) c.if-not-at.false)) (saw-always (saw-before c.at.ensures.same (saw-before c.at-2.ensures.same (c.at_second.ensures.sees cond)))))
+
+pub returns-clause-same : goal.returns-clause-same
+returns-clause-same c = does-then c.at.ensures.same (does-then c.at-2.ensures.same c.at_second.ensures.same)
+
+pub returns-clause-some : goal.returns-clause-some
+returns-clause-some c = λ e f. omega (arith, c.at.ensures.left, c.at-2.ensures.some c.if-not-at.false (λ g. absurd (omega (arith, g))))

@@ -1,0 +1,34 @@
+-- Each path reads what the rule comes to there.
+use Rattle.std.proofs.Common.{◌≡◌, ℕ, ◌≤◌, Bool, true, false, [], ◌∷◌, inl, inr, refl, sym, ap, ◌∙◌, arith, true≢false}
+use Rattle.rust_grammar.specs.Expressions.{expressions}
+use Rattle.rust_grammar.specs.Items.{items}
+use Rattle.rust_grammar.specs.Meaning.{begins_below, look_of}
+use Rattle.rust_grammar.specs.Notation.{any_of, is_longer, no_longer, longest, one_of, row}
+use Rattle.rust_grammar.specs.Paths.{paths}
+use Rattle.rust_grammar.specs.Patterns.{patterns}
+use Rattle.rust_grammar.specs.Rule.{begins, in_mode, anew, is_silent, passes, shift, there_at}
+use Rattle.rust_grammar.specs.Statements.{statements}
+use Rattle.rust_grammar.specs.Types.{types}
+use Rattle.rust_grammar.specs.Whole.{rule, whole}
+use Rattle.rust_grammar.specs.Rule as rules
+use Rattle.rust_productions.proofs.ByHand.{after-look, completes-leave, completes-look, completes-then, completes-wrap, does-then, reads-call, reads-nothing, reads-then}
+use Rattle.rust_productions.proofs.Choices.{completes-here, reads-here}
+use Rattle.rust_productions.proofs.Facts.{begun, nothing, saw-so, ◌and◌}
+use Rattle.rust_productions.proofs.Looking.{saw-arm, saw-not}
+use Rattle.rust_productions.proofs.Seen.{saw-after, saw-always, saw-before, saw-either-left, saw-either-right, saw-else, saw-left, saw-no-left, saw-right, saw-told}
+use Rattle.parser_input.specs.Kinds.{FN_KW}
+use Rattle.rust_grammar.specs.Items.{fn_begins}
+use Rattle.rust_grammar.specs.Rule.{Kind}
+use Rattle.rust_productions.proofs.grammar.items.fn_words.Goals as goal
+
+pub returns-in-CONST_KW-clause-reads : goal.returns-in-CONST_KW-clause-reads
+unfolding look_of begins_below whole rule items statements expressions patterns types paths there_at shift passes is_silent begins in_mode anew row one_of any_of no_longer longest is_longer
+returns-in-CONST_KW-clause-reads c cond = reads-here (saw-arm c.in-CONST_KW.is (c.current.ensures.sees cond) and nothing) (after-look cond c.current.ensures.same (reads-then cond (c.take.ensures.reads cond) (reads-then cond (c.eat.ensures.reads cond) (c.expect.ensures.reads cond))))
+
+pub returns-in-UNSAFE_KW-clause-reads : goal.returns-in-UNSAFE_KW-clause-reads
+unfolding look_of begins_below whole rule items statements expressions patterns types paths there_at shift passes is_silent begins in_mode anew row one_of any_of no_longer longest is_longer
+returns-in-UNSAFE_KW-clause-reads c cond = reads-here (saw-arm c.in-UNSAFE_KW.is (c.current.ensures.sees cond) and nothing) (after-look cond c.current.ensures.same (reads-then cond (c.take-in-UNSAFE_KW.ensures.reads cond) (c.expect-in-UNSAFE_KW.ensures.reads cond)))
+
+pub returns-in_default-clause-reads : goal.returns-in_default-clause-reads
+unfolding look_of begins_below whole rule items statements expressions patterns types paths there_at shift passes is_silent begins in_mode anew row one_of any_of no_longer longest is_longer
+returns-in_default-clause-reads c cond = reads-here (saw-else (Kind 0 FN_KW) fn_begins (saw-not c.in_default.not-CONST_KW (c.current.ensures.sees cond) and saw-not c.in_default.not-UNSAFE_KW (c.current.ensures.sees cond) and nothing) (c.requires.begins cond) refl and nothing) (after-look cond c.current.ensures.same (c.take-in_default.ensures.reads cond))

@@ -1,0 +1,214 @@
+//! What items begin with, and the items that hold no others.
+
+ghost use Rattle.std.specs.Prelude.{◌≡◌, ◌≢◌, ◌≤◌, ◌+◌, Bool, IsTrue, true, false};
+ghost use Rattle.parser_input.specs.Kind.{raw_of};
+ghost use Rattle.parser_input.specs.Kinds as kinds;
+ghost use Rattle.parser_input.specs.Kinds.{ERROR, MACRO_CALL, USE};
+ghost use Rattle.parser_events.specs.Forest.{ExpectedItem};
+ghost use Rattle.parser_events.specs.Stack.{IsInnermost};
+ghost use Rattle.rust_grammar.specs.Calls.{Path, TokenTree, UseTree};
+ghost use Rattle.rust_grammar.specs.Items.{fn_begins};
+ghost use Rattle.rust_grammar.specs.Notation.{◌or◌, ◌▸◌, ⁅◌⁆, ◌!, ◌<⟨◌⟩, ◌before◌, next};
+ghost use Rattle.rust_grammar.specs.Rule as rules;
+ghost use Rattle.rust_grammar.specs.Rule.{Either, Given, One, Say, Skip, When};
+ghost use Rattle.rust_grammar.specs.Words.{one, 'semi', 'l_curly', '!', 'const', 'fn', 'unsafe', 'use'};
+ghost use Rattle.rust_productions.specs.Looks.{tokens, spent};
+ghost use Rattle.rust_productions.specs.Reads.{looks, Completes, CompletesWhere, Does, Reads, Saw};
+
+use crate::grammar::paths::path;
+use crate::grammar::token_trees::{expect_token_tree, token_tree};
+use crate::grammar::use_trees::expect_use_tree;
+use crate::grammar::{
+    abandon, at, at_second, complete, current, eat, error, expect, nth, skip, take,
+};
+use parser_events::message::Message;
+use parser_events::parser::{Marker, Parser};
+use parser_input::syntax_kind::SyntaxKind;
+
+/// Whether a function begins here.
+pub fn at_fn(p: &mut Parser<'_>) -> bool
+    ensures sees { (c : Bool) → Saw c fn_begins p.old result }
+    ensures some { IsTrue result → 1 ≤ tokens p.old }
+    ensures same { Does (λ s. s) p.old p.new }
+    ensures left { tokens p.new ≡ tokens p.old }
+    ensures looks { spent p.new ≤ spent p.old + 2 }
+{
+    match current(p) {
+        SyntaxKind::FN_KW => true,
+        SyntaxKind::CONST_KW => at_fn_after_const(p),
+        SyntaxKind::UNSAFE_KW => at_fn_after_unsafe(p),
+        _ => false,
+    }
+}
+
+/// Whether a function begins with the `const` that is next.
+fn at_fn_after_const(p: &mut Parser<'_>) -> bool
+    requires { (c : Bool) → Saw c (next 'const') p.old true }
+    ensures sees { (c : Bool) → Saw c fn_begins p.old result }
+    ensures same { Does (λ s. s) p.old p.new }
+    ensures left { tokens p.new ≡ tokens p.old }
+    ensures looks { spent p.new ≤ spent p.old + 1 }
+{
+    match nth(p, 1) {
+        SyntaxKind::FN_KW | SyntaxKind::UNSAFE_KW => true,
+        _ => false,
+    }
+}
+
+/// Whether a function begins with the `unsafe` that is next.
+fn at_fn_after_unsafe(p: &mut Parser<'_>) -> bool
+    requires { (c : Bool) → Saw c (next 'unsafe') p.old true }
+    ensures sees { (c : Bool) → Saw c fn_begins p.old result }
+    ensures same { Does (λ s. s) p.old p.new }
+    ensures left { tokens p.new ≡ tokens p.old }
+    ensures looks { spent p.new ≤ spent p.old + 1 }
+{
+    match nth(p, 1) {
+        SyntaxKind::FN_KW => true,
+        _ => false,
+    }
+}
+
+/// The words that a function begins with.
+pub fn fn_words(p: &mut Parser<'_>)
+    requires begins { (c : Bool) → Saw c fn_begins p.old true }
+    requires some { 1 ≤ tokens p.old }
+    ensures reads { (c : Bool) → Reads c (⁅ One 'const' ⁆ ▸ ⁅ One 'unsafe' ⁆ ▸ One 'fn' !) p.old p.new }
+    ensures left { tokens p.new + 1 ≤ tokens p.old }
+    ensures looks { spent p.new + 4090 ≤ spent p.old }
+{
+    match current(p) {
+        SyntaxKind::CONST_KW => {
+            take(p, SyntaxKind::CONST_KW);
+            eat(p, SyntaxKind::UNSAFE_KW);
+            expect(p, SyntaxKind::FN_KW);
+        }
+        SyntaxKind::UNSAFE_KW => {
+            take(p, SyntaxKind::UNSAFE_KW);
+            expect(p, SyntaxKind::FN_KW);
+        }
+        _ => take(p, SyntaxKind::FN_KW),
+    }
+}
+
+/// Whether this word is next, or the one after `unsafe`.
+pub fn at_unsafe(p: &mut Parser<'_>, word: SyntaxKind) -> bool
+    ensures sees { (c : Bool) → Saw c
+        (Either (next (one (raw_of word))) ('unsafe' before one (raw_of word))) p.old result }
+    ensures some { IsTrue result → raw_of word ≢ kinds.EOF → 1 ≤ tokens p.old }
+    ensures same { Does (λ s. s) p.old p.new }
+    ensures left { tokens p.new ≡ tokens p.old }
+    ensures looks { spent p.new ≤ spent p.old + 3 }
+{
+    if at(p, word) {
+        return true;
+    }
+    if !at(p, SyntaxKind::UNSAFE_KW) {
+        return false;
+    }
+    at_second(p, word)
+}
+
+/// This word, which is next or the one after `unsafe`.
+pub fn unsafe_word(p: &mut Parser<'_>, word: SyntaxKind)
+    requires begins { (c : Bool) → Saw c
+        (Either (next (one (raw_of word))) ('unsafe' before one (raw_of word))) p.old true }
+    requires other { raw_of word ≢ kinds.UNSAFE_KW }
+    requires inside { raw_of word ≢ kinds.EOF }
+    requires some { 1 ≤ tokens p.old }
+    ensures reads { (c : Bool) → Reads c (⁅ One 'unsafe' ⁆ ▸ One (one (raw_of word))) p.old p.new }
+    ensures left { tokens p.new + 1 ≤ tokens p.old }
+    ensures looks { spent p.new + 4095 ≤ spent p.old }
+{
+    if at(p, word) {
+        take(p, word);
+        return;
+    }
+    take(p, SyntaxKind::UNSAFE_KW);
+    take(p, word);
+}
+
+/// What is used.
+pub fn use_item(p: &mut Parser<'_>, item: Marker)
+    requires some { 1 ≤ tokens p.old }
+    requires innermost { IsInnermost item p.old.nodes }
+    ensures completes { (c : Bool) → Completes c
+        (USE <⟨ One 'use' ▸ UseTree ! ▸ One 'semi' ! ⟩) p.old p.new }
+    ensures left { tokens p.new + 1 ≤ tokens p.old }
+    ensures looks { spent p.new + 4080 ≤ spent p.old }
+{
+    take(p, SyntaxKind::USE_KW);
+    expect_use_tree(p);
+    expect(p, SyntaxKind::SEMICOLON);
+    complete(p, item, SyntaxKind::USE);
+}
+
+/// A macro call, or a path that begins no item.
+pub fn path_item(p: &mut Parser<'_>, item: Marker)
+    requires begins { (c : Bool) → Saw c (looks rules.path) p.old true }
+    requires some { 1 ≤ tokens p.old }
+    requires innermost { IsInnermost item p.old.nodes }
+    ensures completes { (c : Bool) → Completes c
+        (Path ▸ (MACRO_CALL <⟨ One '!' ▸ (When (next 'l_curly') TokenTree or TokenTree ! ▸ One 'semi' !) ⟩
+        or ERROR <⟨ Say ExpectedItem ⟩)) p.old p.new }
+    ensures left { tokens p.new + 1 ≤ tokens p.old }
+    ensures looks { spent p.new + 3990 ≤ spent p.old }
+{
+    path(p);
+    after_path(p, item);
+}
+
+/// What stands after a path: the rest of a macro call, or the message that it is no item.
+fn after_path(p: &mut Parser<'_>, item: Marker)
+    requires { IsInnermost item p.old.nodes }
+    ensures completes { (c : Bool) → Completes c
+        (MACRO_CALL <⟨ One '!' ▸ (When (next 'l_curly') TokenTree or TokenTree ! ▸ One 'semi' !) ⟩
+        or ERROR <⟨ Say ExpectedItem ⟩) p.old p.new }
+    ensures left { tokens p.new ≤ tokens p.old }
+    ensures looks { spent p.new ≤ spent p.old + 3 }
+{
+    if at(p, SyntaxKind::BANG) {
+        take(p, SyntaxKind::BANG);
+        macro_tokens(p);
+        complete(p, item, SyntaxKind::MACRO_CALL);
+        return;
+    }
+    error(p, Message::ExpectedItem);
+    complete(p, item, SyntaxKind::ERROR);
+}
+
+/// The tokens of a macro call, with a `;` unless they stand in braces.
+fn macro_tokens(p: &mut Parser<'_>)
+    ensures reads { (c : Bool) → Reads c
+        (When (next 'l_curly') TokenTree or TokenTree ! ▸ One 'semi' !) p.old p.new }
+    ensures left { tokens p.new ≤ tokens p.old }
+    ensures looks { spent p.new ≤ spent p.old + 3 }
+{
+    if at(p, SyntaxKind::L_CURLY) {
+        token_tree(p);
+        return;
+    }
+    expect_token_tree(p);
+    expect(p, SyntaxKind::SEMICOLON);
+}
+
+/// What begins no item: after attributes or a visibility the message that an item is missing, and
+/// else a token in an error.
+pub fn no_item(p: &mut Parser<'_>, item: Marker, given: bool)
+    requires some { given ≡ false → 1 ≤ tokens p.old }
+    requires innermost { IsInnermost item p.old.nodes }
+    ensures completes { (c : Bool) → CompletesWhere given c
+        (When Given (ERROR <⟨ Say ExpectedItem ⟩) or Skip ExpectedItem) p.old p.new }
+    ensures left { tokens p.new ≤ tokens p.old }
+    ensures takes { given ≡ false → tokens p.new + 1 ≤ tokens p.old }
+    ensures pays { given ≡ false → spent p.new + 4090 ≤ spent p.old }
+    ensures looks { spent p.new ≤ spent p.old }
+{
+    if given {
+        error(p, Message::ExpectedItem);
+        complete(p, item, SyntaxKind::ERROR);
+        return;
+    }
+    skip(p, Message::ExpectedItem);
+    abandon(p, item);
+}
