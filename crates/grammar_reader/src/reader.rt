@@ -37,16 +37,16 @@ use crate::reader::generics::where_clause;
 use crate::reader::items::{assoc_items, item};
 use crate::reader::lists::{arguments, field_values, generic_params, params, pattern_fields};
 use crate::reader::operands::prefixed;
+use crate::reader::operations::{at_operand, layers, operation, passes_by};
 use crate::reader::or_patterns::pattern;
 use crate::reader::paths::{Mode, generic_args, path_with_args};
 use crate::reader::patterns::single_pattern;
 use crate::reader::types::any_type;
-use first_sets::first::{next_layer, operation_ends_before};
 use first_sets::passed::row_before;
-use grammar_table::layer::{height_of, layer_of};
+use grammar_table::layer::height_of;
 use grammar_table::production::Production;
 use grammar_table::rule::Rule;
-use grammar_table::table::{rule_of_part, turns_in};
+use grammar_table::table::rule_of_part;
 use parser_events::parser::Parser;
 use parser_input::syntax_kind::SyntaxKind;
 use rust_productions::grammar::names::{lifetime, literal, name, name_ref};
@@ -72,6 +72,7 @@ pub(crate) mod items;
 pub(crate) mod lists;
 pub(crate) mod match_arm;
 pub(crate) mod operands;
+pub(crate) mod operations;
 pub(crate) mod or_patterns;
 pub(crate) mod param;
 pub(crate) mod paths;
@@ -115,43 +116,6 @@ fn callee(p: &Parser<'_>, began: usize, context: Context) -> Option<Context>
         return None;
     }
     Some(Context::new(context.condition(), context.ranks() - 1))
-}
-
-/// Whether a production is passed by before the next token, as its kind tells: nothing is read of
-/// it.
-fn passes_by(production: Production, next: Option<SyntaxKind>) -> bool
-    ensures nothing { IsTrue result → (c : Bool) (s : Reading) → IfSome next (λ kind. IsNext (raw_of kind) s.rest)
-        → meaning whole (named production) c s ≡ s }
-    ensures tail { IsTrue result → named production ≡ rules.operation_tail }
-    ensures tells { named production ≡ rules.operation_tail → IfSome next (λ kind.
-        result ≡ (has_bit (raw_of kind) && gives_nothing (raw_of kind) (rule rules.operation_tail))) }
-{
-    match production {
-        Production::OperationTail => {
-            let Some(kind) = next else {
-                return false;
-            };
-            operation_ends_before(kind)
-        }
-        _ => false,
-    }
-}
-
-/// Whether a production is an operation, and begins with an operand, as the kind of the next token
-/// tells.
-fn at_operand(production: Production, next: Option<SyntaxKind>) -> bool
-    ensures is { IsTrue result → IsOperation (named production) }
-    ensures operand { IsTrue result → BeginsOperand next }
-{
-    match production {
-        Production::Expression | Production::Operation => {
-            let Some(kind) = next else {
-                return false;
-            };
-            kind.to_raw() != SyntaxKind::DOT.to_raw()
-        }
-        _ => false,
-    }
 }
 
 /// Reads a production as a continuation of the present one. How many looks it makes is bounded by
@@ -242,108 +206,6 @@ fn read_by_hand(p: &mut Parser<'_>, hand: ByHand, condition: bool)
         ByHand::Visibility => visibility(p),
         ByHand::WhereClause => where_clause(p, condition),
     }
-}
-
-/// Reads an operation that begins with an operand: that with the operators after it, and what
-/// stands after those.
-#[cycle(reader)]
-fn operation(p: &mut Parser<'_>, node: Open, began: usize, context: Context) -> Open
-    requires short { length p.old.input < 2 ^ 64 }
-    requires few { context.ranks ≤ 20 }
-    requires here { began ≡ length (left p.old) }
-    requires marker { IsInnermost node.marker p.old.nodes }
-    requires nothing { node.given ≡ false }
-    requires operand { (c : Bool) → Saw c (Kind 0 DOT) p.old false }
-    ensures input { p.new.input ≡ p.old.input }
-    ensures marker { IsInnermost result.marker p.new.nodes }
-    ensures innermost { (n : ℕ) → IsInnermost n p.old.nodes → IsInnermost n p.new.nodes }
-    ensures reads { (s : Reading) (below : Option (List Marked)) → 15 ≤ context.ranks
-        → Stands node.given p.old s below → IsBegun rules.operation context.condition s
-        → Stands result.given p.new (meaning whole rules.operation context.condition s) below }
-    ensures looks { (s : Reading) (below : Option (List Marked)) → 15 ≤ context.ranks
-        → Stands node.given p.old s below → IsBegun rules.operation context.condition s
-        → Costs (Some 500) 2100 p.old p.new }
-{
-    if context.ranks() == 0 {
-        return node;
-    }
-    let operand = Context::new(context.condition(), context.ranks() - 1);
-    let node = layers(p, node, 10, began, operand);
-    let next = next_kind(p);
-    if passes_by(Production::OperationTail, next) {
-        return node;
-    }
-    go_on(p, node, Production::OperationTail, began, context)
-}
-
-/// Reads an operand and the operators after it, up to the layer of this height, where the present
-/// production gave nothing yet.
-#[cycle(reader)]
-fn layers(p: &mut Parser<'_>, node: Open, height: u8, began: usize, context: Context) -> Open
-    requires short { length p.old.input < 2 ^ 64 }
-    requires few { context.ranks ≤ 20 }
-    requires here { began ≡ length (left p.old) }
-    requires marker { IsInnermost node.marker p.old.nodes }
-    requires nothing { node.given ≡ false }
-    requires low { 1 ≤ height }
-    requires high { height ≤ 10 }
-    ensures input { p.new.input ≡ p.old.input }
-    ensures marker { IsInnermost result.marker p.new.nodes }
-    ensures innermost { (n : ℕ) → IsInnermost n p.old.nodes → IsInnermost n p.new.nodes }
-    ensures reads { (s : Reading) (below : Option (List Marked)) → rank (layer_at height) ≤ context.ranks
-        → Stands node.given p.old s below → IsBegun (layer_at height) context.condition s
-        → Stands result.given p.new (meaning whole (layer_at height) context.condition s) below }
-    ensures looks { (s : Reading) (below : Option (List Marked)) → rank (layer_at height) ≤ context.ranks
-        → Stands node.given p.old s below → IsBegun (layer_at height) context.condition s
-        → Costs (idle_of (layer_at height)) (debt_of (layer_at height)) p.old p.new }
-{
-    if context.ranks() == 0 {
-        return node;
-    }
-    let operand = Context::new(context.condition(), context.ranks() - 1);
-    let node = production(p, node, Production::Prefixed, operand);
-    climb(p, node, 0, height, began, context)
-}
-
-/// Reads on from a layer that was read, up to another: the turns of each layer between. The layers
-/// that have no turn before the next token are passed by at once.
-#[cycle(reader)]
-fn climb(
-    p: &mut Parser<'_>,
-    node: Open,
-    height: u8,
-    top: u8,
-    began: usize,
-    context: Context,
-) -> Open
-    requires short { length p.old.input < 2 ^ 64 }
-    requires few { context.ranks ≤ 20 }
-    requires marker { IsInnermost node.marker p.old.nodes }
-    requires below { height ≤ top }
-    requires high { top ≤ 10 }
-    ensures input { p.new.input ≡ p.old.input }
-    ensures marker { IsInnermost result.marker p.new.nodes }
-    ensures innermost { (n : ℕ) → IsInnermost n p.old.nodes → IsInnermost n p.new.nodes }
-    ensures reads { (s : Reading) (below : Option (List Marked))
-        → CanClimb began context.ranks top context.condition s
-        → Stands node.given p.old (meaning whole (layer_at height) context.condition s) below
-        → Stands result.given p.new (meaning whole (layer_at top) context.condition s) below }
-    ensures looks { (entry : View) (s : Reading) (below : Option (List Marked))
-        → CanClimb began context.ranks top context.condition s
-        → Stands node.given p.old (meaning whole (layer_at height) context.condition s) below
-        → Costs (idle_of (layer_at height)) (debt_of (layer_at height)) entry p.old
-        → Costs (idle_of (layer_at top)) (debt_of (layer_at top)) entry p.new }
-{
-    if height >= top {
-        return node;
-    }
-    let next = next_kind(p);
-    let upper = next_layer(next, height, top);
-    if upper > top {
-        return node;
-    }
-    let node = read(p, node, turns_in(layer_of(upper)), began, context);
-    climb(p, node, upper, top, began, context)
 }
 
 /// Reads a production in a node that is left out in the end; in the present one, where that has

@@ -939,38 +939,38 @@ blocks::block-complete-requires = blocks.blocks::block-complete-requires
 pub blocks::block-returns-clause-gives : goal.blocks::block-returns-clause-gives
 blocks::block-returns-clause-gives = blocks.blocks::block-returns-clause-gives
 
-pub climb-read-node-requires : goal.climb-read-node-requires
-climb-read-node-requires = climbing.climb-read-node-requires
+pub operations::climb-read-node-requires : goal.operations::climb-read-node-requires
+operations::climb-read-node-requires = climbing.operations::climb-read-node-requires
 
-pub layers-returns-then-ranks-eq0-clause-reads : goal.layers-returns-then-ranks-eq0-clause-reads
-layers-returns-then-ranks-eq0-clause-reads = climbing.layers-returns-then-ranks-eq0-clause-reads
+pub operations::layers-returns-then-ranks-eq0-clause-reads : goal.operations::layers-returns-then-ranks-eq0-clause-reads
+operations::layers-returns-then-ranks-eq0-clause-reads = climbing.operations::layers-returns-then-ranks-eq0-clause-reads
 
-pub layers-returns-then-ranks-eq0-clause-looks : goal.layers-returns-then-ranks-eq0-clause-looks
-layers-returns-then-ranks-eq0-clause-looks = climbing.layers-returns-then-ranks-eq0-clause-looks
+pub operations::layers-returns-then-ranks-eq0-clause-looks : goal.operations::layers-returns-then-ranks-eq0-clause-looks
+operations::layers-returns-then-ranks-eq0-clause-looks = climbing.operations::layers-returns-then-ranks-eq0-clause-looks
 
-pub layers-returns-clause-reads : goal.layers-returns-clause-reads
-layers-returns-clause-reads = climbing.layers-returns-clause-reads
+pub operations::layers-returns-clause-reads : goal.operations::layers-returns-clause-reads
+operations::layers-returns-clause-reads = climbing.operations::layers-returns-clause-reads
 
-pub layers-returns-clause-looks : goal.layers-returns-clause-looks
-layers-returns-clause-looks = climbing.layers-returns-clause-looks
+pub operations::layers-returns-clause-looks : goal.operations::layers-returns-clause-looks
+operations::layers-returns-clause-looks = climbing.operations::layers-returns-clause-looks
 
-pub climb-returns-then-height-top-clause-reads : goal.climb-returns-then-height-top-clause-reads
-climb-returns-then-height-top-clause-reads = climbing.climb-returns-then-height-top-clause-reads
+pub operations::climb-returns-then-height-top-clause-reads : goal.operations::climb-returns-then-height-top-clause-reads
+operations::climb-returns-then-height-top-clause-reads = climbing.operations::climb-returns-then-height-top-clause-reads
 
-pub climb-returns-then-height-top-clause-looks : goal.climb-returns-then-height-top-clause-looks
-climb-returns-then-height-top-clause-looks = climbing.climb-returns-then-height-top-clause-looks
+pub operations::climb-returns-then-height-top-clause-looks : goal.operations::climb-returns-then-height-top-clause-looks
+operations::climb-returns-then-height-top-clause-looks = climbing.operations::climb-returns-then-height-top-clause-looks
 
-pub climb-returns-then-upper-top-clause-reads : goal.climb-returns-then-upper-top-clause-reads
-climb-returns-then-upper-top-clause-reads = climbing.climb-returns-then-upper-top-clause-reads
+pub operations::climb-returns-then-upper-top-clause-reads : goal.operations::climb-returns-then-upper-top-clause-reads
+operations::climb-returns-then-upper-top-clause-reads = climbing.operations::climb-returns-then-upper-top-clause-reads
 
-pub climb-returns-then-upper-top-clause-looks : goal.climb-returns-then-upper-top-clause-looks
-climb-returns-then-upper-top-clause-looks = climbing.climb-returns-then-upper-top-clause-looks
+pub operations::climb-returns-then-upper-top-clause-looks : goal.operations::climb-returns-then-upper-top-clause-looks
+operations::climb-returns-then-upper-top-clause-looks = climbing.operations::climb-returns-then-upper-top-clause-looks
 
-pub climb-returns-clause-reads : goal.climb-returns-clause-reads
-climb-returns-clause-reads = climbing.climb-returns-clause-reads
+pub operations::climb-returns-clause-reads : goal.operations::climb-returns-clause-reads
+operations::climb-returns-clause-reads = climbing.operations::climb-returns-clause-reads
 
-pub climb-returns-clause-looks : goal.climb-returns-clause-looks
-climb-returns-clause-looks = climbing.climb-returns-clause-looks
+pub operations::climb-returns-clause-looks : goal.operations::climb-returns-clause-looks
+operations::climb-returns-clause-looks = climbing.operations::climb-returns-clause-looks
 
 pub consts::const_item-typed_value-requires : goal.consts::const_item-typed_value-requires
 consts::const_item-typed_value-requires = consts.consts::const_item-typed_value-requires
@@ -2556,23 +2556,23 @@ production-returns-then-at_operand-clause-reads = operating.production-returns-t
 pub production-returns-then-at_operand-clause-looks : goal.production-returns-then-at_operand-clause-looks
 production-returns-then-at_operand-clause-looks = operating.production-returns-then-at_operand-clause-looks
 
-pub operation-returns-then-ranks-eq0-clause-reads : goal.operation-returns-then-ranks-eq0-clause-reads
-operation-returns-then-ranks-eq0-clause-reads = operating.operation-returns-then-ranks-eq0-clause-reads
+pub operations::operation-returns-then-ranks-eq0-clause-reads : goal.operations::operation-returns-then-ranks-eq0-clause-reads
+operations::operation-returns-then-ranks-eq0-clause-reads = operating.operations::operation-returns-then-ranks-eq0-clause-reads
 
-pub operation-returns-then-ranks-eq0-clause-looks : goal.operation-returns-then-ranks-eq0-clause-looks
-operation-returns-then-ranks-eq0-clause-looks = operating.operation-returns-then-ranks-eq0-clause-looks
+pub operations::operation-returns-then-ranks-eq0-clause-looks : goal.operations::operation-returns-then-ranks-eq0-clause-looks
+operations::operation-returns-then-ranks-eq0-clause-looks = operating.operations::operation-returns-then-ranks-eq0-clause-looks
 
-pub operation-returns-then-passes_by-clause-reads : goal.operation-returns-then-passes_by-clause-reads
-operation-returns-then-passes_by-clause-reads = operating.operation-returns-then-passes_by-clause-reads
+pub operations::operation-returns-then-passes_by-clause-reads : goal.operations::operation-returns-then-passes_by-clause-reads
+operations::operation-returns-then-passes_by-clause-reads = operating.operations::operation-returns-then-passes_by-clause-reads
 
-pub operation-returns-then-passes_by-clause-looks : goal.operation-returns-then-passes_by-clause-looks
-operation-returns-then-passes_by-clause-looks = operating.operation-returns-then-passes_by-clause-looks
+pub operations::operation-returns-then-passes_by-clause-looks : goal.operations::operation-returns-then-passes_by-clause-looks
+operations::operation-returns-then-passes_by-clause-looks = operating.operations::operation-returns-then-passes_by-clause-looks
 
-pub operation-returns-clause-reads : goal.operation-returns-clause-reads
-operation-returns-clause-reads = operating.operation-returns-clause-reads
+pub operations::operation-returns-clause-reads : goal.operations::operation-returns-clause-reads
+operations::operation-returns-clause-reads = operating.operations::operation-returns-clause-reads
 
-pub operation-returns-clause-looks : goal.operation-returns-clause-looks
-operation-returns-clause-looks = operating.operation-returns-clause-looks
+pub operations::operation-returns-clause-looks : goal.operations::operation-returns-clause-looks
+operations::operation-returns-clause-looks = operating.operations::operation-returns-clause-looks
 
 pub param::param-self_param-requires : goal.param::param-self_param-requires
 param::param-self_param-requires = param.param::param-self_param-requires

@@ -247,14 +247,14 @@ invariant-or_patterns::further-turns l = record {
 abbrev pub decreases-or_patterns::further-turns : goal.decreases-or_patterns::further-turns
 decreases-or_patterns::further-turns l = tokens l.p
 
-abbrev pub decreases-operation : goal.decreases-operation
-decreases-operation l = 16384 * (32 * l.began + l.context.ranks) + 16382
+abbrev pub decreases-operations::operation : goal.decreases-operations::operation
+decreases-operations::operation l = 16384 * (32 * l.began + l.context.ranks) + 16382
 
-abbrev pub decreases-layers : goal.decreases-layers
-decreases-layers l = 16384 * (32 * l.began + l.context.ranks) + 16382
+abbrev pub decreases-operations::layers : goal.decreases-operations::layers
+decreases-operations::layers l = 16384 * (32 * l.began + l.context.ranks) + 16382
 
-abbrev pub decreases-climb : goal.decreases-climb
-decreases-climb l = 16384 * (32 * l.began + l.context.ranks) + (16381 - l.height)
+abbrev pub decreases-operations::climb : goal.decreases-operations::climb
+decreases-operations::climb l = 16384 * (32 * l.began + l.context.ranks) + (16381 - l.height)
 
 abbrev pub decreases-call : goal.decreases-call
 decreases-call l = 16384 * (32 * l.began + l.context.ranks) + 1

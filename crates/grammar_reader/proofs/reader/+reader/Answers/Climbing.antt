@@ -21,8 +21,8 @@ use Rattle.grammar_reader.proofs.Passing.{passed-means, passed-idle, passed-look
 use Rattle.grammar_reader.proofs.Telling.{next-there}
 use Rattle.grammar_reader.proofs.reader.+reader.Goals as goal
 
-pub climb-read-node-requires : goal.climb-read-node-requires
-climb-read-node-requires t c =
+pub operations::climb-read-node-requires : goal.operations::climb-read-node-requires
+operations::climb-read-node-requires t c =
     let u = c.next_layer-upper.result in
     let above = c.next_layer-upper.ensures.above in
     let high : u ≤ 10 = omega (arith, c.if-upper-top.false, c.requires.high) in
@@ -31,14 +31,14 @@ climb-read-node-requires t c =
     let input = ap (λ (v : View). v.input) c.next_kind-next.ensures.same in
     (below-measure c.decreases (falls-climb c.turns_in.result.now (32 * c.args.began + c.args.context.ranks) c.args.height few (omega (arith, above, high))), (short-still _ _ input c.requires.short, (c.requires.few, still-innermost _ c.args.p.now c.next_kind-next.new.p c.next_kind-next.ensures.same c.requires.marker)))
 
-pub layers-returns-then-ranks-eq0-clause-reads : goal.layers-returns-then-ranks-eq0-clause-reads
-layers-returns-then-ranks-eq0-clause-reads t c = λ s below low h b. absurd (omega (arith, low, rank-at c.args.height c.requires.high, c.if-ranks-eq0.true))
+pub operations::layers-returns-then-ranks-eq0-clause-reads : goal.operations::layers-returns-then-ranks-eq0-clause-reads
+operations::layers-returns-then-ranks-eq0-clause-reads t c = λ s below low h b. absurd (omega (arith, low, rank-at c.args.height c.requires.high, c.if-ranks-eq0.true))
 
-pub layers-returns-then-ranks-eq0-clause-looks : goal.layers-returns-then-ranks-eq0-clause-looks
-layers-returns-then-ranks-eq0-clause-looks t c = λ s below low h b. absurd (omega (arith, low, rank-at c.args.height c.requires.high, c.if-ranks-eq0.true))
+pub operations::layers-returns-then-ranks-eq0-clause-looks : goal.operations::layers-returns-then-ranks-eq0-clause-looks
+operations::layers-returns-then-ranks-eq0-clause-looks t c = λ s below low h b. absurd (omega (arith, low, rank-at c.args.height c.requires.high, c.if-ranks-eq0.true))
 
-pub layers-returns-clause-reads : goal.layers-returns-clause-reads
-layers-returns-clause-reads t c = λ s below low h b.
+pub operations::layers-returns-clause-reads : goal.operations::layers-returns-clause-reads
+operations::layers-returns-clause-reads t c = λ s below low h b.
     let anew = nothing-given s (subst (λ (g : Bool). Stands g c.args.p.now s below) c.requires.nothing h) in
     let begun = subst (λ (x : Production). IsBegun x c.args.context.condition s) operands (begun-under 0 c.args.height (omega arith) c.requires.high c.args.context.condition s anew b) in
     let same = c.new-operand.ensures.condition ∙ c.condition.ensures in
@@ -48,8 +48,8 @@ layers-returns-clause-reads t c = λ s below low h b.
     c.climb.ensures.reads s below (record { few = low; here = c.requires.here ∙ same-length h.at.rest; anew = anew; begun = b })
     (subst (λ (x : Production). Stands c.production-node.result.given c.production-node.new.p (meaning whole x c.args.context.condition s) below) (sym operands) operand)
 
-pub layers-returns-clause-looks : goal.layers-returns-clause-looks
-layers-returns-clause-looks t c = λ s below low h b.
+pub operations::layers-returns-clause-looks : goal.operations::layers-returns-clause-looks
+operations::layers-returns-clause-looks t c = λ s below low h b.
     let anew = nothing-given s (subst (λ (g : Bool). Stands g c.args.p.now s below) c.requires.nothing h) in
     let begun = subst (λ (x : Production). IsBegun x c.args.context.condition s) operands (begun-under 0 c.args.height (omega arith) c.requires.high c.args.context.condition s anew b) in
     let same = c.new-operand.ensures.condition ∙ c.condition.ensures in
@@ -62,29 +62,29 @@ layers-returns-clause-looks t c = λ s below low h b.
     (subst (λ (x : Production). Stands c.production-node.result.given c.production-node.new.p (meaning whole x c.args.context.condition s) below) (sym operands) operand)
     (subst (λ (x : Production). Costs (idle_of x) (debt_of x) c.args.p.now c.production-node.new.p) (sym operands) spent)
 
-pub climb-returns-then-height-top-clause-reads : goal.climb-returns-then-height-top-clause-reads
-climb-returns-then-height-top-clause-reads t c = λ s below can h.
+pub operations::climb-returns-then-height-top-clause-reads : goal.operations::climb-returns-then-height-top-clause-reads
+operations::climb-returns-then-height-top-clause-reads t c = λ s below can h.
     subst (λ (n : ℕ). Stands c.args.node.given c.args.p.now (meaning whole (layer_at n) c.args.context.condition s) below) (omega (arith, c.if-height-top.true, c.requires.below)) h
 
-pub climb-returns-then-height-top-clause-looks : goal.climb-returns-then-height-top-clause-looks
-climb-returns-then-height-top-clause-looks t c = λ entry s below can h spent.
+pub operations::climb-returns-then-height-top-clause-looks : goal.operations::climb-returns-then-height-top-clause-looks
+operations::climb-returns-then-height-top-clause-looks t c = λ entry s below can h spent.
     subst (λ (n : ℕ). Costs (idle_of (layer_at n)) (debt_of (layer_at n)) entry c.args.p.now) (omega (arith, c.if-height-top.true, c.requires.below)) spent
 
-pub climb-returns-then-upper-top-clause-reads : goal.climb-returns-then-upper-top-clause-reads
-climb-returns-then-upper-top-clause-reads t c = λ s below can h.
+pub operations::climb-returns-then-upper-top-clause-reads : goal.operations::climb-returns-then-upper-top-clause-reads
+operations::climb-returns-then-upper-top-clause-reads t c = λ s below can h.
     let stood = stands-still c.next_kind-next.ensures.same h in
     let next = next-there c.next_kind-next.result stood.at.rest c.next_kind-next.ensures.next in
     let over = λ (j : ℕ) (p : c.args.height < j) (q : j < c.args.top + 1). c.next_layer-upper.ensures.over j p (omega (arith, q, c.if-upper-top.true)) in
     subst (λ (r : Reading). Stands c.args.node.given c.next_kind-next.new.p r below)
     (sym (passed-means c.args.context.condition s can.anew c.args.height c.args.top (omega (arith, c.if-height-top.false)) c.requires.high c.next_kind-next.result next over)) stood
 
-pub climb-returns-then-upper-top-clause-looks : goal.climb-returns-then-upper-top-clause-looks
-climb-returns-then-upper-top-clause-looks t c = λ entry s below can h spent.
+pub operations::climb-returns-then-upper-top-clause-looks : goal.operations::climb-returns-then-upper-top-clause-looks
+operations::climb-returns-then-upper-top-clause-looks t c = λ entry s below can h spent.
     let over = λ (j : ℕ) (p : c.args.height < j) (q : j < c.args.top + 1). c.next_layer-upper.ensures.over j p (omega (arith, q, c.if-upper-top.true)) in
     passed-looked c.args.height c.args.top (omega (arith, c.if-height-top.false)) c.requires.high c.next_kind-next.result over spent (same-length (ap left c.next_kind-next.ensures.same)) c.next_kind-next.ensures.looks
 
-pub climb-returns-clause-reads : goal.climb-returns-clause-reads
-climb-returns-clause-reads t c = λ s below can h.
+pub operations::climb-returns-clause-reads : goal.operations::climb-returns-clause-reads
+operations::climb-returns-clause-reads t c = λ s below can h.
     let u = c.next_layer-upper.result in
     let above = c.next_layer-upper.ensures.above in
     let high : u ≤ 10 = omega (arith, c.if-upper-top.false, c.requires.high) in
@@ -105,8 +105,8 @@ climb-returns-clause-reads t c = λ s below can h.
     (subst (λ (r : Reading). Stands c.read-node.result.given c.read-node.new.p r below)
     (ap (λ (r : Rule). reads c.args.context.condition r m) turned ∙ sym (upper-means (u - 1) u one low c.args.context.condition s can.anew)) read)
 
-pub climb-returns-clause-looks : goal.climb-returns-clause-looks
-climb-returns-clause-looks t c = λ entry s below can h spent.
+pub operations::climb-returns-clause-looks : goal.operations::climb-returns-clause-looks
+operations::climb-returns-clause-looks t c = λ entry s below can h spent.
     let u = c.next_layer-upper.result in
     let above = c.next_layer-upper.ensures.above in
     let high : u ≤ 10 = omega (arith, c.if-upper-top.false, c.requires.high) in

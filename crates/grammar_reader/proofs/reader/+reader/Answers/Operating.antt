@@ -47,15 +47,15 @@ production-returns-then-at_operand-clause-looks t c = λ s below low h b.
     costs-operation is (same-length (ap left c.next_kind-next.ensures.same)) c.next_kind-next.ensures.looks
     (c.operation.ensures.looks s below (rank-of-operation (named c.args.production) c.args.context.ranks is low) (stands-still c.next_kind-next.ensures.same h) (begun-operation (named c.args.production) c.args.context.condition s is anew b))
 
-pub operation-returns-then-ranks-eq0-clause-reads : goal.operation-returns-then-ranks-eq0-clause-reads
-operation-returns-then-ranks-eq0-clause-reads t c = λ s below low h b. absurd (omega (arith, low, c.if-ranks-eq0.true))
+pub operations::operation-returns-then-ranks-eq0-clause-reads : goal.operations::operation-returns-then-ranks-eq0-clause-reads
+operations::operation-returns-then-ranks-eq0-clause-reads t c = λ s below low h b. absurd (omega (arith, low, c.if-ranks-eq0.true))
 
-pub operation-returns-then-ranks-eq0-clause-looks : goal.operation-returns-then-ranks-eq0-clause-looks
-operation-returns-then-ranks-eq0-clause-looks t c = λ s below low h b. absurd (omega (arith, low, c.if-ranks-eq0.true))
+pub operations::operation-returns-then-ranks-eq0-clause-looks : goal.operations::operation-returns-then-ranks-eq0-clause-looks
+operations::operation-returns-then-ranks-eq0-clause-looks t c = λ s below low h b. absurd (omega (arith, low, c.if-ranks-eq0.true))
 
-pub operation-returns-then-passes_by-clause-reads : goal.operation-returns-then-passes_by-clause-reads
+pub operations::operation-returns-then-passes_by-clause-reads : goal.operations::operation-returns-then-passes_by-clause-reads
 unfolding layer_at layers rank
-operation-returns-then-passes_by-clause-reads t c = λ s below low h b.
+operations::operation-returns-then-passes_by-clause-reads t c = λ s below low h b.
     let cond = c.args.context.condition in
     let anew = nothing-given s (subst (λ (g : Bool). Stands g c.args.p.now s below) c.requires.nothing h) in
     let same = c.new-operand.ensures.condition ∙ c.condition.ensures in
@@ -66,9 +66,9 @@ operation-returns-then-passes_by-clause-reads t c = λ s below low h b.
     subst (λ (u : Reading). Stands c.layers-node.result.given c.next_kind-next.new.p u below)
     (sym (operand-means (c.requires.operand cond) s h.at.rest anew ∙ c.passes_by.ensures.nothing c.if-passes_by.true cond (meaning whole disjunction cond s) next)) still
 
-pub operation-returns-then-passes_by-clause-looks : goal.operation-returns-then-passes_by-clause-looks
+pub operations::operation-returns-then-passes_by-clause-looks : goal.operations::operation-returns-then-passes_by-clause-looks
 unfolding layer_at layers rank
-operation-returns-then-passes_by-clause-looks t c = λ s below low h b.
+operations::operation-returns-then-passes_by-clause-looks t c = λ s below low h b.
     let cond = c.args.context.condition in
     let anew = nothing-given s (subst (λ (g : Bool). Stands g c.args.p.now s below) c.requires.nothing h) in
     let same = c.new-operand.ensures.condition ∙ c.condition.ensures in
@@ -77,9 +77,9 @@ operation-returns-then-passes_by-clause-looks t c = λ s below low h b.
     c.layers-node.ensures.looks s below (omega (arith, low, c.new-operand.ensures.ranks)) h (operand-begun (c.requires.operand cond) s h.at.rest anew b))
     (same-length (ap left c.next_kind-next.ensures.same)) c.next_kind-next.ensures.looks
 
-pub operation-returns-clause-reads : goal.operation-returns-clause-reads
+pub operations::operation-returns-clause-reads : goal.operations::operation-returns-clause-reads
 unfolding layer_at layers rank asks_nothing
-operation-returns-clause-reads t c = λ s below low h b.
+operations::operation-returns-clause-reads t c = λ s below low h b.
     let cond = c.args.context.condition in
     let anew = nothing-given s (subst (λ (g : Bool). Stands g c.args.p.now s below) c.requires.nothing h) in
     let same = c.new-operand.ensures.condition ∙ c.condition.ensures in
@@ -90,9 +90,9 @@ operation-returns-clause-reads t c = λ s below low h b.
     subst (λ (u : Reading). Stands c.go_on.result.given c.go_on.new.p u below) (sym (operand-means (c.requires.operand cond) s h.at.rest anew))
     (c.go_on.ensures.reads operation (meaning whole disjunction cond s) below low still there refl)
 
-pub operation-returns-clause-looks : goal.operation-returns-clause-looks
+pub operations::operation-returns-clause-looks : goal.operations::operation-returns-clause-looks
 unfolding layer_at layers rank asks_nothing
-operation-returns-clause-looks t c = λ s below low h b.
+operations::operation-returns-clause-looks t c = λ s below low h b.
     let cond = c.args.context.condition in
     let anew = nothing-given s (subst (λ (g : Bool). Stands g c.args.p.now s below) c.requires.nothing h) in
     let same = c.new-operand.ensures.condition ∙ c.condition.ensures in

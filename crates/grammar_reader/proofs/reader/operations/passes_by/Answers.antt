@@ -9,7 +9,7 @@ use Rattle.grammar_table.specs.Data.{named}
 use Rattle.first_sets.specs.Told.{IsNext}
 use Rattle.grammar_table.specs.declared.production.Production.{Production}
 use Rattle.grammar_reader.proofs.Telling.{sure, tail-passed}
-use Rattle.grammar_reader.proofs.reader.passes_by.Goals as goal
+use Rattle.grammar_reader.proofs.reader.operations.passes_by.Goals as goal
 
 pub returns-in-Some-clause-nothing : goal.returns-in-Some-clause-nothing
 returns-in-Some-clause-nothing c = λ h d s known.
