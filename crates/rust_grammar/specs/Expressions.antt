@@ -9,22 +9,22 @@ use Rattle.rust_grammar.specs.Notation.{◌or◌, ◌▸◌, ◌▹◌, ⁅◌�
 use Rattle.rust_grammar.specs.Shared.{field_name}
 
 -- in condition mode a `{` ends the condition where an expression may be left out
-abbrev body_begins : Look
+abbrev pub body_begins : Look
 body_begins = Both InCondition (next 'l_curly')
 
 -- the two marks of a range
-abbrev range_mark : Rule
+abbrev pub range_mark : Rule
 range_mark = op 'dots_eq' or op 'dots'
 
 -- a range up to an operand; the mark and the operand are both there
-abbrev range_to : Spelling → Rule
+abbrev pub range_to : Spelling → Rule
 range_to mark = op mark ▹ Unless body_begins Disjunction
 
 -- operands of the next layer, with these operators between them, grouped from the left
-abbrev layer : (operand : Production) → (operators : Rule) → Rule
+abbrev pub layer : (operand : Production) → (operators : Rule) → Rule
 layer operand operators = Call operand ▸ (BIN_EXPR <⟨ operators ▸ Want (Call operand) ExpectedExpression ⟩) *
 
-abbrev assignment : Rule
+abbrev pub assignment : Rule
 assignment = op '=' or op '+=' or op '-=' or op '*=' or op '/=' or op '%=' or op '&=' or op '|=' or op '^=' or op '<<=' or op '>>='
 
 -- an expression in condition mode
@@ -35,8 +35,11 @@ condition = on Operation
 abbrev value : Rule
 value = ⁅ Unless body_begins Operation ⁆
 
+abbrev pub closure_param : Rule
+closure_param = PARAM ⟨ SinglePattern ▸ ⁅ One ':' ▸ AnyType ! ⁆ ⟩
+
 abbrev pub closure_params : Rule
-closure_params = PARAM_LIST ⟨ listed PARAM_LIST '|' (PARAM ⟨ SinglePattern ▸ ⁅ One ':' ▸ AnyType ! ⁆ ⟩) '|' ⟩
+closure_params = PARAM_LIST ⟨ listed PARAM_LIST '|' closure_param '|' ⟩
 
 -- what stands after a path: the rest of a macro call, the fields of a record, or nothing; `!=` is an operator
 abbrev after_path : Rule

@@ -33,6 +33,16 @@ fn_begins = any_of (next 'fn' ∷ 'const' before 'fn' ∷ 'const' before 'unsafe
 abbrev pub self_begins : Look
 self_begins = any_of (next 'self' ∷ 'mut' before 'self' ∷ '&' before 'self' ∷ row 0 ('&' ∷ 'mut' ∷ 'self' ∷ []) ∷ '&' before 'lifetime' ∷ [])
 
+-- a variant of an enum, a field with a name, and one without
+abbrev pub variant : Rule
+variant = VARIANT ⟨ Attribute * ▸ ⁅ Visibility ⁆ ▸ Name ! ▸ ⁅ RecordFields or TupleFields ⁆ ⟩
+
+abbrev pub record_field : Rule
+record_field = RECORD_FIELD ⟨ Attribute * ▸ ⁅ Visibility ⁆ ▸ Name ! ▸ One ':' ! ▸ AnyType ! ⟩
+
+abbrev pub tuple_field : Rule
+tuple_field = TUPLE_FIELD ⟨ Attribute * ▸ ⁅ Visibility ⁆ ▸ AnyType ! ⟩
+
 -- inside a token tree: token trees, and any token but a closing bracket
 abbrev pub inner_token : Rule
 inner_token = TokenTree or When (Both Left (Not (one_of 0 ('r_paren' ∷ 'r_curly' ∷ ']' ∷ [])))) Any
@@ -64,9 +74,9 @@ items others body =
     or When Given (ERROR <⟨ Say ExpectedItem ⟩)
     or Skip ExpectedItem
 items others assoc_items = ASSOC_ITEM_LIST ⟨ items_in_braces ⟩
-items others variants = VARIANT_LIST ⟨ listed VARIANT_LIST 'l_curly' (VARIANT ⟨ Attribute * ▸ ⁅ Visibility ⁆ ▸ Name ! ▸ ⁅ RecordFields or TupleFields ⁆ ⟩) 'r_curly' ⟩
-items others record_fields = RECORD_FIELD_LIST ⟨ listed RECORD_FIELD_LIST 'l_curly' (RECORD_FIELD ⟨ Attribute * ▸ ⁅ Visibility ⁆ ▸ Name ! ▸ One ':' ! ▸ AnyType ! ⟩) 'r_curly' ⟩
-items others tuple_fields = TUPLE_FIELD_LIST ⟨ listed TUPLE_FIELD_LIST 'l_paren' (TUPLE_FIELD ⟨ Attribute * ▸ ⁅ Visibility ⁆ ▸ AnyType ! ⟩) 'r_paren' ⟩
+items others variants = VARIANT_LIST ⟨ listed VARIANT_LIST 'l_curly' variant 'r_curly' ⟩
+items others record_fields = RECORD_FIELD_LIST ⟨ listed RECORD_FIELD_LIST 'l_curly' record_field 'r_curly' ⟩
+items others tuple_fields = TUPLE_FIELD_LIST ⟨ listed TUPLE_FIELD_LIST 'l_paren' tuple_field 'r_paren' ⟩
 items others params = PARAM_LIST ⟨ listed PARAM_LIST 'l_paren' Param 'r_paren' ⟩
 items others param =
     When self_begins (SELF_PARAM ⟨ ⁅ One '&' ▸ ⁅ Lifetime ⁆ ⁆ ▸ ⁅ One 'mut' ⁆ ▸ NAME ⟨ One 'self' ! ⟩ ▸ ⁅ One ':' ▸ AnyType ! ⁆ ⟩)

@@ -20,25 +20,25 @@ abbrev pub goes_on : Look
 goes_on = Either (next '?') (Both (next 'dot') (Not (next 'dots')))
 
 -- A list of statements: where it ends, one of its statements, and what stands after an expression in it.
-record Listing : Type 0 where
-  ends : Look
-  one : Production
-  end : Production
+pub record Listing : Type 0 where
+  pub ends : Look
+  pub one : Production
+  pub end : Production
 
 -- a block's list, up to its `}`, and the statements of a macro, up to the input's end
-abbrev in_block : Listing
+abbrev pub in_block : Listing
 in_block = record { ends = until 'r_curly'; one = statement; end = statement_end }
 
-abbrev in_macro : Listing
+abbrev pub in_macro : Listing
 in_macro = record { ends = at_end; one = macro_statement; end = macro_statement_end }
 
 -- all statements of a list
-abbrev all_of : Listing → Rule
+abbrev pub all_of : Listing → Rule
 all_of list = (Unless list.ends (Call list.one)) *
 
 -- A statement, with what stands after an expression: an expression that ends in a block needs no `;`, and the last expression
 -- of a list is no statement.
-abbrev statement_of : Listing → Rule
+abbrev pub statement_of : Listing → Rule
 statement_of list =
     One 'semi'
     or When ('#' before '!') Attribute
@@ -49,7 +49,7 @@ statement_of list =
     or Skip ExpectedStatement
 
 -- what stands after an expression that needs a `;`, unless it is the last of its list
-abbrev end_of : Listing → Rule
+abbrev pub end_of : Listing → Rule
 end_of list = EXPR_STMT <⟨ One 'semi' ⟩ or When list.ends Nothing or EXPR_STMT <⟨ One 'semi' ! ⟩
 
 unfoldable pub statements : (others : Production → Rule) → Production → Rule
