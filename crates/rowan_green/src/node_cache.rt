@@ -20,10 +20,17 @@ const FEWEST_SLOTS: usize = 64;
 
 const MOST_SLOTS: usize = 4096;
 
+/// A value with its fingerprint, so that another one is passed over unread.
+#[derive(Drop)]
+struct Kept<T> {
+    fingerprint: u32,
+    value: T,
+}
+
 /// Slots by fingerprint, a power of two of them, or none before the first value is kept.
 #[derive(Drop)]
 struct Slots<T> {
-    slots: Vec<Option<T>>,
+    slots: Vec<Option<Kept<T>>>,
     /// How many values were kept since the slots were made.
     kept: usize,
 }
@@ -40,8 +47,13 @@ impl<T: Drop> Slots<T> {
         fingerprint as usize & self.slots.len().wrapping_sub(1)
     }
 
+    /// The value that was kept under this fingerprint last, if it still has its slot.
     fn get(&self, fingerprint: u32) -> Option<&T> {
-        self.slots.get(self.index_of(fingerprint))?.as_ref()
+        let kept = self.slots.get(self.index_of(fingerprint))?.as_ref()?;
+        if kept.fingerprint != fingerprint {
+            return None;
+        }
+        Some(&kept.value)
     }
 
     /// Puts the value into its slot. Where memory for the slots is refused, it is let go.
@@ -52,7 +64,7 @@ impl<T: Drop> Slots<T> {
         }
         let index = self.index_of(fingerprint);
         if index < self.slots.len() {
-            self.slots[index] = Some(value);
+            self.slots[index] = Some(Kept { fingerprint, value });
             self.kept = self.kept.saturating_add(1);
         }
     }
