@@ -12,3 +12,6 @@ pub mod Powers
 pub mod Sums
 pub mod Given
 pub mod Words
+pub mod Operators
+pub mod Layering
+pub mod Ranges

@@ -136,7 +136,7 @@ saw-else l m {c} {fs} {v} known saw not_else = record { at = λ s e. one s (sees
         absurd (let z : true ≡ false = sym there ∙ no in cc)
 
 -- a look that asks nothing but of tokens
-abbrev is_ahead : Look → Bool
+abbrev pub is_ahead : Look → Bool
 is_ahead Left = false
 is_ahead Given = false
 is_ahead (Both a b) = is_ahead a && is_ahead b
@@ -171,6 +171,15 @@ saw-taken {c} {d} {x} {b} {old} {new} l plain p saw = record {
   at = λ s e.
       let was : Reading = record { given = forest.End; rest = left old } in
       sees-ahead c (length x.parts) l was s plain (sym e ∙ p.does.rest was refl) ∙ saw.at was refl;
+}
+
+-- and what is seen then was seen that much further ahead before
+pub saw-ahead : {c d : Bool} {x : Spelling} {b : Bool} {old new : View} (l : Look) → is_ahead l ≡ true → Reads d (One x) old new → Saw c l new b → Saw c (shift (length x.parts) l) old b
+unfolding read leaf
+saw-ahead {c} {d} {x} l plain p saw = record {
+  at = λ s e.
+      let taken : Reading = leaf x.kind (length x.parts) s in
+      sym (sees-ahead c (length x.parts) l s taken plain refl) ∙ saw.at taken (p.does.rest s e);
 }
 
 pub saw-left-out : {c : Bool} {l : Look} {b : Bool} {old new : View} → Leaves old new → Saw c l old b → Saw c l new b

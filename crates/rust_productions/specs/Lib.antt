@@ -4,3 +4,4 @@ pub mod Reads
 pub mod Layers
 pub mod Looks
 pub mod Turns
+pub mod Operators

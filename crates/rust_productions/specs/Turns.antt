@@ -1,9 +1,13 @@
 -- Repetitions that are read turn by turn.
 use Rattle.parser_events.specs.View.{View}
 use Rattle.std.specs.Prelude.{Bool}
-use Rattle.rust_grammar.specs.Rule.{Rule, Star}
-use Rattle.rust_productions.specs.Reads.{Reads}
+use Rattle.rust_grammar.specs.Rule.{Production, Rule, Star}
+use Rattle.rust_productions.specs.Reads.{Goes, Reads}
 
 -- What is read from `entry` on is read once the turns from here on are.
 pub record TurnsFrom (c : Bool) (a : Rule) (entry now : View) : Type 0 where
   pub rest : (end : View) → Reads c (Star a) now end → Reads c (Star a) entry end
+
+-- What the production reads from `entry` on is read once it is from here on.
+pub record GoesFrom (x : Production) (c : Bool) (entry now : View) : Type 0 where
+  pub rest : (end : View) → Goes x c now end → Goes x c entry end

@@ -24,6 +24,7 @@ pub mod generic_params;
 pub mod items;
 pub mod lists;
 pub mod names;
+pub mod operators;
 pub mod paths;
 pub mod patterns;
 pub mod token_trees;

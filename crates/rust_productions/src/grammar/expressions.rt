@@ -1,13 +1,20 @@
 //! Expressions.
 
-ghost use Rattle.std.specs.Prelude.{◌≡◌, ◌+◌, ◌≤◌, Bool, IsTrue, [], ◌∷◌};
+ghost use Rattle.std.specs.Prelude.{◌≡◌, ◌+◌, ◌*◌, ◌≤◌, Bool, IsTrue, true, [], ◌∷◌};
+ghost use Rattle.parser_input.specs.Kinds as kinds;
 ghost use Rattle.rust_productions.specs.Looks.{tokens, spent};
 ghost use Rattle.rust_grammar.specs.Rule as rules;
+ghost use Rattle.rust_grammar.specs.Calls.{Disjunction};
+ghost use Rattle.rust_grammar.specs.Expressions.{body_begins};
+ghost use Rattle.rust_grammar.specs.Rule.{InCondition, Both, Unless, begins};
 ghost use Rattle.rust_grammar.specs.Notation.{row, next};
-ghost use Rattle.rust_grammar.specs.Words.{'ident', '!', 'l_curly'};
+ghost use Rattle.rust_grammar.specs.Words.{'ident', '!', 'l_curly', 'let'};
 ghost use Rattle.rust_productions.specs.Reads.{looks, Does, Saw};
 
-use crate::grammar::{at, at_second, at_third, current};
+use crate::grammar::names::at_literal;
+use crate::grammar::operators::range_mark;
+use crate::grammar::paths::at_path;
+use crate::grammar::{at, at_pair, at_second, at_third, current};
 use parser_events::parser::Parser;
 use parser_input::syntax_kind::SyntaxKind;
 
@@ -31,6 +38,23 @@ pub(crate) fn at_macro_block(p: &mut Parser<'_>) -> bool
     true
 }
 
+/// Whether the word `let` is next in a condition.
+fn at_let(p: &mut Parser<'_>, condition: bool) -> bool
+    ensures sees { Saw condition (Both InCondition (next 'let')) p.old result }
+    ensures some { IsTrue result → 1 ≤ tokens p.old }
+    ensures same { Does (λ s. s) p.old p.new }
+    ensures left { tokens p.new ≡ tokens p.old }
+    ensures looks { spent p.new ≤ spent p.old + 1 }
+{
+    if !condition {
+        return false;
+    }
+    match current(p) {
+        SyntaxKind::LET_KW => true,
+        _ => false,
+    }
+}
+
 /// Whether an expression begins here that ends in a block.
 pub fn at_block_like(p: &mut Parser<'_>) -> bool
     ensures sees { (c : Bool) → Saw c (looks rules.block_like) p.old result }
@@ -52,4 +76,106 @@ pub fn at_block_like(p: &mut Parser<'_>) -> bool
         | SyntaxKind::MATCH_KW => true,
         _ => false,
     }
+}
+
+/// Whether an expression begins here that has no operator before it.
+pub(crate) fn at_atom(p: &mut Parser<'_>, condition: bool) -> bool
+    ensures sees { Saw condition (looks rules.atom) p.old result }
+    ensures some { IsTrue result → 1 ≤ tokens p.old }
+    ensures same { Does (λ s. s) p.old p.new }
+    ensures left { tokens p.new ≡ tokens p.old }
+    ensures looks { spent p.new ≤ spent p.old + 10 }
+{
+    if at_path(p) {
+        return true;
+    }
+    if at_literal(p) {
+        return true;
+    }
+    if at_block_like(p) {
+        return true;
+    }
+    if at_let(p, condition) {
+        return true;
+    }
+    match current(p) {
+        SyntaxKind::L_PAREN
+        | SyntaxKind::L_BRACK
+        | SyntaxKind::RETURN_KW
+        | SyntaxKind::BREAK_KW
+        | SyntaxKind::CONTINUE_KW
+        | SyntaxKind::MOVE_KW
+        | SyntaxKind::PIPE => true,
+        _ => false,
+    }
+}
+
+/// Whether an operand begins here.
+pub fn at_operand(p: &mut Parser<'_>, condition: bool) -> bool
+    ensures sees { Saw condition (looks rules.prefixed) p.old result }
+    ensures some { IsTrue result → 1 ≤ tokens p.old }
+    ensures same { Does (λ s. s) p.old p.new }
+    ensures left { tokens p.new ≡ tokens p.old }
+    ensures looks { spent p.new ≤ spent p.old + 11 }
+{
+    if at_atom(p, condition) {
+        return true;
+    }
+    match current(p) {
+        SyntaxKind::MINUS | SyntaxKind::BANG | SyntaxKind::STAR | SyntaxKind::AMP => true,
+        _ => false,
+    }
+}
+
+/// Whether an operation begins here: with an operand, or with the mark of a range.
+pub fn at_operation(p: &mut Parser<'_>, condition: bool) -> bool
+    ensures sees { Saw condition (looks rules.operation) p.old result }
+    ensures some { IsTrue result → 1 ≤ tokens p.old }
+    ensures same { Does (λ s. s) p.old p.new }
+    ensures left { tokens p.new ≡ tokens p.old }
+    ensures looks { spent p.new ≤ spent p.old + 14 }
+{
+    match range_mark(p) {
+        Some(_) => true,
+        None => at_operand(p, condition),
+    }
+}
+
+/// Whether an expression begins here.
+pub fn at_expression(p: &mut Parser<'_>, condition: bool) -> bool
+    ensures sees { Saw condition (looks rules.expression) p.old result }
+    ensures some { IsTrue result → 1 ≤ tokens p.old }
+    ensures same { Does (λ s. s) p.old p.new }
+    ensures left { tokens p.new ≡ tokens p.old }
+    ensures looks { spent p.new ≤ spent p.old + 14 }
+{
+    at_operation(p, condition)
+}
+
+/// Whether a `{` is next that ends a condition.
+pub fn at_body(p: &mut Parser<'_>, condition: bool) -> bool
+    ensures sees { Saw condition body_begins p.old result }
+    ensures same { Does (λ s. s) p.old p.new }
+    ensures left { tokens p.new ≡ tokens p.old }
+    ensures looks { spent p.new ≤ spent p.old + 1 }
+{
+    if !condition {
+        return false;
+    }
+    at(p, SyntaxKind::L_CURLY)
+}
+
+/// Whether the operand of a range begins here: a `{` ends a condition, and begins none.
+pub fn at_range_operand(p: &mut Parser<'_>, condition: bool) -> bool
+    ensures sees { Saw condition (begins looks (Unless body_begins Disjunction)) p.old result }
+    ensures operand { IsTrue result → Saw condition (looks rules.prefixed) p.old true }
+    ensures some { IsTrue result → 1 ≤ tokens p.old }
+    ensures same { Does (λ s. s) p.old p.new }
+    ensures left { tokens p.new ≡ tokens p.old }
+    ensures looks { spent p.new ≤ spent p.old + 12 }
+{
+    if at_body(p, condition) {
+        return false;
+    }
+    at_operand(p, condition)
 }

@@ -1,0 +1,122 @@
+-- Operations begin with the mark of a range, or with an operand.
+use Rattle.std.proofs.Common.{◌≡◌, ◌≤◌, Bool, true, false, Option, Some, None, refl, subst, sym, arith}
+use Rattle.parser_input.specs.Kinds.{BIN_EXPR, RANGE_EXPR}
+use Rattle.parser_events.specs.View.{View}
+use Rattle.rust_grammar.specs.Calls.{Disjunction, Operation}
+use Rattle.rust_grammar.specs.Expressions.{assignment, body_begins, expressions, range_mark, range_to}
+use Rattle.rust_grammar.specs.Items.{items}
+use Rattle.rust_grammar.specs.Meaning.{begins_below, look_of}
+use Rattle.rust_grammar.specs.Notation.{◌!, any_of, is_longer, no_longer, longest, one_of, row}
+use Rattle.rust_grammar.specs.Paths.{paths}
+use Rattle.rust_grammar.specs.Patterns.{patterns}
+use Rattle.rust_grammar.specs.Rule.{disjunction, expression, operation, operation_tail, prefixed, Look, Rule, Nothing, One, Then, Or, Node, Wrap, Unless, Continue, begins, in_mode, anew, is_silent, passes, shift, there_at}
+use Rattle.rust_grammar.specs.Statements.{statements}
+use Rattle.rust_grammar.specs.Types.{types}
+use Rattle.rust_grammar.specs.Whole.{rule, whole}
+use Rattle.rust_grammar.specs.Words.{'dots', 'dots_eq'}
+use Rattle.rust_productions.specs.Layers.{layer_at, layers, operators, operators_at}
+use Rattle.rust_productions.specs.Operators.{IsMark, spelling_of}
+use Rattle.rust_productions.specs.Reads.{looks, Does, Reads, Saw}
+use Rattle.rust_productions.specs.declared.grammar.operators.RangeMark.{RangeMark}
+use Rattle.rust_productions.specs.declared.grammar.operators.RangeMark.TheVariants.{Exclusive, Inclusive}
+use Rattle.rust_productions.proofs.ByHand.{reads-else, reads-nothing, reads-or}
+use Rattle.rust_productions.proofs.Choices.{reads-here}
+use Rattle.rust_productions.proofs.Facts.{begun, nothing, ◌and◌}
+use Rattle.rust_productions.proofs.Layering.{layer-begins, saw-disjunction}
+use Rattle.rust_productions.proofs.Seen.{begins-else, begins-row, saw-ahead, starts-here}
+use Rattle.rust_productions.proofs.Words.{saw-both}
+
+pub operation-marked : {c : Bool} {m : Option RangeMark} {v : View} (mark : RangeMark) → m ≡ Some mark → IsMark m v → Saw c (looks operation) v true
+unfolding look_of begins_below whole rule items statements expressions patterns types paths there_at shift passes is_silent begins in_mode anew row one_of any_of no_longer longest is_longer
+operation-marked {c} {m} {v} mark is next = begun-by mark (subst (λ (o : Option RangeMark). IsMark o v) is next)
+  where
+    begun-by : (mark : RangeMark) → IsMark (Some mark) v → Saw c (looks operation) v true
+    begun-by Exclusive next = begins-row operation (next.dots_eq c and (next.dots c and nothing)) refl
+    begun-by Inclusive next = begins-row operation (next.dots_eq c and (next.dots c and nothing)) refl
+
+pub operation-unmarked : {c b : Bool} {m : Option RangeMark} {v : View} → m ≡ None → IsMark m v → Saw c (looks prefixed) v b → Saw c (looks operation) v b
+unfolding look_of begins_below whole rule items statements expressions patterns types paths there_at shift passes is_silent begins in_mode anew row one_of any_of no_longer longest is_longer
+operation-unmarked {c} {b} {m} {v} is next saw = begun-by (subst (λ (o : Option RangeMark). IsMark o v) is next)
+  where
+    begun-by : IsMark None v → Saw c (looks operation) v b
+    begun-by next = begins-row operation (next.dots_eq c and (next.dots c and begun disjunction (saw-disjunction saw) nothing)) refl
+
+-- where no mark is next, an operation begins with an operand
+pub operand-begun : {c : Bool} {v : View} → IsMark None v → Saw c (looks operation) v true → Saw c (looks prefixed) v true
+unfolding look_of begins_below whole rule items statements expressions patterns types paths there_at shift passes is_silent begins in_mode anew row one_of any_of no_longer longest is_longer layer_at layers
+operand-begun {c} {v} next saw =
+    subst (λ (l : Look). Saw c l v true) (layer-begins 10 (omega arith)) (begins-else disjunction operation refl (next.dots_eq c and (next.dots c and nothing)) saw refl)
+
+-- an expression begins where an operation does
+expression-begins : looks expression ≡ looks operation
+unfolding look_of begins_below whole rule items statements expressions patterns types paths there_at shift passes is_silent begins in_mode anew row one_of any_of no_longer longest is_longer
+expression-begins = refl
+
+pub saw-operation : {c b : Bool} {v : View} → Saw c (looks expression) v b → Saw c (looks operation) v b
+saw-operation {c} {b} {v} saw = subst (λ (l : Look). Saw c l v b) expression-begins saw
+
+pub mark-next : {c : Bool} {v : View} (mark : RangeMark) → IsMark (Some mark) v → Saw c (longest (spelling_of mark)) v true
+mark-next {c} Exclusive next = next.dots c
+mark-next {c} Inclusive next = next.dots_eq c
+
+-- the mark and an operand are both there
+pub range-near :
+    {c d b : Bool} {old mid : View} (mark : RangeMark) → IsMark (Some mark) old → Reads d (One (spelling_of mark)) old mid
+    → Saw c (begins looks (Unless body_begins Disjunction)) mid b → Saw c (begins looks (range_to (spelling_of mark))) old b
+unfolding look_of begins_below whole rule items statements expressions patterns types paths there_at shift passes is_silent begins in_mode anew row one_of any_of no_longer longest is_longer
+range-near mark next p saw = saw-both (mark-next mark next) (saw-ahead (begins looks (Unless body_begins Disjunction)) refl p saw)
+
+pub reads-mark : {c : Bool} {old new : View} (mark : RangeMark) → IsMark (Some mark) old → Reads c (One (spelling_of mark)) old new → Reads c range_mark old new
+unfolding look_of begins_below whole rule items statements expressions patterns types paths there_at shift passes is_silent begins in_mode anew row one_of any_of no_longer longest is_longer
+reads-mark {c} Exclusive next p = reads-here (next.dots_eq c and (next.dots c and nothing)) p
+reads-mark {c} Inclusive next p = reads-here (next.dots_eq c and (next.dots c and nothing)) p
+
+-- An operation that begins with a range, and the range alone.
+pub reads-range :
+    {c : Bool} {old new : View} (mark : RangeMark) → IsMark (Some mark) old → Saw c (begins looks (range_to (spelling_of mark))) old true
+    → Reads c (Then (Node RANGE_EXPR (Then (One (spelling_of mark)) (Unless body_begins Disjunction))) (Continue operation_tail)) old new → Reads c (rule operation) old new
+unfolding look_of begins_below whole rule items statements expressions patterns types paths there_at shift passes is_silent begins in_mode anew row one_of any_of no_longer longest is_longer
+reads-range {c} Exclusive next near p = reads-here (next.dots_eq c and (next.dots c and (near and nothing))) p
+reads-range {c} Inclusive next near p = reads-here (next.dots_eq c and (next.dots c and (near and nothing))) p
+
+pub reads-range-alone :
+    {c : Bool} {old new : View} (mark : RangeMark) → IsMark (Some mark) old → Saw c (begins looks (range_to (spelling_of mark))) old false
+    → Reads c (Node RANGE_EXPR (One (spelling_of mark))) old new → Reads c (rule operation) old new
+unfolding look_of begins_below whole rule items statements expressions patterns types paths there_at shift passes is_silent begins in_mode anew row one_of any_of no_longer longest is_longer
+reads-range-alone {c} Exclusive next near p = reads-here (next.dots_eq c and (next.dots c and (near and nothing))) p
+reads-range-alone {c} Inclusive next near p = reads-here (next.dots_eq c and (next.dots c and (near and nothing))) p
+
+-- The same after an operand.
+pub reads-range-on :
+    {c : Bool} {old new : View} (mark : RangeMark) → IsMark (Some mark) old → Saw c (begins looks (range_to (spelling_of mark))) old true
+    → Reads c (Then (Wrap RANGE_EXPR (Then (One (spelling_of mark)) (Unless body_begins Disjunction))) (Continue operation_tail)) old new → Reads c (rule operation_tail) old new
+unfolding look_of begins_below whole rule items statements expressions patterns types paths there_at shift passes is_silent begins in_mode anew row one_of any_of no_longer longest is_longer
+reads-range-on {c} Exclusive next near p = reads-here (next.dots_eq c and (next.dots c and (near and nothing))) p
+reads-range-on {c} Inclusive next near p = reads-here (next.dots_eq c and (next.dots c and (near and nothing))) p
+
+pub reads-range-end :
+    {c : Bool} {old new : View} (mark : RangeMark) → IsMark (Some mark) old → Saw c (begins looks (range_to (spelling_of mark))) old false
+    → Reads c (Wrap RANGE_EXPR (One (spelling_of mark))) old new → Reads c (rule operation_tail) old new
+unfolding look_of begins_below whole rule items statements expressions patterns types paths there_at shift passes is_silent begins in_mode anew row one_of any_of no_longer longest is_longer
+reads-range-end {c} Exclusive next near p = reads-here (next.dots_eq c and (next.dots c and (near and nothing))) p
+reads-range-end {c} Inclusive next near p = reads-here (next.dots_eq c and (next.dots c and (near and nothing))) p
+
+-- Where no mark is next: an assignment, or nothing.
+unranged :
+    {c : Bool} {old new : View} → IsMark None old → Reads c (Or (Wrap BIN_EXPR (Then assignment (Operation !))) Nothing) old new → Reads c (rule operation_tail) old new
+unfolding look_of begins_below whole rule items statements expressions patterns types paths there_at shift passes is_silent begins in_mode anew row one_of any_of no_longer longest is_longer
+unranged {c} next p =
+    reads-else c (starts-here (Then (Wrap RANGE_EXPR (range_to 'dots_eq')) (Continue operation_tail)) (next.dots_eq c and (next.dots c and nothing)) refl)
+    (reads-else c (starts-here (Then (Wrap RANGE_EXPR (range_to 'dots')) (Continue operation_tail)) (next.dots_eq c and (next.dots c and nothing)) refl)
+    (reads-else c (starts-here (Wrap RANGE_EXPR range_mark) (next.dots_eq c and (next.dots c and nothing)) refl) p))
+
+pub reads-assignment :
+    {c : Bool} {old new : View} → IsMark None old → Saw c (begins looks (operators_at 11)) old true
+    → Reads c (Wrap BIN_EXPR (Then (operators_at 11) (Operation !))) old new → Reads c (rule operation_tail) old new
+unfolding begins passes is_silent operators_at operators
+reads-assignment {c} next saw p = unranged next (reads-or c saw p)
+
+pub reads-no-tail :
+    {c : Bool} {old new : View} → IsMark None old → Saw c (begins looks (operators_at 11)) old false → Does (λ s. s) old new → Reads c (rule operation_tail) old new
+unfolding begins passes is_silent operators_at operators
+reads-no-tail {c} next saw p = unranged next (reads-else c saw (reads-nothing c p))

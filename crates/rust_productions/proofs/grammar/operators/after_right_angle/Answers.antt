@@ -1,0 +1,57 @@
+-- The tokens after it tell which.
+use Rattle.std.proofs.Common.{◌≡◌, ℕ, ◌+◌, ◌≤◌, Bool, true, false, List, [], ◌∷◌, refl, sym, ap, subst, ◌∙◌, arith}
+use Rattle.parser_input.specs.Kind.{raw_of}
+use Rattle.parser_input.specs.declared.syntax_kind.SyntaxKind.TheVariants as variants
+use Rattle.rust_grammar.specs.Expressions.{expressions}
+use Rattle.rust_grammar.specs.Items.{items}
+use Rattle.rust_grammar.specs.Meaning.{begins_below, look_of}
+use Rattle.rust_grammar.specs.Notation.{any_of, is_longer, no_longer, longest, one_of, row}
+use Rattle.rust_grammar.specs.Paths.{paths}
+use Rattle.rust_grammar.specs.Patterns.{patterns}
+use Rattle.rust_grammar.specs.Rule.{Both, Joint, Kind, One, begins, in_mode, anew, is_silent, passes, shift, there_at}
+use Rattle.rust_grammar.specs.Statements.{statements}
+use Rattle.rust_grammar.specs.Types.{types}
+use Rattle.rust_grammar.specs.Whole.{rule, whole}
+use Rattle.rust_productions.specs.Layers.{operators, operators_at}
+use Rattle.rust_productions.specs.Operators.{IsMark, IsNext, spelling_of}
+use Rattle.rust_productions.specs.Looks.{tokens, spent}
+use Rattle.rust_productions.specs.Reads.{Does, Reads, Saw}
+use Rattle.rust_productions.proofs.ByHand.{does-as, does-then, reads-leaf}
+use Rattle.rust_productions.proofs.Facts.{Answers, nothing, saw-so, ◌and◌}
+use Rattle.rust_productions.proofs.Looking.{enough-left, fewer-tokens, paid-looks, saw-arm, saw-not}
+use Rattle.rust_productions.proofs.Moves.{does-token}
+use Rattle.rust_productions.proofs.Operators.{assigned-next, next-before, no-end, none-next, operator-next, some-arm}
+use Rattle.rust_productions.proofs.Seen.{saw-after, saw-before, saw-left, saw-right, saw-told}
+use Rattle.rust_productions.proofs.grammar.operators.after_right_angle.Goals as goal
+
+pub returns-then-not-at_joint-clause-next : goal.returns-then-not-at_joint-clause-next
+unfolding look_of begins_below whole rule items statements expressions patterns types paths there_at shift passes is_silent begins in_mode anew row one_of any_of no_longer longest is_longer operators_at operators
+returns-then-not-at_joint-clause-next c = operator-next 8 variants.R_ANGLE 1 c.new.ensures (omega arith) (omega arith) c.requires.some (λ d. c.requires.first d and (saw-so (c.at_joint.ensures.sees d) c.if-not-at_joint.true and nothing)) refl refl
+
+pub returns-then-at_second-clause-next : goal.returns-then-at_second-clause-next
+unfolding look_of begins_below whole rule items statements expressions patterns types paths there_at shift passes is_silent begins in_mode anew row one_of any_of no_longer longest is_longer operators_at operators
+returns-then-at_second-clause-next c = operator-next 8 variants.GTEQ 2 c.new-then-at_second.ensures (omega arith) (omega arith) (omega (arith, c.at_joint.ensures.left, c.at_second.ensures.some c.if-at_second.true (no-end variants.EQ refl))) (λ d. c.requires.first d and (saw-so (c.at_joint.ensures.sees d) c.if-not-at_joint.false and (saw-before c.at_joint.ensures.same (saw-so (c.at_second.ensures.sees d) c.if-at_second.true) and nothing))) refl refl
+
+pub returns-then-at_second-clause-same : goal.returns-then-at_second-clause-same
+returns-then-at_second-clause-same c = (does-then c.at_joint.ensures.same c.at_second.ensures.same)
+
+pub returns-then-not-at_second-clause-next : goal.returns-then-not-at_second-clause-next
+unfolding look_of begins_below whole rule items statements expressions patterns types paths there_at shift passes is_silent begins in_mode anew row one_of any_of no_longer longest is_longer operators_at operators
+returns-then-not-at_second-clause-next c = operator-next 8 variants.R_ANGLE 1 c.new-then-not-at_second.ensures (omega arith) (omega arith) c.requires.some (λ d. c.requires.first d and (saw-so (c.at_joint.ensures.sees d) c.if-not-at_joint.false and (saw-before c.at_joint.ensures.same (saw-so (c.at_second.ensures.sees d) c.if-at_second.false) and (saw-before c.at_joint.ensures.same (saw-before c.at_second.ensures.same (saw-so (c.at_second-2.ensures.sees d) c.if-not-at_second.true)) and nothing)))) refl refl
+
+pub returns-then-not-at_second-clause-same : goal.returns-then-not-at_second-clause-same
+returns-then-not-at_second-clause-same c = (does-then c.at_joint.ensures.same (does-then c.at_second.ensures.same c.at_second-2.ensures.same))
+
+pub returns-then-at_joined_after-clause-next : goal.returns-then-at_joined_after-clause-next
+unfolding look_of begins_below whole rule items statements expressions patterns types paths there_at shift passes is_silent begins in_mode anew row one_of any_of no_longer longest is_longer operators_at operators
+returns-then-at_joined_after-clause-next c = operator-next 11 variants.SHREQ 3 c.new-then-at_joined_after.ensures (omega arith) (omega arith) (omega (arith, c.at_joint.ensures.left, c.at_second.ensures.left, c.at_second-2.ensures.left, c.at_joined_after.ensures.some c.if-at_joined_after.true (no-end variants.EQ refl))) (λ d. c.requires.first d and (saw-so (c.at_joint.ensures.sees d) c.if-not-at_joint.false and (saw-before c.at_joint.ensures.same (saw-so (c.at_second.ensures.sees d) c.if-at_second.false) and (saw-before c.at_joint.ensures.same (saw-before c.at_second.ensures.same (saw-so (c.at_second-2.ensures.sees d) c.if-not-at_second.false)) and (saw-before c.at_joint.ensures.same (saw-before c.at_second.ensures.same (saw-before c.at_second-2.ensures.same (saw-so (c.at_joined_after.ensures.sees d) c.if-at_joined_after.true))) and nothing))))) refl refl
+
+pub returns-then-at_joined_after-clause-same : goal.returns-then-at_joined_after-clause-same
+returns-then-at_joined_after-clause-same c = (does-then c.at_joint.ensures.same (does-then c.at_second.ensures.same (does-then c.at_second-2.ensures.same c.at_joined_after.ensures.same)))
+
+pub returns-clause-next : goal.returns-clause-next
+unfolding look_of begins_below whole rule items statements expressions patterns types paths there_at shift passes is_silent begins in_mode anew row one_of any_of no_longer longest is_longer operators_at operators
+returns-clause-next c = operator-next 4 variants.SHR 2 c.new-2.ensures (omega arith) (omega arith) (omega (arith, c.at_joint.ensures.left, c.at_second.ensures.left, c.at_second-2.ensures.some c.if-not-at_second.false (no-end variants.R_ANGLE refl))) (λ d. c.requires.first d and (saw-so (c.at_joint.ensures.sees d) c.if-not-at_joint.false and (saw-before c.at_joint.ensures.same (saw-so (c.at_second.ensures.sees d) c.if-at_second.false) and (saw-before c.at_joint.ensures.same (saw-before c.at_second.ensures.same (saw-so (c.at_second-2.ensures.sees d) c.if-not-at_second.false)) and (saw-before c.at_joint.ensures.same (saw-before c.at_second.ensures.same (saw-before c.at_second-2.ensures.same (saw-so (c.at_joined_after.ensures.sees d) c.if-at_joined_after.false))) and nothing))))) refl refl
+
+pub returns-clause-same : goal.returns-clause-same
+returns-clause-same c = (does-then c.at_joint.ensures.same (does-then c.at_second.ensures.same (does-then c.at_second-2.ensures.same c.at_joined_after.ensures.same)))

@@ -1,0 +1,57 @@
+-- Two dots that touch, and what touches them.
+use Rattle.std.proofs.Common.{◌≡◌, ℕ, ◌+◌, ◌≤◌, Bool, true, false, List, [], ◌∷◌, refl, sym, ap, subst, ◌∙◌, arith}
+use Rattle.parser_input.specs.Kind.{raw_of}
+use Rattle.parser_input.specs.declared.syntax_kind.SyntaxKind.TheVariants as variants
+use Rattle.rust_grammar.specs.Expressions.{expressions}
+use Rattle.rust_grammar.specs.Items.{items}
+use Rattle.rust_grammar.specs.Meaning.{begins_below, look_of}
+use Rattle.rust_grammar.specs.Notation.{any_of, is_longer, no_longer, longest, one_of, row}
+use Rattle.rust_grammar.specs.Paths.{paths}
+use Rattle.rust_grammar.specs.Patterns.{patterns}
+use Rattle.rust_grammar.specs.Rule.{Both, Joint, Kind, One, begins, in_mode, anew, is_silent, passes, shift, there_at}
+use Rattle.rust_grammar.specs.Statements.{statements}
+use Rattle.rust_grammar.specs.Types.{types}
+use Rattle.rust_grammar.specs.Whole.{rule, whole}
+use Rattle.rust_productions.specs.Layers.{operators, operators_at}
+use Rattle.rust_productions.specs.Operators.{IsMark, IsNext, spelling_of}
+use Rattle.rust_productions.specs.Looks.{tokens, spent}
+use Rattle.rust_productions.specs.Reads.{Does, Reads, Saw}
+use Rattle.rust_productions.proofs.ByHand.{does-as, does-then, reads-leaf}
+use Rattle.rust_productions.proofs.Facts.{Answers, nothing, saw-so, ◌and◌}
+use Rattle.rust_productions.proofs.Looking.{enough-left, fewer-tokens, paid-looks, saw-arm, saw-not}
+use Rattle.rust_productions.proofs.Moves.{does-token}
+use Rattle.rust_productions.proofs.Operators.{assigned-next, next-before, no-end, none-next, operator-next, some-arm}
+use Rattle.rust_productions.proofs.Seen.{saw-after, saw-before, saw-left, saw-right, saw-told}
+use Rattle.rust_productions.proofs.grammar.operators.range_mark.Goals as goal
+
+pub returns-then-not-at-clause-mark : goal.returns-then-not-at-clause-mark
+unfolding look_of begins_below whole rule items statements expressions patterns types paths there_at shift passes is_silent begins in_mode anew row one_of any_of no_longer longest is_longer operators_at operators
+returns-then-not-at-clause-mark c = record { dots = λ d. saw-told (saw-so (c.at.ensures.sees d) c.if-not-at.true and nothing) refl; dots_eq = λ d. saw-told (saw-so (c.at.ensures.sees d) c.if-not-at.true and nothing) refl; some = tt }
+
+pub returns-then-not-at_joint-clause-mark : goal.returns-then-not-at_joint-clause-mark
+unfolding look_of begins_below whole rule items statements expressions patterns types paths there_at shift passes is_silent begins in_mode anew row one_of any_of no_longer longest is_longer operators_at operators
+returns-then-not-at_joint-clause-mark c = record { dots = λ d. saw-told (saw-so (c.at.ensures.sees d) c.if-not-at.false and (saw-before c.at.ensures.same (saw-so (c.at_joint.ensures.sees d) c.if-not-at_joint.true) and nothing)) refl; dots_eq = λ d. saw-told (saw-so (c.at.ensures.sees d) c.if-not-at.false and (saw-before c.at.ensures.same (saw-so (c.at_joint.ensures.sees d) c.if-not-at_joint.true) and nothing)) refl; some = tt }
+
+pub returns-then-not-at_joint-clause-same : goal.returns-then-not-at_joint-clause-same
+returns-then-not-at_joint-clause-same c = (does-then c.at.ensures.same c.at_joint.ensures.same)
+
+pub returns-then-not-at_second-clause-mark : goal.returns-then-not-at_second-clause-mark
+unfolding look_of begins_below whole rule items statements expressions patterns types paths there_at shift passes is_silent begins in_mode anew row one_of any_of no_longer longest is_longer operators_at operators
+returns-then-not-at_second-clause-mark c = record { dots = λ d. saw-told (saw-so (c.at.ensures.sees d) c.if-not-at.false and (saw-before c.at.ensures.same (saw-so (c.at_joint.ensures.sees d) c.if-not-at_joint.false) and (saw-before c.at.ensures.same (saw-before c.at_joint.ensures.same (saw-so (c.at_second.ensures.sees d) c.if-not-at_second.true)) and nothing))) refl; dots_eq = λ d. saw-told (saw-so (c.at.ensures.sees d) c.if-not-at.false and (saw-before c.at.ensures.same (saw-so (c.at_joint.ensures.sees d) c.if-not-at_joint.false) and (saw-before c.at.ensures.same (saw-before c.at_joint.ensures.same (saw-so (c.at_second.ensures.sees d) c.if-not-at_second.true)) and nothing))) refl; some = tt }
+
+pub returns-then-not-at_second-clause-same : goal.returns-then-not-at_second-clause-same
+returns-then-not-at_second-clause-same c = (does-then c.at.ensures.same (does-then c.at_joint.ensures.same c.at_second.ensures.same))
+
+pub returns-then-at_joined_after-clause-mark : goal.returns-then-at_joined_after-clause-mark
+unfolding look_of begins_below whole rule items statements expressions patterns types paths there_at shift passes is_silent begins in_mode anew row one_of any_of no_longer longest is_longer operators_at operators
+returns-then-at_joined_after-clause-mark c = record { dots = λ d. saw-told (saw-so (c.at.ensures.sees d) c.if-not-at.false and (saw-before c.at.ensures.same (saw-so (c.at_joint.ensures.sees d) c.if-not-at_joint.false) and (saw-before c.at.ensures.same (saw-before c.at_joint.ensures.same (saw-so (c.at_second.ensures.sees d) c.if-not-at_second.false)) and (saw-before c.at.ensures.same (saw-before c.at_joint.ensures.same (saw-before c.at_second.ensures.same (saw-so (c.at_joined_after.ensures.sees d) c.if-at_joined_after.true))) and nothing)))) refl; dots_eq = λ d. saw-told (saw-so (c.at.ensures.sees d) c.if-not-at.false and (saw-before c.at.ensures.same (saw-so (c.at_joint.ensures.sees d) c.if-not-at_joint.false) and (saw-before c.at.ensures.same (saw-before c.at_joint.ensures.same (saw-so (c.at_second.ensures.sees d) c.if-not-at_second.false)) and (saw-before c.at.ensures.same (saw-before c.at_joint.ensures.same (saw-before c.at_second.ensures.same (saw-so (c.at_joined_after.ensures.sees d) c.if-at_joined_after.true))) and nothing)))) refl; some = omega (arith, c.at.ensures.left, c.at_joint.ensures.left, c.at_second.ensures.left, c.at_joined_after.ensures.some c.if-at_joined_after.true (no-end variants.EQ refl)) }
+
+pub returns-then-at_joined_after-clause-same : goal.returns-then-at_joined_after-clause-same
+returns-then-at_joined_after-clause-same c = (does-then c.at.ensures.same (does-then c.at_joint.ensures.same (does-then c.at_second.ensures.same c.at_joined_after.ensures.same)))
+
+pub returns-clause-mark : goal.returns-clause-mark
+unfolding look_of begins_below whole rule items statements expressions patterns types paths there_at shift passes is_silent begins in_mode anew row one_of any_of no_longer longest is_longer operators_at operators
+returns-clause-mark c = record { dots = λ d. saw-told (saw-so (c.at.ensures.sees d) c.if-not-at.false and (saw-before c.at.ensures.same (saw-so (c.at_joint.ensures.sees d) c.if-not-at_joint.false) and (saw-before c.at.ensures.same (saw-before c.at_joint.ensures.same (saw-so (c.at_second.ensures.sees d) c.if-not-at_second.false)) and (saw-before c.at.ensures.same (saw-before c.at_joint.ensures.same (saw-before c.at_second.ensures.same (saw-so (c.at_joined_after.ensures.sees d) c.if-at_joined_after.false))) and nothing)))) refl; dots_eq = λ d. saw-told (saw-so (c.at.ensures.sees d) c.if-not-at.false and (saw-before c.at.ensures.same (saw-so (c.at_joint.ensures.sees d) c.if-not-at_joint.false) and (saw-before c.at.ensures.same (saw-before c.at_joint.ensures.same (saw-so (c.at_second.ensures.sees d) c.if-not-at_second.false)) and (saw-before c.at.ensures.same (saw-before c.at_joint.ensures.same (saw-before c.at_second.ensures.same (saw-so (c.at_joined_after.ensures.sees d) c.if-at_joined_after.false))) and nothing)))) refl; some = omega (arith, c.at.ensures.left, c.at_joint.ensures.left, c.at_second.ensures.some c.if-not-at_second.false (no-end variants.DOT refl)) }
+
+pub returns-clause-same : goal.returns-clause-same
+returns-clause-same c = (does-then c.at.ensures.same (does-then c.at_joint.ensures.same (does-then c.at_second.ensures.same c.at_joined_after.ensures.same)))

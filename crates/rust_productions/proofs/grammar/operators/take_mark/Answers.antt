@@ -1,0 +1,51 @@
+-- A leaf over the next tokens.
+use Rattle.std.proofs.Common.{◌≡◌, ℕ, ◌+◌, ◌≤◌, Bool, true, false, List, [], ◌∷◌, refl, sym, ap, subst, ◌∙◌, arith}
+use Rattle.parser_input.specs.Kind.{raw_of}
+use Rattle.parser_input.specs.declared.syntax_kind.SyntaxKind.TheVariants as variants
+use Rattle.rust_grammar.specs.Expressions.{expressions}
+use Rattle.rust_grammar.specs.Items.{items}
+use Rattle.rust_grammar.specs.Meaning.{begins_below, look_of}
+use Rattle.rust_grammar.specs.Notation.{any_of, is_longer, no_longer, longest, one_of, row}
+use Rattle.rust_grammar.specs.Paths.{paths}
+use Rattle.rust_grammar.specs.Patterns.{patterns}
+use Rattle.rust_grammar.specs.Rule.{Both, Joint, Kind, One, begins, in_mode, anew, is_silent, passes, shift, there_at}
+use Rattle.rust_grammar.specs.Statements.{statements}
+use Rattle.rust_grammar.specs.Types.{types}
+use Rattle.rust_grammar.specs.Whole.{rule, whole}
+use Rattle.rust_productions.specs.Layers.{operators, operators_at}
+use Rattle.rust_productions.specs.Operators.{IsMark, IsNext, spelling_of}
+use Rattle.rust_productions.specs.Looks.{tokens, spent}
+use Rattle.rust_productions.specs.Reads.{Does, Reads, Saw}
+use Rattle.rust_productions.proofs.ByHand.{does-as, does-then, reads-leaf}
+use Rattle.rust_productions.proofs.Facts.{Answers, nothing, saw-so, ◌and◌}
+use Rattle.rust_productions.proofs.Looking.{enough-left, fewer-tokens, paid-looks, saw-arm, saw-not}
+use Rattle.rust_productions.proofs.Moves.{does-token}
+use Rattle.rust_productions.proofs.Operators.{assigned-next, next-before, no-end, none-next, operator-next, some-arm}
+use Rattle.rust_productions.proofs.Seen.{saw-after, saw-before, saw-left, saw-right, saw-told}
+use Rattle.std.proofs.Common.{length}
+use Rattle.rust_productions.specs.declared.grammar.operators.RangeMark.{RangeMark}
+use Rattle.rust_productions.proofs.grammar.operators.take_mark.Goals as goal
+
+pub token-requires-clause-left : goal.token-requires-clause-left
+token-requires-clause-left c = enough-left 2 c.args.p.now (subst (λ (m : RangeMark). length (spelling_of m).parts ≤ tokens c.args.p.now) c.in-Exclusive.is c.requires.some) (omega arith)
+
+pub returns-in-Exclusive-clause-reads : goal.returns-in-Exclusive-clause-reads
+returns-in-Exclusive-clause-reads c = λ d. subst (λ (m : RangeMark). Reads d (One (spelling_of m)) c.args.p.now c.token.new.self) (sym c.in-Exclusive.is) (reads-leaf d (does-token _ 2 _ _ c.token.ensures.nodes c.token.ensures.same))
+
+pub returns-in-Exclusive-clause-left : goal.returns-in-Exclusive-clause-left
+returns-in-Exclusive-clause-left c = omega (arith, fewer-tokens 2 _ _ c.token.ensures.same (subst (λ (m : RangeMark). length (spelling_of m).parts ≤ tokens c.args.p.now) c.in-Exclusive.is c.requires.some))
+
+pub returns-in-Exclusive-clause-looks : goal.returns-in-Exclusive-clause-looks
+returns-in-Exclusive-clause-looks c = omega (arith, paid-looks 2 _ _ c.token.ensures.same (subst (λ (m : RangeMark). length (spelling_of m).parts ≤ tokens c.args.p.now) c.in-Exclusive.is c.requires.some))
+
+pub token-requires-in-Inclusive-clause-left : goal.token-requires-in-Inclusive-clause-left
+token-requires-in-Inclusive-clause-left c = enough-left 3 c.args.p.now (subst (λ (m : RangeMark). length (spelling_of m).parts ≤ tokens c.args.p.now) c.in-Inclusive.is c.requires.some) (omega arith)
+
+pub returns-in-Inclusive-clause-reads : goal.returns-in-Inclusive-clause-reads
+returns-in-Inclusive-clause-reads c = λ d. subst (λ (m : RangeMark). Reads d (One (spelling_of m)) c.args.p.now c.token-in-Inclusive.new.self) (sym c.in-Inclusive.is) (reads-leaf d (does-token _ 3 _ _ c.token-in-Inclusive.ensures.nodes c.token-in-Inclusive.ensures.same))
+
+pub returns-in-Inclusive-clause-left : goal.returns-in-Inclusive-clause-left
+returns-in-Inclusive-clause-left c = omega (arith, fewer-tokens 3 _ _ c.token-in-Inclusive.ensures.same (subst (λ (m : RangeMark). length (spelling_of m).parts ≤ tokens c.args.p.now) c.in-Inclusive.is c.requires.some))
+
+pub returns-in-Inclusive-clause-looks : goal.returns-in-Inclusive-clause-looks
+returns-in-Inclusive-clause-looks c = omega (arith, paid-looks 3 _ _ c.token-in-Inclusive.ensures.same (subst (λ (m : RangeMark). length (spelling_of m).parts ≤ tokens c.args.p.now) c.in-Inclusive.is c.requires.some))

@@ -1,0 +1,301 @@
+//! The operators between operands.
+
+ghost use Rattle.std.specs.Prelude.{◌≡◌, ◌≢◌, ◌+◌, ◌≤◌, Bool, IsTrue, Some, true, if◌then◌else◌};
+ghost use Rattle.parser_input.specs.Kind.{raw_of};
+ghost use Rattle.parser_input.specs.Kinds as kinds;
+ghost use Rattle.rust_grammar.specs.Rule.{Both, Joint, Kind, One};
+ghost use Rattle.rust_productions.specs.Layers.{operators_at};
+ghost use Rattle.rust_productions.specs.Looks.{tokens, spent};
+ghost use Rattle.rust_productions.specs.Operators.{IsMark, IsNext, spelling_of};
+ghost use Rattle.rust_productions.specs.Reads.{Does, Reads, Saw};
+
+use crate::grammar::{at, at_second, at_third, current};
+use parser_events::parser::Parser;
+use parser_input::syntax_kind::SyntaxKind;
+
+/// An operator, or none.
+#[derive(Clone, Copy)]
+pub struct Operator {
+    /// The layer that it belongs to, counted from the tightest, which is 1; above the ten layers
+    /// stand assignments. None is of height 0.
+    pub height: u8,
+    pub kind: SyntaxKind,
+    /// How many tokens it is.
+    pub width: u8,
+}
+
+impl Operator {
+    fn new(height: u8, kind: SyntaxKind, width: u8) -> Operator
+        ensures { result ≡ record { height = height; kind = kind; width = width } }
+    {
+        Operator {
+            height,
+            kind,
+            width,
+        }
+    }
+
+    fn none() -> Operator
+        ensures { result.height ≡ 0 }
+    {
+        Operator::new(0, SyntaxKind::EOF, 0)
+    }
+
+    /// This operator, or where an `=` belongs to it the assignment of this kind.
+    fn or_assignment(self, assigned: bool, kind: SyntaxKind) -> Operator
+        ensures { result ≡ if assigned then record { height = 11; kind = kind; width = 2 } else self }
+    {
+        if assigned {
+            Operator::new(11, kind, 2)
+        } else {
+            self
+        }
+    }
+}
+
+/// Whether the next token touches the one after it, and that is of this kind.
+fn at_joined(p: &mut Parser<'_>, kind: SyntaxKind) -> bool
+    ensures sees { (c : Bool) → Saw c (Both (Joint 0) (Kind 1 (raw_of kind))) p.old result }
+    ensures some { IsTrue result → raw_of kind ≢ kinds.EOF → 2 ≤ tokens p.old }
+    ensures same { Does (λ s. s) p.old p.new }
+    ensures left { tokens p.new ≡ tokens p.old }
+    ensures looks { spent p.new ≤ spent p.old + 1 }
+{
+    if !p.joint_at(0) {
+        return false;
+    }
+    at_second(p, kind)
+}
+
+/// Whether the token after the next one touches the third, and that is of this kind.
+fn at_joined_after(p: &mut Parser<'_>, kind: SyntaxKind) -> bool
+    ensures sees { (c : Bool) → Saw c (Both (Joint 1) (Kind 2 (raw_of kind))) p.old result }
+    ensures some { IsTrue result → raw_of kind ≢ kinds.EOF → 3 ≤ tokens p.old }
+    ensures same { Does (λ s. s) p.old p.new }
+    ensures left { tokens p.new ≡ tokens p.old }
+    ensures looks { spent p.new ≤ spent p.old + 1 }
+{
+    if !p.joint_at(1) {
+        return false;
+    }
+    at_third(p, kind)
+}
+
+/// Whether the next token touches the one after it.
+pub fn at_joint(p: &mut Parser<'_>) -> bool
+    ensures sees { (c : Bool) → Saw c (Joint 0) p.old result }
+    ensures same { Does (λ s. s) p.old p.new }
+    ensures left { tokens p.new ≡ tokens p.old }
+    ensures looks { spent p.new ≡ spent p.old }
+{
+    p.joint_at(0)
+}
+
+/// The mark of a range: `..` or `..=`.
+#[derive(Clone, Copy)]
+pub enum RangeMark {
+    Exclusive,
+    Inclusive,
+}
+
+/// The mark of a range that is next, if one is.
+pub fn range_mark(p: &mut Parser<'_>) -> Option<RangeMark>
+    ensures mark { IsMark result p.old }
+    ensures same { Does (λ s. s) p.old p.new }
+    ensures left { tokens p.new ≡ tokens p.old }
+    ensures looks { spent p.new ≤ spent p.old + 3 }
+{
+    if !at(p, SyntaxKind::DOT) {
+        return None;
+    }
+    if !at_joint(p) {
+        return None;
+    }
+    if !at_second(p, SyntaxKind::DOT) {
+        return None;
+    }
+    if at_joined_after(p, SyntaxKind::EQ) {
+        return Some(RangeMark::Inclusive);
+    }
+    Some(RangeMark::Exclusive)
+}
+
+/// Takes the mark of a range that is next.
+pub fn take_mark(p: &mut Parser<'_>, mark: RangeMark)
+    requires { IsMark (Some mark) p.old }
+    ensures reads { (c : Bool) → Reads c (One (spelling_of mark)) p.old p.new }
+    ensures left { tokens p.new + 1 ≤ tokens p.old }
+    ensures looks { spent p.new + 4096 ≤ spent p.old }
+{
+    match mark {
+        RangeMark::Exclusive => p.token(SyntaxKind::DOT2, 2),
+        RangeMark::Inclusive => p.token(SyntaxKind::DOT2EQ, 3),
+    }
+}
+
+/// The operator that is next, if one is: the longest that stands there.
+pub fn current_op(p: &mut Parser<'_>) -> Operator
+    ensures next { IsNext result p.old }
+    ensures same { Does (λ s. s) p.old p.new }
+    ensures left { tokens p.new ≡ tokens p.old }
+    ensures looks { spent p.new ≤ spent p.old + 4 }
+{
+    match current(p) {
+        SyntaxKind::AS_KW => Operator::new(1, SyntaxKind::AS_KW, 1),
+        SyntaxKind::STAR => {
+            let assigned = at_joined(p, SyntaxKind::EQ);
+            Operator::new(2, SyntaxKind::STAR, 1).or_assignment(assigned, SyntaxKind::STAREQ)
+        }
+        SyntaxKind::SLASH => {
+            let assigned = at_joined(p, SyntaxKind::EQ);
+            Operator::new(2, SyntaxKind::SLASH, 1).or_assignment(assigned, SyntaxKind::SLASHEQ)
+        }
+        SyntaxKind::PERCENT => {
+            let assigned = at_joined(p, SyntaxKind::EQ);
+            Operator::new(2, SyntaxKind::PERCENT, 1).or_assignment(assigned, SyntaxKind::PERCENTEQ)
+        }
+        SyntaxKind::PLUS => {
+            let assigned = at_joined(p, SyntaxKind::EQ);
+            Operator::new(3, SyntaxKind::PLUS, 1).or_assignment(assigned, SyntaxKind::PLUSEQ)
+        }
+        SyntaxKind::MINUS => {
+            let assigned = at_joined(p, SyntaxKind::EQ);
+            Operator::new(3, SyntaxKind::MINUS, 1).or_assignment(assigned, SyntaxKind::MINUSEQ)
+        }
+        SyntaxKind::CARET => {
+            let assigned = at_joined(p, SyntaxKind::EQ);
+            Operator::new(6, SyntaxKind::CARET, 1).or_assignment(assigned, SyntaxKind::CARETEQ)
+        }
+        SyntaxKind::AMP => after_ampersand(p),
+        SyntaxKind::PIPE => after_pipe(p),
+        SyntaxKind::EQ => after_equals(p),
+        SyntaxKind::BANG => after_bang(p),
+        SyntaxKind::L_ANGLE => after_left_angle(p),
+        SyntaxKind::R_ANGLE => after_right_angle(p),
+        _ => Operator::none(),
+    }
+}
+
+/// The operator that begins with `&`.
+fn after_ampersand(p: &mut Parser<'_>) -> Operator
+    requires first { (c : Bool) → Saw c (Kind 0 kinds.AMP) p.old true }
+    requires some { 1 ≤ tokens p.old }
+    ensures next { IsNext result p.old }
+    ensures same { Does (λ s. s) p.old p.new }
+    ensures left { tokens p.new ≡ tokens p.old }
+    ensures looks { spent p.new ≤ spent p.old + 2 }
+{
+    if at_joined(p, SyntaxKind::AMP) {
+        return Operator::new(9, SyntaxKind::AMP2, 2);
+    }
+    let assigned = at_joined(p, SyntaxKind::EQ);
+    Operator::new(5, SyntaxKind::AMP, 1).or_assignment(assigned, SyntaxKind::AMPEQ)
+}
+
+/// The operator that begins with `|`.
+fn after_pipe(p: &mut Parser<'_>) -> Operator
+    requires first { (c : Bool) → Saw c (Kind 0 kinds.PIPE) p.old true }
+    requires some { 1 ≤ tokens p.old }
+    ensures next { IsNext result p.old }
+    ensures same { Does (λ s. s) p.old p.new }
+    ensures left { tokens p.new ≡ tokens p.old }
+    ensures looks { spent p.new ≤ spent p.old + 2 }
+{
+    if at_joined(p, SyntaxKind::PIPE) {
+        return Operator::new(10, SyntaxKind::PIPE2, 2);
+    }
+    let assigned = at_joined(p, SyntaxKind::EQ);
+    Operator::new(7, SyntaxKind::PIPE, 1).or_assignment(assigned, SyntaxKind::PIPEEQ)
+}
+
+/// The operator that begins with `=`, if one does: `=>` is none.
+fn after_equals(p: &mut Parser<'_>) -> Operator
+    requires first { (c : Bool) → Saw c (Kind 0 kinds.EQ) p.old true }
+    requires some { 1 ≤ tokens p.old }
+    ensures next { IsNext result p.old }
+    ensures same { Does (λ s. s) p.old p.new }
+    ensures left { tokens p.new ≡ tokens p.old }
+    ensures looks { spent p.new ≤ spent p.old + 2 }
+{
+    if at_joined(p, SyntaxKind::EQ) {
+        return Operator::new(8, SyntaxKind::EQ2, 2);
+    }
+    if at_joined(p, SyntaxKind::R_ANGLE) {
+        return Operator::none();
+    }
+    Operator::new(11, SyntaxKind::EQ, 1)
+}
+
+/// The operator that begins with `!`, if one does.
+fn after_bang(p: &mut Parser<'_>) -> Operator
+    requires first { (c : Bool) → Saw c (Kind 0 kinds.BANG) p.old true }
+    requires some { 1 ≤ tokens p.old }
+    ensures next { IsNext result p.old }
+    ensures same { Does (λ s. s) p.old p.new }
+    ensures left { tokens p.new ≡ tokens p.old }
+    ensures looks { spent p.new ≤ spent p.old + 1 }
+{
+    if at_joined(p, SyntaxKind::EQ) {
+        return Operator::new(8, SyntaxKind::NEQ, 2);
+    }
+    Operator::none()
+}
+
+/// The operator that begins with `<`.
+fn after_left_angle(p: &mut Parser<'_>) -> Operator
+    requires first { (c : Bool) → Saw c (Kind 0 kinds.L_ANGLE) p.old true }
+    requires some { 1 ≤ tokens p.old }
+    ensures next { IsNext result p.old }
+    ensures same { Does (λ s. s) p.old p.new }
+    ensures left { tokens p.new ≡ tokens p.old }
+    ensures looks { spent p.new ≤ spent p.old + 3 }
+{
+    if !at_joint(p) {
+        return Operator::new(8, SyntaxKind::L_ANGLE, 1);
+    }
+    if at_second(p, SyntaxKind::EQ) {
+        return Operator::new(8, SyntaxKind::LTEQ, 2);
+    }
+    if !at_second(p, SyntaxKind::L_ANGLE) {
+        return Operator::new(8, SyntaxKind::L_ANGLE, 1);
+    }
+    if at_joined_after(p, SyntaxKind::EQ) {
+        return Operator::new(11, SyntaxKind::SHLEQ, 3);
+    }
+    Operator::new(4, SyntaxKind::SHL, 2)
+}
+
+/// The operator that begins with `>`.
+fn after_right_angle(p: &mut Parser<'_>) -> Operator
+    requires first { (c : Bool) → Saw c (Kind 0 kinds.R_ANGLE) p.old true }
+    requires some { 1 ≤ tokens p.old }
+    ensures next { IsNext result p.old }
+    ensures same { Does (λ s. s) p.old p.new }
+    ensures left { tokens p.new ≡ tokens p.old }
+    ensures looks { spent p.new ≤ spent p.old + 3 }
+{
+    if !at_joint(p) {
+        return Operator::new(8, SyntaxKind::R_ANGLE, 1);
+    }
+    if at_second(p, SyntaxKind::EQ) {
+        return Operator::new(8, SyntaxKind::GTEQ, 2);
+    }
+    if !at_second(p, SyntaxKind::R_ANGLE) {
+        return Operator::new(8, SyntaxKind::R_ANGLE, 1);
+    }
+    if at_joined_after(p, SyntaxKind::EQ) {
+        return Operator::new(11, SyntaxKind::SHREQ, 3);
+    }
+    Operator::new(4, SyntaxKind::SHR, 2)
+}
+
+/// Takes the operator that is next.
+pub fn take_operator(p: &mut Parser<'_>, operator: Operator)
+    requires next { IsNext operator p.old }
+    requires is { 1 ≤ operator.height }
+    ensures reads { (c : Bool) → Reads c (operators_at operator.height) p.old p.new }
+    ensures left { tokens p.new + 1 ≤ tokens p.old }
+    ensures looks { spent p.new + 4096 ≤ spent p.old }
+{
+    p.token(operator.kind, operator.width);
+}
