@@ -1,4 +1,4 @@
--- Where patterns, their fields, arms and parameters begin does not go by the mode.
+-- Where patterns, their fields and parameters begin does not go by the mode.
 use Rattle.std.proofs.Common.{Bool, false}
 use Rattle.parser_events.specs.View.{View}
 use Rattle.rust_grammar.specs.Expressions.{expressions}
@@ -21,11 +21,6 @@ pattern-field-anywhere saw = record { at = λ s e. saw.at s e }
 pub pattern-anywhere : {c b : Bool} {v : View} → Saw false (begins looks (Call rules.pattern)) v b → Saw c (looks rules.pattern) v b
 unfolding look_of begins_below whole rule items statements expressions patterns types paths there_at shift passes is_silent begins in_mode anew row one_of any_of no_longer longest is_longer sees
 pattern-anywhere saw = record { at = λ s e. saw.at s e }
-
--- an arm begins as its pattern does
-pub arm-anywhere : {c b : Bool} {v : View} → Saw false (anew (looks rules.match_arm)) v b → Saw c (looks rules.pattern) v b
-unfolding look_of begins_below whole rule items statements expressions patterns types paths there_at shift passes is_silent begins in_mode anew row one_of any_of no_longer longest is_longer sees
-arm-anywhere saw = record { at = λ s e. saw.at s e }
 
 pub param-anywhere : {c b : Bool} {v : View} → Saw false (begins looks (Call rules.param)) v b → Saw c (looks rules.param) v b
 unfolding look_of begins_below whole rule items statements expressions patterns types paths there_at shift passes is_silent begins in_mode anew row one_of any_of no_longer longest is_longer sees

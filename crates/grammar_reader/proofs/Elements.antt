@@ -5,8 +5,7 @@ use Rattle.parser_events.specs.View.{View}
 use Rattle.parser_input.specs.Kinds.{COMMA}
 use Rattle.parser_events.specs.Forest.{Expected, UnexpectedIn}
 use Rattle.rust_grammar.specs.Notation.{◌or◌, ◌▸◌, next, one_of, stops, until}
-use Rattle.rust_grammar.specs.Rule as rules
-use Rattle.rust_grammar.specs.Rule.{expression, operation, statement, Production, Rule, Look, Then, Both, Either, Left, Never, Not, Call, Nothing, One, Say, Skip, Unless, When, anew, begins, is_silent, passes}
+use Rattle.rust_grammar.specs.Rule.{expression, operation, Production, Rule, Look, Then, Both, Either, Left, Never, Not, Call, Nothing, One, Say, Skip, Unless, When, anew, begins, is_silent, passes}
 use Rattle.rust_grammar.specs.Meaning.{sees}
 use Rattle.rust_grammar.specs.Whole.{rank}
 use Rattle.rust_grammar.specs.Expressions.{expressions}
@@ -29,8 +28,8 @@ use Rattle.grammar_reader.specs.declared.reader.lists.Element.{Element}
 use Rattle.grammar_reader.specs.declared.reader.lists.Element.TheVariants as elements
 use Rattle.grammar_reader.proofs.Spending.{at-most}
 use Rattle.rust_productions.specs.Looks.{tokens, spent}
-use Rattle.rust_productions.specs.Reads.{looks, Gives, Reads, Saw}
-use Rattle.rust_productions.proofs.ByHand.{reads-call, reads-else, reads-or, reads-then, reads-unless, reads-when}
+use Rattle.rust_productions.specs.Reads.{looks, Reads, Saw}
+use Rattle.rust_productions.proofs.ByHand.{reads-else, reads-or, reads-then, reads-unless, reads-when}
 use Rattle.rust_productions.proofs.Seen.{saw-either-left, saw-either-right, saw-no-left}
 use Rattle.rust_productions.proofs.Turns.{EndsAtEnd}
 
@@ -98,7 +97,10 @@ said-element elements.GenericParam = refl
 said-element elements.Param = refl
 said-element elements.Pattern = refl
 said-element elements.PatternField = refl
+said-element elements.RecordField = refl
+said-element elements.TupleField = refl
 said-element elements.Type = refl
+said-element elements.Variant = refl
 
 pub sure-element : (e : Element) → passes (element_of e) ≡ false
 unfolding passes
@@ -110,24 +112,10 @@ sure-element elements.GenericParam = refl
 sure-element elements.Param = refl
 sure-element elements.Pattern = refl
 sure-element elements.PatternField = refl
+sure-element elements.RecordField = refl
+sure-element elements.TupleField = refl
 sure-element elements.Type = refl
-
--- The same where a list repeats one production alone.
-abbrev pub repeated : Production → ℕ → Rule
-repeated x close = Unless (until (one close)) (Call x)
-
-module _ (x : Production) (close : ℕ) {v : View} where
-  pub over-at-close : Saw false (until (one close)) v true → Saw false (begins looks (repeated x close)) v false
-  unfolding begins
-  over-at-close f = saw-no-left (saw-denied f)
-
-  pub next-there : {b : Bool} → Saw false (until (one close)) v false → Saw false (anew (looks x)) v b → Saw false (begins looks (repeated x close)) v b
-  unfolding begins
-  next-there f g = saw-both (saw-denied f) g
-
-pub repeated-ends : (x : Production) (close : ℕ) → EndsAtEnd false (repeated x close)
-unfolding begins sees
-repeated-ends x close t none = let e : nat_lt 0 (length t.rest) ≡ false = ap (λ (n : ℕ). nat_lt 0 n) none in rw e refl
+sure-element elements.Variant = refl
 
 pub ends : (list : ℕ) (r : Rule) (close : ℕ) → EndsAtEnd false (list_turn list r close)
 unfolding begins sees
@@ -180,38 +168,6 @@ few-debt levels.Prefixed = refl
 pub level-cost : (l : Level) {old new : View} → Costs (idle_of (level_of l)) (debt_of (level_of l)) old new → spent new ≤ spent old + 600
 level-cost l h = read-cost 600 (level_of l) (few-in l) (few-debt l) h
 
-pub field_value-begins : begin_looks (Call rules.field_value) ≤ 170
-unfolding begin_looks asked look_of begins_below whole rule items statements expressions patterns types paths there_at shift passes is_silent begins in_mode anew row one_of any_of no_longer longest is_longer
-field_value-begins = omega arith
-
-pub generic_arg-begins : begin_looks (Call rules.generic_arg) ≤ 170
-unfolding begin_looks asked look_of begins_below whole rule items statements expressions patterns types paths there_at shift passes is_silent begins in_mode anew row one_of any_of no_longer longest is_longer
-generic_arg-begins = omega arith
-
-pub generic_param-begins : begin_looks (Call rules.generic_param) ≤ 170
-unfolding begin_looks asked look_of begins_below whole rule items statements expressions patterns types paths there_at shift passes is_silent begins in_mode anew row one_of any_of no_longer longest is_longer
-generic_param-begins = omega arith
-
-pub param-begins : begin_looks (Call rules.param) ≤ 170
-unfolding begin_looks asked look_of begins_below whole rule items statements expressions patterns types paths there_at shift passes is_silent begins in_mode anew row one_of any_of no_longer longest is_longer
-param-begins = omega arith
-
-pub pattern-begins : begin_looks (Call rules.pattern) ≤ 170
-unfolding begin_looks asked look_of begins_below whole rule items statements expressions patterns types paths there_at shift passes is_silent begins in_mode anew row one_of any_of no_longer longest is_longer
-pattern-begins = omega arith
-
-pub pattern_field-begins : begin_looks (Call rules.pattern_field) ≤ 170
-unfolding begin_looks asked look_of begins_below whole rule items statements expressions patterns types paths there_at shift passes is_silent begins in_mode anew row one_of any_of no_longer longest is_longer
-pattern_field-begins = omega arith
-
-pub type-begins : begin_looks (Call rules.any_type) ≤ 170
-unfolding begin_looks asked look_of begins_below whole rule items statements expressions patterns types paths there_at shift passes is_silent begins in_mode anew row one_of any_of no_longer longest is_longer
-type-begins = omega arith
-
-pub arm-begins : begin_looks (Call rules.match_arm) ≤ 170
-unfolding begin_looks asked look_of begins_below whole rule items statements expressions patterns types paths there_at shift passes is_silent begins in_mode anew row one_of any_of no_longer longest is_longer
-arm-begins = omega arith
-
 -- An element with its comma pays for its looks where a token is taken.
 pub element-pays :
     (old mid new : View) (n : ℕ) → n ≤ 600
@@ -232,7 +188,10 @@ few-looks-in elements.GenericParam = omega arith
 few-looks-in elements.Param = omega arith
 few-looks-in elements.Pattern = omega arith
 few-looks-in elements.PatternField = omega arith
+few-looks-in elements.RecordField = omega arith
+few-looks-in elements.TupleField = omega arith
 few-looks-in elements.Type = omega arith
+few-looks-in elements.Variant = omega arith
 
 pub few-looks-before : (e : Element) → looks_before e ≤ 170
 few-looks-before elements.ClosureParam = omega arith
@@ -243,9 +202,7 @@ few-looks-before elements.GenericParam = omega arith
 few-looks-before elements.Param = omega arith
 few-looks-before elements.Pattern = omega arith
 few-looks-before elements.PatternField = omega arith
+few-looks-before elements.RecordField = omega arith
+few-looks-before elements.TupleField = omega arith
 few-looks-before elements.Type = omega arith
-
--- What statements cost.
-pub statement-begins : begin_looks (Call statement) ≤ 170
-unfolding begin_looks asked look_of begins_below whole rule items statements expressions patterns types paths there_at shift passes is_silent begins in_mode anew row one_of any_of no_longer longest is_longer
-statement-begins = omega arith
+few-looks-before elements.Variant = omega arith

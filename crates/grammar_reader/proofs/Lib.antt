@@ -18,6 +18,7 @@ mod Rest
 mod Hands
 pub mod Called
 pub mod Elements
+pub mod Ends
 pub mod Operands
 pub mod PathArgs
 pub mod Operating

@@ -5,7 +5,7 @@ use Rattle.parser_input.specs.Input.{Token}
 use Rattle.parser_input.specs.Kinds.{DYN_KW, EOF, L_CURLY}
 use Rattle.parser_events.specs.Forest as forest
 use Rattle.parser_events.specs.View.{View}
-use Rattle.rust_grammar.specs.Expressions.{expressions}
+use Rattle.rust_grammar.specs.Expressions.{closure_param, expressions}
 use Rattle.rust_grammar.specs.Items.{items}
 use Rattle.rust_grammar.specs.Meaning.{begins_below}
 use Rattle.rust_grammar.specs.Notation.{any_of, is_longer, longest, no_longer, one_of, row, until}
@@ -13,9 +13,9 @@ use Rattle.rust_grammar.specs.Paths.{paths}
 use Rattle.rust_grammar.specs.Patterns.{patterns}
 use Rattle.rust_grammar.specs.Statements.{statements}
 use Rattle.rust_grammar.specs.Types.{types}
-use Rattle.grammar_reader.specs.ByHand.{param_of_closure}
 use Rattle.parser_events.specs.Forest.{Message}
-use Rattle.rust_grammar.specs.Rule.{single_pattern, Production, Rule, Look, Both, Contextual, Either, Kind, Left, Mode, Not, Spelling, Want, begins, in_mode, is_silent, passes, shift, there_at, anew}
+use Rattle.rust_grammar.specs.Rule as rules
+use Rattle.rust_grammar.specs.Rule.{single_pattern, Production, Rule, Look, Call, Contextual, Kind, Left, Mode, Spelling, Want, begins, in_mode, is_silent, passes, shift, there_at, anew}
 use Rattle.rust_grammar.specs.Laws.{reads}
 use Rattle.rust_grammar.specs.Meaning.{Reading, ahead, fresh, look_of, read, say, sees}
 use Rattle.rust_grammar.specs.Whole.{rule, whole}
@@ -24,8 +24,8 @@ use Rattle.rust_productions.specs.Looks.{tokens}
 use Rattle.rust_productions.specs.Reads.{looks, Closes, Reads, Saw}
 use Rattle.rust_productions.specs.Stands.{left}
 use Rattle.rust_productions.proofs.ByHand.{does-as}
-use Rattle.rust_productions.proofs.Facts.{Fact, Answers, Begins, Known, Right, is_start, starts}
-use Rattle.rust_productions.proofs.Seen.{ends-at-end, saw-left, saw-right}
+use Rattle.rust_productions.proofs.Facts.{Fact, Answers, Begins, Known, Right, is_start, nothing, starts, ◌and◌}
+use Rattle.rust_productions.proofs.Seen.{ends-at-end, saw-left, saw-right, starts-here}
 use Rattle.grammar_reader.proofs.Beginning.{shift-none}
 use Rattle.grammar_reader.proofs.Looking.{mode-shift}
 
@@ -60,9 +60,12 @@ left-there x {c} {v} saw = record { at = λ s e. within s (nat_lt 0 (length s.re
     within s true e f = e
     within s false e f = absurd (true≢false (sym (ap (λ (d : Bool). if not d then true else sees c s (row 0 (x ∷ []))) e) ∙ f))
 
-pub some-left : (x : Spelling) {c : Bool} {v : View} → Saw c (until x) v false → 1 ≤ tokens v
+pub left-some : {c : Bool} {v : View} → Saw c Left v true → 1 ≤ tokens v
 unfolding sees tokens
-some-left x {c} {v} saw = omega (arith, ltb-true 0 (length (left v)) ((left-there x saw).at (record { given = forest.End; rest = left v }) refl))
+left-some {c} {v} saw = omega (arith, ltb-true 0 (length (left v)) (saw.at (record { given = forest.End; rest = left v }) refl))
+
+pub some-left : (x : Spelling) {c : Bool} {v : View} → Saw c (until x) v false → 1 ≤ tokens v
+some-left x saw = left-some (left-there x saw)
 
 pub some-saw : {c : Bool} {v : View} → 1 ≤ tokens v → Saw c Left v true
 unfolding sees tokens
@@ -118,14 +121,24 @@ word-left a {c} {v} e saw = within (length (left v)) refl
     within (suc n) some = omega (arith, some)
 
 -- A parameter of a closure begins as its pattern does, in whatever mode.
-pub closure-param-begins : {b : Bool} {v : View} → Saw false (looks single_pattern) v b → Saw false (begins looks param_of_closure) v b
+pub closure-param-begins : {b : Bool} {v : View} → Saw false (looks single_pattern) v b → Saw false (begins looks closure_param) v b
 unfolding look_of begins_below whole rule items statements expressions patterns types paths there_at shift passes is_silent begins in_mode anew row one_of any_of no_longer longest is_longer sees
 closure-param-begins saw = record { at = λ s e. saw.at s e }
 
-pub pattern-begins : {c b : Bool} {v : View} → Saw false (begins looks param_of_closure) v b → Saw c (looks single_pattern) v b
+pub pattern-begins : {c b : Bool} {v : View} → Saw false (begins looks closure_param) v b → Saw c (looks single_pattern) v b
 unfolding look_of begins_below whole rule items statements expressions patterns types paths there_at shift passes is_silent begins in_mode anew row one_of any_of no_longer longest is_longer sees
 pattern-begins saw = record { at = λ s e. saw.at s e }
 
-pub param-left : {v : View} → Saw false (begins looks param_of_closure) v true → 1 ≤ tokens v
+-- An arm begins as its pattern does.
+pub arm-there : {c b : Bool} {v : View} → Saw c (looks rules.pattern) v b → Saw c (anew (looks rules.match_arm)) v b
+unfolding look_of begins_below whole rule items statements expressions patterns types paths there_at shift passes is_silent begins in_mode anew row one_of any_of no_longer longest is_longer sees
+arm-there saw = record { at = λ s e. saw.at s e }
+
+-- A statement begins at any token.
+pub statement-there : {c : Bool} {v : View} → Saw c Left v true → Saw c (anew (looks rules.statement)) v true
 unfolding look_of begins_below whole rule items statements expressions patterns types paths there_at shift passes is_silent begins in_mode anew row one_of any_of no_longer longest is_longer
-param-left saw = begun-left param_of_closure refl saw
+statement-there saw = starts-here (Call rules.statement) (saw and nothing) refl
+
+pub param-left : {v : View} → Saw false (begins looks closure_param) v true → 1 ≤ tokens v
+unfolding look_of begins_below whole rule items statements expressions patterns types paths there_at shift passes is_silent begins in_mode anew row one_of any_of no_longer longest is_longer
+param-left saw = begun-left closure_param refl saw

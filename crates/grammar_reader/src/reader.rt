@@ -35,7 +35,10 @@ use crate::reader::blocks::{block, statement_list};
 use crate::reader::control::{block_like, if_expr, match_arms};
 use crate::reader::generics::where_clause;
 use crate::reader::items::{assoc_items, item};
-use crate::reader::lists::{arguments, field_values, generic_params, params, pattern_fields};
+use crate::reader::lists::{
+    arguments, field_values, generic_params, params, pattern_fields, record_fields, tuple_fields,
+    variants,
+};
 use crate::reader::operands::prefixed;
 use crate::reader::operations::{at_operand, layers, operation, passes_by};
 use crate::reader::or_patterns::pattern;
@@ -63,14 +66,18 @@ pub(crate) mod called;
 pub(crate) mod closures;
 pub(crate) mod consts;
 pub(crate) mod control;
+pub mod entries;
 pub(crate) mod expressions;
 pub(crate) mod fields;
 pub(crate) mod functions;
 pub(crate) mod generic_arg;
 pub(crate) mod generics;
 pub(crate) mod items;
+pub(crate) mod layers;
+pub(crate) mod list_end;
 pub(crate) mod lists;
 pub(crate) mod match_arm;
+pub(crate) mod members;
 pub(crate) mod operands;
 pub(crate) mod operations;
 pub(crate) mod or_patterns;
@@ -197,12 +204,15 @@ fn read_by_hand(p: &mut Parser<'_>, hand: ByHand, condition: bool)
         ByHand::Pattern => pattern(p),
         ByHand::PatternFields => pattern_fields(p),
         ByHand::Prefixed => prefixed(p, condition),
+        ByHand::RecordFields => record_fields(p),
         ByHand::SinglePattern => single_pattern(p),
         ByHand::StatementList => statement_list(p),
         ByHand::TokenTree => token_tree(p),
+        ByHand::TupleFields => tuple_fields(p),
         ByHand::TypePath => path_with_args(p, Mode::Type),
         ByHand::UseList => use_list(p),
         ByHand::UseTree => use_tree(p),
+        ByHand::Variants => variants(p),
         ByHand::Visibility => visibility(p),
         ByHand::WhereClause => where_clause(p, condition),
     }

@@ -1,6 +1,5 @@
 -- What completes a node where something was given in it, or where nothing was.
 use Rattle.std.proofs.Common.{◌≡◌, ℕ, zero, suc, ◌<◌, nat_lt, length, Bool, true, false, not, List, ◌∷◌, refl, sym, ap, subst, ◌∙◌, arith, if◌then◌else◌}
-use Rattle.std.proofs.lemmas.Bool.{lt-ltb}
 use Rattle.parser_events.specs.Forest as forest
 use Rattle.parser_events.specs.Forest.{Forest, ◌then◌}
 use Rattle.parser_events.specs.Marked.{Marked, ◌beside◌, marked}
@@ -11,7 +10,7 @@ use Rattle.rust_grammar.specs.Rule.{Production, Rule, Call, Continue, Given, Nod
 use Rattle.rust_grammar.specs.Meaning.{Reading, after, fresh, is_end, meaning, node, read, sees, turns}
 use Rattle.rust_grammar.specs.Whole.{rule, whole}
 use Rattle.rust_grammar.proofs.WholeTable.{whole-means}
-use Rattle.rust_productions.specs.Reads.{looks, Anew, Completes, CompletesWhere, Does, Opens, Reads, Saw}
+use Rattle.rust_productions.specs.Reads.{looks, Anew, Completes, CompletesWhere, Does, Opens, Reads}
 use Rattle.rust_productions.proofs.ByHand.{does-as, does-then}
 use Rattle.rust_productions.proofs.Choices.{simple, is_simple}
 use Rattle.rust_productions.proofs.Facts.{Fact, Known}

@@ -9,7 +9,6 @@ pub mod Choices
 pub mod Seen
 pub mod Begins
 pub mod Powers
-pub mod Sums
 pub mod Given
 pub mod Words
 pub mod Operators

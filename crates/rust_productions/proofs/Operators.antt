@@ -1,21 +1,21 @@
 -- What is known of a place tells which operator is next.
-use Rattle.std.proofs.Common.{◌≡◌, ◌≢◌, ℕ, zero, suc, ◌+◌, ◌≤◌, ◌<◌, ◌==◌, Bool, true, false, not, ◌&&◌, List, [], ◌∷◌, length, nat_eq, Option, Some, None, refl, sym, ap, subst, ◌∙◌, arith, if◌then◌else◌, true≢false}
+use Rattle.std.proofs.Common.{◌≡◌, ◌≢◌, ℕ, zero, suc, ◌≤◌, ◌==◌, Bool, true, false, not, ◌&&◌, List, length, nat_eq, Option, Some, None, refl, sym, ap, subst, ◌∙◌, arith, if◌then◌else◌, true≢false}
 use Rattle.std.proofs.lemmas.Bool.{eqb-true, eq-eqb}
 use Rattle.parser_input.specs.Kind.{raw_of}
 use Rattle.parser_input.specs.Kinds.{EOF}
 use Rattle.parser_input.specs.declared.syntax_kind.SyntaxKind.{SyntaxKind}
 use Rattle.parser_events.specs.View.{View}
-use Rattle.rust_grammar.specs.Rule.{Rule, Nothing, One, Any, Then, Near, Or, Opt, Star, Node, Wrap, Want, Say, Skip, Split, When, Unless, Call, Continue, Mode, Both, Joint, Kind}
-use Rattle.rust_grammar.specs.Meaning.{Reading, leaf, look_of, meaning, read}
+use Rattle.rust_grammar.specs.Rule.{Rule, One}
+use Rattle.rust_grammar.specs.Meaning.{Reading, leaf, meaning, read}
 use Rattle.rust_grammar.specs.Whole.{whole}
 use Rattle.rust_productions.specs.Layers.{operators_at}
 use Rattle.rust_productions.specs.Looks.{tokens}
 use Rattle.rust_productions.specs.Operators.{IsNext}
-use Rattle.rust_productions.specs.Reads.{looks, Does, Saw}
+use Rattle.rust_productions.specs.Reads.{looks, Does}
 use Rattle.rust_productions.specs.Stands.{left}
 use Rattle.rust_productions.specs.declared.grammar.operators.Operator.{Operator}
 use Rattle.rust_productions.proofs.Choices.{is_simple, simple}
-use Rattle.rust_productions.proofs.Facts.{Answers, Fact, Known, and_l, and_r, starts, ◌and◌}
+use Rattle.rust_productions.proofs.Facts.{Fact, Known, and_l, and_r, starts}
 use Rattle.rust_productions.proofs.Seen.{saw-after, saw-before, starts-here, still-left}
 
 -- a look is known, and answers so

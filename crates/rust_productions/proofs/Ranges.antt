@@ -1,29 +1,32 @@
 -- Operations begin with the mark of a range, or with an operand.
-use Rattle.std.proofs.Common.{◌≡◌, ◌≤◌, Bool, true, false, Option, Some, None, refl, subst, sym, arith}
+use Rattle.std.proofs.Common.{◌≡◌, ℕ, ◌≤◌, Bool, true, false, length, Option, Some, None, IfSome, refl, subst, sym, ap, ◌∙◌, arith}
 use Rattle.parser_input.specs.Kinds.{BIN_EXPR, RANGE_EXPR}
 use Rattle.parser_events.specs.View.{View}
 use Rattle.rust_grammar.specs.Calls.{Disjunction, Operation}
 use Rattle.rust_grammar.specs.Expressions.{assignment, body_begins, expressions, range_mark, range_to}
 use Rattle.rust_grammar.specs.Items.{items}
-use Rattle.rust_grammar.specs.Meaning.{begins_below, look_of}
+use Rattle.rust_grammar.specs.Meaning.{begins_below, fresh, look_of}
 use Rattle.rust_grammar.specs.Notation.{◌!, any_of, is_longer, no_longer, longest, one_of, row}
 use Rattle.rust_grammar.specs.Paths.{paths}
 use Rattle.rust_grammar.specs.Patterns.{patterns}
-use Rattle.rust_grammar.specs.Rule.{disjunction, expression, operation, operation_tail, prefixed, Look, Rule, Nothing, One, Then, Or, Node, Wrap, Unless, Continue, begins, in_mode, anew, is_silent, passes, shift, there_at}
+use Rattle.rust_grammar.specs.Rule.{Production, disjunction, expression, operation, operation_tail, prefixed, Look, Rule, Nothing, One, Then, Or, Node, Wrap, Unless, Continue, Call, begins, in_mode, anew, is_silent, passes, shift, there_at}
 use Rattle.rust_grammar.specs.Statements.{statements}
 use Rattle.rust_grammar.specs.Types.{types}
 use Rattle.rust_grammar.specs.Whole.{rule, whole}
 use Rattle.rust_grammar.specs.Words.{'dots', 'dots_eq'}
-use Rattle.rust_productions.specs.Layers.{layer_at, layers, operators, operators_at}
+use Rattle.rust_grammar.proofs.Elsewhere.{anew-seen}
+use Rattle.rust_productions.specs.Layers.{layer_at, layers, operators, operators_at, repeated, turns_from}
+use Rattle.rust_productions.specs.Looks.{tokens}
 use Rattle.rust_productions.specs.Operators.{IsMark, spelling_of}
-use Rattle.rust_productions.specs.Reads.{looks, Does, Reads, Saw}
+use Rattle.rust_productions.specs.Reads.{looks, Does, Gives, Leaves, Opens, Reads, Saw}
+use Rattle.rust_productions.specs.Stands.{left}
 use Rattle.rust_productions.specs.declared.grammar.operators.RangeMark.{RangeMark}
 use Rattle.rust_productions.specs.declared.grammar.operators.RangeMark.TheVariants.{Exclusive, Inclusive}
-use Rattle.rust_productions.proofs.ByHand.{reads-else, reads-nothing, reads-or}
-use Rattle.rust_productions.proofs.Choices.{reads-here}
+use Rattle.rust_productions.proofs.ByHand.{completes-leave, does-then, reads-call, reads-else, reads-nothing, reads-or, reads-then}
+use Rattle.rust_productions.proofs.Choices.{anew-after, anew-here, gives-anew, reads-here}
 use Rattle.rust_productions.proofs.Facts.{begun, nothing, ◌and◌}
-use Rattle.rust_productions.proofs.Layering.{layer-begins, saw-disjunction}
-use Rattle.rust_productions.proofs.Seen.{begins-else, begins-row, saw-ahead, starts-here}
+use Rattle.rust_productions.proofs.Layering.{anew-layers, layer-begins, saw-disjunction}
+use Rattle.rust_productions.proofs.Seen.{begins-else, begins-row, saw-ahead, starts-here, still-left}
 use Rattle.rust_productions.proofs.Words.{saw-both}
 
 pub operation-marked : {c : Bool} {m : Option RangeMark} {v : View} (mark : RangeMark) → m ≡ Some mark → IsMark m v → Saw c (looks operation) v true
@@ -120,3 +123,47 @@ pub reads-no-tail :
     {c : Bool} {old new : View} → IsMark None old → Saw c (begins looks (operators_at 11)) old false → Does (λ s. s) old new → Reads c (rule operation_tail) old new
 unfolding begins passes is_silent operators_at operators
 reads-no-tail {c} next saw p = unranged next (reads-else c saw (reads-nothing c p))
+
+-- a production that is called begins where it does
+pub begins-call : {c b : Bool} {v : View} (x : Production) → Saw c (looks x) v b → Saw c (begins looks (Call x)) v b
+unfolding begins fresh
+begins-call {c} x saw = record { at = λ s e. anew-seen c s (looks x) ∙ saw.at (fresh s) e }
+
+-- what stood there before a look, or outside of a node that is opened, is still there
+same-mark : {m : Option RangeMark} {old mid : View} → left mid ≡ left old → IsMark m old → IsMark m mid
+unfolding tokens
+same-mark {m} {old} {mid} same next = record {
+  dots = λ c. record { at = λ s e. (next.dots c).at s (sym same ∙ e) };
+  dots_eq = λ c. record { at = λ s e. (next.dots_eq c).at s (sym same ∙ e) };
+  some = subst (λ (n : ℕ). IfSome m (λ mark. length (spelling_of mark).parts ≤ n)) (sym (ap (λ ts. length ts) same)) next.some;
+}
+
+pub mark-after : {m : Option RangeMark} {old mid : View} → Does (λ s. s) old mid → IsMark m old → IsMark m mid
+mark-after p next = same-mark (still-left p) next
+
+pub mark-inside : {m : Option RangeMark} {old mid : View} → Opens old mid → IsMark m old → IsMark m mid
+mark-inside o next = same-mark o.rest next
+
+pub saw-outside : {c b : Bool} {l : Look} {old mid : View} → Opens old mid → Saw c l mid b → Saw c l old b
+saw-outside o saw = record { at = λ s e. saw.at s (o.rest ∙ e) }
+
+-- what is given after a look
+pub gives-look : {x : Production} {c : Bool} {old mid new : View} → Does (λ s. s) old mid → Gives x c mid new → Gives x c old new
+gives-look p q = record { does = does-then p q.does }
+
+pub reads-before-look : {c : Bool} {r : Rule} {old mid new : View} → Reads c r old mid → Does (λ s. s) mid new → Reads c r old new
+reads-before-look p q = record { does = does-then p.does q }
+
+-- an expression gives what an operation does
+pub gives-expression : {c : Bool} {old new : View} → Gives operation c old new → Gives expression c old new
+unfolding rule items statements expressions patterns types paths
+gives-expression {c} p = gives-anew (anew-after refl (reads-call c p))
+
+-- An operation of operands: one, the turns of all layers after it, and what stands after those.
+pub gives-operands :
+    {c : Bool} {old mid now next end new : View} → IsMark None old → Saw c (looks prefixed) old true → Opens old mid → Reads c (Call prefixed) mid now
+    → Reads c (repeated (turns_from 10 1)) now next → Reads c (Continue operation_tail) next end → Leaves end new → Gives operation c old new
+unfolding look_of begins_below whole rule items statements expressions patterns types paths there_at shift passes is_silent begins in_mode anew row one_of any_of no_longer longest is_longer layer_at layers
+gives-operands {c} unmarked begun_here o p q r l =
+    gives-anew (anew-here (unmarked.dots_eq c and (unmarked.dots c and begun disjunction (saw-disjunction begun_here) nothing))
+    (anew-layers c 10 (omega arith) o (completes-leave (reads-then c (reads-then c p q) r) l)))

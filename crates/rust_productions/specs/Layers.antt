@@ -1,5 +1,5 @@
 -- Layers of operators, one within the other.
-use Rattle.std.specs.Prelude.{ℕ, zero, suc, ◌+◌, List, [], ◌∷◌, get_or}
+use Rattle.std.specs.Prelude.{ℕ, zero, suc, List, [], ◌∷◌, get_or}
 use Rattle.parser_input.specs.Kinds.{BIN_EXPR, CAST_EXPR}
 use Rattle.parser_events.specs.Forest.{ExpectedExpression}
 use Rattle.rust_grammar.specs.Calls.{AnyType}

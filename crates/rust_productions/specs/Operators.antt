@@ -1,5 +1,5 @@
 -- Which operator is next.
-use Rattle.std.specs.Prelude.{◌≡◌, ℕ, ◌≤◌, ◌==◌, Bool, true, false, Option, Some, None, IfSome, length}
+use Rattle.std.specs.Prelude.{◌≡◌, ℕ, ◌≤◌, ◌==◌, Bool, true, false, Option, Some, IfSome, length}
 use Rattle.parser_input.specs.Kind.{raw_of}
 use Rattle.parser_events.specs.View.{View}
 use Rattle.rust_grammar.specs.Notation.{longest}

@@ -20,11 +20,14 @@ use parser_events::parser::{Marker, Parser};
 use parser_input::syntax_kind::SyntaxKind;
 
 pub mod expressions;
+pub mod fields;
+pub mod generic_args;
 pub mod generic_params;
 pub mod items;
 pub mod lists;
 pub mod names;
 pub mod operators;
+pub mod params;
 pub mod paths;
 pub mod patterns;
 pub mod token_trees;

@@ -10,9 +10,8 @@ ghost use Rattle.rust_grammar.specs.Words.{'enum', 'semi', 'struct'};
 ghost use Rattle.rust_productions.specs.Looks.{tokens, spent};
 ghost use Rattle.rust_productions.specs.Reads.{Completes, Reads};
 
-use crate::reader::called::read_anew;
 use crate::reader::items::{opt_generic_params, opt_where_clause};
-use grammar_table::production::Production;
+use crate::reader::lists::{record_fields, tuple_fields, variants};
 use parser_events::message::Message;
 use parser_events::parser::{Marker, Parser};
 use parser_input::syntax_kind::SyntaxKind;
@@ -48,25 +47,25 @@ fn fields(p: &mut Parser<'_>, condition: bool)
     ensures looks { spent p.new ≤ spent p.old + 4 }
 {
     if at(p, SyntaxKind::L_PAREN) {
-        read_anew(p, Production::TupleFields, condition);
+        tuple_fields(p);
         opt_where_clause(p, condition);
         expect(p, SyntaxKind::SEMICOLON);
         return;
     }
     opt_where_clause(p, condition);
-    record_fields(p, condition);
+    named_fields(p);
 }
 
 /// The named fields of a struct, or the `;` of one that has none.
 #[cycle(reader)]
-fn record_fields(p: &mut Parser<'_>, condition: bool)
+fn named_fields(p: &mut Parser<'_>)
     requires short { length p.old.input < 2 ^ 64 }
-    ensures reads { Reads condition (RecordFields or One 'semi' !) p.old p.new }
+    ensures reads { (c : Bool) → Reads c (RecordFields or One 'semi' !) p.old p.new }
     ensures left { tokens p.new ≤ tokens p.old }
     ensures looks { spent p.new ≤ spent p.old + 2 }
 {
     if at(p, SyntaxKind::L_CURLY) {
-        read_anew(p, Production::RecordFields, condition);
+        record_fields(p);
         return;
     }
     expect(p, SyntaxKind::SEMICOLON);
@@ -87,20 +86,20 @@ pub(crate) fn enum_item(p: &mut Parser<'_>, item: Marker, condition: bool)
     expect_name(p);
     opt_generic_params(p);
     opt_where_clause(p, condition);
-    expect_variants(p, condition);
+    expect_variants(p);
     complete(p, item, SyntaxKind::ENUM);
 }
 
 /// The variants of an enum, or the message that they are missing.
 #[cycle(reader)]
-fn expect_variants(p: &mut Parser<'_>, condition: bool)
+fn expect_variants(p: &mut Parser<'_>)
     requires short { length p.old.input < 2 ^ 64 }
-    ensures reads { Reads condition (Variants !) p.old p.new }
+    ensures reads { (c : Bool) → Reads c (Variants !) p.old p.new }
     ensures left { tokens p.new ≤ tokens p.old }
     ensures looks { spent p.new ≤ spent p.old + 1 }
 {
     if at(p, SyntaxKind::L_CURLY) {
-        read_anew(p, Production::Variants, condition);
+        variants(p);
         return;
     }
     error(p, Message::Expected(SyntaxKind::VARIANT_LIST));

@@ -13,19 +13,17 @@ ghost use Rattle.rust_grammar.specs.Words.{one, '!=', 'comma', 'semi', 'l_curly'
 ghost use Rattle.rust_productions.specs.Looks.{tokens, spent};
 ghost use Rattle.rust_productions.specs.Reads.{looks, Does, Gives, Reads, Saw};
 
-use crate::reader::called::{at_production, read_anew};
 use crate::reader::closures::{closure_expr, move_closure};
 use crate::reader::control::block_like;
-use crate::reader::expressions::{Level, expect_expression};
+use crate::reader::expressions::{Level, expect_expression, expression, operation};
 use crate::reader::lists::{Element, field_values, rest_of_list};
 use crate::reader::or_patterns::expect_pattern;
 use crate::reader::paths::{Mode, path_with_args};
 use crate::reader::types::word_type;
-use grammar_table::production::Production;
 use parser_events::message::Message;
 use parser_events::parser::{Marker, Parser};
 use parser_input::syntax_kind::SyntaxKind;
-use rust_productions::grammar::expressions::at_block_like;
+use rust_productions::grammar::expressions::{at_block_like, at_body, at_expression, at_operation};
 use rust_productions::grammar::names::{at_literal, literal};
 use rust_productions::grammar::token_trees::expect_token_tree;
 use rust_productions::grammar::{
@@ -258,8 +256,8 @@ fn array_elements(p: &mut Parser<'_>)
     ensures left { tokens p.new ≤ tokens p.old }
     ensures looks { spent p.new ≤ spent p.old + 780 }
 {
-    if at_production(p, Production::Expression, false) {
-        read_anew(p, Production::Expression, false);
+    if at_expression(p, false) {
+        expression(p, false);
         after_element(p);
         return;
     }
@@ -311,19 +309,6 @@ fn value_expr(p: &mut Parser<'_>, token: SyntaxKind, kind: SyntaxKind, condition
     complete(p, node, kind);
 }
 
-/// Whether a `{` is next that ends a condition.
-fn at_body(p: &mut Parser<'_>, condition: bool) -> bool
-    ensures sees { Saw condition (Both InCondition (next 'l_curly')) p.old result }
-    ensures same { Does (λ s. s) p.old p.new }
-    ensures left { tokens p.new ≡ tokens p.old }
-    ensures looks { spent p.new ≤ spent p.old + 1 }
-{
-    if !condition {
-        return false;
-    }
-    at(p, SyntaxKind::L_CURLY)
-}
-
 /// The value of a `return` or a `break`, where there is one.
 #[cycle(reader)]
 fn opt_value(p: &mut Parser<'_>, condition: bool)
@@ -335,8 +320,8 @@ fn opt_value(p: &mut Parser<'_>, condition: bool)
     if at_body(p, condition) {
         return;
     }
-    if at_production(p, Production::Operation, condition) {
-        read_anew(p, Production::Operation, condition);
+    if at_operation(p, condition) {
+        operation(p, condition);
     }
 }
 

@@ -2,21 +2,19 @@
 
 ghost use Rattle.std.specs.Prelude.{◌≡◌, ◌≤◌, ◌<◌, ◌+◌, ◌*◌, ◌^◌, Bool, ℕ, IsTrue, false, length};
 ghost use Rattle.parser_events.specs.Stack.{IsInnermost};
-ghost use Rattle.rust_grammar.specs.Notation.{◌*, until};
 ghost use Rattle.rust_grammar.specs.Rule as rules;
 ghost use Rattle.rust_grammar.specs.Rule.{Call, Unless};
-ghost use Rattle.rust_grammar.specs.Words.{'r_curly'};
+ghost use Rattle.rust_grammar.specs.Statements.{all_of};
+ghost use Rattle.grammar_reader.specs.ByHand.{ends_of, listing_of};
 ghost use Rattle.rust_productions.specs.Looks.{tokens, spent};
 ghost use Rattle.rust_productions.specs.Reads.{Gives, Reads};
 ghost use Rattle.rust_productions.specs.Turns.{TurnsFrom};
 
 use crate::look::tokens_left;
-use crate::reader::called::at_production;
+use crate::reader::list_end::{ListEnd, at_end_of};
 use crate::reader::statements::statement;
-use grammar_table::production::Production;
 use parser_events::parser::Parser;
 use parser_input::syntax_kind::SyntaxKind;
-use rust_productions::grammar::lists::at_list_end;
 use rust_productions::grammar::{complete, expect, start, take};
 
 /// A block.
@@ -44,44 +42,40 @@ pub(crate) fn statement_list(p: &mut Parser<'_>)
 {
     let list = start(p);
     take(p, SyntaxKind::L_CURLY);
-    statements(p);
+    statements(p, ListEnd::Brace);
     expect(p, SyntaxKind::R_CURLY);
     complete(p, list, SyntaxKind::STMT_LIST);
 }
 
-/// Reads a statement. Whether more may follow is the answer.
+/// Reads a statement, which any token begins. Whether more may follow is the answer.
 #[cycle(reader)]
-fn statement_turn(p: &mut Parser<'_>) -> bool
+fn statement_turn(p: &mut Parser<'_>, end: ListEnd) -> bool
     requires short { length p.old.input < 2 ^ 64 }
     ensures goes { IsTrue result
-        → TurnsFrom false (Unless (until 'r_curly') (Call rules.statement)) p.old p.new }
-    ensures ends { result ≡ false
-        → Reads false ((Unless (until 'r_curly') (Call rules.statement)) *) p.old p.new }
+        → TurnsFrom false (Unless (ends_of end) (Call (listing_of end).one)) p.old p.new }
+    ensures ends { result ≡ false → Reads false (all_of (listing_of end)) p.old p.new }
     ensures input { p.new.input ≡ p.old.input }
     ensures innermost { (n : ℕ) → IsInnermost n p.old.nodes → IsInnermost n p.new.nodes }
     ensures fewer { IsTrue result → tokens p.new < tokens p.old }
     ensures left { tokens p.new ≤ tokens p.old }
     ensures pays { IsTrue result → spent p.new ≤ spent p.old }
-    ensures looks { spent p.new ≤ spent p.old + 1080 }
+    ensures looks { spent p.new ≤ spent p.old + 901 }
 {
-    if at_list_end(p, SyntaxKind::R_CURLY) {
-        return false;
-    }
-    if !at_production(p, Production::Statement, false) {
+    if at_end_of(p, end) {
         return false;
     }
     let before = tokens_left(p);
-    statement(p);
+    statement(p, end);
     tokens_left(p) < before
 }
 
-/// Reads the statements of a block.
+/// Reads statements up to where their list ends.
 #[cycle(reader)]
-fn statements(p: &mut Parser<'_>)
+pub(crate) fn statements(p: &mut Parser<'_>, end: ListEnd)
     requires short { length p.old.input < 2 ^ 64 }
-    ensures reads { Reads false ((Unless (until 'r_curly') (Call rules.statement)) *) p.old p.new }
+    ensures reads { Reads false (all_of (listing_of end)) p.old p.new }
     ensures left { tokens p.new ≤ tokens p.old }
-    ensures looks { spent p.new ≤ spent p.old + 1080 }
+    ensures looks { spent p.new ≤ spent p.old + 901 }
 {
-    'turns: while statement_turn(p) {}
+    'turns: while statement_turn(p, end) {}
 }

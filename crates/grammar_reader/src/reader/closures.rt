@@ -3,11 +3,11 @@
 ghost use Rattle.std.specs.Prelude.{◌≡◌, ◌≤◌, ◌<◌, ◌+◌, ◌*◌, ◌^◌, Bool, true, false, length};
 ghost use Rattle.parser_input.specs.Kinds.{CLOSURE_EXPR};
 ghost use Rattle.rust_grammar.specs.Calls.{AnyType, Block, Operation, RetType};
+ghost use Rattle.rust_grammar.specs.Expressions as rows;
 ghost use Rattle.rust_grammar.specs.Notation.{◌or◌, ◌▸◌, ⁅◌⁆, ◌!, ◌⟨◌⟩};
 ghost use Rattle.rust_grammar.specs.Rule as rules;
 ghost use Rattle.rust_grammar.specs.Rule.{One};
 ghost use Rattle.rust_grammar.specs.Words.{':', 'move'};
-ghost use Rattle.grammar_reader.specs.ByHand.{param_of_closure, params_of_closure};
 ghost use Rattle.rust_productions.specs.Looks.{tokens, spent};
 ghost use Rattle.rust_productions.specs.Reads.{looks, Reads, Saw};
 
@@ -27,7 +27,7 @@ pub(crate) fn closure_expr(p: &mut Parser<'_>, condition: bool)
     requires short { length p.old.input < 2 ^ 64 }
     requires some { 1 ≤ tokens p.old }
     ensures reads { Reads condition
-        (CLOSURE_EXPR ⟨ params_of_closure ▸ (RetType ▸ Block ! or Operation !) ⟩) p.old p.new }
+        (CLOSURE_EXPR ⟨ rows.closure_params ▸ (RetType ▸ Block ! or Operation !) ⟩) p.old p.new }
     ensures left { tokens p.new + 1 ≤ tokens p.old }
     ensures looks { spent p.new + 3280 ≤ spent p.old }
 {
@@ -43,7 +43,7 @@ pub(crate) fn move_closure(p: &mut Parser<'_>, condition: bool)
     requires short { length p.old.input < 2 ^ 64 }
     requires some { 1 ≤ tokens p.old }
     ensures reads { Reads condition (CLOSURE_EXPR
-        ⟨ One 'move' ▸ params_of_closure ! ▸ (RetType ▸ Block ! or Operation !) ⟩) p.old p.new }
+        ⟨ One 'move' ▸ rows.closure_params ! ▸ (RetType ▸ Block ! or Operation !) ⟩) p.old p.new }
     ensures left { tokens p.new + 1 ≤ tokens p.old }
     ensures looks { spent p.new + 3280 ≤ spent p.old }
 {
@@ -58,7 +58,7 @@ pub(crate) fn move_closure(p: &mut Parser<'_>, condition: bool)
 #[cycle(reader)]
 fn expect_closure_params(p: &mut Parser<'_>)
     requires short { length p.old.input < 2 ^ 64 }
-    ensures reads { (c : Bool) → Reads c (params_of_closure !) p.old p.new }
+    ensures reads { (c : Bool) → Reads c (rows.closure_params !) p.old p.new }
     ensures left { tokens p.new ≤ tokens p.old }
     ensures looks { spent p.new ≤ spent p.old + 1 }
 {
@@ -74,7 +74,7 @@ fn expect_closure_params(p: &mut Parser<'_>)
 fn closure_params(p: &mut Parser<'_>)
     requires short { length p.old.input < 2 ^ 64 }
     requires some { 1 ≤ tokens p.old }
-    ensures reads { (c : Bool) → Reads c params_of_closure p.old p.new }
+    ensures reads { (c : Bool) → Reads c rows.closure_params p.old p.new }
     ensures left { tokens p.new + 1 ≤ tokens p.old }
     ensures looks { spent p.new + 4075 ≤ spent p.old }
 {
@@ -95,7 +95,7 @@ pub(crate) fn closure_param(p: &mut Parser<'_>)
     requires short { length p.old.input < 2 ^ 64 }
     requires begins { (c : Bool) → Saw c (looks rules.single_pattern) p.old true }
     requires some { 1 ≤ tokens p.old }
-    ensures reads { Reads false param_of_closure p.old p.new }
+    ensures reads { Reads false rows.closure_param p.old p.new }
     ensures left { tokens p.new + 1 ≤ tokens p.old }
     ensures looks { spent p.new + 2900 ≤ spent p.old }
 {

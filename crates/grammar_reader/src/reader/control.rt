@@ -15,15 +15,14 @@ ghost use Rattle.rust_productions.specs.Reads.{looks, Gives, Reads, Saw};
 ghost use Rattle.rust_productions.specs.Turns.{TurnsFrom};
 
 use crate::reader::blocks::{block, statement_list};
-use crate::reader::called::at_production;
 use crate::reader::expressions::expect_condition;
 use crate::reader::match_arm::match_arm;
 use crate::reader::or_patterns::expect_pattern;
-use grammar_table::production::Production;
 use parser_events::message::Message;
 use parser_events::parser::Parser;
 use parser_input::syntax_kind::SyntaxKind;
 use rust_productions::grammar::lists::at_list_end;
+use rust_productions::grammar::patterns::at_pattern;
 use rust_productions::grammar::token_trees::token_tree;
 use rust_productions::grammar::{abandon, at, complete, current, error, expect, skip, start, take};
 
@@ -270,7 +269,7 @@ fn arm_turn(p: &mut Parser<'_>) -> bool
     if at_list_end(p, SyntaxKind::R_CURLY) {
         return false;
     }
-    if at_production(p, Production::MatchArm, false) {
+    if at_pattern(p) {
         match_arm(p, false);
         return true;
     }

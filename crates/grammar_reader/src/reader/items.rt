@@ -4,13 +4,14 @@ ghost use Rattle.std.specs.Prelude.{◌≡◌, ◌≤◌, ◌<◌, ◌+◌, ◌*
 ghost use Rattle.parser_input.specs.Kind.{raw_of};
 ghost use Rattle.parser_input.specs.Kinds.{ITEM_LIST, MODULE, POUND, PUB_KW};
 ghost use Rattle.parser_events.specs.Stack.{IsInnermost};
-ghost use Rattle.rust_grammar.specs.Calls.{Attribute, GenericParams, Item, Name, WhereClause};
+ghost use Rattle.grammar_reader.specs.ByHand.{ends_of, item_or_attribute};
+ghost use Rattle.rust_grammar.specs.Calls.{Attribute, GenericParams, Name, WhereClause, Item, Visibility};
 ghost use Rattle.rust_grammar.specs.Items.{items_in_braces, items_until};
-ghost use Rattle.rust_grammar.specs.Notation.{◌or◌, ◌▸◌, ⁅◌⁆, ◌*, ◌!, ◌⟨◌⟩, ◌<⟨◌⟩, ◌before◌, until};
+ghost use Rattle.rust_grammar.specs.Notation.{◌or◌, ◌▸◌, ⁅◌⁆, ◌*, ◌!, ◌⟨◌⟩, ◌<⟨◌⟩};
 ghost use Rattle.rust_grammar.specs.Rule as rules;
-ghost use Rattle.rust_grammar.specs.Rule.{Kind, One, Unless, When};
+ghost use Rattle.rust_grammar.specs.Rule.{Kind, One, Unless};
 ghost use Rattle.rust_grammar.specs.Whole.{rule};
-ghost use Rattle.rust_grammar.specs.Words.{'semi', 'r_curly', '#', '!', 'mod'};
+ghost use Rattle.rust_grammar.specs.Words.{'semi', 'mod'};
 ghost use Rattle.rust_productions.specs.Looks.{tokens, spent};
 ghost use Rattle.rust_productions.specs.Reads.{looks, Anew, Completes, CompletesWhere, Gives, Reads, Saw};
 ghost use Rattle.rust_productions.specs.Turns.{TurnsFrom};
@@ -20,13 +21,13 @@ use crate::reader::attributes::attribute;
 use crate::reader::consts::{const_item, static_item, type_alias};
 use crate::reader::functions::fn_item;
 use crate::reader::generics::where_clause;
+use crate::reader::list_end::{ListEnd, at_end_of};
 use crate::reader::lists::generic_params;
 use crate::reader::statements::at_inner_attribute;
 use crate::reader::traits::{impl_item, trait_item};
 use parser_events::parser::{Marker, Parser};
 use parser_input::syntax_kind::SyntaxKind;
 use rust_productions::grammar::items::{at_fn, at_unsafe, no_item, path_item, use_item};
-use rust_productions::grammar::lists::at_list_end;
 use rust_productions::grammar::names::expect_name;
 use rust_productions::grammar::paths::at_path;
 use rust_productions::grammar::visibility::{opt_visibility, visibility};
@@ -59,9 +60,7 @@ fn attributed_item(p: &mut Parser<'_>, condition: bool)
     ensures looks { spent p.new + 4000 ≤ spent p.old }
 {
     let item = start(p);
-    attribute(p);
-    attributes(p);
-    opt_visibility(p);
+    attributes_and_visibility(p);
     body(p, item, true, condition);
 }
 
@@ -106,6 +105,21 @@ fn attributes(p: &mut Parser<'_>)
     'turns: while at(p, SyntaxKind::POUND) {
         attribute(p);
     }
+}
+
+/// Attributes, of which one begins here, and the visibility after them, where there is one.
+#[cycle(reader)]
+pub(crate) fn attributes_and_visibility(p: &mut Parser<'_>)
+    requires short { length p.old.input < 2 ^ 64 }
+    requires begins { (c : Bool) → Saw c (looks rules.attribute) p.old true }
+    requires some { 1 ≤ tokens p.old }
+    ensures reads { (c : Bool) → Reads c (Attribute * ▸ ⁅ Visibility ⁆) p.old p.new }
+    ensures left { tokens p.new + 1 ≤ tokens p.old }
+    ensures looks { spent p.new + 4070 ≤ spent p.old }
+{
+    attribute(p);
+    attributes(p);
+    opt_visibility(p);
 }
 
 /// What an item is, after its attributes and its visibility. Whether there was one is given.
@@ -196,7 +210,7 @@ fn item_list(p: &mut Parser<'_>, kind: SyntaxKind)
 {
     let list = start(p);
     take(p, SyntaxKind::L_CURLY);
-    items(p);
+    items(p, ListEnd::Brace);
     expect(p, SyntaxKind::R_CURLY);
     complete(p, list, kind);
 }
@@ -204,11 +218,10 @@ fn item_list(p: &mut Parser<'_>, kind: SyntaxKind)
 /// Reads an item, or an attribute of what the items stand in. Whether more may follow is the
 /// answer.
 #[cycle(reader)]
-fn item_turn(p: &mut Parser<'_>) -> bool
+fn item_turn(p: &mut Parser<'_>, end: ListEnd) -> bool
     requires short { length p.old.input < 2 ^ 64 }
-    ensures goes { IsTrue result → TurnsFrom false
-        (Unless (until 'r_curly') (When ('#' before '!') Attribute or Item)) p.old p.new }
-    ensures ends { result ≡ false → Reads false (items_until (until 'r_curly')) p.old p.new }
+    ensures goes { IsTrue result → TurnsFrom false (Unless (ends_of end) item_or_attribute) p.old p.new }
+    ensures ends { result ≡ false → Reads false (items_until (ends_of end)) p.old p.new }
     ensures input { p.new.input ≡ p.old.input }
     ensures innermost { (n : ℕ) → IsInnermost n p.old.nodes → IsInnermost n p.new.nodes }
     ensures fewer { IsTrue result → tokens p.new < tokens p.old }
@@ -216,7 +229,7 @@ fn item_turn(p: &mut Parser<'_>) -> bool
     ensures pays { IsTrue result → spent p.new ≤ spent p.old }
     ensures looks { spent p.new ≤ spent p.old + 2 }
 {
-    if at_list_end(p, SyntaxKind::R_CURLY) {
+    if at_end_of(p, end) {
         return false;
     }
     if at_inner_attribute(p) {
@@ -227,15 +240,15 @@ fn item_turn(p: &mut Parser<'_>) -> bool
     true
 }
 
-/// Items up to a brace.
+/// Items up to where their list ends.
 #[cycle(reader)]
-fn items(p: &mut Parser<'_>)
+pub(crate) fn items(p: &mut Parser<'_>, end: ListEnd)
     requires short { length p.old.input < 2 ^ 64 }
-    ensures reads { Reads false (items_until (until 'r_curly')) p.old p.new }
+    ensures reads { Reads false (items_until (ends_of end)) p.old p.new }
     ensures left { tokens p.new ≤ tokens p.old }
     ensures looks { spent p.new ≤ spent p.old + 2 }
 {
-    'turns: while item_turn(p) {}
+    'turns: while item_turn(p, end) {}
 }
 
 /// The items of a trait or of an `impl`.

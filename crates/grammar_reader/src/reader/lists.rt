@@ -14,20 +14,26 @@ ghost use Rattle.rust_productions.specs.Reads.{looks, Does, Gives, Reads, Saw};
 ghost use Rattle.rust_productions.specs.Turns.{TurnsFrom};
 
 use crate::look::tokens_left;
-use crate::reader::called::{at_production, read_anew};
 use crate::reader::closures::closure_param;
+use crate::reader::expressions::expression;
 use crate::reader::fields::{field_value, pattern_field};
 use crate::reader::generic_arg::generic_arg;
 use crate::reader::generics::generic_param;
+use crate::reader::members::{at_named_member, at_tuple_field, record_field, tuple_field, variant};
 use crate::reader::or_patterns::pattern;
 use crate::reader::param::param;
 use crate::reader::types::any_type;
-use grammar_table::production::Production;
 use parser_events::message::Message;
 use parser_events::parser::Parser;
 use parser_input::syntax_kind::SyntaxKind;
+use rust_productions::grammar::expressions::at_expression;
+use rust_productions::grammar::fields::at_field_value;
+use rust_productions::grammar::generic_args::at_generic_arg;
+use rust_productions::grammar::generic_params::at_generic_param;
 use rust_productions::grammar::lists::{at_list_end, at_unexpected, comma};
-use rust_productions::grammar::patterns::at_single_pattern;
+use rust_productions::grammar::params::at_param;
+use rust_productions::grammar::patterns::{at_pattern, at_pattern_field, at_single_pattern};
+use rust_productions::grammar::types::at_type;
 use rust_productions::grammar::{complete, expect, skip, start, take};
 
 /// What a list holds.
@@ -41,7 +47,10 @@ pub(crate) enum Element {
     Param,
     Pattern,
     PatternField,
+    RecordField,
+    TupleField,
     Type,
+    Variant,
 }
 
 /// Whether an element begins here.
@@ -54,14 +63,17 @@ fn at_element(p: &mut Parser<'_>, element: Element) -> bool
 {
     match element {
         Element::ClosureParam => at_single_pattern(p),
-        Element::Expression => at_production(p, Production::Expression, false),
-        Element::FieldValue => at_production(p, Production::FieldValue, false),
-        Element::GenericArg => at_production(p, Production::GenericArg, false),
-        Element::GenericParam => at_production(p, Production::GenericParam, false),
-        Element::Param => at_production(p, Production::Param, false),
-        Element::Pattern => at_production(p, Production::Pattern, false),
-        Element::PatternField => at_production(p, Production::PatternField, false),
-        Element::Type => at_production(p, Production::AnyType, false),
+        Element::Expression => at_expression(p, false),
+        Element::FieldValue => at_field_value(p),
+        Element::GenericArg => at_generic_arg(p),
+        Element::GenericParam => at_generic_param(p),
+        Element::Param => at_param(p),
+        Element::Pattern => at_pattern(p),
+        Element::PatternField => at_pattern_field(p),
+        Element::RecordField => at_named_member(p),
+        Element::TupleField => at_tuple_field(p),
+        Element::Type => at_type(p),
+        Element::Variant => at_named_member(p),
     }
 }
 
@@ -77,14 +89,17 @@ fn read_element(p: &mut Parser<'_>, element: Element)
 {
     match element {
         Element::ClosureParam => closure_param(p),
-        Element::Expression => read_anew(p, Production::Expression, false),
+        Element::Expression => expression(p, false),
         Element::FieldValue => field_value(p, false),
         Element::GenericArg => generic_arg(p, false),
         Element::GenericParam => generic_param(p, false),
         Element::Param => param(p, false),
         Element::Pattern => pattern(p),
         Element::PatternField => pattern_field(p),
+        Element::RecordField => record_field(p),
+        Element::TupleField => tuple_field(p),
         Element::Type => any_type(p, false),
+        Element::Variant => variant(p),
     }
 }
 
@@ -249,4 +264,64 @@ pub(crate) fn generic_params(p: &mut Parser<'_>)
         SyntaxKind::R_ANGLE,
     );
     complete(p, list, SyntaxKind::GENERIC_PARAM_LIST);
+}
+
+/// The variants of an enum.
+#[cycle(reader)]
+pub(crate) fn variants(p: &mut Parser<'_>)
+    requires short { length p.old.input < 2 ^ 64 }
+    requires some { 1 ≤ tokens p.old }
+    ensures gives { (c : Bool) → Gives rules.variants c p.old p.new }
+    ensures left { tokens p.new + 1 ≤ tokens p.old }
+    ensures looks { spent p.new + 3300 ≤ spent p.old }
+{
+    let list = start(p);
+    take(p, SyntaxKind::L_CURLY);
+    rest_of_list(
+        p,
+        SyntaxKind::VARIANT_LIST,
+        Element::Variant,
+        SyntaxKind::R_CURLY,
+    );
+    complete(p, list, SyntaxKind::VARIANT_LIST);
+}
+
+/// Fields with names.
+#[cycle(reader)]
+pub(crate) fn record_fields(p: &mut Parser<'_>)
+    requires short { length p.old.input < 2 ^ 64 }
+    requires some { 1 ≤ tokens p.old }
+    ensures gives { (c : Bool) → Gives rules.record_fields c p.old p.new }
+    ensures left { tokens p.new + 1 ≤ tokens p.old }
+    ensures looks { spent p.new + 3300 ≤ spent p.old }
+{
+    let list = start(p);
+    take(p, SyntaxKind::L_CURLY);
+    rest_of_list(
+        p,
+        SyntaxKind::RECORD_FIELD_LIST,
+        Element::RecordField,
+        SyntaxKind::R_CURLY,
+    );
+    complete(p, list, SyntaxKind::RECORD_FIELD_LIST);
+}
+
+/// Fields without names.
+#[cycle(reader)]
+pub(crate) fn tuple_fields(p: &mut Parser<'_>)
+    requires short { length p.old.input < 2 ^ 64 }
+    requires some { 1 ≤ tokens p.old }
+    ensures gives { (c : Bool) → Gives rules.tuple_fields c p.old p.new }
+    ensures left { tokens p.new + 1 ≤ tokens p.old }
+    ensures looks { spent p.new + 3300 ≤ spent p.old }
+{
+    let list = start(p);
+    take(p, SyntaxKind::L_PAREN);
+    rest_of_list(
+        p,
+        SyntaxKind::TUPLE_FIELD_LIST,
+        Element::TupleField,
+        SyntaxKind::R_PAREN,
+    );
+    complete(p, list, SyntaxKind::TUPLE_FIELD_LIST);
 }

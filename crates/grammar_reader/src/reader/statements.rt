@@ -1,42 +1,42 @@
 //! Statements.
 
 ghost use Rattle.std.specs.Prelude.{◌≡◌, ◌≤◌, ◌<◌, ◌+◌, ◌*◌, ◌^◌, Bool, IsTrue, true, false, [], ◌∷◌, length};
-ghost use Rattle.parser_input.specs.Kinds.{EXPR_STMT, LET_ELSE, LET_STMT};
+ghost use Rattle.parser_input.specs.Kinds.{LET_ELSE, LET_STMT};
 ghost use Rattle.parser_events.specs.Forest.{ExpectedStatement};
 ghost use Rattle.parser_events.specs.Stack.{IsInnermost};
 ghost use Rattle.rust_grammar.specs.Calls.{AnyType, Block, BlockLike, Expression, Pattern};
-ghost use Rattle.rust_grammar.specs.Notation.{◌or◌, ◌▸◌, ⁅◌⁆, ◌!, ◌⁺, ◌⟨◌⟩, ◌<⟨◌⟩, ◌before◌, more, one_of, until};
+ghost use Rattle.rust_grammar.specs.Notation.{◌or◌, ◌▸◌, ⁅◌⁆, ◌!, ◌⟨◌⟩, ◌before◌, more, one_of};
 ghost use Rattle.rust_grammar.specs.Rule as rules;
-ghost use Rattle.rust_grammar.specs.Rule.{Nothing, One, Skip, When};
+ghost use Rattle.rust_grammar.specs.Rule.{One, Skip};
 ghost use Rattle.rust_grammar.specs.Statements.{goes_on, item_begins};
-ghost use Rattle.rust_grammar.specs.Words.{'semi', 'r_curly', '#', ':', '=', '!', 'else', 'fn', 'impl', 'let', 'trait'};
+ghost use Rattle.rust_grammar.specs.Words.{'semi', '#', ':', '=', '!', 'else', 'fn', 'impl', 'let', 'trait'};
+ghost use Rattle.grammar_reader.specs.ByHand.{after_block_of, listing_of};
 ghost use Rattle.rust_productions.specs.Looks.{tokens, spent};
 ghost use Rattle.rust_productions.specs.Reads.{looks, Anew, Does, Gives, Reads, Saw};
 
 use crate::reader::attributes::attribute;
-use crate::reader::called::{at_production, read_anew};
 use crate::reader::closures::opt_type;
 use crate::reader::consts::opt_value;
 use crate::reader::control::{block_like, expect_block};
+use crate::reader::expressions::expression;
 use crate::reader::items::item;
+use crate::reader::list_end::{ListEnd, at_end_of};
 use crate::reader::operands::{postfix, postfixes};
 use crate::reader::or_patterns::expect_pattern;
-use grammar_table::production::Production;
 use parser_events::message::Message;
 use parser_events::parser::{Marker, Parser};
 use parser_input::syntax_kind::SyntaxKind;
-use rust_productions::grammar::expressions::at_block_like;
-use rust_productions::grammar::lists::at_list_end;
+use rust_productions::grammar::expressions::{at_block_like, at_expression};
 use rust_productions::grammar::{
     abandon, at, at_pair, at_second, complete, current, error, expect, nth, skip, start, take, wrap,
 };
 
-/// A statement of a block.
+/// A statement of a list.
 #[cycle(reader)]
-pub(crate) fn statement(p: &mut Parser<'_>)
+pub(crate) fn statement(p: &mut Parser<'_>, end: ListEnd)
     requires short { length p.old.input < 2 ^ 64 }
     requires some { 1 ≤ tokens p.old }
-    ensures gives { Gives rules.statement false p.old p.new }
+    ensures gives { Gives (listing_of end).one false p.old p.new }
     ensures left { tokens p.new ≤ tokens p.old }
     ensures pays { tokens p.new < tokens p.old → spent p.new + 1500 ≤ spent p.old }
     ensures looks { spent p.new ≤ spent p.old + 900 }
@@ -53,7 +53,7 @@ pub(crate) fn statement(p: &mut Parser<'_>)
                 item(p, false);
                 return;
             }
-            expression_statement(p);
+            expression_statement(p, end);
         }
     }
 }
@@ -161,23 +161,21 @@ fn let_else(p: &mut Parser<'_>)
 
 /// An expression as a statement or as the last of its list, or a token that begins none.
 #[cycle(reader)]
-fn expression_statement(p: &mut Parser<'_>)
+fn expression_statement(p: &mut Parser<'_>, end: ListEnd)
     requires short { length p.old.input < 2 ^ 64 }
     requires some { 1 ≤ tokens p.old }
-    ensures anew { Anew false (BlockLike ▸ (When goes_on ((more rules.postfix) ⁺ ▸ more rules.statement_end)
-        or EXPR_STMT <⟨ One 'semi' ⟩ or When (until 'r_curly') Nothing or EXPR_STMT <⟨ Nothing ⟩)
-        or Expression ▸ more rules.statement_end
+    ensures anew { Anew false (BlockLike ▸ after_block_of end or Expression ▸ more (listing_of end).end
         or Skip ExpectedStatement) p.old p.new }
     ensures left { tokens p.new ≤ tokens p.old }
     ensures pays { tokens p.new < tokens p.old → spent p.new + 1550 ≤ spent p.old }
     ensures looks { spent p.new ≤ spent p.old + 800 }
 {
     if at_block_like(p) {
-        block_statement(p);
+        block_statement(p, end);
         return;
     }
-    if at_production(p, Production::Expression, false) {
-        ended_expression(p);
+    if at_expression(p, false) {
+        ended_expression(p, end);
         return;
     }
     skip(p, Message::ExpectedStatement);
@@ -185,19 +183,17 @@ fn expression_statement(p: &mut Parser<'_>)
 
 /// An expression that ends in a block, with what stands after it.
 #[cycle(reader)]
-fn block_statement(p: &mut Parser<'_>)
+fn block_statement(p: &mut Parser<'_>, end: ListEnd)
     requires short { length p.old.input < 2 ^ 64 }
     requires begins { (c : Bool) → Saw c (looks rules.block_like) p.old true }
     requires some { 1 ≤ tokens p.old }
-    ensures anew { (c : Bool) → Anew c
-        (BlockLike ▸ (When goes_on ((more rules.postfix) ⁺ ▸ more rules.statement_end)
-        or EXPR_STMT <⟨ One 'semi' ⟩ or When (until 'r_curly') Nothing or EXPR_STMT <⟨ Nothing ⟩)) p.old p.new }
+    ensures anew { (c : Bool) → Anew c (BlockLike ▸ after_block_of end) p.old p.new }
     ensures left { tokens p.new + 1 ≤ tokens p.old }
     ensures looks { spent p.new + 2880 ≤ spent p.old }
 {
     let frame = start(p);
     block_like(p);
-    let frame = after_block(p, frame);
+    let frame = after_block(p, frame, end);
     abandon(p, frame);
 }
 
@@ -223,12 +219,10 @@ fn at_more(p: &mut Parser<'_>) -> bool
 
 /// What stands after an expression that ends in a block.
 #[cycle(reader)]
-fn after_block(p: &mut Parser<'_>, frame: Marker) -> Marker
+fn after_block(p: &mut Parser<'_>, frame: Marker, end: ListEnd) -> Marker
     requires short { length p.old.input < 2 ^ 64 }
     requires innermost { IsInnermost frame p.old.nodes }
-    ensures reads { (c : Bool) → Reads c
-        (When goes_on ((more rules.postfix) ⁺ ▸ more rules.statement_end)
-        or EXPR_STMT <⟨ One 'semi' ⟩ or When (until 'r_curly') Nothing or EXPR_STMT <⟨ Nothing ⟩) p.old p.new }
+    ensures reads { (c : Bool) → Reads c (after_block_of end) p.old p.new }
     ensures marker { IsInnermost result p.new.nodes }
     ensures left { tokens p.new ≤ tokens p.old }
     ensures looks { spent p.new ≤ spent p.old + 6 }
@@ -236,13 +230,13 @@ fn after_block(p: &mut Parser<'_>, frame: Marker) -> Marker
     if at_more(p) {
         let frame = postfix(p, frame);
         let frame = postfixes(p, frame);
-        return statement_end(p, frame);
+        return statement_end(p, frame, end);
     }
     if at(p, SyntaxKind::SEMICOLON) {
         take(p, SyntaxKind::SEMICOLON);
         return wrap(p, frame, SyntaxKind::EXPR_STMT);
     }
-    if at_list_end(p, SyntaxKind::R_CURLY) {
+    if at_end_of(p, end) {
         return frame;
     }
     wrap(p, frame, SyntaxKind::EXPR_STMT)
@@ -250,24 +244,25 @@ fn after_block(p: &mut Parser<'_>, frame: Marker) -> Marker
 
 /// An expression with what stands after it.
 #[cycle(reader)]
-fn ended_expression(p: &mut Parser<'_>)
+fn ended_expression(p: &mut Parser<'_>, end: ListEnd)
     requires short { length p.old.input < 2 ^ 64 }
-    requires begins { Saw false (rules.anew (looks rules.expression)) p.old true }
-    ensures anew { Anew false (Expression ▸ more rules.statement_end) p.old p.new }
+    requires begins { Saw false (looks rules.expression) p.old true }
+    requires some { 1 ≤ tokens p.old }
+    ensures anew { Anew false (Expression ▸ more (listing_of end).end) p.old p.new }
     ensures left { tokens p.new ≤ tokens p.old }
     ensures pays { tokens p.new < tokens p.old → spent p.new + 1790 ≤ spent p.old }
     ensures looks { spent p.new ≤ spent p.old + 604 }
 {
     let frame = start(p);
-    read_anew(p, Production::Expression, false);
-    let frame = statement_end(p, frame);
+    expression(p, false);
+    let frame = statement_end(p, frame, end);
     abandon(p, frame);
 }
 
 /// What stands after an expression that needs a `;`, unless it is the last of its list.
-fn statement_end(p: &mut Parser<'_>, frame: Marker) -> Marker
+fn statement_end(p: &mut Parser<'_>, frame: Marker, end: ListEnd) -> Marker
     requires { IsInnermost frame p.old.nodes }
-    ensures reads { (c : Bool) → Reads c (more rules.statement_end) p.old p.new }
+    ensures reads { (c : Bool) → Reads c (more (listing_of end).end) p.old p.new }
     ensures marker { IsInnermost result p.new.nodes }
     ensures left { tokens p.new ≤ tokens p.old }
     ensures pays { tokens p.new < tokens p.old → spent p.new + 4000 ≤ spent p.old }
@@ -277,7 +272,7 @@ fn statement_end(p: &mut Parser<'_>, frame: Marker) -> Marker
         take(p, SyntaxKind::SEMICOLON);
         return wrap(p, frame, SyntaxKind::EXPR_STMT);
     }
-    if at_list_end(p, SyntaxKind::R_CURLY) {
+    if at_end_of(p, end) {
         return frame;
     }
     error(p, Message::Expected(SyntaxKind::SEMICOLON));

@@ -11,6 +11,20 @@ use crate::grammar::{at, current};
 use parser_events::parser::Parser;
 use parser_input::syntax_kind::SyntaxKind;
 
+/// Whether a generic parameter begins here.
+pub fn at_generic_param(p: &mut Parser<'_>) -> bool
+    ensures sees { (c : Bool) → Saw c (looks rules.generic_param) p.old result }
+    ensures some { IsTrue result → 1 ≤ tokens p.old }
+    ensures same { Does (λ s. s) p.old p.new }
+    ensures left { tokens p.new ≡ tokens p.old }
+    ensures looks { spent p.new ≤ spent p.old + 1 }
+{
+    match current(p) {
+        SyntaxKind::LIFETIME_IDENT | SyntaxKind::IDENT => true,
+        _ => false,
+    }
+}
+
 /// Whether a bound begins here.
 pub fn at_bound(p: &mut Parser<'_>) -> bool
     ensures sees { (c : Bool) → Saw c (looks rules.bound) p.old result }

@@ -80,3 +80,23 @@ pub fn at_named_field(p: &mut Parser<'_>) -> bool
         _ => false,
     }
 }
+
+/// Whether a field of a record pattern begins here.
+pub fn at_pattern_field(p: &mut Parser<'_>) -> bool
+    ensures sees { (c : Bool) → Saw c (looks rules.pattern_field) p.old result }
+    ensures some { IsTrue result → 1 ≤ tokens p.old }
+    ensures same { Does (λ s. s) p.old p.new }
+    ensures left { tokens p.new ≡ tokens p.old }
+    ensures looks { spent p.new ≤ spent p.old + 5 }
+{
+    if at_pair(p, SyntaxKind::DOT, SyntaxKind::DOT) {
+        return true;
+    }
+    if at_named_field(p) {
+        return true;
+    }
+    match current(p) {
+        SyntaxKind::REF_KW | SyntaxKind::MUT_KW | SyntaxKind::IDENT => true,
+        _ => false,
+    }
+}

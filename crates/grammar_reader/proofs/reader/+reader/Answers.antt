@@ -13,9 +13,11 @@ mod GenericArg
 mod Generics
 mod Hands
 mod Items
+mod Layers
 mod Lists
 mod Looks
 mod MatchArm
+mod Members
 mod Operands
 mod Operating
 mod Param
@@ -66,9 +68,11 @@ use Rattle.grammar_reader.proofs.reader.+reader.Answers.GenericArg as generic_ar
 use Rattle.grammar_reader.proofs.reader.+reader.Answers.Generics as generics
 use Rattle.grammar_reader.proofs.reader.+reader.Answers.Hands as hands
 use Rattle.grammar_reader.proofs.reader.+reader.Answers.Items as items
+use Rattle.grammar_reader.proofs.reader.+reader.Answers.Layers as layers
 use Rattle.grammar_reader.proofs.reader.+reader.Answers.Lists as lists
 use Rattle.grammar_reader.proofs.reader.+reader.Answers.Looks as looks
 use Rattle.grammar_reader.proofs.reader.+reader.Answers.MatchArm as match_arm
+use Rattle.grammar_reader.proofs.reader.+reader.Answers.Members as members
 use Rattle.grammar_reader.proofs.reader.+reader.Answers.Operands as operands
 use Rattle.grammar_reader.proofs.reader.+reader.Answers.Operating as operating
 use Rattle.grammar_reader.proofs.reader.+reader.Answers.Param as param
@@ -465,38 +469,20 @@ adt::struct_item-complete-requires = adt.adt::struct_item-complete-requires
 pub adt::struct_item-returns-clause-completes : goal.adt::struct_item-returns-clause-completes
 adt::struct_item-returns-clause-completes = adt.adt::struct_item-returns-clause-completes
 
-pub adt::fields-read_anew-requires : goal.adt::fields-read_anew-requires
-adt::fields-read_anew-requires = adt.adt::fields-read_anew-requires
-
 pub adt::fields-opt_where_clause-requires : goal.adt::fields-opt_where_clause-requires
 adt::fields-opt_where_clause-requires = adt.adt::fields-opt_where_clause-requires
 
 pub adt::fields-returns-then-at-clause-reads : goal.adt::fields-returns-then-at-clause-reads
 adt::fields-returns-then-at-clause-reads = adt.adt::fields-returns-then-at-clause-reads
 
-pub adt::fields-returns-then-at-clause-looks : goal.adt::fields-returns-then-at-clause-looks
-adt::fields-returns-then-at-clause-looks = adt.adt::fields-returns-then-at-clause-looks
-
 pub adt::fields-opt_where_clause-requires-2 : goal.adt::fields-opt_where_clause-requires-2
 adt::fields-opt_where_clause-requires-2 = adt.adt::fields-opt_where_clause-requires-2
 
-pub adt::fields-record_fields-requires : goal.adt::fields-record_fields-requires
-adt::fields-record_fields-requires = adt.adt::fields-record_fields-requires
+pub adt::fields-named_fields-requires : goal.adt::fields-named_fields-requires
+adt::fields-named_fields-requires = adt.adt::fields-named_fields-requires
 
 pub adt::fields-returns-clause-reads : goal.adt::fields-returns-clause-reads
 adt::fields-returns-clause-reads = adt.adt::fields-returns-clause-reads
-
-pub adt::record_fields-read_anew-requires : goal.adt::record_fields-read_anew-requires
-adt::record_fields-read_anew-requires = adt.adt::record_fields-read_anew-requires
-
-pub adt::record_fields-returns-then-at-clause-reads : goal.adt::record_fields-returns-then-at-clause-reads
-adt::record_fields-returns-then-at-clause-reads = adt.adt::record_fields-returns-then-at-clause-reads
-
-pub adt::record_fields-returns-then-at-clause-looks : goal.adt::record_fields-returns-then-at-clause-looks
-adt::record_fields-returns-then-at-clause-looks = adt.adt::record_fields-returns-then-at-clause-looks
-
-pub adt::record_fields-returns-clause-reads : goal.adt::record_fields-returns-clause-reads
-adt::record_fields-returns-clause-reads = adt.adt::record_fields-returns-clause-reads
 
 pub adt::enum_item-opt_generic_params-requires : goal.adt::enum_item-opt_generic_params-requires
 adt::enum_item-opt_generic_params-requires = adt.adt::enum_item-opt_generic_params-requires
@@ -513,17 +499,26 @@ adt::enum_item-complete-requires = adt.adt::enum_item-complete-requires
 pub adt::enum_item-returns-clause-completes : goal.adt::enum_item-returns-clause-completes
 adt::enum_item-returns-clause-completes = adt.adt::enum_item-returns-clause-completes
 
-pub adt::expect_variants-read_anew-requires : goal.adt::expect_variants-read_anew-requires
-adt::expect_variants-read_anew-requires = adt.adt::expect_variants-read_anew-requires
+pub adt::named_fields-record_fields-requires : goal.adt::named_fields-record_fields-requires
+adt::named_fields-record_fields-requires = adt.adt::named_fields-record_fields-requires
+
+pub adt::named_fields-returns-then-at-clause-reads : goal.adt::named_fields-returns-then-at-clause-reads
+adt::named_fields-returns-then-at-clause-reads = adt.adt::named_fields-returns-then-at-clause-reads
+
+pub adt::named_fields-returns-clause-reads : goal.adt::named_fields-returns-clause-reads
+adt::named_fields-returns-clause-reads = adt.adt::named_fields-returns-clause-reads
+
+pub adt::expect_variants-variants-requires : goal.adt::expect_variants-variants-requires
+adt::expect_variants-variants-requires = adt.adt::expect_variants-variants-requires
 
 pub adt::expect_variants-returns-then-at-clause-reads : goal.adt::expect_variants-returns-then-at-clause-reads
 adt::expect_variants-returns-then-at-clause-reads = adt.adt::expect_variants-returns-then-at-clause-reads
 
-pub adt::expect_variants-returns-then-at-clause-looks : goal.adt::expect_variants-returns-then-at-clause-looks
-adt::expect_variants-returns-then-at-clause-looks = adt.adt::expect_variants-returns-then-at-clause-looks
-
 pub adt::expect_variants-returns-clause-reads : goal.adt::expect_variants-returns-clause-reads
 adt::expect_variants-returns-clause-reads = adt.adt::expect_variants-returns-clause-reads
+
+pub adt::fields-tuple_fields-requires : goal.adt::fields-tuple_fields-requires
+adt::fields-tuple_fields-requires = adt.adt::fields-tuple_fields-requires
 
 pub atoms::atom-inside-frame-requires : goal.atoms::atom-inside-frame-requires
 atoms::atom-inside-frame-requires = atoms.atoms::atom-inside-frame-requires
@@ -699,23 +694,17 @@ atoms::array_expr-complete-requires = atoms.atoms::array_expr-complete-requires
 pub atoms::array_expr-returns-clause-reads : goal.atoms::array_expr-returns-clause-reads
 atoms::array_expr-returns-clause-reads = atoms.atoms::array_expr-returns-clause-reads
 
-pub atoms::array_elements-read_anew-requires : goal.atoms::array_elements-read_anew-requires
-atoms::array_elements-read_anew-requires = atoms.atoms::array_elements-read_anew-requires
+pub atoms::array_elements-expression-requires : goal.atoms::array_elements-expression-requires
+atoms::array_elements-expression-requires = atoms.atoms::array_elements-expression-requires
 
 pub atoms::array_elements-after_element-requires : goal.atoms::array_elements-after_element-requires
 atoms::array_elements-after_element-requires = atoms.atoms::array_elements-after_element-requires
 
-pub atoms::array_elements-returns-then-at_production-clause-reads : goal.atoms::array_elements-returns-then-at_production-clause-reads
-atoms::array_elements-returns-then-at_production-clause-reads = atoms.atoms::array_elements-returns-then-at_production-clause-reads
+pub atoms::array_elements-returns-then-at_expression-clause-reads : goal.atoms::array_elements-returns-then-at_expression-clause-reads
+atoms::array_elements-returns-then-at_expression-clause-reads = atoms.atoms::array_elements-returns-then-at_expression-clause-reads
 
 pub atoms::array_elements-returns-clause-reads : goal.atoms::array_elements-returns-clause-reads
 atoms::array_elements-returns-clause-reads = atoms.atoms::array_elements-returns-clause-reads
-
-pub atoms::array_elements-returns-then-at_production-clause-looks : goal.atoms::array_elements-returns-then-at_production-clause-looks
-atoms::array_elements-returns-then-at_production-clause-looks = atoms.atoms::array_elements-returns-then-at_production-clause-looks
-
-pub atoms::array_elements-returns-clause-looks : goal.atoms::array_elements-returns-clause-looks
-atoms::array_elements-returns-clause-looks = atoms.atoms::array_elements-returns-clause-looks
 
 pub atoms::after_element-expect_expression-requires : goal.atoms::after_element-expect_expression-requires
 atoms::after_element-expect_expression-requires = atoms.atoms::after_element-expect_expression-requires
@@ -741,23 +730,17 @@ atoms::value_expr-complete-requires = atoms.atoms::value_expr-complete-requires
 pub atoms::value_expr-returns-clause-reads : goal.atoms::value_expr-returns-clause-reads
 atoms::value_expr-returns-clause-reads = atoms.atoms::value_expr-returns-clause-reads
 
-pub atoms::opt_value-read_anew-requires : goal.atoms::opt_value-read_anew-requires
-atoms::opt_value-read_anew-requires = atoms.atoms::opt_value-read_anew-requires
+pub atoms::opt_value-operation-requires : goal.atoms::opt_value-operation-requires
+atoms::opt_value-operation-requires = atoms.atoms::opt_value-operation-requires
 
 pub atoms::opt_value-returns-then-at_body-clause-reads : goal.atoms::opt_value-returns-then-at_body-clause-reads
 atoms::opt_value-returns-then-at_body-clause-reads = atoms.atoms::opt_value-returns-then-at_body-clause-reads
 
-pub atoms::opt_value-returns-then-at_production-clause-reads : goal.atoms::opt_value-returns-then-at_production-clause-reads
-atoms::opt_value-returns-then-at_production-clause-reads = atoms.atoms::opt_value-returns-then-at_production-clause-reads
+pub atoms::opt_value-returns-then-at_operation-clause-reads : goal.atoms::opt_value-returns-then-at_operation-clause-reads
+atoms::opt_value-returns-then-at_operation-clause-reads = atoms.atoms::opt_value-returns-then-at_operation-clause-reads
 
-pub atoms::opt_value-returns-else-at_production-clause-reads : goal.atoms::opt_value-returns-else-at_production-clause-reads
-atoms::opt_value-returns-else-at_production-clause-reads = atoms.atoms::opt_value-returns-else-at_production-clause-reads
-
-pub atoms::opt_value-returns-then-at_production-clause-looks : goal.atoms::opt_value-returns-then-at_production-clause-looks
-atoms::opt_value-returns-then-at_production-clause-looks = atoms.atoms::opt_value-returns-then-at_production-clause-looks
-
-pub atoms::opt_value-returns-else-at_production-clause-looks : goal.atoms::opt_value-returns-else-at_production-clause-looks
-atoms::opt_value-returns-else-at_production-clause-looks = atoms.atoms::opt_value-returns-else-at_production-clause-looks
+pub atoms::opt_value-returns-else-at_operation-clause-reads : goal.atoms::opt_value-returns-else-at_operation-clause-reads
+atoms::opt_value-returns-else-at_operation-clause-reads = atoms.atoms::opt_value-returns-else-at_operation-clause-reads
 
 pub closures::closure_expr-closure_params-requires : goal.closures::closure_expr-closure_params-requires
 closures::closure_expr-closure_params-requires = atoms.closures::closure_expr-closure_params-requires
@@ -891,14 +874,8 @@ attributes::opt_value-returns-then-at_token_tree-clause-reads = attributes.attri
 pub attributes::opt_value-returns-else-at_token_tree-clause-reads : goal.attributes::opt_value-returns-else-at_token_tree-clause-reads
 attributes::opt_value-returns-else-at_token_tree-clause-reads = attributes.attributes::opt_value-returns-else-at_token_tree-clause-reads
 
-pub blocks::statement_turn-returns-then-at_list_end-clause-ends : goal.blocks::statement_turn-returns-then-at_list_end-clause-ends
-blocks::statement_turn-returns-then-at_list_end-clause-ends = blocks.blocks::statement_turn-returns-then-at_list_end-clause-ends
-
-pub blocks::statement_turn-returns-then-not-at_production-clause-ends : goal.blocks::statement_turn-returns-then-not-at_production-clause-ends
-blocks::statement_turn-returns-then-not-at_production-clause-ends = blocks.blocks::statement_turn-returns-then-not-at_production-clause-ends
-
-pub blocks::statement_turn-returns-then-not-at_production-clause-looks : goal.blocks::statement_turn-returns-then-not-at_production-clause-looks
-blocks::statement_turn-returns-then-not-at_production-clause-looks = blocks.blocks::statement_turn-returns-then-not-at_production-clause-looks
+pub blocks::statement_turn-returns-then-at_end_of-clause-ends : goal.blocks::statement_turn-returns-then-at_end_of-clause-ends
+blocks::statement_turn-returns-then-at_end_of-clause-ends = blocks.blocks::statement_turn-returns-then-at_end_of-clause-ends
 
 pub blocks::statement_turn-statement-requires : goal.blocks::statement_turn-statement-requires
 blocks::statement_turn-statement-requires = blocks.blocks::statement_turn-statement-requires
@@ -914,9 +891,6 @@ blocks::statement_turn-returns-clause-fewer = blocks.blocks::statement_turn-retu
 
 pub blocks::statement_turn-returns-clause-pays : goal.blocks::statement_turn-returns-clause-pays
 blocks::statement_turn-returns-clause-pays = blocks.blocks::statement_turn-returns-clause-pays
-
-pub blocks::statement_turn-returns-clause-looks : goal.blocks::statement_turn-returns-clause-looks
-blocks::statement_turn-returns-clause-looks = blocks.blocks::statement_turn-returns-clause-looks
 
 pub blocks::statements-turns-preserved : goal.blocks::statements-turns-preserved
 blocks::statements-turns-preserved = blocks.blocks::statements-turns-preserved
@@ -1215,20 +1189,20 @@ control::arm_turn-returns-then-at_list_end-clause-ends = control.control::arm_tu
 pub control::arm_turn-match_arm-requires : goal.control::arm_turn-match_arm-requires
 control::arm_turn-match_arm-requires = control.control::arm_turn-match_arm-requires
 
-pub control::arm_turn-returns-then-at_production-clause-goes : goal.control::arm_turn-returns-then-at_production-clause-goes
-control::arm_turn-returns-then-at_production-clause-goes = control.control::arm_turn-returns-then-at_production-clause-goes
+pub control::arm_turn-returns-then-at_pattern-clause-goes : goal.control::arm_turn-returns-then-at_pattern-clause-goes
+control::arm_turn-returns-then-at_pattern-clause-goes = control.control::arm_turn-returns-then-at_pattern-clause-goes
 
-pub control::arm_turn-returns-then-at_production-clause-input : goal.control::arm_turn-returns-then-at_production-clause-input
-control::arm_turn-returns-then-at_production-clause-input = control.control::arm_turn-returns-then-at_production-clause-input
+pub control::arm_turn-returns-then-at_pattern-clause-input : goal.control::arm_turn-returns-then-at_pattern-clause-input
+control::arm_turn-returns-then-at_pattern-clause-input = control.control::arm_turn-returns-then-at_pattern-clause-input
 
-pub control::arm_turn-returns-then-at_production-clause-innermost : goal.control::arm_turn-returns-then-at_production-clause-innermost
-control::arm_turn-returns-then-at_production-clause-innermost = control.control::arm_turn-returns-then-at_production-clause-innermost
+pub control::arm_turn-returns-then-at_pattern-clause-innermost : goal.control::arm_turn-returns-then-at_pattern-clause-innermost
+control::arm_turn-returns-then-at_pattern-clause-innermost = control.control::arm_turn-returns-then-at_pattern-clause-innermost
 
-pub control::arm_turn-returns-then-at_production-clause-pays : goal.control::arm_turn-returns-then-at_production-clause-pays
-control::arm_turn-returns-then-at_production-clause-pays = control.control::arm_turn-returns-then-at_production-clause-pays
+pub control::arm_turn-returns-then-at_pattern-clause-pays : goal.control::arm_turn-returns-then-at_pattern-clause-pays
+control::arm_turn-returns-then-at_pattern-clause-pays = control.control::arm_turn-returns-then-at_pattern-clause-pays
 
-pub control::arm_turn-returns-then-at_production-clause-looks : goal.control::arm_turn-returns-then-at_production-clause-looks
-control::arm_turn-returns-then-at_production-clause-looks = control.control::arm_turn-returns-then-at_production-clause-looks
+pub control::arm_turn-returns-then-at_pattern-clause-looks : goal.control::arm_turn-returns-then-at_pattern-clause-looks
+control::arm_turn-returns-then-at_pattern-clause-looks = control.control::arm_turn-returns-then-at_pattern-clause-looks
 
 pub control::arm_turn-skip-requires : goal.control::arm_turn-skip-requires
 control::arm_turn-skip-requires = control.control::arm_turn-skip-requires
@@ -1248,23 +1222,155 @@ control::arm_turn-returns-clause-pays = control.control::arm_turn-returns-clause
 pub control::arm_turn-returns-clause-looks : goal.control::arm_turn-returns-clause-looks
 control::arm_turn-returns-clause-looks = control.control::arm_turn-returns-clause-looks
 
-pub expressions::expect_expression-read_anew-requires : goal.expressions::expect_expression-read_anew-requires
-expressions::expect_expression-read_anew-requires = expressions.expressions::expect_expression-read_anew-requires
+pub expressions::expect_expression-expect_layer-requires : goal.expressions::expect_expression-expect_layer-requires
+expressions::expect_expression-expect_layer-requires = expressions.expressions::expect_expression-expect_layer-requires
 
-pub expressions::expect_expression-returns-then-at_production-clause-reads : goal.expressions::expect_expression-returns-then-at_production-clause-reads
-expressions::expect_expression-returns-then-at_production-clause-reads = expressions.expressions::expect_expression-returns-then-at_production-clause-reads
+pub expressions::expect_expression-returns-in-Comparison-clause-reads : goal.expressions::expect_expression-returns-in-Comparison-clause-reads
+expressions::expect_expression-returns-in-Comparison-clause-reads = expressions.expressions::expect_expression-returns-in-Comparison-clause-reads
 
-pub expressions::expect_expression-returns-clause-reads : goal.expressions::expect_expression-returns-clause-reads
-expressions::expect_expression-returns-clause-reads = expressions.expressions::expect_expression-returns-clause-reads
+pub expressions::expect_expression-expect_any-requires : goal.expressions::expect_expression-expect_any-requires
+expressions::expect_expression-expect_any-requires = expressions.expressions::expect_expression-expect_any-requires
 
-pub expressions::expect_expression-returns-then-at_production-clause-looks : goal.expressions::expect_expression-returns-then-at_production-clause-looks
-expressions::expect_expression-returns-then-at_production-clause-looks = expressions.expressions::expect_expression-returns-then-at_production-clause-looks
+pub expressions::expect_expression-returns-in-Expression-clause-reads : goal.expressions::expect_expression-returns-in-Expression-clause-reads
+expressions::expect_expression-returns-in-Expression-clause-reads = expressions.expressions::expect_expression-returns-in-Expression-clause-reads
 
-pub expressions::expect_expression-returns-clause-looks : goal.expressions::expect_expression-returns-clause-looks
-expressions::expect_expression-returns-clause-looks = expressions.expressions::expect_expression-returns-clause-looks
+pub expressions::expect_expression-expect_operation-requires : goal.expressions::expect_expression-expect_operation-requires
+expressions::expect_expression-expect_operation-requires = expressions.expressions::expect_expression-expect_operation-requires
+
+pub expressions::expect_expression-returns-in-Operation-clause-reads : goal.expressions::expect_expression-returns-in-Operation-clause-reads
+expressions::expect_expression-returns-in-Operation-clause-reads = expressions.expressions::expect_expression-returns-in-Operation-clause-reads
+
+pub expressions::expect_expression-expect_layer-requires-in-Prefixed : goal.expressions::expect_expression-expect_layer-requires-in-Prefixed
+expressions::expect_expression-expect_layer-requires-in-Prefixed = expressions.expressions::expect_expression-expect_layer-requires-in-Prefixed
+
+pub expressions::expect_expression-returns-in-Prefixed-clause-reads : goal.expressions::expect_expression-returns-in-Prefixed-clause-reads
+expressions::expect_expression-returns-in-Prefixed-clause-reads = expressions.expressions::expect_expression-returns-in-Prefixed-clause-reads
+
+pub expressions::expect_any-expression-requires : goal.expressions::expect_any-expression-requires
+expressions::expect_any-expression-requires = expressions.expressions::expect_any-expression-requires
+
+pub expressions::expect_any-returns-then-at_expression-clause-reads : goal.expressions::expect_any-returns-then-at_expression-clause-reads
+expressions::expect_any-returns-then-at_expression-clause-reads = expressions.expressions::expect_any-returns-then-at_expression-clause-reads
+
+pub expressions::expect_any-returns-clause-reads : goal.expressions::expect_any-returns-clause-reads
+expressions::expect_any-returns-clause-reads = expressions.expressions::expect_any-returns-clause-reads
+
+pub expressions::expect_operation-operation-requires : goal.expressions::expect_operation-operation-requires
+expressions::expect_operation-operation-requires = expressions.expressions::expect_operation-operation-requires
+
+pub expressions::expect_operation-returns-then-at_operation-clause-reads : goal.expressions::expect_operation-returns-then-at_operation-clause-reads
+expressions::expect_operation-returns-then-at_operation-clause-reads = expressions.expressions::expect_operation-returns-then-at_operation-clause-reads
+
+pub expressions::expect_operation-returns-clause-reads : goal.expressions::expect_operation-returns-clause-reads
+expressions::expect_operation-returns-clause-reads = expressions.expressions::expect_operation-returns-clause-reads
 
 pub expressions::expect_condition-returns-clause-reads : goal.expressions::expect_condition-returns-clause-reads
 expressions::expect_condition-returns-clause-reads = expressions.expressions::expect_condition-returns-clause-reads
+
+pub expressions::expression-operation-requires : goal.expressions::expression-operation-requires
+expressions::expression-operation-requires = expressions.expressions::expression-operation-requires
+
+pub expressions::expression-returns-clause-gives : goal.expressions::expression-returns-clause-gives
+expressions::expression-returns-clause-gives = expressions.expressions::expression-returns-clause-gives
+
+pub expressions::operation-range-requires : goal.expressions::operation-range-requires
+expressions::operation-range-requires = expressions.expressions::operation-range-requires
+
+pub expressions::operation-returns-in-Some-clause-gives : goal.expressions::operation-returns-in-Some-clause-gives
+expressions::operation-returns-in-Some-clause-gives = expressions.expressions::operation-returns-in-Some-clause-gives
+
+pub expressions::operation-operands-requires : goal.expressions::operation-operands-requires
+expressions::operation-operands-requires = expressions.expressions::operation-operands-requires
+
+pub expressions::operation-returns-in-None-clause-gives : goal.expressions::operation-returns-in-None-clause-gives
+expressions::operation-returns-in-None-clause-gives = expressions.expressions::operation-returns-in-None-clause-gives
+
+pub expressions::operands-prefixed-requires : goal.expressions::operands-prefixed-requires
+expressions::operands-prefixed-requires = expressions.expressions::operands-prefixed-requires
+
+pub expressions::operands-climb-frame-requires : goal.expressions::operands-climb-frame-requires
+expressions::operands-climb-frame-requires = expressions.expressions::operands-climb-frame-requires
+
+pub expressions::operands-operation_tail-frame-requires : goal.expressions::operands-operation_tail-frame-requires
+expressions::operands-operation_tail-frame-requires = expressions.expressions::operands-operation_tail-frame-requires
+
+pub expressions::operands-returns-clause-gives : goal.expressions::operands-returns-clause-gives
+expressions::operands-returns-clause-gives = expressions.expressions::operands-returns-clause-gives
+
+pub expressions::range-range_end-more-requires : goal.expressions::range-range_end-more-requires
+expressions::range-range_end-more-requires = expressions.expressions::range-range_end-more-requires
+
+pub expressions::range-complete-requires : goal.expressions::range-complete-requires
+expressions::range-complete-requires = expressions.expressions::range-complete-requires
+
+pub expressions::range-abandon-requires : goal.expressions::range-abandon-requires
+expressions::range-abandon-requires = expressions.expressions::range-abandon-requires
+
+pub expressions::range-operation_tail-frame-requires : goal.expressions::range-operation_tail-frame-requires
+expressions::range-operation_tail-frame-requires = expressions.expressions::range-operation_tail-frame-requires
+
+pub expressions::range-returns-then-not-more-clause-gives : goal.expressions::range-returns-then-not-more-clause-gives
+expressions::range-returns-then-not-more-clause-gives = expressions.expressions::range-returns-then-not-more-clause-gives
+
+pub expressions::range-returns-clause-gives : goal.expressions::range-returns-clause-gives
+expressions::range-returns-clause-gives = expressions.expressions::range-returns-clause-gives
+
+pub expressions::range_end-layers-requires : goal.expressions::range_end-layers-requires
+expressions::range_end-layers-requires = expressions.expressions::range_end-layers-requires
+
+pub expressions::range_end-returns-then-at_range_operand-clause-near : goal.expressions::range_end-returns-then-at_range_operand-clause-near
+expressions::range_end-returns-then-at_range_operand-clause-near = expressions.expressions::range_end-returns-then-at_range_operand-clause-near
+
+pub expressions::range_end-returns-clause-near : goal.expressions::range_end-returns-clause-near
+expressions::range_end-returns-clause-near = expressions.expressions::range_end-returns-clause-near
+
+pub expressions::range_end-returns-then-at_range_operand-clause-to : goal.expressions::range_end-returns-then-at_range_operand-clause-to
+expressions::range_end-returns-then-at_range_operand-clause-to = expressions.expressions::range_end-returns-then-at_range_operand-clause-to
+
+pub expressions::range_end-returns-then-at_range_operand-clause-input : goal.expressions::range_end-returns-then-at_range_operand-clause-input
+expressions::range_end-returns-then-at_range_operand-clause-input = expressions.expressions::range_end-returns-then-at_range_operand-clause-input
+
+pub expressions::range_end-returns-then-at_range_operand-clause-innermost : goal.expressions::range_end-returns-then-at_range_operand-clause-innermost
+expressions::range_end-returns-then-at_range_operand-clause-innermost = expressions.expressions::range_end-returns-then-at_range_operand-clause-innermost
+
+pub expressions::range_end-returns-clause-alone : goal.expressions::range_end-returns-clause-alone
+expressions::range_end-returns-clause-alone = expressions.expressions::range_end-returns-clause-alone
+
+pub expressions::range_end-returns-clause-input : goal.expressions::range_end-returns-clause-input
+expressions::range_end-returns-clause-input = expressions.expressions::range_end-returns-clause-input
+
+pub expressions::range_end-returns-clause-innermost : goal.expressions::range_end-returns-clause-innermost
+expressions::range_end-returns-clause-innermost = expressions.expressions::range_end-returns-clause-innermost
+
+pub expressions::assignment-expect_operation-requires : goal.expressions::assignment-expect_operation-requires
+expressions::assignment-expect_operation-requires = expressions.expressions::assignment-expect_operation-requires
+
+pub expressions::assignment-wrap-requires : goal.expressions::assignment-wrap-requires
+expressions::assignment-wrap-requires = expressions.expressions::assignment-wrap-requires
+
+pub expressions::assignment-take_operator-requires-clause-next : goal.expressions::assignment-take_operator-requires-clause-next
+expressions::assignment-take_operator-requires-clause-next = expressions.expressions::assignment-take_operator-requires-clause-next
+
+pub expressions::assignment-returns-then-operator-ne11-clause-reads : goal.expressions::assignment-returns-then-operator-ne11-clause-reads
+expressions::assignment-returns-then-operator-ne11-clause-reads = expressions.expressions::assignment-returns-then-operator-ne11-clause-reads
+
+pub expressions::assignment-returns-clause-reads : goal.expressions::assignment-returns-clause-reads
+expressions::assignment-returns-clause-reads = expressions.expressions::assignment-returns-clause-reads
+
+pub expressions::operation_tail-ranges-2-init : goal.expressions::operation_tail-ranges-2-init
+expressions::operation_tail-ranges-2-init = expressions.expressions::operation_tail-ranges-2-init
+
+pub expressions::operation_tail-ranges-2-preserved : goal.expressions::operation_tail-ranges-2-preserved
+expressions::operation_tail-ranges-2-preserved = expressions.expressions::operation_tail-ranges-2-preserved
+
+pub expressions::operation_tail-returns-then-not-more-clause-reads : goal.expressions::operation_tail-returns-then-not-more-clause-reads
+expressions::operation_tail-returns-then-not-more-clause-reads = expressions.expressions::operation_tail-returns-then-not-more-clause-reads
+
+pub expressions::operation_tail-returns-clause-reads : goal.expressions::operation_tail-returns-clause-reads
+expressions::operation_tail-returns-clause-reads = expressions.expressions::operation_tail-returns-clause-reads
+
+pub expressions::operation_tail-returns-clause-looks : goal.expressions::operation_tail-returns-clause-looks
+expressions::operation_tail-returns-clause-looks = expressions.expressions::operation_tail-returns-clause-looks
 
 pub fields::field_value-named_value-requires : goal.fields::field_value-named_value-requires
 fields::field_value-named_value-requires = fields.fields::field_value-named_value-requires
@@ -1890,6 +1996,24 @@ read_by_hand-returns-in-Item-clause-gives = hands.read_by_hand-returns-in-Item-c
 pub read_by_hand-returns-in-Item-clause-looks : goal.read_by_hand-returns-in-Item-clause-looks
 read_by_hand-returns-in-Item-clause-looks = hands.read_by_hand-returns-in-Item-clause-looks
 
+pub read_by_hand-returns-in-RecordFields-clause-gives : goal.read_by_hand-returns-in-RecordFields-clause-gives
+read_by_hand-returns-in-RecordFields-clause-gives = hands.read_by_hand-returns-in-RecordFields-clause-gives
+
+pub read_by_hand-returns-in-RecordFields-clause-looks : goal.read_by_hand-returns-in-RecordFields-clause-looks
+read_by_hand-returns-in-RecordFields-clause-looks = hands.read_by_hand-returns-in-RecordFields-clause-looks
+
+pub read_by_hand-returns-in-TupleFields-clause-gives : goal.read_by_hand-returns-in-TupleFields-clause-gives
+read_by_hand-returns-in-TupleFields-clause-gives = hands.read_by_hand-returns-in-TupleFields-clause-gives
+
+pub read_by_hand-returns-in-TupleFields-clause-looks : goal.read_by_hand-returns-in-TupleFields-clause-looks
+read_by_hand-returns-in-TupleFields-clause-looks = hands.read_by_hand-returns-in-TupleFields-clause-looks
+
+pub read_by_hand-returns-in-Variants-clause-gives : goal.read_by_hand-returns-in-Variants-clause-gives
+read_by_hand-returns-in-Variants-clause-gives = hands.read_by_hand-returns-in-Variants-clause-gives
+
+pub read_by_hand-returns-in-Variants-clause-looks : goal.read_by_hand-returns-in-Variants-clause-looks
+read_by_hand-returns-in-Variants-clause-looks = hands.read_by_hand-returns-in-Variants-clause-looks
+
 pub items::item-attributed_item-requires : goal.items::item-attributed_item-requires
 items::item-attributed_item-requires = items.items::item-attributed_item-requires
 
@@ -1908,17 +2032,20 @@ items::item-returns-in-PUB_KW-clause-gives = items.items::item-returns-in-PUB_KW
 pub items::item-returns-in_default-clause-gives : goal.items::item-returns-in_default-clause-gives
 items::item-returns-in_default-clause-gives = items.items::item-returns-in_default-clause-gives
 
-pub items::attributed_item-attribute-requires : goal.items::attributed_item-attribute-requires
-items::attributed_item-attribute-requires = items.items::attributed_item-attribute-requires
-
-pub items::attributed_item-attributes-requires : goal.items::attributed_item-attributes-requires
-items::attributed_item-attributes-requires = items.items::attributed_item-attributes-requires
+pub items::attributed_item-attributes_and_visibility-requires : goal.items::attributed_item-attributes_and_visibility-requires
+items::attributed_item-attributes_and_visibility-requires = items.items::attributed_item-attributes_and_visibility-requires
 
 pub items::attributed_item-body-requires : goal.items::attributed_item-body-requires
 items::attributed_item-body-requires = items.items::attributed_item-body-requires
 
 pub items::attributed_item-returns-clause-anew : goal.items::attributed_item-returns-clause-anew
 items::attributed_item-returns-clause-anew = items.items::attributed_item-returns-clause-anew
+
+pub items::attributes_and_visibility-attributes-requires : goal.items::attributes_and_visibility-attributes-requires
+items::attributes_and_visibility-attributes-requires = items.items::attributes_and_visibility-attributes-requires
+
+pub items::attributes_and_visibility-returns-clause-reads : goal.items::attributes_and_visibility-returns-clause-reads
+items::attributes_and_visibility-returns-clause-reads = items.items::attributes_and_visibility-returns-clause-reads
 
 pub items::visible_item-body-requires : goal.items::visible_item-body-requires
 items::visible_item-body-requires = items.items::visible_item-body-requires
@@ -2076,8 +2203,8 @@ items::opt_where_clause-returns-then-at-clause-reads = items.items::opt_where_cl
 pub items::opt_where_clause-returns-else-at-clause-reads : goal.items::opt_where_clause-returns-else-at-clause-reads
 items::opt_where_clause-returns-else-at-clause-reads = items.items::opt_where_clause-returns-else-at-clause-reads
 
-pub items::item_turn-returns-then-at_list_end-clause-ends : goal.items::item_turn-returns-then-at_list_end-clause-ends
-items::item_turn-returns-then-at_list_end-clause-ends = items.items::item_turn-returns-then-at_list_end-clause-ends
+pub items::item_turn-returns-then-at_end_of-clause-ends : goal.items::item_turn-returns-then-at_end_of-clause-ends
+items::item_turn-returns-then-at_end_of-clause-ends = items.items::item_turn-returns-then-at_end_of-clause-ends
 
 pub items::item_turn-attribute-requires : goal.items::item_turn-attribute-requires
 items::item_turn-attribute-requires = items.items::item_turn-attribute-requires
@@ -2108,6 +2235,60 @@ items::items-turns-preserved = items.items::items-turns-preserved
 
 pub items::items-returns-clause-reads : goal.items::items-returns-clause-reads
 items::items-returns-clause-reads = items.items::items-returns-clause-reads
+
+pub layers::layers-prefixed-requires : goal.layers::layers-prefixed-requires
+layers::layers-prefixed-requires = layers.layers::layers-prefixed-requires
+
+pub layers::layers-climb-frame-requires : goal.layers::layers-climb-frame-requires
+layers::layers-climb-frame-requires = layers.layers::layers-climb-frame-requires
+
+pub layers::layers-returns-clause-gives : goal.layers::layers-returns-clause-gives
+layers::layers-returns-clause-gives = layers.layers::layers-returns-clause-gives
+
+pub layers::turn-expect_type-requires : goal.layers::turn-expect_type-requires
+layers::turn-expect_type-requires = layers.layers::turn-expect_type-requires
+
+pub layers::turn-expect_layer-requires : goal.layers::turn-expect_layer-requires
+layers::turn-expect_layer-requires = layers.layers::turn-expect_layer-requires
+
+pub layers::turn-wrap-requires : goal.layers::turn-wrap-requires
+layers::turn-wrap-requires = layers.layers::turn-wrap-requires
+
+pub layers::turn-wrap-requires-2 : goal.layers::turn-wrap-requires-2
+layers::turn-wrap-requires-2 = layers.layers::turn-wrap-requires-2
+
+pub layers::expect_layer-layers-requires : goal.layers::expect_layer-layers-requires
+layers::expect_layer-layers-requires = layers.layers::expect_layer-layers-requires
+
+pub layers::expect_layer-returns-then-at_operand-clause-reads : goal.layers::expect_layer-returns-then-at_operand-clause-reads
+layers::expect_layer-returns-then-at_operand-clause-reads = layers.layers::expect_layer-returns-then-at_operand-clause-reads
+
+pub layers::expect_layer-returns-clause-reads : goal.layers::expect_layer-returns-clause-reads
+layers::expect_layer-returns-clause-reads = layers.layers::expect_layer-returns-clause-reads
+
+pub layers::climb-turns-init : goal.layers::climb-turns-init
+layers::climb-turns-init = layers.layers::climb-turns-init
+
+pub layers::climb-turns-preserved : goal.layers::climb-turns-preserved
+layers::climb-turns-preserved = layers.layers::climb-turns-preserved
+
+pub layers::climb-returns-after-turns-clause-reads : goal.layers::climb-returns-after-turns-clause-reads
+layers::climb-returns-after-turns-clause-reads = layers.layers::climb-returns-after-turns-clause-reads
+
+pub layers::climb-returns-after-turns-clause-looks : goal.layers::climb-returns-after-turns-clause-looks
+layers::climb-returns-after-turns-clause-looks = layers.layers::climb-returns-after-turns-clause-looks
+
+pub layers::climb-returns-else-next-top-clause-reads : goal.layers::climb-returns-else-next-top-clause-reads
+layers::climb-returns-else-next-top-clause-reads = layers.layers::climb-returns-else-next-top-clause-reads
+
+pub layers::climb-returns-else-next-top-clause-looks : goal.layers::climb-returns-else-next-top-clause-looks
+layers::climb-returns-else-next-top-clause-looks = layers.layers::climb-returns-else-next-top-clause-looks
+
+pub layers::turn-returns-then-operator-eq1-clause-reads : goal.layers::turn-returns-then-operator-eq1-clause-reads
+layers::turn-returns-then-operator-eq1-clause-reads = layers.layers::turn-returns-then-operator-eq1-clause-reads
+
+pub layers::turn-returns-clause-reads : goal.layers::turn-returns-clause-reads
+layers::turn-returns-clause-reads = layers.layers::turn-returns-clause-reads
 
 pub lists::turn-returns-then-at_list_end-clause-ends : goal.lists::turn-returns-then-at_list_end-clause-ends
 lists::turn-returns-then-at_list_end-clause-ends = lists.lists::turn-returns-then-at_list_end-clause-ends
@@ -2160,17 +2341,11 @@ lists::turn-returns-clause-looks = lists.lists::turn-returns-clause-looks
 pub lists::read_element-closure_param-requires : goal.lists::read_element-closure_param-requires
 lists::read_element-closure_param-requires = lists.lists::read_element-closure_param-requires
 
-pub lists::read_element-read_anew-requires : goal.lists::read_element-read_anew-requires
-lists::read_element-read_anew-requires = lists.lists::read_element-read_anew-requires
+pub lists::read_element-expression-requires : goal.lists::read_element-expression-requires
+lists::read_element-expression-requires = lists.lists::read_element-expression-requires
 
 pub lists::read_element-returns-in-Expression-clause-reads : goal.lists::read_element-returns-in-Expression-clause-reads
 lists::read_element-returns-in-Expression-clause-reads = lists.lists::read_element-returns-in-Expression-clause-reads
-
-pub lists::read_element-returns-in-Expression-clause-pays : goal.lists::read_element-returns-in-Expression-clause-pays
-lists::read_element-returns-in-Expression-clause-pays = lists.lists::read_element-returns-in-Expression-clause-pays
-
-pub lists::read_element-returns-in-Expression-clause-looks : goal.lists::read_element-returns-in-Expression-clause-looks
-lists::read_element-returns-in-Expression-clause-looks = lists.lists::read_element-returns-in-Expression-clause-looks
 
 pub lists::read_element-field_value-requires : goal.lists::read_element-field_value-requires
 lists::read_element-field_value-requires = lists.lists::read_element-field_value-requires
@@ -2267,6 +2442,51 @@ lists::pattern_fields-complete-requires = lists.lists::pattern_fields-complete-r
 
 pub lists::pattern_fields-returns-clause-gives : goal.lists::pattern_fields-returns-clause-gives
 lists::pattern_fields-returns-clause-gives = lists.lists::pattern_fields-returns-clause-gives
+
+pub lists::read_element-record_field-requires : goal.lists::read_element-record_field-requires
+lists::read_element-record_field-requires = lists.lists::read_element-record_field-requires
+
+pub lists::read_element-returns-in-RecordField-clause-reads : goal.lists::read_element-returns-in-RecordField-clause-reads
+lists::read_element-returns-in-RecordField-clause-reads = lists.lists::read_element-returns-in-RecordField-clause-reads
+
+pub lists::read_element-tuple_field-requires : goal.lists::read_element-tuple_field-requires
+lists::read_element-tuple_field-requires = lists.lists::read_element-tuple_field-requires
+
+pub lists::read_element-returns-in-TupleField-clause-reads : goal.lists::read_element-returns-in-TupleField-clause-reads
+lists::read_element-returns-in-TupleField-clause-reads = lists.lists::read_element-returns-in-TupleField-clause-reads
+
+pub lists::read_element-variant-requires : goal.lists::read_element-variant-requires
+lists::read_element-variant-requires = lists.lists::read_element-variant-requires
+
+pub lists::read_element-returns-in-Variant-clause-reads : goal.lists::read_element-returns-in-Variant-clause-reads
+lists::read_element-returns-in-Variant-clause-reads = lists.lists::read_element-returns-in-Variant-clause-reads
+
+pub lists::variants-rest_of_list-requires : goal.lists::variants-rest_of_list-requires
+lists::variants-rest_of_list-requires = lists.lists::variants-rest_of_list-requires
+
+pub lists::variants-complete-requires : goal.lists::variants-complete-requires
+lists::variants-complete-requires = lists.lists::variants-complete-requires
+
+pub lists::variants-returns-clause-gives : goal.lists::variants-returns-clause-gives
+lists::variants-returns-clause-gives = lists.lists::variants-returns-clause-gives
+
+pub lists::record_fields-rest_of_list-requires : goal.lists::record_fields-rest_of_list-requires
+lists::record_fields-rest_of_list-requires = lists.lists::record_fields-rest_of_list-requires
+
+pub lists::record_fields-complete-requires : goal.lists::record_fields-complete-requires
+lists::record_fields-complete-requires = lists.lists::record_fields-complete-requires
+
+pub lists::record_fields-returns-clause-gives : goal.lists::record_fields-returns-clause-gives
+lists::record_fields-returns-clause-gives = lists.lists::record_fields-returns-clause-gives
+
+pub lists::tuple_fields-rest_of_list-requires : goal.lists::tuple_fields-rest_of_list-requires
+lists::tuple_fields-rest_of_list-requires = lists.lists::tuple_fields-rest_of_list-requires
+
+pub lists::tuple_fields-complete-requires : goal.lists::tuple_fields-complete-requires
+lists::tuple_fields-complete-requires = lists.lists::tuple_fields-complete-requires
+
+pub lists::tuple_fields-returns-clause-gives : goal.lists::tuple_fields-returns-clause-gives
+lists::tuple_fields-returns-clause-gives = lists.lists::tuple_fields-returns-clause-gives
 
 pub read-returns-in-Nothing-clause-looks : goal.read-returns-in-Nothing-clause-looks
 read-returns-in-Nothing-clause-looks = looks.read-returns-in-Nothing-clause-looks
@@ -2384,6 +2604,87 @@ match_arm::arm_value-expect_expression-requires = match_arm.match_arm::arm_value
 
 pub match_arm::arm_value-returns-clause-reads : goal.match_arm::arm_value-returns-clause-reads
 match_arm::arm_value-returns-clause-reads = match_arm.match_arm::arm_value-returns-clause-reads
+
+pub members::variant-named-requires : goal.members::variant-named-requires
+members::variant-named-requires = members.members::variant-named-requires
+
+pub members::variant-opt_fields-requires : goal.members::variant-opt_fields-requires
+members::variant-opt_fields-requires = members.members::variant-opt_fields-requires
+
+pub members::variant-complete-requires : goal.members::variant-complete-requires
+members::variant-complete-requires = members.members::variant-complete-requires
+
+pub members::variant-returns-clause-reads : goal.members::variant-returns-clause-reads
+members::variant-returns-clause-reads = members.members::variant-returns-clause-reads
+
+pub members::record_field-named-requires : goal.members::record_field-named-requires
+members::record_field-named-requires = members.members::record_field-named-requires
+
+pub members::record_field-expect_type-requires : goal.members::record_field-expect_type-requires
+members::record_field-expect_type-requires = members.members::record_field-expect_type-requires
+
+pub members::record_field-complete-requires : goal.members::record_field-complete-requires
+members::record_field-complete-requires = members.members::record_field-complete-requires
+
+pub members::record_field-returns-clause-reads : goal.members::record_field-returns-clause-reads
+members::record_field-returns-clause-reads = members.members::record_field-returns-clause-reads
+
+pub members::tuple_field-typed-requires : goal.members::tuple_field-typed-requires
+members::tuple_field-typed-requires = members.members::tuple_field-typed-requires
+
+pub members::tuple_field-complete-requires : goal.members::tuple_field-complete-requires
+members::tuple_field-complete-requires = members.members::tuple_field-complete-requires
+
+pub members::tuple_field-returns-clause-reads : goal.members::tuple_field-returns-clause-reads
+members::tuple_field-returns-clause-reads = members.members::tuple_field-returns-clause-reads
+
+pub members::named-attributes_and_visibility-requires : goal.members::named-attributes_and_visibility-requires
+members::named-attributes_and_visibility-requires = members.members::named-attributes_and_visibility-requires
+
+pub members::named-returns-in-POUND-clause-reads : goal.members::named-returns-in-POUND-clause-reads
+members::named-returns-in-POUND-clause-reads = members.members::named-returns-in-POUND-clause-reads
+
+pub members::named-returns-in-PUB_KW-clause-reads : goal.members::named-returns-in-PUB_KW-clause-reads
+members::named-returns-in-PUB_KW-clause-reads = members.members::named-returns-in-PUB_KW-clause-reads
+
+pub members::named-returns-in_default-clause-reads : goal.members::named-returns-in_default-clause-reads
+members::named-returns-in_default-clause-reads = members.members::named-returns-in_default-clause-reads
+
+pub members::typed-attributes_and_visibility-requires : goal.members::typed-attributes_and_visibility-requires
+members::typed-attributes_and_visibility-requires = members.members::typed-attributes_and_visibility-requires
+
+pub members::typed-expect_type-requires : goal.members::typed-expect_type-requires
+members::typed-expect_type-requires = members.members::typed-expect_type-requires
+
+pub members::typed-expect_type-requires-in-PUB_KW : goal.members::typed-expect_type-requires-in-PUB_KW
+members::typed-expect_type-requires-in-PUB_KW = members.members::typed-expect_type-requires-in-PUB_KW
+
+pub members::typed-returns-in-POUND-clause-reads : goal.members::typed-returns-in-POUND-clause-reads
+members::typed-returns-in-POUND-clause-reads = members.members::typed-returns-in-POUND-clause-reads
+
+pub members::typed-returns-in-PUB_KW-clause-reads : goal.members::typed-returns-in-PUB_KW-clause-reads
+members::typed-returns-in-PUB_KW-clause-reads = members.members::typed-returns-in-PUB_KW-clause-reads
+
+pub members::typed-any_type-requires : goal.members::typed-any_type-requires
+members::typed-any_type-requires = members.members::typed-any_type-requires
+
+pub members::typed-returns-in_default-clause-reads : goal.members::typed-returns-in_default-clause-reads
+members::typed-returns-in_default-clause-reads = members.members::typed-returns-in_default-clause-reads
+
+pub members::opt_fields-record_fields-requires : goal.members::opt_fields-record_fields-requires
+members::opt_fields-record_fields-requires = members.members::opt_fields-record_fields-requires
+
+pub members::opt_fields-returns-in-L_CURLY-clause-reads : goal.members::opt_fields-returns-in-L_CURLY-clause-reads
+members::opt_fields-returns-in-L_CURLY-clause-reads = members.members::opt_fields-returns-in-L_CURLY-clause-reads
+
+pub members::opt_fields-tuple_fields-requires : goal.members::opt_fields-tuple_fields-requires
+members::opt_fields-tuple_fields-requires = members.members::opt_fields-tuple_fields-requires
+
+pub members::opt_fields-returns-in-L_PAREN-clause-reads : goal.members::opt_fields-returns-in-L_PAREN-clause-reads
+members::opt_fields-returns-in-L_PAREN-clause-reads = members.members::opt_fields-returns-in-L_PAREN-clause-reads
+
+pub members::opt_fields-returns-in_default-clause-reads : goal.members::opt_fields-returns-in_default-clause-reads
+members::opt_fields-returns-in_default-clause-reads = members.members::opt_fields-returns-in_default-clause-reads
 
 pub operands::prefixed-prefix_expr-requires : goal.operands::prefixed-prefix_expr-requires
 operands::prefixed-prefix_expr-requires = operands.operands::prefixed-prefix_expr-requires
@@ -3060,23 +3361,11 @@ statements::expression_statement-returns-then-at_block_like-clause-anew = statem
 pub statements::expression_statement-ended_expression-requires : goal.statements::expression_statement-ended_expression-requires
 statements::expression_statement-ended_expression-requires = statements.statements::expression_statement-ended_expression-requires
 
-pub statements::expression_statement-returns-then-at_production-clause-anew : goal.statements::expression_statement-returns-then-at_production-clause-anew
-statements::expression_statement-returns-then-at_production-clause-anew = statements.statements::expression_statement-returns-then-at_production-clause-anew
-
-pub statements::expression_statement-returns-then-at_production-clause-pays : goal.statements::expression_statement-returns-then-at_production-clause-pays
-statements::expression_statement-returns-then-at_production-clause-pays = statements.statements::expression_statement-returns-then-at_production-clause-pays
-
-pub statements::expression_statement-returns-then-at_production-clause-looks : goal.statements::expression_statement-returns-then-at_production-clause-looks
-statements::expression_statement-returns-then-at_production-clause-looks = statements.statements::expression_statement-returns-then-at_production-clause-looks
+pub statements::expression_statement-returns-then-at_expression-clause-anew : goal.statements::expression_statement-returns-then-at_expression-clause-anew
+statements::expression_statement-returns-then-at_expression-clause-anew = statements.statements::expression_statement-returns-then-at_expression-clause-anew
 
 pub statements::expression_statement-returns-clause-anew : goal.statements::expression_statement-returns-clause-anew
 statements::expression_statement-returns-clause-anew = statements.statements::expression_statement-returns-clause-anew
-
-pub statements::expression_statement-returns-clause-pays : goal.statements::expression_statement-returns-clause-pays
-statements::expression_statement-returns-clause-pays = statements.statements::expression_statement-returns-clause-pays
-
-pub statements::expression_statement-returns-clause-looks : goal.statements::expression_statement-returns-clause-looks
-statements::expression_statement-returns-clause-looks = statements.statements::expression_statement-returns-clause-looks
 
 pub statements::block_statement-block_like-requires : goal.statements::block_statement-block_like-requires
 statements::block_statement-block_like-requires = statements.statements::block_statement-block_like-requires
@@ -3102,11 +3391,11 @@ statements::after_block-wrap-requires = statements.statements::after_block-wrap-
 pub statements::after_block-returns-then-at-clause-reads : goal.statements::after_block-returns-then-at-clause-reads
 statements::after_block-returns-then-at-clause-reads = statements.statements::after_block-returns-then-at-clause-reads
 
-pub statements::after_block-returns-then-at_list_end-clause-marker : goal.statements::after_block-returns-then-at_list_end-clause-marker
-statements::after_block-returns-then-at_list_end-clause-marker = statements.statements::after_block-returns-then-at_list_end-clause-marker
+pub statements::after_block-returns-then-at_end_of-clause-marker : goal.statements::after_block-returns-then-at_end_of-clause-marker
+statements::after_block-returns-then-at_end_of-clause-marker = statements.statements::after_block-returns-then-at_end_of-clause-marker
 
-pub statements::after_block-returns-then-at_list_end-clause-reads : goal.statements::after_block-returns-then-at_list_end-clause-reads
-statements::after_block-returns-then-at_list_end-clause-reads = statements.statements::after_block-returns-then-at_list_end-clause-reads
+pub statements::after_block-returns-then-at_end_of-clause-reads : goal.statements::after_block-returns-then-at_end_of-clause-reads
+statements::after_block-returns-then-at_end_of-clause-reads = statements.statements::after_block-returns-then-at_end_of-clause-reads
 
 pub statements::after_block-wrap-requires-2 : goal.statements::after_block-wrap-requires-2
 statements::after_block-wrap-requires-2 = statements.statements::after_block-wrap-requires-2
@@ -3114,20 +3403,14 @@ statements::after_block-wrap-requires-2 = statements.statements::after_block-wra
 pub statements::after_block-returns-clause-reads : goal.statements::after_block-returns-clause-reads
 statements::after_block-returns-clause-reads = statements.statements::after_block-returns-clause-reads
 
-pub statements::ended_expression-read_anew-requires : goal.statements::ended_expression-read_anew-requires
-statements::ended_expression-read_anew-requires = statements.statements::ended_expression-read_anew-requires
+pub statements::ended_expression-expression-requires : goal.statements::ended_expression-expression-requires
+statements::ended_expression-expression-requires = statements.statements::ended_expression-expression-requires
 
 pub statements::ended_expression-statement_end-frame-requires : goal.statements::ended_expression-statement_end-frame-requires
 statements::ended_expression-statement_end-frame-requires = statements.statements::ended_expression-statement_end-frame-requires
 
 pub statements::ended_expression-returns-clause-anew : goal.statements::ended_expression-returns-clause-anew
 statements::ended_expression-returns-clause-anew = statements.statements::ended_expression-returns-clause-anew
-
-pub statements::ended_expression-returns-clause-pays : goal.statements::ended_expression-returns-clause-pays
-statements::ended_expression-returns-clause-pays = statements.statements::ended_expression-returns-clause-pays
-
-pub statements::ended_expression-returns-clause-looks : goal.statements::ended_expression-returns-clause-looks
-statements::ended_expression-returns-clause-looks = statements.statements::ended_expression-returns-clause-looks
 
 pub traits::impl_item-unsafe_word-requires : goal.traits::impl_item-unsafe_word-requires
 traits::impl_item-unsafe_word-requires = traits.traits::impl_item-unsafe_word-requires

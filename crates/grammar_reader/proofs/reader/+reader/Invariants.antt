@@ -4,8 +4,11 @@ use Rattle.parser_events.specs.Stack.{IsInnermost}
 use Rattle.grammar_table.specs.Data.{plain}
 use Rattle.rust_productions.specs.Stands.{left}
 use Rattle.rust_productions.specs.Looks.{tokens, spent}
-use Rattle.rust_productions.specs.Turns.{TurnsFrom}
-use Rattle.grammar_reader.specs.ByHand.{args_of, element_of, list_turn}
+use Rattle.rust_productions.specs.Layers.{turns_from}
+use Rattle.rust_productions.specs.Operators.{IsMark, IsNext}
+use Rattle.rust_productions.specs.Turns.{GoesFrom, TurnsFrom}
+use Rattle.rust_productions.proofs.Powers.{LayersFrom}
+use Rattle.grammar_reader.specs.ByHand.{args_of, element_of, ends_of, item_or_attribute, list_turn, listing_of}
 use Rattle.parser_input.specs.Kind.{raw_of}
 use Rattle.parser_input.specs.Kinds.{PATH, PATH_SEGMENT}
 use Rattle.parser_events.specs.Forest.{ExpectedMatchArm}
@@ -126,7 +129,7 @@ abbrev pub invariant-blocks::statements-turns : goal.invariant-blocks::statement
 invariant-blocks::statements-turns l = record {
   input : l.p.input ≡ l.initial.p.input;
   innermost : (n : ℕ) → IsInnermost n l.initial.p.nodes → IsInnermost n l.p.nodes;
-  goes : TurnsFrom false (Unless (until 'r_curly') (Call rules.statement)) l.initial.p l.p;
+  goes : TurnsFrom false (Unless (ends_of l.end) (Call (listing_of l.end).one)) l.initial.p l.p;
   left : tokens l.p ≤ tokens l.initial.p;
   looks : spent l.p ≤ spent l.initial.p;
 }
@@ -408,7 +411,7 @@ abbrev pub decreases-closures::closure_param : goal.decreases-closures::closure_
 decreases-closures::closure_param l = 524288 * tokens l.p.now + 40
 
 abbrev pub decreases-expressions::expect_expression : goal.decreases-expressions::expect_expression
-decreases-expressions::expect_expression l = 524288 * tokens l.p.now + 344065
+decreases-expressions::expect_expression l = 524288 * tokens l.p.now + 40
 
 abbrev pub decreases-expressions::expect_condition : goal.decreases-expressions::expect_condition
 decreases-expressions::expect_condition l = 524288 * tokens l.p.now + 344068
@@ -529,16 +532,16 @@ abbrev pub decreases-adt::struct_item : goal.decreases-adt::struct_item
 decreases-adt::struct_item l = 524288 * tokens l.p.now
 
 abbrev pub decreases-adt::fields : goal.decreases-adt::fields
-decreases-adt::fields l = 524288 * tokens l.p.now + 344066
+decreases-adt::fields l = 524288 * tokens l.p.now + 2
 
-abbrev pub decreases-adt::record_fields : goal.decreases-adt::record_fields
-decreases-adt::record_fields l = 524288 * tokens l.p.now + 344065
+abbrev pub decreases-adt::named_fields : goal.decreases-adt::named_fields
+decreases-adt::named_fields l = 524288 * tokens l.p.now + 1
 
 abbrev pub decreases-adt::enum_item : goal.decreases-adt::enum_item
 decreases-adt::enum_item l = 524288 * tokens l.p.now
 
 abbrev pub decreases-adt::expect_variants : goal.decreases-adt::expect_variants
-decreases-adt::expect_variants l = 524288 * tokens l.p.now + 344065
+decreases-adt::expect_variants l = 524288 * tokens l.p.now + 1
 
 abbrev pub decreases-consts::const_item : goal.decreases-consts::const_item
 decreases-consts::const_item l = 524288 * tokens l.p.now
@@ -595,7 +598,7 @@ abbrev pub invariant-items::items-turns : goal.invariant-items::items-turns
 invariant-items::items-turns l = record {
   input : l.p.input ≡ l.initial.p.input;
   innermost : (n : ℕ) → IsInnermost n l.initial.p.nodes → IsInnermost n l.p.nodes;
-  goes : TurnsFrom false (Unless (until 'r_curly') (When ('#' before '!') Attribute or Item)) l.initial.p l.p;
+  goes : TurnsFrom false (Unless (ends_of l.end) item_or_attribute) l.initial.p l.p;
   left : tokens l.p ≤ tokens l.initial.p;
   looks : spent l.p ≤ spent l.initial.p;
 }
@@ -745,3 +748,102 @@ invariant-generics::further_preds-turns l = record {
 
 abbrev pub decreases-generics::further_preds-turns : goal.decreases-generics::further_preds-turns
 decreases-generics::further_preds-turns l = tokens l.p
+
+-- operations by hand
+abbrev pub decreases-layers::layers : goal.decreases-layers::layers
+decreases-layers::layers l = 524288 * tokens l.p.now + 34
+
+abbrev pub decreases-layers::expect_layer : goal.decreases-layers::expect_layer
+decreases-layers::expect_layer l = 524288 * tokens l.p.now + 35
+
+abbrev pub decreases-layers::climb : goal.decreases-layers::climb
+decreases-layers::climb l = 524288 * tokens l.p.now + 1
+
+abbrev pub decreases-layers::turn : goal.decreases-layers::turn
+decreases-layers::turn l = 524288 * tokens l.p.now + 0
+
+abbrev pub decreases-expressions::expect_any : goal.decreases-expressions::expect_any
+decreases-expressions::expect_any l = 524288 * tokens l.p.now + 39
+
+abbrev pub decreases-expressions::expect_operation : goal.decreases-expressions::expect_operation
+decreases-expressions::expect_operation l = 524288 * tokens l.p.now + 38
+
+abbrev pub decreases-expressions::expression : goal.decreases-expressions::expression
+decreases-expressions::expression l = 524288 * tokens l.p.now + 38
+
+abbrev pub decreases-expressions::operation : goal.decreases-expressions::operation
+decreases-expressions::operation l = 524288 * tokens l.p.now + 37
+
+abbrev pub decreases-expressions::operands : goal.decreases-expressions::operands
+decreases-expressions::operands l = 524288 * tokens l.p.now + 36
+
+abbrev pub decreases-expressions::range : goal.decreases-expressions::range
+decreases-expressions::range l = 524288 * tokens l.p.now + 3
+
+abbrev pub decreases-expressions::operation_tail : goal.decreases-expressions::operation_tail
+decreases-expressions::operation_tail l = 524288 * tokens l.p.now + 2
+
+abbrev pub decreases-expressions::range_end : goal.decreases-expressions::range_end
+decreases-expressions::range_end l = 524288 * tokens l.p.now + 0
+
+abbrev pub decreases-expressions::assignment : goal.decreases-expressions::assignment
+decreases-expressions::assignment l = 524288 * tokens l.p.now + 0
+
+abbrev pub invariant-layers::climb-turns : goal.invariant-layers::climb-turns
+invariant-layers::climb-turns l = record {
+  input : l.p.input ≡ l.initial.p.input;
+  marker : IsInnermost l.frame l.p.nodes;
+  next : IsNext l.next l.p;
+  goes : LayersFrom l.condition (turns_from l.top 1) (turns_from (l.top + 1 - l.lowest) l.lowest) l.initial.p l.p;
+  some : 1 ≤ l.lowest;
+  low : l.lowest ≤ l.top + 1;
+  left : tokens l.p ≤ tokens l.initial.p;
+  looks : spent l.p ≤ spent l.initial.p;
+}
+
+abbrev pub decreases-layers::climb-turns : goal.decreases-layers::climb-turns
+decreases-layers::climb-turns l = tokens l.p
+
+abbrev pub invariant-expressions::operation_tail-ranges-2 : goal.invariant-expressions::operation_tail-ranges-2
+invariant-expressions::operation_tail-ranges-2 l = record {
+  input : l.p.input ≡ l.initial.p.input;
+  marker : IsInnermost l.frame l.p.nodes;
+  mark : IsMark l.mark l.p;
+  goes : GoesFrom rules.operation_tail l.condition l.initial.p l.p;
+  left : tokens l.p ≤ tokens l.initial.p;
+  looks : spent l.p ≤ spent l.initial.p;
+}
+
+abbrev pub decreases-expressions::operation_tail-ranges-2 : goal.decreases-expressions::operation_tail-ranges-2
+decreases-expressions::operation_tail-ranges-2 l = tokens l.p
+
+-- variants and fields by hand
+abbrev pub decreases-lists::variants : goal.decreases-lists::variants
+decreases-lists::variants l = 524288 * tokens l.p.now
+
+abbrev pub decreases-lists::record_fields : goal.decreases-lists::record_fields
+decreases-lists::record_fields l = 524288 * tokens l.p.now
+
+abbrev pub decreases-lists::tuple_fields : goal.decreases-lists::tuple_fields
+decreases-lists::tuple_fields l = 524288 * tokens l.p.now
+
+abbrev pub decreases-items::attributes_and_visibility : goal.decreases-items::attributes_and_visibility
+decreases-items::attributes_and_visibility l = 524288 * tokens l.p.now + 1
+
+abbrev pub decreases-members::named : goal.decreases-members::named
+decreases-members::named l = 524288 * tokens l.p.now + 2
+
+abbrev pub decreases-members::typed : goal.decreases-members::typed
+decreases-members::typed l = 524288 * tokens l.p.now + 20
+
+abbrev pub decreases-members::opt_fields : goal.decreases-members::opt_fields
+decreases-members::opt_fields l = 524288 * tokens l.p.now + 1
+
+abbrev pub decreases-members::variant : goal.decreases-members::variant
+decreases-members::variant l = 524288 * tokens l.p.now + 3
+
+abbrev pub decreases-members::record_field : goal.decreases-members::record_field
+decreases-members::record_field l = 524288 * tokens l.p.now + 3
+
+abbrev pub decreases-members::tuple_field : goal.decreases-members::tuple_field
+decreases-members::tuple_field l = 524288 * tokens l.p.now + 21

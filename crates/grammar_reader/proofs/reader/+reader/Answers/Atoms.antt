@@ -27,6 +27,7 @@ use Rattle.rust_productions.proofs.Facts.{begun, nothing, saw-so, ◌and◌}
 use Rattle.rust_productions.proofs.Looking.{saw-arm, saw-not}
 use Rattle.rust_productions.proofs.Seen.{begins-else, ends-at-end, saw-after, saw-always, saw-before, saw-condition, saw-else, saw-inside, saw-left, saw-right, saw-taken, starts-here}
 use Rattle.rust_productions.proofs.Turns.{first-turn, idle-turn, last-turn, next-turn}
+use Rattle.rust_productions.proofs.Ranges.{begins-call}
 use Rattle.grammar_reader.proofs.reader.+reader.Goals as goal
 
 pub atoms::atom-inside-frame-requires : goal.atoms::atom-inside-frame-requires
@@ -247,26 +248,19 @@ atoms::array_expr-complete-requires t c = (c.array_elements.ensures.reads true).
 pub atoms::array_expr-returns-clause-reads : goal.atoms::array_expr-returns-clause-reads
 atoms::array_expr-returns-clause-reads t c = λ cond. reads-node cond c.start-node.ensures.opens (reads-then cond (c.take.ensures.reads cond) (c.array_elements.ensures.reads cond)) c.complete.ensures.closes
 
-pub atoms::array_elements-read_anew-requires : goal.atoms::array_elements-read_anew-requires
-atoms::array_elements-read_anew-requires t c = (omega arith, (short-still _ _ c.at_production.ensures.same.input c.requires.short, can-begin _ (saw-after c.at_production.ensures.same (saw-so c.at_production.ensures.sees c.if-at_production.true))))
+pub atoms::array_elements-expression-requires : goal.atoms::array_elements-expression-requires
+atoms::array_elements-expression-requires t c = (omega arith, (short-still _ _ (c.at_expression.ensures.same.input) c.requires.short, (saw-after c.at_expression.ensures.same (saw-so c.at_expression.ensures.sees c.if-at_expression.true), omega (arith, c.at_expression.ensures.some c.if-at_expression.true, c.at_expression.ensures.left))))
 
 pub atoms::array_elements-after_element-requires : goal.atoms::array_elements-after_element-requires
-atoms::array_elements-after_element-requires t c = (omega arith, short-still _ _ (c.read_anew.ensures.gives.does.input ∙ c.at_production.ensures.same.input) c.requires.short)
+atoms::array_elements-after_element-requires t c = (omega arith, short-still _ _ (c.expression.ensures.gives.does.input ∙ c.at_expression.ensures.same.input) c.requires.short)
 
-pub atoms::array_elements-returns-then-at_production-clause-reads : goal.atoms::array_elements-returns-then-at_production-clause-reads
+pub atoms::array_elements-returns-then-at_expression-clause-reads : goal.atoms::array_elements-returns-then-at_expression-clause-reads
 unfolding look_of begins_below whole rule items statements expressions patterns types paths there_at shift passes is_silent begins in_mode anew row one_of any_of no_longer longest is_longer
-atoms::array_elements-returns-then-at_production-clause-reads t c = λ cond. reads-or cond (saw-mode (saw-so c.at_production.ensures.sees c.if-at_production.true)) (after-look cond c.at_production.ensures.same (reads-then cond (reads-mode cond (reads-call false c.read_anew.ensures.gives)) (c.after_element.ensures.reads cond)))
+atoms::array_elements-returns-then-at_expression-clause-reads t c = λ cond. reads-or cond (saw-mode (begins-call rules.expression (saw-so c.at_expression.ensures.sees c.if-at_expression.true))) (after-look cond c.at_expression.ensures.same (reads-then cond (reads-mode cond (reads-call false c.expression.ensures.gives)) (c.after_element.ensures.reads cond)))
 
 pub atoms::array_elements-returns-clause-reads : goal.atoms::array_elements-returns-clause-reads
 unfolding look_of begins_below whole rule items statements expressions patterns types paths there_at shift passes is_silent begins in_mode anew row one_of any_of no_longer longest is_longer
-atoms::array_elements-returns-clause-reads t c = λ cond. reads-else cond (saw-mode (saw-so c.at_production.ensures.sees c.if-at_production.false)) (after-look cond c.at_production.ensures.same (c.expect.ensures.reads cond))
-
-pub atoms::array_elements-returns-then-at_production-clause-looks : goal.atoms::array_elements-returns-then-at_production-clause-looks
-unfolding most idle_of debt_of surely_takes rank
-atoms::array_elements-returns-then-at_production-clause-looks t c = omega (arith, c.after_element.ensures.looks, read-cost 600 rules.expression refl refl c.read_anew.ensures.looks, c.at_production.ensures.looks, expression-begins)
-
-pub atoms::array_elements-returns-clause-looks : goal.atoms::array_elements-returns-clause-looks
-atoms::array_elements-returns-clause-looks t c = omega (arith, c.expect.ensures.looks, c.at_production.ensures.looks, expression-begins)
+atoms::array_elements-returns-clause-reads t c = λ cond. reads-else cond (saw-mode (begins-call rules.expression (saw-so c.at_expression.ensures.sees c.if-at_expression.false))) (after-look cond c.at_expression.ensures.same (c.expect.ensures.reads cond))
 
 pub atoms::after_element-expect_expression-requires : goal.atoms::after_element-expect_expression-requires
 atoms::after_element-expect_expression-requires t c = (omega arith, short-still _ _ ((c.take.ensures.reads true).does.input ∙ c.at.ensures.same.input) c.requires.short)
@@ -295,27 +289,20 @@ atoms::value_expr-complete-requires t c = c.opt_value.ensures.reads.does.innermo
 pub atoms::value_expr-returns-clause-reads : goal.atoms::value_expr-returns-clause-reads
 atoms::value_expr-returns-clause-reads t c = reads-node _ c.start-node.ensures.opens (reads-then _ (c.take.ensures.reads c.args.condition) c.opt_value.ensures.reads) c.complete.ensures.closes
 
-pub atoms::opt_value-read_anew-requires : goal.atoms::opt_value-read_anew-requires
-atoms::opt_value-read_anew-requires t c = (omega arith, (short-still _ _ (c.at_production.ensures.same.input ∙ c.at_body.ensures.same.input) c.requires.short, can-begin _ (saw-after c.at_production.ensures.same (saw-so c.at_production.ensures.sees c.if-at_production.true))))
+pub atoms::opt_value-operation-requires : goal.atoms::opt_value-operation-requires
+atoms::opt_value-operation-requires t c = (omega arith, (short-still _ _ (c.at_operation.ensures.same.input ∙ c.at_body.ensures.same.input) c.requires.short, (saw-after c.at_operation.ensures.same (saw-so c.at_operation.ensures.sees c.if-at_operation.true), omega (arith, c.at_operation.ensures.some c.if-at_operation.true, c.at_operation.ensures.left))))
 
 pub atoms::opt_value-returns-then-at_body-clause-reads : goal.atoms::opt_value-returns-then-at_body-clause-reads
 unfolding look_of begins_below whole rule items statements expressions patterns types paths there_at shift passes is_silent begins in_mode anew row one_of any_of no_longer longest is_longer
 atoms::opt_value-returns-then-at_body-clause-reads t c = reads-here (saw-so c.at_body.ensures.sees c.if-at_body.true and nothing) (reads-nothing _ c.at_body.ensures.same)
 
-pub atoms::opt_value-returns-then-at_production-clause-reads : goal.atoms::opt_value-returns-then-at_production-clause-reads
+pub atoms::opt_value-returns-then-at_operation-clause-reads : goal.atoms::opt_value-returns-then-at_operation-clause-reads
 unfolding look_of begins_below whole rule items statements expressions patterns types paths there_at shift passes is_silent begins in_mode anew row one_of any_of no_longer longest is_longer
-atoms::opt_value-returns-then-at_production-clause-reads t c = reads-here (saw-so c.at_body.ensures.sees c.if-at_body.false and begun-anew rules.operation (saw-before c.at_body.ensures.same (saw-so c.at_production.ensures.sees c.if-at_production.true)) nothing) (after-look _ c.at_body.ensures.same (after-look _ c.at_production.ensures.same (reads-call _ c.read_anew.ensures.gives)))
+atoms::opt_value-returns-then-at_operation-clause-reads t c = reads-here (saw-so c.at_body.ensures.sees c.if-at_body.false and begun rules.operation (saw-before c.at_body.ensures.same (saw-so c.at_operation.ensures.sees c.if-at_operation.true)) nothing) (after-look _ c.at_body.ensures.same (after-look _ c.at_operation.ensures.same (reads-call _ c.operation.ensures.gives)))
 
-pub atoms::opt_value-returns-else-at_production-clause-reads : goal.atoms::opt_value-returns-else-at_production-clause-reads
+pub atoms::opt_value-returns-else-at_operation-clause-reads : goal.atoms::opt_value-returns-else-at_operation-clause-reads
 unfolding look_of begins_below whole rule items statements expressions patterns types paths there_at shift passes is_silent begins in_mode anew row one_of any_of no_longer longest is_longer
-atoms::opt_value-returns-else-at_production-clause-reads t c = reads-here (saw-so c.at_body.ensures.sees c.if-at_body.false and begun-anew rules.operation (saw-before c.at_body.ensures.same (saw-so c.at_production.ensures.sees c.if-at_production.false)) nothing) (reads-nothing _ (does-then c.at_body.ensures.same c.at_production.ensures.same))
-
-pub atoms::opt_value-returns-then-at_production-clause-looks : goal.atoms::opt_value-returns-then-at_production-clause-looks
-unfolding most idle_of debt_of surely_takes rank
-atoms::opt_value-returns-then-at_production-clause-looks t c = omega (arith, read-cost 600 rules.operation refl refl c.read_anew.ensures.looks, c.at_production.ensures.looks, operation-begins, c.at_body.ensures.looks)
-
-pub atoms::opt_value-returns-else-at_production-clause-looks : goal.atoms::opt_value-returns-else-at_production-clause-looks
-atoms::opt_value-returns-else-at_production-clause-looks t c = omega (arith, c.at_production.ensures.looks, operation-begins, c.at_body.ensures.looks)
+atoms::opt_value-returns-else-at_operation-clause-reads t c = reads-here (saw-so c.at_body.ensures.sees c.if-at_body.false and begun rules.operation (saw-before c.at_body.ensures.same (saw-so c.at_operation.ensures.sees c.if-at_operation.false)) nothing) (reads-nothing _ (does-then c.at_body.ensures.same c.at_operation.ensures.same))
 
 pub closures::closure_expr-closure_params-requires : goal.closures::closure_expr-closure_params-requires
 closures::closure_expr-closure_params-requires t c = (omega arith, (short-still _ _ c.start-node.ensures.opens.input c.requires.short, omega arith))

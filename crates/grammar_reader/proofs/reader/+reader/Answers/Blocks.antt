@@ -1,8 +1,6 @@
 -- Blocks, statement by statement.
 use Rattle.std.proofs.Common.{true, false, refl, ◌∙◌, arith}
 use Rattle.std.proofs.lemmas.Bool.{ltb-true, ltb-false}
-use Rattle.parser_input.specs.Kinds.{R_CURLY}
-use Rattle.rust_grammar.specs.Rule as rules
 use Rattle.rust_grammar.specs.Expressions.{expressions}
 use Rattle.rust_grammar.specs.Items.{items}
 use Rattle.rust_grammar.specs.Meaning.{begins_below, look_of}
@@ -12,49 +10,47 @@ use Rattle.rust_grammar.specs.Patterns.{patterns}
 use Rattle.rust_grammar.specs.Rule.{begins, in_mode, anew, is_silent, passes, shift, there_at}
 use Rattle.rust_grammar.specs.Statements.{statements}
 use Rattle.rust_grammar.specs.Types.{types}
+use Rattle.rust_grammar.specs.Rule.{Call}
 use Rattle.rust_grammar.specs.Whole.{rule, whole}
-use Rattle.rust_grammar.specs.Words.{'r_curly'}
-use Rattle.grammar_reader.proofs.Elements.{next-there, over-at-close, repeated, repeated-ends, statement-begins}
-use Rattle.grammar_reader.proofs.Seeing.{some-left}
+use Rattle.grammar_reader.specs.ByHand.{listing_of}
+use Rattle.grammar_reader.proofs.Ends.{left-within, over, over-at-end, some-within, statement-begins, within}
 use Rattle.grammar_reader.proofs.Standing.{short-still}
 use Rattle.rust_productions.specs.Looks.{tokens}
-use Rattle.rust_productions.proofs.ByHand.{after-look, does-then, reads-call, reads-mode, reads-node, reads-then, reads-unless}
+use Rattle.rust_productions.proofs.ByHand.{after-look, reads-call, reads-mode, reads-node, reads-then, reads-unless}
 use Rattle.rust_productions.proofs.Choices.{anew-after, gives-anew}
 use Rattle.rust_productions.proofs.Facts.{saw-so}
-use Rattle.rust_productions.proofs.Seen.{saw-after, saw-before}
 use Rattle.rust_productions.proofs.Turns.{first-turn, idle-turn, last-turn, next-turn}
 use Rattle.grammar_reader.proofs.reader.+reader.Goals as goal
 
-pub blocks::statement_turn-returns-then-at_list_end-clause-ends : goal.blocks::statement_turn-returns-then-at_list_end-clause-ends
-blocks::statement_turn-returns-then-at_list_end-clause-ends t c = λ e. last-turn false (repeated rules.statement R_CURLY) (repeated-ends rules.statement R_CURLY) _ _ _ first-turn (over-at-close rules.statement R_CURLY (saw-so (c.at_list_end.ensures.sees false) c.if-at_list_end.true)) c.at_list_end.ensures.same
-
-pub blocks::statement_turn-returns-then-not-at_production-clause-ends : goal.blocks::statement_turn-returns-then-not-at_production-clause-ends
-blocks::statement_turn-returns-then-not-at_production-clause-ends t c = λ e. last-turn false (repeated rules.statement R_CURLY) (repeated-ends rules.statement R_CURLY) _ _ _ first-turn (next-there rules.statement R_CURLY (saw-so (c.at_list_end.ensures.sees false) c.if-at_list_end.false) (saw-before c.at_list_end.ensures.same (saw-so c.at_production.ensures.sees c.if-not-at_production.true))) (does-then c.at_list_end.ensures.same c.at_production.ensures.same)
-
-pub blocks::statement_turn-returns-then-not-at_production-clause-looks : goal.blocks::statement_turn-returns-then-not-at_production-clause-looks
-blocks::statement_turn-returns-then-not-at_production-clause-looks t c = omega (arith, statement-begins, c.at_production.ensures.looks, c.at_list_end.ensures.looks)
+pub blocks::statement_turn-returns-then-at_end_of-clause-ends : goal.blocks::statement_turn-returns-then-at_end_of-clause-ends
+blocks::statement_turn-returns-then-at_end_of-clause-ends t c = λ e. last-turn false _ (over-at-end c.args.end _) _ _ _ first-turn (over (Call (listing_of c.args.end).one) (saw-so (c.at_end_of.ensures.sees false) c.if-at_end_of.true)) c.at_end_of.ensures.same
 
 pub blocks::statement_turn-statement-requires : goal.blocks::statement_turn-statement-requires
-blocks::statement_turn-statement-requires t c = (omega arith, (short-still _ _ (c.at_production.ensures.same.input ∙ c.at_list_end.ensures.same.input) c.requires.short, omega (arith, some-left 'r_curly' (saw-so (c.at_list_end.ensures.sees false) c.if-at_list_end.false), c.at_list_end.ensures.left, c.at_production.ensures.left)))
+blocks::statement_turn-statement-requires t c = (omega arith, (short-still _ _ c.at_end_of.ensures.same.input c.requires.short, omega (arith, some-within c.args.end (saw-so (c.at_end_of.ensures.sees false) c.if-at_end_of.false), c.at_end_of.ensures.left)))
 
 pub blocks::statement_turn-returns-clause-goes : goal.blocks::statement_turn-returns-clause-goes
 unfolding tokens
-blocks::statement_turn-returns-clause-goes t c = λ e. next-turn false (repeated rules.statement R_CURLY) (repeated-ends rules.statement R_CURLY) _ _ _ first-turn (next-there rules.statement R_CURLY (saw-so (c.at_list_end.ensures.sees false) c.if-at_list_end.false) (saw-before c.at_list_end.ensures.same (saw-so c.at_production.ensures.sees c.if-not-at_production.false))) (after-look false c.at_list_end.ensures.same (after-look false c.at_production.ensures.same (reads-unless false (reads-call false c.statement.ensures.gives)))) (omega (arith, (ltb-true c.tokens_left.result c.tokens_left-before.result e), c.tokens_left.ensures, c.tokens_left-before.ensures, c.at_list_end.ensures.left, c.at_production.ensures.left))
+blocks::statement_turn-returns-clause-goes t c = λ e.
+    let more = saw-so (c.at_end_of.ensures.sees false) c.if-at_end_of.false in
+    next-turn false _ (over-at-end c.args.end _) _ _ _ first-turn (within (Call (listing_of c.args.end).one) more (statement-begins c.args.end (left-within c.args.end more)))
+    (after-look false c.at_end_of.ensures.same (reads-unless false (reads-call false c.statement.ensures.gives)))
+    (omega (arith, (ltb-true c.tokens_left.result c.tokens_left-before.result e), c.tokens_left.ensures, c.tokens_left-before.ensures, c.at_end_of.ensures.left))
 
 pub blocks::statement_turn-returns-clause-ends : goal.blocks::statement_turn-returns-clause-ends
 unfolding tokens
-blocks::statement_turn-returns-clause-ends t c = λ e. idle-turn false (repeated rules.statement R_CURLY) (repeated-ends rules.statement R_CURLY) _ _ _ first-turn (next-there rules.statement R_CURLY (saw-so (c.at_list_end.ensures.sees false) c.if-at_list_end.false) (saw-before c.at_list_end.ensures.same (saw-so c.at_production.ensures.sees c.if-not-at_production.false))) (after-look false c.at_list_end.ensures.same (after-look false c.at_production.ensures.same (reads-unless false (reads-call false c.statement.ensures.gives)))) (omega (arith, (ltb-false c.tokens_left.result c.tokens_left-before.result e), c.tokens_left.ensures, c.tokens_left-before.ensures, c.at_list_end.ensures.left, c.statement.ensures.left, c.at_production.ensures.left))
+blocks::statement_turn-returns-clause-ends t c = λ e.
+    let more = saw-so (c.at_end_of.ensures.sees false) c.if-at_end_of.false in
+    idle-turn false _ (over-at-end c.args.end _) _ _ _ first-turn (within (Call (listing_of c.args.end).one) more (statement-begins c.args.end (left-within c.args.end more)))
+    (after-look false c.at_end_of.ensures.same (reads-unless false (reads-call false c.statement.ensures.gives)))
+    (omega (arith, (ltb-false c.tokens_left.result c.tokens_left-before.result e), c.tokens_left.ensures, c.tokens_left-before.ensures, c.at_end_of.ensures.left, c.statement.ensures.left))
 
 pub blocks::statement_turn-returns-clause-fewer : goal.blocks::statement_turn-returns-clause-fewer
 unfolding tokens
-blocks::statement_turn-returns-clause-fewer t c = λ e. omega (arith, (ltb-true c.tokens_left.result c.tokens_left-before.result e), c.tokens_left.ensures, c.tokens_left-before.ensures, c.at_list_end.ensures.left, c.at_production.ensures.left)
+blocks::statement_turn-returns-clause-fewer t c = λ e. omega (arith, (ltb-true c.tokens_left.result c.tokens_left-before.result e), c.tokens_left.ensures, c.tokens_left-before.ensures, c.at_end_of.ensures.left)
 
 pub blocks::statement_turn-returns-clause-pays : goal.blocks::statement_turn-returns-clause-pays
 unfolding tokens
-blocks::statement_turn-returns-clause-pays t c = λ e. omega (arith, statement-begins, c.at_production.ensures.looks, c.at_list_end.ensures.looks, c.statement.ensures.pays (omega (arith, (ltb-true c.tokens_left.result c.tokens_left-before.result e), c.tokens_left.ensures, c.tokens_left-before.ensures, c.at_production.ensures.left, c.at_list_end.ensures.left)))
-
-pub blocks::statement_turn-returns-clause-looks : goal.blocks::statement_turn-returns-clause-looks
-blocks::statement_turn-returns-clause-looks t c = omega (arith, statement-begins, c.at_production.ensures.looks, c.at_list_end.ensures.looks, c.statement.ensures.looks)
+blocks::statement_turn-returns-clause-pays t c = λ e. omega (arith, c.at_end_of.ensures.looks, c.statement.ensures.pays (omega (arith, (ltb-true c.tokens_left.result c.tokens_left-before.result e), c.tokens_left.ensures, c.tokens_left-before.ensures, c.at_end_of.ensures.left)))
 
 pub blocks::statements-turns-preserved : goal.blocks::statements-turns-preserved
 blocks::statements-turns-preserved t c = record {

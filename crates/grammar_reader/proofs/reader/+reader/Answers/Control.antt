@@ -1,10 +1,9 @@
 -- Expressions that end in a block.
-use Rattle.std.proofs.Common.{◌≡◌, ◌+◌, ◌≤◌, Bool, true, false, [], ◌∷◌, refl, sym, ap, subst, ◌∙◌, arith}
-use Rattle.std.proofs.lemmas.Bool.{ltb-true, ltb-false}
+use Rattle.std.proofs.Common.{true, false, [], ◌∷◌, refl, ◌∙◌, arith}
 use Rattle.parser_events.specs.Forest.{ExpectedMatchArm}
 use Rattle.rust_grammar.specs.Calls.{MatchArm}
 use Rattle.rust_grammar.specs.Notation.{◌or◌, until}
-use Rattle.rust_grammar.specs.Rule.{Call, Skip, Unless}
+use Rattle.rust_grammar.specs.Rule.{Skip, Unless}
 use Rattle.rust_grammar.specs.Words.{'ident', 'l_curly', 'r_curly', '!'}
 use Rattle.rust_grammar.specs.Rule as rules
 use Rattle.rust_grammar.specs.Expressions.{expressions}
@@ -16,21 +15,17 @@ use Rattle.rust_grammar.specs.Patterns.{patterns}
 use Rattle.rust_grammar.specs.Rule.{begins, in_mode, anew, is_silent, passes, shift, there_at}
 use Rattle.rust_grammar.specs.Statements.{statements}
 use Rattle.rust_grammar.specs.Types.{types}
-use Rattle.rust_grammar.specs.Whole.{rank, rule, whole}
-use Rattle.grammar_reader.specs.Prices.{debt_of, idle_of, most, surely_takes}
-use Rattle.grammar_reader.proofs.Called.{can-begin}
-use Rattle.grammar_reader.proofs.Elements.{arm-begins, read-cost, read-pays}
-use Rattle.grammar_reader.proofs.AnyMode.{arm-anywhere}
-use Rattle.grammar_reader.proofs.Seeing.{begun-anew, begun-left, left-there, some-left, three-left}
+use Rattle.rust_grammar.specs.Whole.{rule, whole}
+use Rattle.grammar_reader.proofs.Seeing.{arm-there, begun-anew, left-there, some-left, three-left}
 use Rattle.grammar_reader.proofs.Standing.{short-still}
-use Rattle.rust_productions.specs.Looks.{tokens, spent}
-use Rattle.rust_productions.specs.Reads.{looks, Reads, Saw}
-use Rattle.rust_productions.proofs.ByHand.{after-look, completes-leave, does-nothing, does-then, goes, reads-call, reads-else, reads-missing, reads-mode, reads-more, reads-node, reads-nothing, reads-or, reads-then, reads-want, reads-wrap}
-use Rattle.rust_productions.proofs.Choices.{anew-after, anew-completes, anew-here, anew-look, gives-anew, reads-here}
-use Rattle.rust_productions.proofs.Facts.{begun, nothing, saw-so, ◌and◌}
+use Rattle.rust_productions.specs.Looks.{tokens}
+use Rattle.rust_productions.specs.Reads.{looks}
+use Rattle.rust_productions.proofs.ByHand.{after-look, goes, reads-call, reads-mode, reads-node, reads-nothing, reads-then}
+use Rattle.rust_productions.proofs.Choices.{anew-after, gives-anew, reads-here}
+use Rattle.rust_productions.proofs.Facts.{nothing, saw-so, ◌and◌}
 use Rattle.rust_productions.proofs.Looking.{saw-arm, saw-not}
-use Rattle.rust_productions.proofs.Seen.{begins-else, ends-at-end, saw-after, saw-always, saw-before, saw-condition, saw-else, saw-inside, saw-left, saw-right, saw-taken, starts-here}
-use Rattle.rust_productions.proofs.Turns.{first-turn, idle-turn, last-turn, next-turn}
+use Rattle.rust_productions.proofs.Seen.{ends-at-end, saw-after, saw-before, saw-else, starts-here}
+use Rattle.rust_productions.proofs.Turns.{first-turn, last-turn, next-turn}
 use Rattle.grammar_reader.proofs.reader.+reader.Goals as goal
 
 pub control::block_like-block-requires : goal.control::block_like-block-requires
@@ -250,40 +245,39 @@ control::arm_turn-returns-then-at_list_end-clause-ends t c = λ e. last-turn fal
 pub control::arm_turn-match_arm-requires : goal.control::arm_turn-match_arm-requires
 unfolding look_of begins_below whole rule items statements expressions patterns types paths there_at shift passes is_silent begins in_mode anew row one_of any_of no_longer longest is_longer
 control::arm_turn-match_arm-requires t c =
-    let seen = saw-after c.at_production.ensures.same (saw-so c.at_production.ensures.sees c.if-at_production.true) in
-    (omega arith, (short-still _ _ (c.at_production.ensures.same.input ∙ c.at_list_end.ensures.same.input) c.requires.short, ((λ d. arm-anywhere seen), begun-left (Call rules.match_arm) refl seen)))
+    (omega arith, (short-still _ _ (c.at_pattern.ensures.same.input ∙ c.at_list_end.ensures.same.input) c.requires.short, ((λ d. saw-after c.at_pattern.ensures.same (saw-so (c.at_pattern.ensures.sees d) c.if-at_pattern.true)), omega (arith, c.at_pattern.ensures.some c.if-at_pattern.true, c.at_pattern.ensures.left))))
 
-pub control::arm_turn-returns-then-at_production-clause-goes : goal.control::arm_turn-returns-then-at_production-clause-goes
+pub control::arm_turn-returns-then-at_pattern-clause-goes : goal.control::arm_turn-returns-then-at_pattern-clause-goes
 unfolding tokens look_of begins_below whole rule items statements expressions patterns types paths there_at shift passes is_silent begins in_mode anew row one_of any_of no_longer longest is_longer
-control::arm_turn-returns-then-at_production-clause-goes t c = λ e. next-turn false (Unless (until 'r_curly') (MatchArm or Skip ExpectedMatchArm)) (ends-at-end false (Unless (until 'r_curly') (MatchArm or Skip ExpectedMatchArm)) refl) _ _ _ first-turn (starts-here (Unless (until 'r_curly') (MatchArm or Skip ExpectedMatchArm)) (saw-so (c.at_list_end.ensures.sees false) c.if-at_list_end.false and begun-anew rules.match_arm (saw-before c.at_list_end.ensures.same (saw-so c.at_production.ensures.sees c.if-at_production.true)) nothing) refl) (reads-here (begun-anew rules.match_arm (saw-before c.at_list_end.ensures.same (saw-so c.at_production.ensures.sees c.if-at_production.true)) nothing) (after-look false c.at_list_end.ensures.same (after-look false c.at_production.ensures.same (reads-call false c.match_arm.ensures.gives)))) (omega (arith, c.match_arm.ensures.left, c.at_production.ensures.left, c.at_list_end.ensures.left))
+control::arm_turn-returns-then-at_pattern-clause-goes t c = λ e. next-turn false (Unless (until 'r_curly') (MatchArm or Skip ExpectedMatchArm)) (ends-at-end false (Unless (until 'r_curly') (MatchArm or Skip ExpectedMatchArm)) refl) _ _ _ first-turn (starts-here (Unless (until 'r_curly') (MatchArm or Skip ExpectedMatchArm)) (saw-so (c.at_list_end.ensures.sees false) c.if-at_list_end.false and begun-anew rules.match_arm (saw-before c.at_list_end.ensures.same (arm-there (saw-so (c.at_pattern.ensures.sees false) c.if-at_pattern.true))) nothing) refl) (reads-here (begun-anew rules.match_arm (saw-before c.at_list_end.ensures.same (arm-there (saw-so (c.at_pattern.ensures.sees false) c.if-at_pattern.true))) nothing) (after-look false c.at_list_end.ensures.same (after-look false c.at_pattern.ensures.same (reads-call false c.match_arm.ensures.gives)))) (omega (arith, c.match_arm.ensures.left, c.at_pattern.ensures.left, c.at_list_end.ensures.left))
 
-pub control::arm_turn-returns-then-at_production-clause-input : goal.control::arm_turn-returns-then-at_production-clause-input
-control::arm_turn-returns-then-at_production-clause-input t c = c.match_arm.ensures.gives.does.input ∙ c.at_production.ensures.same.input ∙ c.at_list_end.ensures.same.input
+pub control::arm_turn-returns-then-at_pattern-clause-input : goal.control::arm_turn-returns-then-at_pattern-clause-input
+control::arm_turn-returns-then-at_pattern-clause-input t c = c.match_arm.ensures.gives.does.input ∙ c.at_pattern.ensures.same.input ∙ c.at_list_end.ensures.same.input
 
-pub control::arm_turn-returns-then-at_production-clause-innermost : goal.control::arm_turn-returns-then-at_production-clause-innermost
-control::arm_turn-returns-then-at_production-clause-innermost t c = λ n i. c.match_arm.ensures.gives.does.innermost n (c.at_production.ensures.same.innermost n (c.at_list_end.ensures.same.innermost n i))
+pub control::arm_turn-returns-then-at_pattern-clause-innermost : goal.control::arm_turn-returns-then-at_pattern-clause-innermost
+control::arm_turn-returns-then-at_pattern-clause-innermost t c = λ n i. c.match_arm.ensures.gives.does.innermost n (c.at_pattern.ensures.same.innermost n (c.at_list_end.ensures.same.innermost n i))
 
-pub control::arm_turn-returns-then-at_production-clause-pays : goal.control::arm_turn-returns-then-at_production-clause-pays
-control::arm_turn-returns-then-at_production-clause-pays t c = λ e. omega (arith, arm-begins, c.at_production.ensures.looks, c.at_list_end.ensures.looks, c.match_arm.ensures.looks)
+pub control::arm_turn-returns-then-at_pattern-clause-pays : goal.control::arm_turn-returns-then-at_pattern-clause-pays
+control::arm_turn-returns-then-at_pattern-clause-pays t c = λ e. omega (arith, c.at_pattern.ensures.looks, c.at_list_end.ensures.looks, c.match_arm.ensures.looks)
 
-pub control::arm_turn-returns-then-at_production-clause-looks : goal.control::arm_turn-returns-then-at_production-clause-looks
-control::arm_turn-returns-then-at_production-clause-looks t c = omega (arith, arm-begins, c.at_production.ensures.looks, c.at_list_end.ensures.looks, c.match_arm.ensures.looks)
+pub control::arm_turn-returns-then-at_pattern-clause-looks : goal.control::arm_turn-returns-then-at_pattern-clause-looks
+control::arm_turn-returns-then-at_pattern-clause-looks t c = omega (arith, c.at_pattern.ensures.looks, c.at_list_end.ensures.looks, c.match_arm.ensures.looks)
 
 pub control::arm_turn-skip-requires : goal.control::arm_turn-skip-requires
-control::arm_turn-skip-requires t c = omega (arith, some-left 'r_curly' (saw-so (c.at_list_end.ensures.sees false) c.if-at_list_end.false), c.at_list_end.ensures.left, c.at_production.ensures.left)
+control::arm_turn-skip-requires t c = omega (arith, some-left 'r_curly' (saw-so (c.at_list_end.ensures.sees false) c.if-at_list_end.false), c.at_list_end.ensures.left, c.at_pattern.ensures.left)
 
 pub control::arm_turn-returns-clause-goes : goal.control::arm_turn-returns-clause-goes
 unfolding tokens look_of begins_below whole rule items statements expressions patterns types paths there_at shift passes is_silent begins in_mode anew row one_of any_of no_longer longest is_longer
-control::arm_turn-returns-clause-goes t c = λ e. next-turn false (Unless (until 'r_curly') (MatchArm or Skip ExpectedMatchArm)) (ends-at-end false (Unless (until 'r_curly') (MatchArm or Skip ExpectedMatchArm)) refl) _ _ _ first-turn (starts-here (Unless (until 'r_curly') (MatchArm or Skip ExpectedMatchArm)) (saw-so (c.at_list_end.ensures.sees false) c.if-at_list_end.false and left-there 'r_curly' (saw-so (c.at_list_end.ensures.sees false) c.if-at_list_end.false) and begun-anew rules.match_arm (saw-before c.at_list_end.ensures.same (saw-so c.at_production.ensures.sees c.if-at_production.false)) nothing) refl) (reads-here (begun-anew rules.match_arm (saw-before c.at_list_end.ensures.same (saw-so c.at_production.ensures.sees c.if-at_production.false)) nothing) (after-look false c.at_list_end.ensures.same (after-look false c.at_production.ensures.same (c.skip.ensures.reads false)))) (omega (arith, c.skip.ensures.left, c.at_production.ensures.left, c.at_list_end.ensures.left))
+control::arm_turn-returns-clause-goes t c = λ e. next-turn false (Unless (until 'r_curly') (MatchArm or Skip ExpectedMatchArm)) (ends-at-end false (Unless (until 'r_curly') (MatchArm or Skip ExpectedMatchArm)) refl) _ _ _ first-turn (starts-here (Unless (until 'r_curly') (MatchArm or Skip ExpectedMatchArm)) (saw-so (c.at_list_end.ensures.sees false) c.if-at_list_end.false and left-there 'r_curly' (saw-so (c.at_list_end.ensures.sees false) c.if-at_list_end.false) and begun-anew rules.match_arm (saw-before c.at_list_end.ensures.same (arm-there (saw-so (c.at_pattern.ensures.sees false) c.if-at_pattern.false))) nothing) refl) (reads-here (begun-anew rules.match_arm (saw-before c.at_list_end.ensures.same (arm-there (saw-so (c.at_pattern.ensures.sees false) c.if-at_pattern.false))) nothing) (after-look false c.at_list_end.ensures.same (after-look false c.at_pattern.ensures.same (c.skip.ensures.reads false)))) (omega (arith, c.skip.ensures.left, c.at_pattern.ensures.left, c.at_list_end.ensures.left))
 
 pub control::arm_turn-returns-clause-input : goal.control::arm_turn-returns-clause-input
-control::arm_turn-returns-clause-input t c = (c.skip.ensures.reads false).does.input ∙ c.at_production.ensures.same.input ∙ c.at_list_end.ensures.same.input
+control::arm_turn-returns-clause-input t c = (c.skip.ensures.reads false).does.input ∙ c.at_pattern.ensures.same.input ∙ c.at_list_end.ensures.same.input
 
 pub control::arm_turn-returns-clause-innermost : goal.control::arm_turn-returns-clause-innermost
-control::arm_turn-returns-clause-innermost t c = λ n i. (c.skip.ensures.reads false).does.innermost n (c.at_production.ensures.same.innermost n (c.at_list_end.ensures.same.innermost n i))
+control::arm_turn-returns-clause-innermost t c = λ n i. (c.skip.ensures.reads false).does.innermost n (c.at_pattern.ensures.same.innermost n (c.at_list_end.ensures.same.innermost n i))
 
 pub control::arm_turn-returns-clause-pays : goal.control::arm_turn-returns-clause-pays
-control::arm_turn-returns-clause-pays t c = λ e. omega (arith, arm-begins, c.at_production.ensures.looks, c.at_list_end.ensures.looks, c.skip.ensures.looks)
+control::arm_turn-returns-clause-pays t c = λ e. omega (arith, c.at_pattern.ensures.looks, c.at_list_end.ensures.looks, c.skip.ensures.looks)
 
 pub control::arm_turn-returns-clause-looks : goal.control::arm_turn-returns-clause-looks
-control::arm_turn-returns-clause-looks t c = omega (arith, arm-begins, c.at_production.ensures.looks, c.at_list_end.ensures.looks, c.skip.ensures.looks)
+control::arm_turn-returns-clause-looks t c = omega (arith, c.at_pattern.ensures.looks, c.at_list_end.ensures.looks, c.skip.ensures.looks)

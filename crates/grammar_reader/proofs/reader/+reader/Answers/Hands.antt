@@ -364,3 +364,24 @@ read_by_hand-returns-in-Item-clause-gives t c = rw c.in-Item.is c.item.ensures.g
 pub read_by_hand-returns-in-Item-clause-looks : goal.read_by_hand-returns-in-Item-clause-looks
 unfolding debt_of rank
 read_by_hand-returns-in-Item-clause-looks t c = rw c.in-Item.is (omega (arith, c.item.ensures.looks))
+
+pub read_by_hand-returns-in-RecordFields-clause-gives : goal.read_by_hand-returns-in-RecordFields-clause-gives
+read_by_hand-returns-in-RecordFields-clause-gives t c = rw c.in-RecordFields.is (c.record_fields.ensures.gives c.args.condition)
+
+pub read_by_hand-returns-in-RecordFields-clause-looks : goal.read_by_hand-returns-in-RecordFields-clause-looks
+unfolding debt_of rank
+read_by_hand-returns-in-RecordFields-clause-looks t c = rw c.in-RecordFields.is (omega (arith, c.record_fields.ensures.looks))
+
+pub read_by_hand-returns-in-TupleFields-clause-gives : goal.read_by_hand-returns-in-TupleFields-clause-gives
+read_by_hand-returns-in-TupleFields-clause-gives t c = rw c.in-TupleFields.is (c.tuple_fields.ensures.gives c.args.condition)
+
+pub read_by_hand-returns-in-TupleFields-clause-looks : goal.read_by_hand-returns-in-TupleFields-clause-looks
+unfolding debt_of rank
+read_by_hand-returns-in-TupleFields-clause-looks t c = rw c.in-TupleFields.is (omega (arith, c.tuple_fields.ensures.looks))
+
+pub read_by_hand-returns-in-Variants-clause-gives : goal.read_by_hand-returns-in-Variants-clause-gives
+read_by_hand-returns-in-Variants-clause-gives t c = rw c.in-Variants.is (c.variants.ensures.gives c.args.condition)
+
+pub read_by_hand-returns-in-Variants-clause-looks : goal.read_by_hand-returns-in-Variants-clause-looks
+unfolding debt_of rank
+read_by_hand-returns-in-Variants-clause-looks t c = rw c.in-Variants.is (omega (arith, c.variants.ensures.looks))

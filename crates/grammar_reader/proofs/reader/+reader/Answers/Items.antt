@@ -1,13 +1,10 @@
 -- Items, path by path.
-use Rattle.std.proofs.Common.{◌≡◌, ℕ, ◌+◌, ◌≤◌, ◌<◌, Bool, true, false, List, [], ◌∷◌, length, refl, sym, ap, ◌∙◌, arith, true≢false}
+use Rattle.std.proofs.Common.{true, false, List, length, refl, sym, ap, ◌∙◌, arith, true≢false}
 use Rattle.parser_input.specs.Input.{Token}
 use Rattle.parser_input.specs.Kind.{raw_of}
-use Rattle.rust_grammar.specs.Calls.{Attribute, Item}
 use Rattle.rust_grammar.specs.Laws.{reads}
 use Rattle.rust_grammar.specs.Meaning.{fresh, read}
-use Rattle.rust_grammar.specs.Notation.{◌or◌, ◌before◌, until}
-use Rattle.rust_grammar.specs.Rule.{Call, Star, Unless, When}
-use Rattle.rust_grammar.specs.Words.{'#', '!', 'r_curly'}
+use Rattle.rust_grammar.specs.Rule.{Call, Star}
 use Rattle.rust_grammar.specs.Rule as rules
 use Rattle.rust_grammar.specs.Expressions.{expressions}
 use Rattle.rust_grammar.specs.Items.{items}
@@ -22,14 +19,16 @@ use Rattle.rust_grammar.specs.Whole.{rank, rule, whole}
 use Rattle.grammar_reader.specs.Prices.{debt_of, idle_of, most, surely_takes}
 use Rattle.grammar_reader.proofs.Called.{can-begin}
 use Rattle.grammar_reader.proofs.Elements.{read-cost, read-pays}
-use Rattle.grammar_reader.proofs.Seeing.{left-there, some-left}
+use Rattle.grammar_reader.specs.ByHand.{item_or_attribute}
+use Rattle.grammar_reader.proofs.Ends.{left-within, over, over-at-end, some-within, within}
 use Rattle.grammar_reader.proofs.Standing.{short-still}
 use Rattle.rust_productions.specs.Looks.{tokens, spent}
 use Rattle.rust_productions.specs.Reads.{looks, Completes, CompletesWhere, Reads, Saw}
-use Rattle.rust_productions.proofs.ByHand.{after-look, completes-wrap, does-then, reads-call, reads-mode, reads-node, reads-none, reads-nothing, reads-opt, reads-then}
+use Rattle.rust_productions.proofs.ByHand.{after-look, completes-wrap, does-then, reads-call, reads-mode, reads-node, reads-none, reads-nothing, reads-opt, reads-then, reads-unless}
+use Rattle.grammar_reader.proofs.Seeing.{left-there, some-left}
 use Rattle.rust_productions.proofs.Choices.{anew-after, anew-here, anew-look, gives-anew, reads-here}
 use Rattle.rust_productions.proofs.Facts.{begun, nothing, saw-so, ◌and◌}
-use Rattle.rust_productions.proofs.Given.{anew-apart, anew-given, anew-nothing, call-gives, option-keeps, reads-three, reads-two, turns-give, where-any, where-here, where-look, where-more}
+use Rattle.rust_productions.proofs.Given.{anew-apart, anew-given, anew-nothing, call-gives, option-keeps, turns-give, where-any, where-here, where-look, where-more}
 use Rattle.rust_productions.proofs.Looking.{saw-arm, saw-not}
 use Rattle.rust_productions.proofs.Seen.{ends-at-end, saw-after, saw-before, saw-inside, saw-told, starts-here}
 use Rattle.rust_productions.proofs.Turns.{first-turn, last-turn, next-turn}
@@ -54,22 +53,26 @@ items::item-returns-in-PUB_KW-clause-gives t c = gives-anew (anew-look c.current
 pub items::item-returns-in_default-clause-gives : goal.items::item-returns-in_default-clause-gives
 items::item-returns-in_default-clause-gives t c = gives-anew (anew-look c.current.ensures.same c.bare_item.ensures.anew)
 
-pub items::attributed_item-attribute-requires : goal.items::attributed_item-attribute-requires
-items::attributed_item-attribute-requires t c = (omega arith, (short-still _ _ c.start-item.ensures.opens.input c.requires.short, omega arith))
-
-pub items::attributed_item-attributes-requires : goal.items::attributed_item-attributes-requires
-items::attributed_item-attributes-requires t c = (omega arith, short-still _ _ ((c.attribute.ensures.gives true).does.input ∙ c.start-item.ensures.opens.input) c.requires.short)
+pub items::attributed_item-attributes_and_visibility-requires : goal.items::attributed_item-attributes_and_visibility-requires
+items::attributed_item-attributes_and_visibility-requires t c = (omega arith, (short-still _ _ c.start-item.ensures.opens.input c.requires.short, ((λ d. saw-inside c.start-item.ensures.opens (c.requires.begins d)), omega arith)))
 
 pub items::attributed_item-body-requires : goal.items::attributed_item-body-requires
-items::attributed_item-body-requires t c = (omega arith, (short-still _ _ ((c.opt_visibility.ensures.reads true).does.input ∙ (c.attributes.ensures.reads true).does.input ∙ (c.attribute.ensures.gives true).does.input ∙ c.start-item.ensures.opens.input) c.requires.short, ((λ e. absurd (true≢false e)), (c.opt_visibility.ensures.reads true).does.innermost _ ((c.attributes.ensures.reads true).does.innermost _ ((c.attribute.ensures.gives true).does.innermost _ c.start-item.ensures.marker)))))
+items::attributed_item-body-requires t c = (omega arith, (short-still _ _ ((c.attributes_and_visibility.ensures.reads true).does.input ∙ c.start-item.ensures.opens.input) c.requires.short, ((λ e. absurd (true≢false e)), (c.attributes_and_visibility.ensures.reads true).does.innermost _ c.start-item.ensures.marker)))
 
 pub items::attributed_item-returns-clause-anew : goal.items::attributed_item-returns-clause-anew
 unfolding tokens fresh read look_of begins_below whole rule items statements expressions patterns types paths there_at shift passes is_silent begins in_mode anew row one_of any_of no_longer longest is_longer
 items::attributed_item-returns-clause-anew t c =
     let seen : Saw c.args.condition (begins looks (Call rules.attribute)) c.start-item.new.p true = saw-inside c.start-item.ensures.opens (c.requires.begins c.args.condition) in
-    let first = next-turn c.args.condition (Call rules.attribute) (ends-at-end _ (Call rules.attribute) refl) _ _ _ first-turn seen (reads-call _ (c.attribute.ensures.gives c.args.condition)) (omega (arith, c.attribute.ensures.left)) in
-    let all = reads-then _ (first.rest _ (c.attributes.ensures.reads c.args.condition)) (c.opt_visibility.ensures.reads c.args.condition) in
-    anew-apart (anew-given c.start-item.ensures.opens all (λ s e. option-keeps rules.visibility c.args.condition refl (reads c.args.condition (Star (Call rules.attribute)) (fresh s)) (turns-give rules.attribute c.args.condition refl (fresh s) (omega (arith, c.requires.some, c.start-item.ensures.left, ap (λ (ts : List Token). length ts) e)) (seen.at (fresh s) e))) (where-more c.body.ensures.completes))
+    anew-apart (anew-given c.start-item.ensures.opens (c.attributes_and_visibility.ensures.reads c.args.condition) (λ s e. option-keeps rules.visibility c.args.condition refl (reads c.args.condition (Star (Call rules.attribute)) (fresh s)) (turns-give rules.attribute c.args.condition refl (fresh s) (omega (arith, c.requires.some, c.start-item.ensures.left, ap (λ (ts : List Token). length ts) e)) (seen.at (fresh s) e))) (where-more c.body.ensures.completes))
+
+pub items::attributes_and_visibility-attributes-requires : goal.items::attributes_and_visibility-attributes-requires
+items::attributes_and_visibility-attributes-requires t c = (omega arith, short-still _ _ (c.attribute.ensures.gives true).does.input c.requires.short)
+
+pub items::attributes_and_visibility-returns-clause-reads : goal.items::attributes_and_visibility-returns-clause-reads
+unfolding tokens look_of begins_below whole rule items statements expressions patterns types paths there_at shift passes is_silent begins in_mode anew row one_of any_of no_longer longest is_longer
+items::attributes_and_visibility-returns-clause-reads t c = λ cond.
+    let first = next-turn cond (Call rules.attribute) (ends-at-end cond (Call rules.attribute) refl) _ _ _ first-turn (c.requires.begins cond) (reads-call cond (c.attribute.ensures.gives cond)) (omega (arith, c.attribute.ensures.left)) in
+    reads-then cond (first.rest _ (c.attributes.ensures.reads cond)) (c.opt_visibility.ensures.reads cond)
 
 pub items::visible_item-body-requires : goal.items::visible_item-body-requires
 items::visible_item-body-requires t c = (omega arith, (short-still _ _ ((c.visibility.ensures.gives true).does.input ∙ c.start-item.ensures.opens.input) c.requires.short, ((λ e. absurd (true≢false e)), (c.visibility.ensures.gives true).does.innermost _ c.start-item.ensures.marker)))
@@ -261,35 +264,43 @@ pub items::opt_where_clause-returns-else-at-clause-reads : goal.items::opt_where
 unfolding look_of begins_below whole rule items statements expressions patterns types paths there_at shift passes is_silent begins in_mode anew row one_of any_of no_longer longest is_longer
 items::opt_where_clause-returns-else-at-clause-reads t c = reads-here (saw-so (c.at.ensures.sees c.args.condition) c.if-at.false and nothing) (reads-nothing _ c.at.ensures.same)
 
-pub items::item_turn-returns-then-at_list_end-clause-ends : goal.items::item_turn-returns-then-at_list_end-clause-ends
-unfolding look_of begins_below whole rule items statements expressions patterns types paths there_at shift passes is_silent begins in_mode anew row one_of any_of no_longer longest is_longer
-items::item_turn-returns-then-at_list_end-clause-ends t c = λ e. last-turn false (Unless (until 'r_curly') (When ('#' before '!') Attribute or Item)) (ends-at-end false (Unless (until 'r_curly') (When ('#' before '!') Attribute or Item)) refl) _ _ _ first-turn (starts-here (Unless (until 'r_curly') (When ('#' before '!') Attribute or Item)) (saw-so (c.at_list_end.ensures.sees false) c.if-at_list_end.true and nothing) refl) c.at_list_end.ensures.same
+pub items::item_turn-returns-then-at_end_of-clause-ends : goal.items::item_turn-returns-then-at_end_of-clause-ends
+items::item_turn-returns-then-at_end_of-clause-ends t c = λ e. last-turn false _ (over-at-end c.args.end _) _ _ _ first-turn (over item_or_attribute (saw-so (c.at_end_of.ensures.sees false) c.if-at_end_of.true)) c.at_end_of.ensures.same
 
 pub items::item_turn-attribute-requires : goal.items::item_turn-attribute-requires
-items::item_turn-attribute-requires t c = (omega arith, (short-still _ _ (c.at_inner_attribute.ensures.same.input ∙ c.at_list_end.ensures.same.input) c.requires.short, omega (arith, c.at_inner_attribute.ensures.left, c.at_inner_attribute.ensures.some c.if-at_inner_attribute.true)))
+items::item_turn-attribute-requires t c = (omega arith, (short-still _ _ (c.at_inner_attribute.ensures.same.input ∙ c.at_end_of.ensures.same.input) c.requires.short, omega (arith, c.at_inner_attribute.ensures.left, c.at_inner_attribute.ensures.some c.if-at_inner_attribute.true)))
 
 pub items::item_turn-returns-then-at_inner_attribute-clause-goes : goal.items::item_turn-returns-then-at_inner_attribute-clause-goes
 unfolding tokens look_of begins_below whole rule items statements expressions patterns types paths there_at shift passes is_silent begins in_mode anew row one_of any_of no_longer longest is_longer
-items::item_turn-returns-then-at_inner_attribute-clause-goes t c = λ e. next-turn false (Unless (until 'r_curly') (When ('#' before '!') Attribute or Item)) (ends-at-end false (Unless (until 'r_curly') (When ('#' before '!') Attribute or Item)) refl) _ _ _ first-turn (starts-here (Unless (until 'r_curly') (When ('#' before '!') Attribute or Item)) (saw-so (c.at_list_end.ensures.sees false) c.if-at_list_end.false and saw-before c.at_list_end.ensures.same (saw-so (c.at_inner_attribute.ensures.sees false) c.if-at_inner_attribute.true) and nothing) refl) (reads-here (saw-so (c.at_list_end.ensures.sees false) c.if-at_list_end.false and saw-before c.at_list_end.ensures.same (saw-so (c.at_inner_attribute.ensures.sees false) c.if-at_inner_attribute.true) and nothing) (after-look false c.at_list_end.ensures.same (after-look false c.at_inner_attribute.ensures.same (reads-call false (c.attribute.ensures.gives false))))) (omega (arith, c.attribute.ensures.left, c.at_inner_attribute.ensures.left, c.at_list_end.ensures.left))
+items::item_turn-returns-then-at_inner_attribute-clause-goes t c = λ e.
+    let seen = saw-before c.at_end_of.ensures.same (saw-so (c.at_inner_attribute.ensures.sees false) c.if-at_inner_attribute.true) in
+    next-turn false _ (over-at-end c.args.end item_or_attribute) _ _ _ first-turn (within item_or_attribute (saw-so (c.at_end_of.ensures.sees false) c.if-at_end_of.false) (starts-here item_or_attribute (seen and nothing) refl))
+    (reads-unless false (reads-here (seen and nothing) (after-look false c.at_end_of.ensures.same (after-look false c.at_inner_attribute.ensures.same (reads-call false (c.attribute.ensures.gives false))))))
+    (omega (arith, c.attribute.ensures.left, c.at_inner_attribute.ensures.left, c.at_end_of.ensures.left))
 
 pub items::item_turn-returns-then-at_inner_attribute-clause-input : goal.items::item_turn-returns-then-at_inner_attribute-clause-input
-items::item_turn-returns-then-at_inner_attribute-clause-input t c = (c.attribute.ensures.gives true).does.input ∙ c.at_inner_attribute.ensures.same.input ∙ c.at_list_end.ensures.same.input
+items::item_turn-returns-then-at_inner_attribute-clause-input t c = (c.attribute.ensures.gives true).does.input ∙ c.at_inner_attribute.ensures.same.input ∙ c.at_end_of.ensures.same.input
 
 pub items::item_turn-returns-then-at_inner_attribute-clause-innermost : goal.items::item_turn-returns-then-at_inner_attribute-clause-innermost
-items::item_turn-returns-then-at_inner_attribute-clause-innermost t c = λ n i. (c.attribute.ensures.gives true).does.innermost n (c.at_inner_attribute.ensures.same.innermost n (c.at_list_end.ensures.same.innermost n i))
+items::item_turn-returns-then-at_inner_attribute-clause-innermost t c = λ n i. (c.attribute.ensures.gives true).does.innermost n (c.at_inner_attribute.ensures.same.innermost n (c.at_end_of.ensures.same.innermost n i))
 
 pub items::item_turn-item-requires : goal.items::item_turn-item-requires
-items::item_turn-item-requires t c = (omega arith, (short-still _ _ (c.at_inner_attribute.ensures.same.input ∙ c.at_list_end.ensures.same.input) c.requires.short, omega (arith, some-left 'r_curly' (saw-so (c.at_list_end.ensures.sees false) c.if-at_list_end.false), c.at_list_end.ensures.left, c.at_inner_attribute.ensures.left)))
+items::item_turn-item-requires t c = (omega arith, (short-still _ _ (c.at_inner_attribute.ensures.same.input ∙ c.at_end_of.ensures.same.input) c.requires.short, omega (arith, some-within c.args.end (saw-so (c.at_end_of.ensures.sees false) c.if-at_end_of.false), c.at_end_of.ensures.left, c.at_inner_attribute.ensures.left)))
 
 pub items::item_turn-returns-clause-goes : goal.items::item_turn-returns-clause-goes
 unfolding tokens look_of begins_below whole rule items statements expressions patterns types paths there_at shift passes is_silent begins in_mode anew row one_of any_of no_longer longest is_longer
-items::item_turn-returns-clause-goes t c = λ e. next-turn false (Unless (until 'r_curly') (When ('#' before '!') Attribute or Item)) (ends-at-end false (Unless (until 'r_curly') (When ('#' before '!') Attribute or Item)) refl) _ _ _ first-turn (starts-here (Unless (until 'r_curly') (When ('#' before '!') Attribute or Item)) (saw-so (c.at_list_end.ensures.sees false) c.if-at_list_end.false and saw-before c.at_list_end.ensures.same (saw-so (c.at_inner_attribute.ensures.sees false) c.if-at_inner_attribute.false) and left-there 'r_curly' (saw-so (c.at_list_end.ensures.sees false) c.if-at_list_end.false) and nothing) refl) (reads-here (saw-so (c.at_list_end.ensures.sees false) c.if-at_list_end.false and saw-before c.at_list_end.ensures.same (saw-so (c.at_inner_attribute.ensures.sees false) c.if-at_inner_attribute.false) and nothing) (after-look false c.at_list_end.ensures.same (after-look false c.at_inner_attribute.ensures.same (reads-call false c.item.ensures.gives)))) (omega (arith, c.item.ensures.left, c.at_inner_attribute.ensures.left, c.at_list_end.ensures.left))
+items::item_turn-returns-clause-goes t c = λ e.
+    let more = saw-so (c.at_end_of.ensures.sees false) c.if-at_end_of.false in
+    let other = saw-before c.at_end_of.ensures.same (saw-so (c.at_inner_attribute.ensures.sees false) c.if-at_inner_attribute.false) in
+    next-turn false _ (over-at-end c.args.end item_or_attribute) _ _ _ first-turn (within item_or_attribute more (starts-here item_or_attribute (other and left-within c.args.end more and nothing) refl))
+    (reads-unless false (reads-here (other and nothing) (after-look false c.at_end_of.ensures.same (after-look false c.at_inner_attribute.ensures.same (reads-call false c.item.ensures.gives)))))
+    (omega (arith, c.item.ensures.left, c.at_inner_attribute.ensures.left, c.at_end_of.ensures.left))
 
 pub items::item_turn-returns-clause-input : goal.items::item_turn-returns-clause-input
-items::item_turn-returns-clause-input t c = c.item.ensures.gives.does.input ∙ c.at_inner_attribute.ensures.same.input ∙ c.at_list_end.ensures.same.input
+items::item_turn-returns-clause-input t c = c.item.ensures.gives.does.input ∙ c.at_inner_attribute.ensures.same.input ∙ c.at_end_of.ensures.same.input
 
 pub items::item_turn-returns-clause-innermost : goal.items::item_turn-returns-clause-innermost
-items::item_turn-returns-clause-innermost t c = λ n i. c.item.ensures.gives.does.innermost n (c.at_inner_attribute.ensures.same.innermost n (c.at_list_end.ensures.same.innermost n i))
+items::item_turn-returns-clause-innermost t c = λ n i. c.item.ensures.gives.does.innermost n (c.at_inner_attribute.ensures.same.innermost n (c.at_end_of.ensures.same.innermost n i))
 
 pub items::items-turns-preserved : goal.items::items-turns-preserved
 items::items-turns-preserved t c = record {

@@ -5,7 +5,7 @@ use Rattle.parser_input.specs.Kind.{raw_of}
 use Rattle.rust_grammar.specs.Rule as rules
 use Rattle.rust_grammar.specs.Rule.{Call}
 use Rattle.rust_grammar.specs.Expressions.{expressions}
-use Rattle.rust_grammar.specs.Items.{items}
+use Rattle.rust_grammar.specs.Items.{items, record_field, tuple_field, variant}
 use Rattle.rust_grammar.specs.Meaning.{begins_below, look_of}
 use Rattle.rust_grammar.specs.Notation.{any_of, is_longer, no_longer, longest, one_of, row}
 use Rattle.rust_grammar.specs.Paths.{paths}
@@ -89,21 +89,14 @@ lists::read_element-closure_param-requires t c =
     let seen = subst (λ (e : Element). Saw false (begins looks (element_of e)) c.args.p.now true) c.in-ClosureParam.is c.requires.begins in
     (omega arith, (c.requires.short, ((λ d. pattern-begins seen), param-left seen)))
 
-pub lists::read_element-read_anew-requires : goal.lists::read_element-read_anew-requires
-unfolding begins
-lists::read_element-read_anew-requires t c = (omega arith, (c.requires.short, can-begin rules.expression (subst (λ (e : Element). Saw false (begins looks (element_of e)) c.args.p.now true) c.in-Expression.is c.requires.begins)))
+pub lists::read_element-expression-requires : goal.lists::read_element-expression-requires
+unfolding look_of begins_below whole rule items statements expressions patterns types paths there_at shift passes is_silent begins in_mode anew row one_of any_of no_longer longest is_longer
+lists::read_element-expression-requires t c =
+    let seen = subst (λ (e : Element). Saw false (begins looks (element_of e)) c.args.p.now true) c.in-Expression.is c.requires.begins in
+    (omega arith, (c.requires.short, (seen, begun-left (Call rules.expression) refl seen)))
 
 pub lists::read_element-returns-in-Expression-clause-reads : goal.lists::read_element-returns-in-Expression-clause-reads
-unfolding most idle_of debt_of surely_takes rank
-lists::read_element-returns-in-Expression-clause-reads t c = subst (λ (e : Element). Reads false (element_of e) c.args.p.now c.read_anew.new.p) (sym c.in-Expression.is) (reads-call false c.read_anew.ensures.gives)
-
-pub lists::read_element-returns-in-Expression-clause-pays : goal.lists::read_element-returns-in-Expression-clause-pays
-unfolding most idle_of debt_of surely_takes rank
-lists::read_element-returns-in-Expression-clause-pays t c = read-pays 1000 rules.expression refl c.read_anew.ensures.looks
-
-pub lists::read_element-returns-in-Expression-clause-looks : goal.lists::read_element-returns-in-Expression-clause-looks
-unfolding most idle_of debt_of surely_takes rank
-lists::read_element-returns-in-Expression-clause-looks t c = subst (λ (e : Element). spent c.read_anew.new.p ≤ spent c.args.p.now + looks_in e) (sym c.in-Expression.is) (read-cost 600 rules.expression refl refl c.read_anew.ensures.looks)
+lists::read_element-returns-in-Expression-clause-reads t c = subst (λ (e : Element). Reads false (element_of e) c.args.p.now c.expression.new.p) (sym c.in-Expression.is) (reads-call false c.expression.ensures.gives)
 
 pub lists::read_element-field_value-requires : goal.lists::read_element-field_value-requires
 unfolding look_of begins_below whole rule items statements expressions patterns types paths there_at shift passes is_silent begins in_mode anew row one_of any_of no_longer longest is_longer
@@ -230,3 +223,60 @@ lists::pattern_fields-complete-requires t c = (c.rest_of_list.ensures.reads true
 pub lists::pattern_fields-returns-clause-gives : goal.lists::pattern_fields-returns-clause-gives
 unfolding look_of begins_below whole rule items statements expressions patterns types paths there_at shift passes is_silent begins in_mode anew row one_of any_of no_longer longest is_longer
 lists::pattern_fields-returns-clause-gives t c = λ cond. gives-anew (anew-after refl (reads-node cond c.start-list.ensures.opens (reads-then cond (c.take.ensures.reads cond) (c.rest_of_list.ensures.reads cond)) c.complete.ensures.closes))
+
+pub lists::read_element-record_field-requires : goal.lists::read_element-record_field-requires
+unfolding look_of begins_below whole rule items statements expressions patterns types paths there_at shift passes is_silent begins in_mode anew row one_of any_of no_longer longest is_longer
+lists::read_element-record_field-requires t c =
+    let seen = subst (λ (e : Element). Saw false (begins looks (element_of e)) c.args.p.now true) c.in-RecordField.is c.requires.begins in
+    (omega arith, (c.requires.short, (seen, begun-left record_field refl seen)))
+
+pub lists::read_element-returns-in-RecordField-clause-reads : goal.lists::read_element-returns-in-RecordField-clause-reads
+lists::read_element-returns-in-RecordField-clause-reads t c = subst (λ (e : Element). Reads false (element_of e) c.args.p.now c.record_field.new.p) (sym c.in-RecordField.is) c.record_field.ensures.reads
+
+pub lists::read_element-tuple_field-requires : goal.lists::read_element-tuple_field-requires
+unfolding look_of begins_below whole rule items statements expressions patterns types paths there_at shift passes is_silent begins in_mode anew row one_of any_of no_longer longest is_longer
+lists::read_element-tuple_field-requires t c =
+    let seen = subst (λ (e : Element). Saw false (begins looks (element_of e)) c.args.p.now true) c.in-TupleField.is c.requires.begins in
+    (omega arith, (c.requires.short, (seen, word-left tuple_field refl seen)))
+
+pub lists::read_element-returns-in-TupleField-clause-reads : goal.lists::read_element-returns-in-TupleField-clause-reads
+lists::read_element-returns-in-TupleField-clause-reads t c = subst (λ (e : Element). Reads false (element_of e) c.args.p.now c.tuple_field.new.p) (sym c.in-TupleField.is) c.tuple_field.ensures.reads
+
+pub lists::read_element-variant-requires : goal.lists::read_element-variant-requires
+unfolding look_of begins_below whole rule items statements expressions patterns types paths there_at shift passes is_silent begins in_mode anew row one_of any_of no_longer longest is_longer
+lists::read_element-variant-requires t c =
+    let seen = subst (λ (e : Element). Saw false (begins looks (element_of e)) c.args.p.now true) c.in-Variant.is c.requires.begins in
+    (omega arith, (c.requires.short, (seen, begun-left variant refl seen)))
+
+pub lists::read_element-returns-in-Variant-clause-reads : goal.lists::read_element-returns-in-Variant-clause-reads
+lists::read_element-returns-in-Variant-clause-reads t c = subst (λ (e : Element). Reads false (element_of e) c.args.p.now c.variant.new.p) (sym c.in-Variant.is) c.variant.ensures.reads
+
+pub lists::variants-rest_of_list-requires : goal.lists::variants-rest_of_list-requires
+lists::variants-rest_of_list-requires t c = (omega arith, (short-still _ _ ((c.take.ensures.reads true).does.input ∙ c.start-list.ensures.opens.input) c.requires.short, omega arith))
+
+pub lists::variants-complete-requires : goal.lists::variants-complete-requires
+lists::variants-complete-requires t c = (c.rest_of_list.ensures.reads true).does.innermost _ ((c.take.ensures.reads true).does.innermost _ c.start-list.ensures.marker)
+
+pub lists::variants-returns-clause-gives : goal.lists::variants-returns-clause-gives
+unfolding look_of begins_below whole rule items statements expressions patterns types paths there_at shift passes is_silent begins in_mode anew row one_of any_of no_longer longest is_longer
+lists::variants-returns-clause-gives t c = λ cond. gives-anew (anew-after refl (reads-node cond c.start-list.ensures.opens (reads-then cond (c.take.ensures.reads cond) (c.rest_of_list.ensures.reads cond)) c.complete.ensures.closes))
+
+pub lists::record_fields-rest_of_list-requires : goal.lists::record_fields-rest_of_list-requires
+lists::record_fields-rest_of_list-requires t c = (omega arith, (short-still _ _ ((c.take.ensures.reads true).does.input ∙ c.start-list.ensures.opens.input) c.requires.short, omega arith))
+
+pub lists::record_fields-complete-requires : goal.lists::record_fields-complete-requires
+lists::record_fields-complete-requires t c = (c.rest_of_list.ensures.reads true).does.innermost _ ((c.take.ensures.reads true).does.innermost _ c.start-list.ensures.marker)
+
+pub lists::record_fields-returns-clause-gives : goal.lists::record_fields-returns-clause-gives
+unfolding look_of begins_below whole rule items statements expressions patterns types paths there_at shift passes is_silent begins in_mode anew row one_of any_of no_longer longest is_longer
+lists::record_fields-returns-clause-gives t c = λ cond. gives-anew (anew-after refl (reads-node cond c.start-list.ensures.opens (reads-then cond (c.take.ensures.reads cond) (c.rest_of_list.ensures.reads cond)) c.complete.ensures.closes))
+
+pub lists::tuple_fields-rest_of_list-requires : goal.lists::tuple_fields-rest_of_list-requires
+lists::tuple_fields-rest_of_list-requires t c = (omega arith, (short-still _ _ ((c.take.ensures.reads true).does.input ∙ c.start-list.ensures.opens.input) c.requires.short, omega arith))
+
+pub lists::tuple_fields-complete-requires : goal.lists::tuple_fields-complete-requires
+lists::tuple_fields-complete-requires t c = (c.rest_of_list.ensures.reads true).does.innermost _ ((c.take.ensures.reads true).does.innermost _ c.start-list.ensures.marker)
+
+pub lists::tuple_fields-returns-clause-gives : goal.lists::tuple_fields-returns-clause-gives
+unfolding look_of begins_below whole rule items statements expressions patterns types paths there_at shift passes is_silent begins in_mode anew row one_of any_of no_longer longest is_longer
+lists::tuple_fields-returns-clause-gives t c = λ cond. gives-anew (anew-after refl (reads-node cond c.start-list.ensures.opens (reads-then cond (c.take.ensures.reads cond) (c.rest_of_list.ensures.reads cond)) c.complete.ensures.closes))

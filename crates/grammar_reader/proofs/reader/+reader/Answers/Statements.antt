@@ -15,11 +15,12 @@ use Rattle.rust_grammar.specs.Whole.{rank, rule, whole}
 use Rattle.grammar_reader.specs.Prices.{debt_of, idle_of, most, surely_takes}
 use Rattle.grammar_reader.proofs.Called.{can-begin}
 use Rattle.grammar_reader.proofs.Elements.{expression-begins, read-cost, read-pays}
+use Rattle.grammar_reader.proofs.Ends.{gives-statement}
 use Rattle.grammar_reader.proofs.Seeing.{begun-anew, some-saw}
 use Rattle.grammar_reader.proofs.Standing.{short-still}
 use Rattle.rust_productions.specs.Looks.{tokens, spent}
 use Rattle.rust_productions.specs.Reads.{looks, Reads, Saw}
-use Rattle.rust_productions.proofs.ByHand.{after-look, completes-leave, does-nothing, does-then, goes, reads-call, reads-else, reads-missing, reads-mode, reads-more, reads-node, reads-nothing, reads-or, reads-then, reads-want, reads-wrap}
+use Rattle.rust_productions.proofs.ByHand.{after-look, completes-leave, does-nothing, does-then, goes, reads-call, reads-else, reads-missing, reads-mode, reads-more, reads-node, reads-nothing, reads-or, reads-then, reads-want, reads-when, reads-wrap}
 use Rattle.rust_productions.proofs.Choices.{anew-after, anew-completes, anew-here, anew-look, gives-anew, reads-here}
 use Rattle.rust_productions.proofs.Facts.{begun, nothing, saw-so, ◌and◌}
 use Rattle.rust_productions.proofs.Looking.{saw-arm, saw-not}
@@ -32,22 +33,22 @@ statements::statement-let_stmt-requires t c = (omega arith, (short-still _ _ c.c
 
 pub statements::statement-returns-in-SEMICOLON-clause-gives : goal.statements::statement-returns-in-SEMICOLON-clause-gives
 unfolding look_of begins_below whole rule items statements expressions patterns types paths there_at shift passes is_silent begins in_mode anew row one_of any_of no_longer longest is_longer
-statements::statement-returns-in-SEMICOLON-clause-gives t c = gives-anew (anew-here (saw-arm c.in-SEMICOLON.is (c.current.ensures.sees false) and nothing) (anew-look c.current.ensures.same (anew-after refl (c.take.ensures.reads false))))
+statements::statement-returns-in-SEMICOLON-clause-gives t c = gives-statement c.args.end (anew-here (saw-arm c.in-SEMICOLON.is (c.current.ensures.sees false) and nothing) (anew-look c.current.ensures.same (anew-after refl (c.take.ensures.reads false))))
 
 pub statements::statement-returns-in-LET_KW-clause-gives : goal.statements::statement-returns-in-LET_KW-clause-gives
 unfolding look_of begins_below whole rule items statements expressions patterns types paths there_at shift passes is_silent begins in_mode anew row one_of any_of no_longer longest is_longer
-statements::statement-returns-in-LET_KW-clause-gives t c = gives-anew (anew-here (saw-arm c.in-LET_KW.is (c.current.ensures.sees false) and nothing) (anew-look c.current.ensures.same (anew-after refl c.let_stmt.ensures.reads)))
+statements::statement-returns-in-LET_KW-clause-gives t c = gives-statement c.args.end (anew-here (saw-arm c.in-LET_KW.is (c.current.ensures.sees false) and nothing) (anew-look c.current.ensures.same (anew-after refl c.let_stmt.ensures.reads)))
 
 pub statements::statement-attribute-requires : goal.statements::statement-attribute-requires
 statements::statement-attribute-requires t c = (omega arith, (short-still _ _ (c.at_inner_attribute.ensures.same.input ∙ c.current.ensures.same.input) c.requires.short, omega arith))
 
 pub statements::statement-returns-then-at_inner_attribute-clause-gives : goal.statements::statement-returns-then-at_inner_attribute-clause-gives
 unfolding look_of begins_below whole rule items statements expressions patterns types paths there_at shift passes is_silent begins in_mode anew row one_of any_of no_longer longest is_longer
-statements::statement-returns-then-at_inner_attribute-clause-gives t c = gives-anew (anew-here (saw-not c.in_default.not-SEMICOLON (c.current.ensures.sees false) and saw-not c.in_default.not-LET_KW (c.current.ensures.sees false) and saw-before c.current.ensures.same (saw-so (c.at_inner_attribute.ensures.sees false) c.if-at_inner_attribute.true) and nothing) (anew-look c.current.ensures.same (anew-look c.at_inner_attribute.ensures.same (anew-after refl (reads-call false (c.attribute.ensures.gives false))))))
+statements::statement-returns-then-at_inner_attribute-clause-gives t c = gives-statement c.args.end (anew-here (saw-not c.in_default.not-SEMICOLON (c.current.ensures.sees false) and saw-not c.in_default.not-LET_KW (c.current.ensures.sees false) and saw-before c.current.ensures.same (saw-so (c.at_inner_attribute.ensures.sees false) c.if-at_inner_attribute.true) and nothing) (anew-look c.current.ensures.same (anew-look c.at_inner_attribute.ensures.same (anew-after refl (reads-call false (c.attribute.ensures.gives false))))))
 
 pub statements::statement-returns-then-at_item-clause-gives : goal.statements::statement-returns-then-at_item-clause-gives
 unfolding look_of begins_below whole rule items statements expressions patterns types paths there_at shift passes is_silent begins in_mode anew row one_of any_of no_longer longest is_longer
-statements::statement-returns-then-at_item-clause-gives t c = gives-anew (anew-here (saw-not c.in_default.not-SEMICOLON (c.current.ensures.sees false) and saw-not c.in_default.not-LET_KW (c.current.ensures.sees false) and saw-before c.current.ensures.same (saw-so (c.at_inner_attribute.ensures.sees false) c.if-at_inner_attribute.false) and saw-before c.current.ensures.same (saw-before c.at_inner_attribute.ensures.same (saw-so (c.at_item.ensures.sees false) c.if-at_item.true)) and nothing) (anew-look c.current.ensures.same (anew-look c.at_inner_attribute.ensures.same (anew-look c.at_item.ensures.same (anew-after refl (reads-call false c.item.ensures.gives))))))
+statements::statement-returns-then-at_item-clause-gives t c = gives-statement c.args.end (anew-here (saw-not c.in_default.not-SEMICOLON (c.current.ensures.sees false) and saw-not c.in_default.not-LET_KW (c.current.ensures.sees false) and saw-before c.current.ensures.same (saw-so (c.at_inner_attribute.ensures.sees false) c.if-at_inner_attribute.false) and saw-before c.current.ensures.same (saw-before c.at_inner_attribute.ensures.same (saw-so (c.at_item.ensures.sees false) c.if-at_item.true)) and nothing) (anew-look c.current.ensures.same (anew-look c.at_inner_attribute.ensures.same (anew-look c.at_item.ensures.same (anew-after refl (reads-call false c.item.ensures.gives))))))
 
 pub statements::statement-item-requires : goal.statements::statement-item-requires
 statements::statement-item-requires t c = (omega arith, (short-still _ _ (c.at_item.ensures.same.input ∙ c.at_inner_attribute.ensures.same.input ∙ c.current.ensures.same.input) c.requires.short, omega (arith, c.requires.some, c.current.ensures.left, c.at_inner_attribute.ensures.left, c.at_item.ensures.left)))
@@ -57,7 +58,7 @@ statements::statement-expression_statement-requires t c = (omega arith, (short-s
 
 pub statements::statement-returns-else-at_item-clause-gives : goal.statements::statement-returns-else-at_item-clause-gives
 unfolding look_of begins_below whole rule items statements expressions patterns types paths there_at shift passes is_silent begins in_mode anew row one_of any_of no_longer longest is_longer
-statements::statement-returns-else-at_item-clause-gives t c = gives-anew (anew-here (saw-not c.in_default.not-SEMICOLON (c.current.ensures.sees false) and saw-not c.in_default.not-LET_KW (c.current.ensures.sees false) and saw-before c.current.ensures.same (saw-so (c.at_inner_attribute.ensures.sees false) c.if-at_inner_attribute.false) and saw-before c.current.ensures.same (saw-before c.at_inner_attribute.ensures.same (saw-so (c.at_item.ensures.sees false) c.if-at_item.false)) and nothing) (anew-look c.current.ensures.same (anew-look c.at_inner_attribute.ensures.same (anew-look c.at_item.ensures.same c.expression_statement.ensures.anew))))
+statements::statement-returns-else-at_item-clause-gives t c = gives-statement c.args.end (anew-here (saw-not c.in_default.not-SEMICOLON (c.current.ensures.sees false) and saw-not c.in_default.not-LET_KW (c.current.ensures.sees false) and saw-before c.current.ensures.same (saw-so (c.at_inner_attribute.ensures.sees false) c.if-at_inner_attribute.false) and saw-before c.current.ensures.same (saw-before c.at_inner_attribute.ensures.same (saw-so (c.at_item.ensures.sees false) c.if-at_item.false)) and nothing) (anew-look c.current.ensures.same (anew-look c.at_inner_attribute.ensures.same (anew-look c.at_item.ensures.same c.expression_statement.ensures.anew))))
 
 pub statements::statement-returns-else-at_item-clause-pays : goal.statements::statement-returns-else-at_item-clause-pays
 statements::statement-returns-else-at_item-clause-pays t c = λ e. omega (arith, c.current.ensures.looks, c.at_inner_attribute.ensures.looks, c.at_item.ensures.looks, c.expression_statement.ensures.pays (omega (arith, e, c.current.ensures.left, c.at_inner_attribute.ensures.left, c.at_item.ensures.left)))
@@ -108,27 +109,15 @@ unfolding look_of begins_below whole rule items statements expressions patterns 
 statements::expression_statement-returns-then-at_block_like-clause-anew t c = anew-here (begun rules.block_like (saw-so (c.at_block_like.ensures.sees false) c.if-at_block_like.true) nothing) (anew-look c.at_block_like.ensures.same (c.block_statement.ensures.anew false))
 
 pub statements::expression_statement-ended_expression-requires : goal.statements::expression_statement-ended_expression-requires
-statements::expression_statement-ended_expression-requires t c = (omega arith, (short-still _ _ (c.at_production.ensures.same.input ∙ c.at_block_like.ensures.same.input) c.requires.short, saw-after c.at_production.ensures.same (saw-so c.at_production.ensures.sees c.if-at_production.true)))
+statements::expression_statement-ended_expression-requires t c = (omega arith, (short-still _ _ (c.at_expression.ensures.same.input ∙ c.at_block_like.ensures.same.input) c.requires.short, (saw-after c.at_expression.ensures.same (saw-so c.at_expression.ensures.sees c.if-at_expression.true), omega (arith, c.at_expression.ensures.some c.if-at_expression.true, c.at_expression.ensures.left))))
 
-pub statements::expression_statement-returns-then-at_production-clause-anew : goal.statements::expression_statement-returns-then-at_production-clause-anew
+pub statements::expression_statement-returns-then-at_expression-clause-anew : goal.statements::expression_statement-returns-then-at_expression-clause-anew
 unfolding look_of begins_below whole rule items statements expressions patterns types paths there_at shift passes is_silent begins in_mode anew row one_of any_of no_longer longest is_longer
-statements::expression_statement-returns-then-at_production-clause-anew t c = anew-here (begun rules.block_like (saw-so (c.at_block_like.ensures.sees false) c.if-at_block_like.false) (begun-anew rules.expression (saw-before c.at_block_like.ensures.same (saw-so c.at_production.ensures.sees c.if-at_production.true)) nothing)) (anew-look c.at_block_like.ensures.same (anew-look c.at_production.ensures.same c.ended_expression.ensures.anew))
-
-pub statements::expression_statement-returns-then-at_production-clause-pays : goal.statements::expression_statement-returns-then-at_production-clause-pays
-statements::expression_statement-returns-then-at_production-clause-pays t c = λ e. omega (arith, c.at_block_like.ensures.looks, expression-begins, c.at_production.ensures.looks, c.ended_expression.ensures.pays (omega (arith, e, c.at_block_like.ensures.left, c.at_production.ensures.left)))
-
-pub statements::expression_statement-returns-then-at_production-clause-looks : goal.statements::expression_statement-returns-then-at_production-clause-looks
-statements::expression_statement-returns-then-at_production-clause-looks t c = omega (arith, c.at_block_like.ensures.looks, expression-begins, c.at_production.ensures.looks, c.ended_expression.ensures.looks)
+statements::expression_statement-returns-then-at_expression-clause-anew t c = anew-here (begun rules.block_like (saw-so (c.at_block_like.ensures.sees false) c.if-at_block_like.false) (begun rules.expression (saw-before c.at_block_like.ensures.same (saw-so c.at_expression.ensures.sees c.if-at_expression.true)) nothing)) (anew-look c.at_block_like.ensures.same (anew-look c.at_expression.ensures.same c.ended_expression.ensures.anew))
 
 pub statements::expression_statement-returns-clause-anew : goal.statements::expression_statement-returns-clause-anew
 unfolding look_of begins_below whole rule items statements expressions patterns types paths there_at shift passes is_silent begins in_mode anew row one_of any_of no_longer longest is_longer
-statements::expression_statement-returns-clause-anew t c = anew-here (begun rules.block_like (saw-so (c.at_block_like.ensures.sees false) c.if-at_block_like.false) (begun-anew rules.expression (saw-before c.at_block_like.ensures.same (saw-so c.at_production.ensures.sees c.if-at_production.false)) nothing)) (anew-look c.at_block_like.ensures.same (anew-look c.at_production.ensures.same (anew-after refl (c.skip.ensures.reads false))))
-
-pub statements::expression_statement-returns-clause-pays : goal.statements::expression_statement-returns-clause-pays
-statements::expression_statement-returns-clause-pays t c = λ e. omega (arith, c.at_block_like.ensures.looks, expression-begins, c.at_production.ensures.looks, c.skip.ensures.looks)
-
-pub statements::expression_statement-returns-clause-looks : goal.statements::expression_statement-returns-clause-looks
-statements::expression_statement-returns-clause-looks t c = omega (arith, c.at_block_like.ensures.looks, expression-begins, c.at_production.ensures.looks, c.skip.ensures.looks)
+statements::expression_statement-returns-clause-anew t c = anew-here (begun rules.block_like (saw-so (c.at_block_like.ensures.sees false) c.if-at_block_like.false) (begun rules.expression (saw-before c.at_block_like.ensures.same (saw-so c.at_expression.ensures.sees c.if-at_expression.false)) nothing)) (anew-look c.at_block_like.ensures.same (anew-look c.at_expression.ensures.same (anew-after refl (c.skip.ensures.reads false))))
 
 pub statements::block_statement-block_like-requires : goal.statements::block_statement-block_like-requires
 statements::block_statement-block_like-requires t c = (omega arith, (short-still _ _ c.start-frame.ensures.opens.input c.requires.short, ((λ d. saw-inside c.start-frame.ensures.opens (c.requires.begins d)), omega arith)))
@@ -156,36 +145,25 @@ pub statements::after_block-returns-then-at-clause-reads : goal.statements::afte
 unfolding look_of begins_below whole rule items statements expressions patterns types paths there_at shift passes is_silent begins in_mode anew row one_of any_of no_longer longest is_longer
 statements::after_block-returns-then-at-clause-reads t c = λ cond. reads-here (saw-so (c.at_more.ensures.sees cond) c.if-at_more.false and saw-before c.at_more.ensures.same (saw-so (c.at.ensures.sees cond) c.if-at.true) and nothing) (after-look cond c.at_more.ensures.same (after-look cond c.at.ensures.same (reads-wrap cond (c.take.ensures.reads cond) c.wrap.ensures.wraps)))
 
-pub statements::after_block-returns-then-at_list_end-clause-marker : goal.statements::after_block-returns-then-at_list_end-clause-marker
-statements::after_block-returns-then-at_list_end-clause-marker t c = c.at_list_end.ensures.same.innermost _ (c.at.ensures.same.innermost _ (c.at_more.ensures.same.innermost _ c.requires.innermost))
+pub statements::after_block-returns-then-at_end_of-clause-marker : goal.statements::after_block-returns-then-at_end_of-clause-marker
+statements::after_block-returns-then-at_end_of-clause-marker t c = c.at_end_of.ensures.same.innermost _ (c.at.ensures.same.innermost _ (c.at_more.ensures.same.innermost _ c.requires.innermost))
 
-pub statements::after_block-returns-then-at_list_end-clause-reads : goal.statements::after_block-returns-then-at_list_end-clause-reads
+pub statements::after_block-returns-then-at_end_of-clause-reads : goal.statements::after_block-returns-then-at_end_of-clause-reads
 unfolding look_of begins_below whole rule items statements expressions patterns types paths there_at shift passes is_silent begins in_mode anew row one_of any_of no_longer longest is_longer
-statements::after_block-returns-then-at_list_end-clause-reads t c = λ cond. reads-here (saw-so (c.at_more.ensures.sees cond) c.if-at_more.false and saw-before c.at_more.ensures.same (saw-so (c.at.ensures.sees cond) c.if-at.false) and saw-before c.at_more.ensures.same (saw-before c.at.ensures.same (saw-so (c.at_list_end.ensures.sees cond) c.if-at_list_end.true)) and nothing) (reads-nothing cond (does-then c.at_more.ensures.same (does-then c.at.ensures.same c.at_list_end.ensures.same)))
+statements::after_block-returns-then-at_end_of-clause-reads t c = λ cond. reads-else cond (saw-so (c.at_more.ensures.sees cond) c.if-at_more.false) (after-look cond c.at_more.ensures.same (reads-else cond (saw-so (c.at.ensures.sees cond) c.if-at.false) (after-look cond c.at.ensures.same (reads-or cond (saw-so (c.at_end_of.ensures.sees cond) c.if-at_end_of.true) (reads-when cond (reads-nothing cond c.at_end_of.ensures.same))))))
 
 pub statements::after_block-wrap-requires-2 : goal.statements::after_block-wrap-requires-2
-statements::after_block-wrap-requires-2 t c = c.at_list_end.ensures.same.innermost _ (c.at.ensures.same.innermost _ (c.at_more.ensures.same.innermost _ c.requires.innermost))
+statements::after_block-wrap-requires-2 t c = c.at_end_of.ensures.same.innermost _ (c.at.ensures.same.innermost _ (c.at_more.ensures.same.innermost _ c.requires.innermost))
 
 pub statements::after_block-returns-clause-reads : goal.statements::after_block-returns-clause-reads
 unfolding look_of begins_below whole rule items statements expressions patterns types paths there_at shift passes is_silent begins in_mode anew row one_of any_of no_longer longest is_longer
-statements::after_block-returns-clause-reads t c = λ cond. reads-here (saw-so (c.at_more.ensures.sees cond) c.if-at_more.false and saw-before c.at_more.ensures.same (saw-so (c.at.ensures.sees cond) c.if-at.false) and saw-before c.at_more.ensures.same (saw-before c.at.ensures.same (saw-so (c.at_list_end.ensures.sees cond) c.if-at_list_end.false)) and nothing) (reads-wrap cond (reads-nothing cond (does-then c.at_more.ensures.same (does-then c.at.ensures.same c.at_list_end.ensures.same))) c.wrap-2.ensures.wraps)
+statements::after_block-returns-clause-reads t c = λ cond. reads-else cond (saw-so (c.at_more.ensures.sees cond) c.if-at_more.false) (after-look cond c.at_more.ensures.same (reads-else cond (saw-so (c.at.ensures.sees cond) c.if-at.false) (after-look cond c.at.ensures.same (reads-else cond (saw-so (c.at_end_of.ensures.sees cond) c.if-at_end_of.false) (reads-wrap cond (reads-nothing cond c.at_end_of.ensures.same) c.wrap-2.ensures.wraps)))))
 
-pub statements::ended_expression-read_anew-requires : goal.statements::ended_expression-read_anew-requires
-statements::ended_expression-read_anew-requires t c = (omega arith, (short-still _ _ c.start-frame.ensures.opens.input c.requires.short, can-begin rules.expression (saw-inside c.start-frame.ensures.opens c.requires.begins)))
+pub statements::ended_expression-expression-requires : goal.statements::ended_expression-expression-requires
+statements::ended_expression-expression-requires t c = (omega arith, (short-still _ _ c.start-frame.ensures.opens.input c.requires.short, (saw-inside c.start-frame.ensures.opens c.requires.begins, omega arith)))
 
 pub statements::ended_expression-statement_end-frame-requires : goal.statements::ended_expression-statement_end-frame-requires
-statements::ended_expression-statement_end-frame-requires t c = c.read_anew.ensures.gives.does.innermost _ c.start-frame.ensures.marker
+statements::ended_expression-statement_end-frame-requires t c = c.expression.ensures.gives.does.innermost _ c.start-frame.ensures.marker
 
 pub statements::ended_expression-returns-clause-anew : goal.statements::ended_expression-returns-clause-anew
-statements::ended_expression-returns-clause-anew t c = anew-completes c.start-frame.ensures.opens (completes-leave (reads-then false (reads-call false c.read_anew.ensures.gives) (c.statement_end-frame.ensures.reads false)) c.abandon.ensures.leaves)
-
-pub statements::ended_expression-returns-clause-pays : goal.statements::ended_expression-returns-clause-pays
-unfolding most idle_of debt_of surely_takes rank
-statements::ended_expression-returns-clause-pays t c = λ e. elim (cases_lt (tokens c.read_anew.new.p) (tokens c.start-frame.new.p)) [
-  | inl h ↦ omega (arith, read-pays 1793 rules.expression refl c.read_anew.ensures.looks h, c.statement_end-frame.ensures.looks, c.start-frame.ensures.looks, c.abandon.ensures.looks)
-  | inr h ↦ omega (arith, read-cost 600 rules.expression refl refl c.read_anew.ensures.looks, c.statement_end-frame.ensures.pays (omega (arith, e, h, c.start-frame.ensures.left, c.abandon.ensures.left, c.read_anew.ensures.left)), c.start-frame.ensures.looks, c.abandon.ensures.looks)
-]
-
-pub statements::ended_expression-returns-clause-looks : goal.statements::ended_expression-returns-clause-looks
-unfolding most idle_of debt_of surely_takes rank
-statements::ended_expression-returns-clause-looks t c = omega (arith, read-cost 600 rules.expression refl refl c.read_anew.ensures.looks, c.statement_end-frame.ensures.looks, c.start-frame.ensures.looks, c.abandon.ensures.looks)
+statements::ended_expression-returns-clause-anew t c = anew-completes c.start-frame.ensures.opens (completes-leave (reads-then false (reads-call false c.expression.ensures.gives) (c.statement_end-frame.ensures.reads false)) c.abandon.ensures.leaves)

@@ -1,5 +1,4 @@
 -- Each path sees what the look asks.
-use Rattle.std.proofs.Common.{false, true, refl}
 use Rattle.rust_grammar.specs.Notation.{row}
 use Rattle.rust_grammar.specs.Rule.{there_at}
 use Rattle.rust_productions.proofs.ByHand.{does-nothing}

@@ -15,8 +15,7 @@ use Rattle.rust_grammar.specs.Whole.{rule, whole}
 use Rattle.rust_productions.proofs.ByHand.{does-then}
 use Rattle.rust_productions.proofs.Facts.{begun, nothing, saw-so, ◌and◌}
 use Rattle.rust_productions.proofs.Layering.{saw-disjunction}
-use Rattle.rust_productions.proofs.Ranges.{operation-marked, operation-unmarked}
-use Rattle.rust_productions.proofs.Seen.{begins-row, saw-before, starts-here}
+use Rattle.rust_productions.proofs.Seen.{saw-before, starts-here}
 use Rattle.rust_productions.proofs.grammar.expressions.at_range_operand.Goals as goal
 
 pub returns-then-at_body-clause-sees : goal.returns-then-at_body-clause-sees

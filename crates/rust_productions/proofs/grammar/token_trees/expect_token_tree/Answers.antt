@@ -1,16 +1,6 @@
 -- A token tree, or a message.
-use Rattle.std.proofs.Common.{false, true, refl}
 use Rattle.rust_grammar.specs.Rule as rules
-use Rattle.rust_grammar.specs.Expressions.{expressions}
-use Rattle.rust_grammar.specs.Items.{items}
-use Rattle.rust_grammar.specs.Meaning.{begins_below, look_of}
-use Rattle.rust_grammar.specs.Notation.{any_of, is_longer, no_longer, longest, one_of, row}
-use Rattle.rust_grammar.specs.Paths.{paths}
-use Rattle.rust_grammar.specs.Patterns.{patterns}
 use Rattle.rust_grammar.specs.Rule.{begins, in_mode, anew, is_silent, passes, shift, there_at}
-use Rattle.rust_grammar.specs.Statements.{statements}
-use Rattle.rust_grammar.specs.Types.{types}
-use Rattle.rust_grammar.specs.Whole.{rank, rule, whole}
 use Rattle.rust_productions.proofs.ByHand.{after-look, reads-call}
 use Rattle.rust_productions.proofs.Choices.{reads-here}
 use Rattle.rust_productions.proofs.Facts.{begun, nothing, saw-so}

@@ -1,0 +1,126 @@
+-- Operands with the operators between them, path by path.
+use Rattle.std.proofs.Common.{◌≡◌, ℕ, ◌+◌, ◌-◌, ◌≤◌, ◌<◌, Bool, true, false, [], ◌∷◌, length, nat_eq, Option, Some, None, refl, sym, ap, subst, ◌∙◌, arith, inl, inr}
+use Rattle.std.proofs.lemmas.Bool.{eqb-true}
+use Rattle.parser_events.specs.Forest.{ExpectedExpression}
+use Rattle.rust_grammar.specs.Calls.{Disjunction, Operation}
+use Rattle.rust_grammar.specs.Expressions.{body_begins, expressions, range_to}
+use Rattle.rust_grammar.specs.Items.{items}
+use Rattle.rust_grammar.specs.Meaning.{begins_below, look_of}
+use Rattle.rust_grammar.specs.Notation.{◌▸◌, ◌!, any_of, is_longer, more, no_longer, longest, one_of, row}
+use Rattle.rust_grammar.specs.Paths.{paths}
+use Rattle.rust_grammar.specs.Patterns.{patterns}
+use Rattle.rust_grammar.specs.Rule as rules
+use Rattle.rust_grammar.specs.Rule.{Call, One, Production, Rule, Unless, Want, begins, in_mode, anew, is_silent, passes, shift, there_at}
+use Rattle.rust_grammar.specs.Statements.{statements}
+use Rattle.rust_grammar.specs.Types.{types}
+use Rattle.rust_grammar.specs.Whole.{rank, rule, whole}
+use Rattle.grammar_reader.specs.ByHand.{level_of}
+use Rattle.grammar_reader.specs.declared.reader.expressions.Level.{Level}
+use Rattle.grammar_reader.proofs.Seeing.{reads-expected}
+use Rattle.grammar_reader.proofs.Standing.{short-still}
+use Rattle.rust_productions.specs.Layers.{layer_at, layers, operators_at, repeated, turn_at, turns_from}
+use Rattle.rust_productions.specs.Looks.{tokens, spent}
+use Rattle.rust_productions.specs.Operators.{IsMark, IsNext, spelling_of}
+use Rattle.rust_productions.specs.Reads.{looks, Gives, Reads, Saw}
+use Rattle.rust_productions.specs.declared.grammar.operators.RangeMark.{RangeMark}
+use Rattle.rust_productions.proofs.ByHand.{after-look, completes-leave, does-nothing, does-then, goes, reads-call, reads-missing, reads-more, reads-node, reads-then, reads-unless, reads-want, reads-wrap}
+use Rattle.rust_productions.proofs.Choices.{anew-here, anew-inside, gives-anew}
+use Rattle.rust_productions.proofs.Facts.{begun, nothing, saw-so, ◌and◌}
+use Rattle.rust_productions.proofs.Layering.{anew-layers, binary-turn, cast-turn, gives-layer, last-turn-of, next-turn-of, saw-disjunction, saw-layer}
+use Rattle.rust_productions.proofs.Operators.{next-after}
+use Rattle.rust_productions.proofs.Powers.{first-layers}
+use Rattle.rust_productions.proofs.Ranges.{begins-call, gives-expression, gives-look, gives-operands, mark-after, mark-inside, operand-begun, range-near, reads-assignment, reads-no-tail, reads-range, reads-range-alone, reads-range-end, reads-range-on, reads-before-look, saw-operation, saw-outside}
+use Rattle.rust_productions.proofs.Seen.{saw-after, saw-before, saw-inside}
+use Rattle.grammar_reader.proofs.reader.+reader.Goals as goal
+
+pub layers::layers-prefixed-requires : goal.layers::layers-prefixed-requires
+layers::layers-prefixed-requires t c = (omega arith, (short-still _ _ c.start-frame.ensures.opens.input c.requires.short, (saw-inside c.start-frame.ensures.opens c.requires.begins, omega arith)))
+
+pub layers::layers-climb-frame-requires : goal.layers::layers-climb-frame-requires
+layers::layers-climb-frame-requires t c = (omega arith, (short-still _ _ (c.prefixed.ensures.gives.does.input ∙ c.start-frame.ensures.opens.input) c.requires.short, (c.requires.high, c.prefixed.ensures.gives.does.innermost _ c.start-frame.ensures.marker)))
+
+pub layers::layers-returns-clause-gives : goal.layers::layers-returns-clause-gives
+layers::layers-returns-clause-gives t c = gives-layer c.args.condition c.args.height c.requires.high c.start-frame.ensures.opens (reads-then _ (reads-call _ c.prefixed.ensures.gives) c.climb-frame.ensures.reads) c.abandon.ensures.leaves
+
+pub layers::turn-expect_type-requires : goal.layers::turn-expect_type-requires
+layers::turn-expect_type-requires t c = (omega arith, short-still _ _ (c.take_operator.ensures.reads true).does.input c.requires.short)
+
+pub layers::turn-expect_layer-requires : goal.layers::turn-expect_layer-requires
+layers::turn-expect_layer-requires t c = (omega arith, (short-still _ _ (c.take_operator.ensures.reads true).does.input c.requires.short, omega (arith, c.requires.high)))
+
+pub layers::turn-wrap-requires : goal.layers::turn-wrap-requires
+layers::turn-wrap-requires t c = c.expect_type.ensures.reads.does.innermost _ ((c.take_operator.ensures.reads true).does.innermost _ c.requires.innermost)
+
+pub layers::turn-wrap-requires-2 : goal.layers::turn-wrap-requires-2
+layers::turn-wrap-requires-2 t c = c.expect_layer.ensures.reads.does.innermost _ ((c.take_operator.ensures.reads true).does.innermost _ c.requires.innermost)
+
+pub layers::expect_layer-layers-requires : goal.layers::expect_layer-layers-requires
+layers::expect_layer-layers-requires t c = (omega arith, (short-still _ _ c.at_operand.ensures.same.input c.requires.short, (saw-after c.at_operand.ensures.same (saw-so c.at_operand.ensures.sees c.if-at_operand.true), (omega (arith, c.at_operand.ensures.some c.if-at_operand.true, c.at_operand.ensures.left), c.requires.high))))
+
+pub layers::expect_layer-returns-then-at_operand-clause-reads : goal.layers::expect_layer-returns-then-at_operand-clause-reads
+layers::expect_layer-returns-then-at_operand-clause-reads t c = reads-want _ (begins-call (layer_at c.args.height) (saw-layer c.args.height c.requires.high (saw-so c.at_operand.ensures.sees c.if-at_operand.true))) (after-look _ c.at_operand.ensures.same (reads-call _ c.layers.ensures.gives))
+
+pub layers::expect_layer-returns-clause-reads : goal.layers::expect_layer-returns-clause-reads
+layers::expect_layer-returns-clause-reads t c = reads-missing _ (begins-call (layer_at c.args.height) (saw-layer c.args.height c.requires.high (saw-so c.at_operand.ensures.sees c.if-at_operand.false))) (after-look _ c.at_operand.ensures.same (c.error.ensures.reads _))
+
+pub layers::climb-turns-init : goal.layers::climb-turns-init
+layers::climb-turns-init t c = record {
+  input = refl;
+  marker = c.current_op-next.ensures.same.innermost _ c.requires.innermost;
+  next = next-after c.current_op-next.ensures.same c.current_op-next.ensures.next;
+  goes = record {
+    rest = λ end p. subst (λ (n : ℕ). Reads c.args.condition (repeated (turns_from n 1)) c.current_op-next.new.p end) (let e : c.args.top + 1 - 1 ≡ c.args.top = omega arith in e) p;
+  };
+  some = omega arith;
+  low = omega arith;
+  left = omega arith;
+  looks = omega arith;
+}
+
+pub layers::climb-turns-preserved : goal.layers::climb-turns-preserved
+unfolding tokens
+layers::climb-turns-preserved t c =
+    let turned =
+    next-turn-of c.args.condition c.turns.lowest c.args.top c.turns.invariant.some (omega arith) (omega arith) c.requires.high c.turns.invariant.goes c.turns.invariant.next c.turn-frame.ensures.reads
+    (omega (arith, c.turn-frame.ensures.left)) in
+    record {
+      input = c.current_op-next-in-turns.ensures.same.input ∙ c.turn-frame.ensures.reads.does.input ∙ c.turns.invariant.input;
+      marker = c.current_op-next-in-turns.ensures.same.innermost _ c.turn-frame.ensures.marker;
+      next = next-after c.current_op-next-in-turns.ensures.same c.current_op-next-in-turns.ensures.next;
+      goes = record { rest = λ end p. turned.rest end (after-look _ c.current_op-next-in-turns.ensures.same p) };
+      some = omega (arith, c.turns.invariant.some);
+      low = omega arith;
+      left = omega (arith, c.turns.invariant.left, c.turn-frame.ensures.left, c.current_op-next-in-turns.ensures.left);
+      looks = omega (arith, c.turns.invariant.looks, c.turn-frame.ensures.looks, c.current_op-next-in-turns.ensures.looks);
+    }
+
+pub layers::climb-returns-after-turns-clause-reads : goal.layers::climb-returns-after-turns-clause-reads
+layers::climb-returns-after-turns-clause-reads t c = after-look _ c.current_op-next.ensures.same (last-turn-of c.args.condition c.turns.lowest c.args.top c.turns.invariant.some c.turns.invariant.low c.requires.high (inl (omega arith)) c.turns.invariant.goes c.turns.invariant.next (does-nothing _))
+
+pub layers::climb-returns-after-turns-clause-looks : goal.layers::climb-returns-after-turns-clause-looks
+layers::climb-returns-after-turns-clause-looks t c = omega (arith, c.turns.invariant.looks, c.current_op-next.ensures.looks)
+
+pub layers::climb-returns-else-next-top-clause-reads : goal.layers::climb-returns-else-next-top-clause-reads
+layers::climb-returns-else-next-top-clause-reads t c = after-look _ c.current_op-next.ensures.same (last-turn-of c.args.condition c.turns.lowest c.args.top c.turns.invariant.some c.turns.invariant.low c.requires.high (inr (omega arith)) c.turns.invariant.goes c.turns.invariant.next (does-nothing _))
+
+pub layers::climb-returns-else-next-top-clause-looks : goal.layers::climb-returns-else-next-top-clause-looks
+layers::climb-returns-else-next-top-clause-looks t c = omega (arith, c.turns.invariant.looks, c.current_op-next.ensures.looks)
+
+not-one : (h : ℕ) → 2 ≤ h → nat_eq h 1 ≡ false
+not-one h more = which (nat_eq h 1) refl
+  where
+    which : (b : Bool) → nat_eq h 1 ≡ b → nat_eq h 1 ≡ false
+    which true e = absurd (omega (arith, more, eqb-true h 1 e))
+    which false e = e
+
+pub layers::turn-returns-then-operator-eq1-clause-reads : goal.layers::turn-returns-then-operator-eq1-clause-reads
+unfolding turn_at
+layers::turn-returns-then-operator-eq1-clause-reads t c =
+    let is : c.args.operator.height ≡ 1 = omega arith in
+    subst (λ (h : ℕ). Reads c.args.condition (turn_at h) c.args.p.now c.wrap.new.p) (sym is)
+    (reads-wrap _ (reads-then _ (subst (λ (h : ℕ). Reads c.args.condition (operators_at h) c.args.p.now c.take_operator.new.p) is (c.take_operator.ensures.reads _)) c.expect_type.ensures.reads) c.wrap.ensures.wraps)
+
+pub layers::turn-returns-clause-reads : goal.layers::turn-returns-clause-reads
+layers::turn-returns-clause-reads t c =
+    subst (λ (r : Rule). Reads c.args.condition r c.args.p.now c.wrap-2.new.p) (sym (binary-turn c.args.operator.height c.requires.is (not-one c.args.operator.height (omega (arith, c.requires.is)))))
+    (reads-wrap _ (reads-then _ (c.take_operator.ensures.reads _) c.expect_layer.ensures.reads) c.wrap-2.ensures.wraps)

@@ -1,0 +1,43 @@
+-- Each path reads what the rule comes to there.
+use Rattle.std.proofs.Common.{refl}
+use Rattle.rust_grammar.specs.Expressions.{expressions}
+use Rattle.rust_grammar.specs.Items.{items}
+use Rattle.rust_grammar.specs.Meaning.{begins_below, look_of}
+use Rattle.rust_grammar.specs.Notation.{any_of, is_longer, no_longer, longest, one_of, row}
+use Rattle.rust_grammar.specs.Paths.{paths}
+use Rattle.rust_grammar.specs.Patterns.{patterns}
+use Rattle.rust_grammar.specs.Rule.{begins, in_mode, anew, is_silent, passes, shift, there_at}
+use Rattle.rust_grammar.specs.Statements.{statements}
+use Rattle.rust_grammar.specs.Types.{types}
+use Rattle.rust_grammar.specs.Whole.{rule, whole}
+use Rattle.rust_grammar.specs.Rule as rules
+use Rattle.rust_productions.proofs.Begins.{saw-expr-path}
+use Rattle.rust_productions.proofs.ByHand.{does-then}
+use Rattle.rust_productions.proofs.Facts.{begun, nothing, saw-so, ◌and◌}
+use Rattle.rust_productions.proofs.Seen.{begins-row, saw-before, saw-left, saw-right}
+use Rattle.rust_productions.proofs.grammar.fields.at_field_value.Goals as goal
+
+pub returns-then-at_path-clause-sees : goal.returns-then-at_path-clause-sees
+unfolding look_of begins_below whole rule items statements expressions patterns types paths there_at shift passes is_silent begins in_mode anew row one_of any_of no_longer longest is_longer
+returns-then-at_path-clause-sees c cond = begins-row rules.field_value (begun rules.expr_path (saw-expr-path (saw-so (c.at_path.ensures.sees cond) c.if-at_path.true)) (nothing)) refl
+
+pub returns-then-at_named_field-clause-sees : goal.returns-then-at_named_field-clause-sees
+unfolding look_of begins_below whole rule items statements expressions patterns types paths there_at shift passes is_silent begins in_mode anew row one_of any_of no_longer longest is_longer
+returns-then-at_named_field-clause-sees c cond = begins-row rules.field_value (saw-before c.at_path.ensures.same (saw-so (c.at_named_field.ensures.sees cond) c.if-at_named_field.true) and nothing) refl
+
+pub returns-then-at_named_field-clause-same : goal.returns-then-at_named_field-clause-same
+returns-then-at_named_field-clause-same c = does-then c.at_path.ensures.same (c.at_named_field.ensures.same)
+
+pub returns-then-at_pair-clause-sees : goal.returns-then-at_pair-clause-sees
+unfolding look_of begins_below whole rule items statements expressions patterns types paths there_at shift passes is_silent begins in_mode anew row one_of any_of no_longer longest is_longer
+returns-then-at_pair-clause-sees c cond = begins-row rules.field_value (saw-before c.at_path.ensures.same (saw-before c.at_named_field.ensures.same (saw-left (saw-so (c.at_pair.ensures.sees cond) c.if-at_pair.true))) and saw-before c.at_path.ensures.same (saw-before c.at_named_field.ensures.same (saw-left (saw-right (saw-so (c.at_pair.ensures.sees cond) c.if-at_pair.true)))) and saw-before c.at_path.ensures.same (saw-before c.at_named_field.ensures.same (saw-right (saw-right (saw-so (c.at_pair.ensures.sees cond) c.if-at_pair.true)))) and nothing) refl
+
+pub returns-then-at_pair-clause-same : goal.returns-then-at_pair-clause-same
+returns-then-at_pair-clause-same c = does-then c.at_path.ensures.same (does-then c.at_named_field.ensures.same (c.at_pair.ensures.same))
+
+pub returns-clause-sees : goal.returns-clause-sees
+unfolding look_of begins_below whole rule items statements expressions patterns types paths there_at shift passes is_silent begins in_mode anew row one_of any_of no_longer longest is_longer
+returns-clause-sees c cond = begins-row rules.field_value (begun rules.expr_path (saw-expr-path (saw-so (c.at_path.ensures.sees cond) c.if-at_path.false)) (saw-before c.at_path.ensures.same (saw-so (c.at_named_field.ensures.sees cond) c.if-at_named_field.false) and saw-before c.at_path.ensures.same (saw-before c.at_named_field.ensures.same (saw-so (c.at_pair.ensures.sees cond) c.if-at_pair.false)) and nothing)) refl
+
+pub returns-clause-same : goal.returns-clause-same
+returns-clause-same c = does-then c.at_path.ensures.same (does-then c.at_named_field.ensures.same (c.at_pair.ensures.same))

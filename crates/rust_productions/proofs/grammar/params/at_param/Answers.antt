@@ -1,0 +1,27 @@
+-- Where no pattern begins, none of the tokens is next that a parameter `self` begins with.
+use Rattle.std.proofs.Common.{Bool, true, false, refl}
+use Rattle.parser_input.specs.Kinds.{AMP, MUT_KW, SELF_KW}
+use Rattle.parser_events.specs.View.{View}
+use Rattle.rust_grammar.specs.Expressions.{expressions}
+use Rattle.rust_grammar.specs.Items.{items}
+use Rattle.rust_grammar.specs.Meaning.{begins_below, look_of}
+use Rattle.rust_grammar.specs.Notation.{any_of, is_longer, no_longer, longest, one_of, row}
+use Rattle.rust_grammar.specs.Paths.{paths}
+use Rattle.rust_grammar.specs.Patterns.{patterns}
+use Rattle.rust_grammar.specs.Rule.{Kind, begins, in_mode, anew, is_silent, passes, shift, there_at}
+use Rattle.rust_grammar.specs.Statements.{statements}
+use Rattle.rust_grammar.specs.Types.{types}
+use Rattle.rust_grammar.specs.Whole.{rule, whole}
+use Rattle.rust_grammar.specs.Rule as rules
+use Rattle.rust_productions.specs.Reads.{looks, Saw}
+use Rattle.rust_productions.proofs.Facts.{begun, nothing, ◌and◌}
+use Rattle.rust_productions.proofs.Seen.{begins-row, saw-none}
+use Rattle.rust_productions.proofs.grammar.params.at_param.Goals as goal
+
+as-pattern : (b : Bool) {c : Bool} {v : View} → Saw c (looks rules.pattern) v b → Saw c (looks rules.param) v b
+unfolding look_of begins_below whole rule items statements expressions patterns types paths there_at shift passes is_silent begins in_mode anew row one_of any_of no_longer longest is_longer
+as-pattern true saw = begins-row rules.param (begun rules.pattern saw nothing) refl
+as-pattern false saw = begins-row rules.param (saw-none (Kind 0 SELF_KW) (looks rules.pattern) nothing saw refl and saw-none (Kind 0 MUT_KW) (looks rules.pattern) nothing saw refl and saw-none (Kind 0 AMP) (looks rules.pattern) nothing saw refl and begun rules.pattern saw nothing) refl
+
+pub returns-clause-sees : goal.returns-clause-sees
+returns-clause-sees c cond = as-pattern _ (c.at_pattern.ensures.sees cond)

@@ -1,0 +1,32 @@
+//! Fields of records.
+
+ghost use Rattle.std.specs.Prelude.{◌≡◌, ◌+◌, ◌≤◌, Bool, IsTrue};
+ghost use Rattle.rust_productions.specs.Looks.{tokens, spent};
+ghost use Rattle.rust_grammar.specs.Rule as rules;
+ghost use Rattle.rust_productions.specs.Reads.{looks, Does, Saw};
+
+use crate::grammar::at_pair;
+use crate::grammar::paths::at_path;
+use crate::grammar::patterns::at_named_field;
+use parser_events::parser::Parser;
+use parser_input::syntax_kind::SyntaxKind;
+
+/// Whether a field of a record expression begins here.
+pub fn at_field_value(p: &mut Parser<'_>) -> bool
+    ensures sees { (c : Bool) → Saw c (looks rules.field_value) p.old result }
+    ensures some { IsTrue result → 1 ≤ tokens p.old }
+    ensures same { Does (λ s. s) p.old p.new }
+    ensures left { tokens p.new ≡ tokens p.old }
+    ensures looks { spent p.new ≤ spent p.old + 7 }
+{
+    if at_path(p) {
+        return true;
+    }
+    if at_named_field(p) {
+        return true;
+    }
+    if at_pair(p, SyntaxKind::DOT, SyntaxKind::DOT) {
+        return true;
+    }
+    false
+}

@@ -1,0 +1,35 @@
+//! Generic arguments.
+
+ghost use Rattle.std.specs.Prelude.{◌≡◌, ◌+◌, ◌≤◌, Bool, IsTrue};
+ghost use Rattle.rust_productions.specs.Looks.{tokens, spent};
+ghost use Rattle.rust_grammar.specs.Rule as rules;
+ghost use Rattle.rust_productions.specs.Reads.{looks, Does, Saw};
+
+use crate::grammar::names::at_literal;
+use crate::grammar::types::at_type;
+use crate::grammar::{at, current};
+use parser_events::parser::Parser;
+use parser_input::syntax_kind::SyntaxKind;
+
+/// Whether a generic argument begins here.
+pub fn at_generic_arg(p: &mut Parser<'_>) -> bool
+    ensures sees { (c : Bool) → Saw c (looks rules.generic_arg) p.old result }
+    ensures some { IsTrue result → 1 ≤ tokens p.old }
+    ensures same { Does (λ s. s) p.old p.new }
+    ensures left { tokens p.new ≡ tokens p.old }
+    ensures looks { spent p.new ≤ spent p.old + 8 }
+{
+    if at(p, SyntaxKind::IDENT) {
+        return true;
+    }
+    if at_type(p) {
+        return true;
+    }
+    if at_literal(p) {
+        return true;
+    }
+    match current(p) {
+        SyntaxKind::LIFETIME_IDENT | SyntaxKind::MINUS => true,
+        _ => false,
+    }
+}
