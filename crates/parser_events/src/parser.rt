@@ -22,6 +22,10 @@ use parser_input::syntax_kind::SyntaxKind;
 use std::alloc::{AllocError, Global};
 use std::marker::Model;
 
+/// Room is asked for so many entries of the record a token at first. Real sources have two and a
+/// half.
+const ENTRIES_PER_TOKEN: usize = 3;
+
 /// A walk over an input, and the trees that are made of it on the way. Once a growth is refused,
 /// nothing more is recorded, and [`Parser::finish`] answers that; all else goes on as before.
 #[derive(Drop)]
@@ -61,7 +65,7 @@ impl<'t> Parser<'t> {
             input,
             left: input.len(),
             looks: 0,
-            recorder: Recorder::new(alloc),
+            recorder: Recorder::new(alloc, input.len().saturating_mul(ENTRIES_PER_TOKEN)),
         }
     }
 

@@ -37,13 +37,13 @@ impl Model for Recorder {
 }
 
 impl Recorder {
-    /// Nothing is recorded, and no node is open.
-    pub(crate) fn new(alloc: Global) -> Recorder
+    /// Nothing is recorded, and no node is open. How many entries are to come is only a hint.
+    pub(crate) fn new(alloc: Global, entries: usize) -> Recorder
         ensures { result ≡ Some (record { entered = []; opened = [] }) }
     {
         Recorder {
             alloc,
-            events: Vec::new(alloc),
+            events: with_room(alloc, entries),
             open_nodes: Vec::new(alloc),
             refused: false,
         }
@@ -154,6 +154,16 @@ impl Recorder {
         ensures { (kept : Kept) → self.now ≡ Some kept → result ≡ innermost kept }
     {
         self.open_nodes.last().copied().unwrap_or(0)
+    }
+}
+
+// An empty list with room for so many entries, unless that is refused: then it grows entry by entry.
+fn with_room(alloc: Global, entries: usize) -> Vec<Event>
+    ensures { result.items ≡ [] }
+{
+    match Vec::with_capacity(alloc, entries) {
+        Ok(events) => events,
+        Err(_refused) => Vec::new(alloc),
     }
 }
 

@@ -111,8 +111,10 @@ pub(crate) fn steps_backwards(alloc: Global, events: &[Event]) -> Result<Vec<Ste
     ensures { IfOk result (λ steps. (f : Marked) → map event_of events.now ≡ entries 0 f
         → map step_of (reverse steps.items) ≡ walk f) }
 {
+    // A closed node has two steps, any other entry one.
+    let most = events.len().saturating_mul(2);
     let mut unwinding = Unwinding {
-        steps: Vec::new(alloc),
+        steps: Vec::with_capacity(alloc, most)?,
         pending: Vec::new(alloc),
     };
     let mut index = events.len();
