@@ -25,3 +25,7 @@ pattern-anywhere saw = record { at = λ s e. saw.at s e }
 pub param-anywhere : {c b : Bool} {v : View} → Saw false (begins looks (Call rules.param)) v b → Saw c (looks rules.param) v b
 unfolding look_of begins_below whole rule items statements expressions patterns types paths there_at shift passes is_silent begins in_mode anew row one_of any_of no_longer longest is_longer sees
 param-anywhere saw = record { at = λ s e. saw.at s e }
+
+pub pattern-mode : {c d b : Bool} {v : View} → Saw c (looks rules.pattern) v b → Saw d (looks rules.pattern) v b
+unfolding look_of begins_below whole rule items statements expressions patterns types paths there_at shift passes is_silent begins in_mode anew row one_of any_of no_longer longest is_longer sees
+pattern-mode saw = record { at = λ s e. saw.at s e }

@@ -1,32 +1,18 @@
 -- The turns of lists.
-use Rattle.std.proofs.Common.{◌≡◌, ℕ, ◌+◌, ◌<◌, ◌≤◌, nat_le, nat_lt, Bool, true, false, not, length, refl, sym, ap, subst, ◌∙◌, arith, inl, inr, if◌then◌else◌}
-use Rattle.std.proofs.lemmas.Bool.{cases_lt, leb-true}
+use Rattle.std.proofs.Common.{◌≡◌, ℕ, ◌+◌, ◌<◌, ◌≤◌, nat_lt, Bool, true, false, not, length, refl, sym, ap, subst, ◌∙◌, arith, inl, inr, if◌then◌else◌}
+use Rattle.std.proofs.lemmas.Bool.{cases_lt}
 use Rattle.parser_events.specs.View.{View}
 use Rattle.parser_input.specs.Kinds.{COMMA}
 use Rattle.parser_events.specs.Forest.{Expected, UnexpectedIn}
 use Rattle.rust_grammar.specs.Notation.{◌or◌, ◌▸◌, next, one_of, stops, until}
-use Rattle.rust_grammar.specs.Rule.{expression, operation, Production, Rule, Look, Then, Both, Either, Left, Never, Not, Call, Nothing, One, Say, Skip, Unless, When, anew, begins, is_silent, passes}
+use Rattle.rust_grammar.specs.Rule.{Rule, Look, Then, Both, Either, Left, Never, Not, Nothing, One, Say, Skip, When, begins, is_silent, passes}
 use Rattle.rust_grammar.specs.Meaning.{sees}
-use Rattle.rust_grammar.specs.Whole.{rank}
-use Rattle.rust_grammar.specs.Expressions.{expressions}
-use Rattle.rust_grammar.specs.Items.{items}
-use Rattle.rust_grammar.specs.Meaning.{begins_below, look_of}
-use Rattle.rust_grammar.specs.Notation.{any_of, is_longer, no_longer, longest, one_of, row}
-use Rattle.rust_grammar.specs.Paths.{paths}
-use Rattle.rust_grammar.specs.Patterns.{patterns}
-use Rattle.rust_grammar.specs.Rule.{begins, in_mode, anew, is_silent, passes, shift, there_at}
-use Rattle.rust_grammar.specs.Statements.{statements}
-use Rattle.rust_grammar.specs.Types.{types}
-use Rattle.rust_grammar.specs.Whole.{rule, whole}
+use Rattle.rust_grammar.specs.Notation.{one_of}
+use Rattle.rust_grammar.specs.Rule.{begins, is_silent, passes}
 use Rattle.rust_grammar.specs.Words.{one, 'comma'}
-use Rattle.grammar_reader.specs.ByHand.{element_of, level_of, list_turn, looks_before, looks_in}
-use Rattle.grammar_reader.specs.declared.reader.expressions.Level.{Level}
-use Rattle.grammar_reader.specs.declared.reader.expressions.Level.TheVariants as levels
-use Rattle.grammar_reader.specs.Looks.{asked, begin_looks, Costs}
-use Rattle.grammar_reader.specs.Prices.{debt_of, idle_of, most, surely_takes}
-use Rattle.grammar_reader.specs.declared.reader.lists.Element.{Element}
-use Rattle.grammar_reader.specs.declared.reader.lists.Element.TheVariants as elements
-use Rattle.grammar_reader.proofs.Spending.{at-most}
+use Rattle.grammar_reader.specs.Told.{element_of, list_turn, looks_before, looks_in}
+use Rattle.grammar_reader.specs.declared.grammar.lists.Element.{Element}
+use Rattle.grammar_reader.specs.declared.grammar.lists.Element.TheVariants as elements
 use Rattle.rust_productions.specs.Looks.{tokens, spent}
 use Rattle.rust_productions.specs.Reads.{looks, Reads, Saw}
 use Rattle.rust_productions.proofs.ByHand.{reads-else, reads-or, reads-then, reads-unless, reads-when}
@@ -121,53 +107,6 @@ pub ends : (list : ℕ) (r : Rule) (close : ℕ) → EndsAtEnd false (list_turn 
 unfolding begins sees
 ends list r close t none = let e : nat_lt 0 (length t.rest) ≡ false = ap (λ (n : ℕ). nat_lt 0 n) none in rw e refl
 
--- What a production costs that is called anew: its looks where it takes no token, and what is left of a token that it takes.
-pub read-cost : (n : ℕ) (x : Production) {old new : View} → nat_le (most (idle_of x)) n ≡ true → nat_le (debt_of x) 4096 ≡ true → Costs (idle_of x) (debt_of x) old new → spent new ≤ spent old + n
-unfolding tokens
-read-cost n x e f (inl h) = omega (arith, h.none, at-most _ _ _ h.looks, leb-true _ _ e)
-read-cost n x e f (inr h) = omega (arith, h.some, h.looks, leb-true _ _ f)
-
-pub read-pays : (n : ℕ) (x : Production) {old new : View} → nat_le (debt_of x + n) 4096 ≡ true → Costs (idle_of x) (debt_of x) old new → tokens new < tokens old → spent new + n ≤ spent old
-unfolding tokens
-read-pays n x e (inl h) less = absurd (omega (arith, h.none, less))
-read-pays n x e (inr h) less = omega (arith, h.looks, leb-true _ _ e)
-
--- How many looks tell whether one begins.
-pub expression-begins : begin_looks (Call expression) ≤ 170
-unfolding begin_looks asked look_of begins_below whole rule items statements expressions patterns types paths there_at shift passes is_silent begins in_mode anew row one_of any_of no_longer longest is_longer
-expression-begins = omega arith
-
-pub operation-begins : begin_looks (Call operation) ≤ 170
-unfolding begin_looks asked look_of begins_below whole rule items statements expressions patterns types paths there_at shift passes is_silent begins in_mode anew row one_of any_of no_longer longest is_longer
-operation-begins = omega arith
-
-few-before : (l : Level) → nat_le (begin_looks (Call (level_of l))) 170 ≡ true
-unfolding begin_looks asked look_of begins_below whole rule items statements expressions patterns types paths there_at shift passes is_silent begins in_mode anew row one_of any_of no_longer longest is_longer
-few-before levels.Comparison = refl
-few-before levels.Expression = refl
-few-before levels.Operation = refl
-few-before levels.Prefixed = refl
-
-pub level-begins : (l : Level) → begin_looks (Call (level_of l)) ≤ 170
-level-begins l = leb-true _ _ (few-before l)
-
-few-in : (l : Level) → nat_le (most (idle_of (level_of l))) 600 ≡ true
-unfolding most idle_of surely_takes rank
-few-in levels.Comparison = refl
-few-in levels.Expression = refl
-few-in levels.Operation = refl
-few-in levels.Prefixed = refl
-
-few-debt : (l : Level) → nat_le (debt_of (level_of l)) 4096 ≡ true
-unfolding debt_of rank
-few-debt levels.Comparison = refl
-few-debt levels.Expression = refl
-few-debt levels.Operation = refl
-few-debt levels.Prefixed = refl
-
-pub level-cost : (l : Level) {old new : View} → Costs (idle_of (level_of l)) (debt_of (level_of l)) old new → spent new ≤ spent old + 600
-level-cost l h = read-cost 600 (level_of l) (few-in l) (few-debt l) h
-
 -- An element with its comma pays for its looks where a token is taken.
 pub element-pays :
     (old mid new : View) (n : ℕ) → n ≤ 600
@@ -193,7 +132,7 @@ few-looks-in elements.TupleField = omega arith
 few-looks-in elements.Type = omega arith
 few-looks-in elements.Variant = omega arith
 
-pub few-looks-before : (e : Element) → looks_before e ≤ 170
+pub few-looks-before : (e : Element) → looks_before e ≤ 14
 few-looks-before elements.ClosureParam = omega arith
 few-looks-before elements.Expression = omega arith
 few-looks-before elements.FieldValue = omega arith

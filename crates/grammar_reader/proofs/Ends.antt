@@ -1,5 +1,5 @@
 -- Lists of items and of statements, wherever they end.
-use Rattle.std.proofs.Common.{◌≡◌, ℕ, ◌≤◌, nat_lt, Bool, true, false, not, length, refl, sym, ap, ◌∙◌, arith}
+use Rattle.std.proofs.Common.{◌≡◌, ℕ, ◌≤◌, nat_lt, Bool, true, false, not, length, refl, sym, ap}
 use Rattle.parser_input.specs.Kinds.{R_CURLY}
 use Rattle.parser_events.specs.View.{View}
 use Rattle.rust_grammar.specs.Rule as rules
@@ -17,9 +17,9 @@ use Rattle.rust_grammar.specs.Statements.{statements, end_of, statement_of}
 use Rattle.rust_grammar.specs.Types.{types}
 use Rattle.rust_grammar.specs.Whole.{rule, whole}
 use Rattle.rust_grammar.specs.Words.{'r_curly'}
-use Rattle.grammar_reader.specs.ByHand.{ends_of, listing_of}
-use Rattle.grammar_reader.specs.declared.reader.list_end.ListEnd.{ListEnd}
-use Rattle.grammar_reader.specs.declared.reader.list_end.ListEnd.TheVariants as list_ends
+use Rattle.grammar_reader.specs.Told.{ends_of, listing_of}
+use Rattle.grammar_reader.specs.declared.grammar.list_end.ListEnd.{ListEnd}
+use Rattle.grammar_reader.specs.declared.grammar.list_end.ListEnd.TheVariants as list_ends
 use Rattle.grammar_reader.proofs.Elements.{saw-both, saw-denied}
 use Rattle.grammar_reader.proofs.Seeing.{left-there, left-some}
 use Rattle.rust_productions.specs.Looks.{tokens}

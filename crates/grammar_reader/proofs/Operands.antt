@@ -1,26 +1,28 @@
 -- What stands at the front of a node that is left out in the end, and floats that are split.
-use Rattle.std.proofs.Common.{◌≡◌, ℕ, ◌+◌, Bool, true, false, not, List, Option, Some, None, IfSome, refl, sym, ap, ◌∙◌, arith}
+use Rattle.std.proofs.Common.{◌≡◌, ℕ, suc, ◌+◌, Bool, true, false, not, List, [], ◌∷◌, drop, Option, Some, None, IfSome, refl, sym, ap, subst, ◌∙◌, arith}
+use Rattle.std.proofs.lemmas.Bool.{eqb-true}
+use Rattle.std.proofs.lemmas.List.{drop-drop}
+use Rattle.parser_input.specs.Input.{Token}
 use Rattle.parser_input.specs.Kinds.{FIELD_EXPR, FLOAT_NUMBER}
 use Rattle.parser_input.specs.Recorded.{token_at}
-use Rattle.std.proofs.lemmas.Bool.{eqb-true}
 use Rattle.parser_events.specs.Forest as forest
-use Rattle.parser_events.specs.Forest.{◌then◌}
-use Rattle.parser_events.specs.Marked.{Marked, marked}
+use Rattle.parser_events.specs.Forest.{Forest}
+use Rattle.parser_events.specs.Marked as marks
+use Rattle.parser_events.specs.Marked.{Marked, End, marked}
 use Rattle.parser_events.specs.Stack as stack
 use Rattle.parser_events.specs.Stack.{Becomes, IsInnermost}
 use Rattle.parser_events.specs.View.{View}
-use Rattle.parser_events.proofs.Forests.{marked-then}
 use Rattle.rust_grammar.specs.Rule.{Production, Rule, Call, Joint, Kind, Split, Then}
 use Rattle.rust_grammar.specs.Laws.{reads}
-use Rattle.rust_grammar.specs.Meaning.{Reading, after, ahead, fresh, is_end, meaning, read, sees, split}
-use Rattle.rust_grammar.specs.Whole.{rule, whole}
+use Rattle.rust_grammar.specs.Meaning.{Reading, after, ahead, fresh, read, sees, split}
+use Rattle.rust_grammar.specs.Whole.{rule}
 use Rattle.rust_grammar.proofs.WholeTable.{whole-means}
-use Rattle.rust_productions.specs.Reads.{Anew, Completes, Does, Opens, Reads, Saw}
-use Rattle.rust_productions.specs.Stands.{left, HasTrees, Stands}
+use Rattle.rust_productions.specs.Reads.{Anew, Completes, Opens, Reads, Saw}
+use Rattle.rust_productions.specs.Stands.{left, Holds}
 use Rattle.rust_productions.proofs.ByHand.{does-as}
 use Rattle.rust_productions.proofs.Choices.{anew-completes}
-use Rattle.grammar_reader.proofs.Looking.{next-kind}
-use Rattle.grammar_reader.proofs.Standing.{stands-access, stands-split}
+use Rattle.rust_productions.proofs.Looking.{kind-ahead}
+use Rattle.rust_productions.proofs.Moves.{becomes, around-closed}
 
 -- A production that stands first may be read in the node that is left out in the end: nothing was given in it.
 pub anew-first : {x : Production} {b : Rule} {c : Bool} {old mid new : View} → Opens old mid → Completes c (Then (rule x) b) mid new → Anew c (Then (Call x) b) old new
@@ -29,52 +31,63 @@ anew-first {x} {b} {c} {old} {mid} {new} o q =
     let first : Anew c (Then (rule x) b) old new = anew-completes o q in
     record { does = does-as (λ s e. ap (λ (t : Reading). after s (reads c b t)) (sym (whole-means x c (fresh s)))) first.does }
 
--- what the present production gave, whatever that is
-stands-any : {v : View} (s : Reading) (below : Option (List Marked)) → left v ≡ s.rest → HasTrees below (marked s.given) v → Stands (not (is_end s.given)) v s below
-stands-any {v} s below e trees = record { at = record { rest = e; gave = twice (is_end s.given) }; trees = trees }
-  where
-    twice : (b : Bool) → b ≡ not (not b)
-    twice true = refl
-    twice false = refl
-
--- What carries a reading on, whatever was given, does so.
-as-does :
-    (f : Reading → Reading) {old new : View} → new.input ≡ old.input
-    → ((s : Reading) (below : Option (List Marked)) → Stands (not (is_end s.given)) old s below → Stands true new (f s) below)
-    → ((n : ℕ) → IsInnermost n old.nodes → IsInnermost n new.nodes) → Does f old new
-as-does f same carries stays = record {
-  input = same;
-  rest = λ s e. (carries s None (stands-any s None e tt)).at.rest;
-  nodes = λ s below e h. (carries s (Some below) (stands-any s (Some below) e h)).trees;
-  innermost = stays;
-}
-
 seen-joint : {b : Bool} {v : View} (s : Reading) → ((c : Bool) → Saw c (Joint 0) v b) → left v ≡ s.rest → b ≡ (ahead 0 s.rest).joint
 unfolding sees
 seen-joint s saw e = sym ((saw true).at s e)
+
+ends-in-dot : (f : Forest) (nodes : List Marked) (v : View) → Holds v.nodes (marks.Split true (marked f) End ∷ nodes) → Holds v.nodes (marked (forest.Float true f forest.End) ∷ nodes)
+unfolding marked
+ends-in-dot f nodes v h = h
 
 -- a float that ends in a dot
 pub does-split :
     {old new : View} (b : Bool) → ((c : Bool) → Saw c (Joint 0) old b) → b ≡ false
     → Becomes (stack.split (not b)) old.nodes new.nodes → new ≡ record old { position = old.position + 1; nodes = new.nodes }
     → ((n : ℕ) → IsInnermost n old.nodes → IsInnermost n new.nodes) → (c : Bool) → Reads c Split old new
-unfolding read
-does-split b saw e n same stays c = record {
-  does = as-does split (ap (λ (v : View). v.input) same) (λ s below h. stands-split b (seen-joint s saw h.at.rest) e n same h) stays;
+unfolding read split
+does-split {old} {new} b saw f n same stays c = record {
+  does = record {
+    input = ap (λ (v : View). v.input) same;
+    rest = λ s e. ap left same ∙ sym (drop-drop 1 old.position old.input) ∙ ap (λ (ts : List Token). drop 1 ts) e;
+    nodes = λ s below e h.
+        subst (λ (j : Bool). Holds new.nodes (marked (forest.Float (not j) s.given forest.End) ∷ below)) (seen-joint s saw e)
+        (subst (λ (j : Bool). Holds new.nodes (marks.Split (not j) (marked s.given) End ∷ below) → Holds new.nodes (marked (forest.Float (not j) s.given forest.End) ∷ below)) (sym f) (λ u. ends-in-dot s.given below new u)
+        (becomes (stack.split (not b)) old.nodes new.nodes (marked s.given ∷ below) n h));
+    innermost = stays;
+  };
 }
 
--- one that does not
+in-access : (f : Forest) (nodes : List Marked) (v : View) → Holds v.nodes (marks.Node FIELD_EXPR (marks.Split false (marked f) End) End ∷ nodes) → Holds v.nodes (marked (forest.Float false f forest.End) ∷ nodes)
+unfolding marked
+in-access f nodes v h = h
+
+-- one that does not stands in a field access
 pub does-access :
     {old mid end new : View} (b : Bool) (around : ℕ) (place : stack.Place) → ((c : Bool) → Saw c (Joint 0) old b) → b ≡ true
     → Becomes (stack.split (not b)) old.nodes mid.nodes → mid ≡ record old { position = old.position + 1; nodes = mid.nodes }
     → IsInnermost around mid.nodes → Becomes (stack.closed FIELD_EXPR) mid.nodes end.nodes → end ≡ record mid { nodes = end.nodes } → IfSome mid.nodes (λ nodes. place ≡ stack.place_of nodes)
     → Becomes (stack.wrapped place.before) end.nodes new.nodes → new ≡ record end { nodes = new.nodes }
     → ((n : ℕ) → IsInnermost n old.nodes → IsInnermost n new.nodes) → (c : Bool) → Reads c Split old new
-unfolding read
-does-access b around place saw e n same i closed same2 is w same3 stays c = record {
-  does = as-does split (ap (λ (v : View). v.input) same3 ∙ ap (λ (v : View). v.input) same2 ∙ ap (λ (v : View). v.input) same)
-      (λ s below h. stands-access b around place (seen-joint s saw h.at.rest) e n same i closed same2 is w same3 h) stays;
+unfolding read split
+does-access {old} {mid} {end} {new} b around place saw f n same i closed same2 is w same3 stays c = record {
+  does = record {
+    input = ap (λ (v : View). v.input) same3 ∙ ap (λ (v : View). v.input) same2 ∙ ap (λ (v : View). v.input) same;
+    rest = λ s e. ap left same3 ∙ ap left same2 ∙ ap left same ∙ sym (drop-drop 1 old.position old.input) ∙ ap (λ (ts : List Token). drop 1 ts) e;
+    nodes = λ s below e h.
+        subst (λ (j : Bool). Holds new.nodes (marked (forest.Float (not j) s.given forest.End) ∷ below)) (seen-joint s saw e)
+        (subst (λ (j : Bool). Holds new.nodes (marks.Node FIELD_EXPR (marks.Split (not j) (marked s.given) End) End ∷ below) → Holds new.nodes (marked (forest.Float (not j) s.given forest.End) ∷ below)) (sym f) (λ u. in-access s.given below new u)
+        (around-closed FIELD_EXPR around place mid.nodes end.nodes new.nodes i closed is w (marks.Split (not b) (marked s.given) End) below
+        (becomes (stack.split (not b)) old.nodes mid.nodes (marked s.given ∷ below) n h)));
+    innermost = stays;
+  };
 }
+
+pub split-innermost : (b : Bool) (around : ℕ) (old new : Option (List Marked)) → IsInnermost around old → Becomes (stack.split b) old new → IsInnermost around new
+split-innermost b around None None i n = tt
+split-innermost b around None (Some new) i n = absurd n
+split-innermost b around (Some old) None i n = tt
+split-innermost b around (Some []) (Some new) i n = absurd (let z : 0 ≡ suc around = i in cc)
+split-innermost b around (Some (f ∷ below)) (Some new) i n = ap stack.level n ∙ i
 
 -- the float that was seen is the parser's next token
 pub float-next : {v : View} → ((c : Bool) → Saw c (Kind 0 FLOAT_NUMBER) v true) → (token_at v.input v.position).kind ≡ FLOAT_NUMBER
@@ -82,5 +95,4 @@ unfolding sees
 float-next {v} saw =
     let here : Reading = record { given = forest.End; rest = left v } in
     let same : v.position ≡ v.position + 0 = omega arith in
-    ap (λ (n : ℕ). (token_at v.input n).kind) same
-    ∙ next-kind v here (token_at v.input (v.position + 0)).kind refl refl ∙ eqb-true (ahead 0 (left v)).kind FLOAT_NUMBER ((saw true).at here refl)
+    ap (λ (n : ℕ). (token_at v.input n).kind) same ∙ kind-ahead v 0 ∙ eqb-true (ahead 0 (left v)).kind FLOAT_NUMBER ((saw true).at here refl)

@@ -17,9 +17,9 @@ use Rattle.rust_grammar.specs.Paths.{path_with}
 use Rattle.rust_grammar.specs.Rule as rules
 use Rattle.rust_grammar.specs.Rule.{Look, Rule, Both, Either, Node, Nothing, One, Then}
 use Rattle.rust_grammar.specs.Words.{joined, one, '::', '<'}
-use Rattle.grammar_reader.specs.ByHand.{args_look, args_of, path_of}
-use Rattle.grammar_reader.specs.declared.reader.paths.Mode.{Mode}
-use Rattle.grammar_reader.specs.declared.reader.paths.Mode.TheVariants as modes
+use Rattle.grammar_reader.specs.Told.{args_look, args_of, path_of}
+use Rattle.grammar_reader.specs.declared.grammar.paths.Mode.{Mode}
+use Rattle.grammar_reader.specs.declared.grammar.paths.Mode.TheVariants as modes
 use Rattle.rust_productions.specs.Reads.{looks, Reads, Saw}
 use Rattle.rust_productions.proofs.ByHand.{does-as, does-then}
 use Rattle.rust_productions.proofs.Seen.{saw-either-left}

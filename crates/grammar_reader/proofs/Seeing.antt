@@ -1,6 +1,6 @@
 -- What was seen is seen in another form, or elsewhere.
 use Rattle.std.proofs.Common.{◌≡◌, ℕ, zero, suc, ◌<◌, ◌≤◌, ◌==◌, nat_lt, Bool, true, false, not, List, [], ◌∷◌, length, Option, Some, refl, sym, ap, subst, ◌∙◌, arith, if◌then◌else◌, true≢false}
-use Rattle.std.proofs.lemmas.Bool.{eqb-true, lt-ltb, ltb-true}
+use Rattle.std.proofs.lemmas.Bool.{eqb-true, ltb-true}
 use Rattle.parser_input.specs.Input.{Token}
 use Rattle.parser_input.specs.Kinds.{DYN_KW, EOF, L_CURLY}
 use Rattle.parser_events.specs.Forest as forest
@@ -15,7 +15,7 @@ use Rattle.rust_grammar.specs.Statements.{statements}
 use Rattle.rust_grammar.specs.Types.{types}
 use Rattle.parser_events.specs.Forest.{Message}
 use Rattle.rust_grammar.specs.Rule as rules
-use Rattle.rust_grammar.specs.Rule.{single_pattern, Production, Rule, Look, Call, Contextual, Kind, Left, Mode, Spelling, Want, begins, in_mode, is_silent, passes, shift, there_at, anew}
+use Rattle.rust_grammar.specs.Rule.{single_pattern, Production, Rule, Look, Always, Never, InCondition, Joint, Given, Both, Either, Not, Contextual, Kind, Left, Mode, Spelling, Want, begins, in_mode, is_silent, passes, shift, there_at, anew}
 use Rattle.rust_grammar.specs.Laws.{reads}
 use Rattle.rust_grammar.specs.Meaning.{Reading, ahead, fresh, look_of, read, say, sees}
 use Rattle.rust_grammar.specs.Whole.{rule, whole}
@@ -24,23 +24,36 @@ use Rattle.rust_productions.specs.Looks.{tokens}
 use Rattle.rust_productions.specs.Reads.{looks, Closes, Reads, Saw}
 use Rattle.rust_productions.specs.Stands.{left}
 use Rattle.rust_productions.proofs.ByHand.{does-as}
-use Rattle.rust_productions.proofs.Facts.{Fact, Answers, Begins, Known, Right, is_start, nothing, starts, ◌and◌}
-use Rattle.rust_productions.proofs.Seen.{ends-at-end, saw-left, saw-right, starts-here}
-use Rattle.grammar_reader.proofs.Beginning.{shift-none}
-use Rattle.grammar_reader.proofs.Looking.{mode-shift}
+use Rattle.rust_productions.proofs.Facts.{Fact, Answers, Begins, Known, Right, is_start, starts}
+use Rattle.rust_productions.proofs.Seen.{ends-at-end, saw-left, saw-right}
 
 -- in another mode
-mode-seen : (c d : Bool) (l : Look) (s : Reading) → sees c s (in_mode d l) ≡ sees d s l
-mode-seen c d l s = ap (λ (m : Look). sees c s m) (sym (shift-none (in_mode d l))) ∙ mode-shift c d s 0 l ∙ ap (λ (m : Look). sees d s m) (shift-none l)
+mode-seen : (c d : Bool) (s : Reading) (l : Look) → sees c s (in_mode d l) ≡ sees d s l
+unfolding sees in_mode
+mode-seen c d s Always = refl
+mode-seen c d s Never = refl
+mode-seen c d s (Kind k j) = refl
+mode-seen c d s (Contextual k j) = refl
+mode-seen c d s (Joint k) = refl
+mode-seen c d s Left = refl
+mode-seen c d s InCondition = set d
+  where
+    set : (b : Bool) → sees c s (if b then Always else Never) ≡ b
+    set true = refl
+    set false = refl
+mode-seen c d s Given = refl
+mode-seen c d s (Both a b) = rw (mode-seen c d s a, mode-seen c d s b) refl
+mode-seen c d s (Either a b) = rw (mode-seen c d s a, mode-seen c d s b) refl
+mode-seen c d s (Not a) = rw (mode-seen c d s a) refl
 
 pub saw-mode : {c d b : Bool} {l : Look} {v : View} → Saw d l v b → Saw c (in_mode d l) v b
-saw-mode {c} {d} {b} {l} saw = record { at = λ s e. mode-seen c d l s ∙ saw.at s e }
+saw-mode {c} {d} {b} {l} saw = record { at = λ s e. mode-seen c d s l ∙ saw.at s e }
 
 -- an expected part, read in another mode
 pub reads-expected : (c : Bool) {d : Bool} {a : Rule} {m : Message} {old new : View} → Reads d (Want a m) old new → Reads c (Want (Mode d a) m) old new
 unfolding read begins
 reads-expected c {d} {a} {m} p = record {
-  does = does-as (λ s e. ap (λ (b : Bool). if b then reads d a s else say m s) (sym (mode-seen c d (begins (look_of whole) a) s))) p.does;
+  does = does-as (λ s e. ap (λ (b : Bool). if b then reads d a s else say m s) (sym (mode-seen c d s (begins (look_of whole) a)))) p.does;
 }
 
 -- after a node was closed
@@ -66,10 +79,6 @@ left-some {c} {v} saw = omega (arith, ltb-true 0 (length (left v)) (saw.at (reco
 
 pub some-left : (x : Spelling) {c : Bool} {v : View} → Saw c (until x) v false → 1 ≤ tokens v
 some-left x saw = left-some (left-there x saw)
-
-pub some-saw : {c : Bool} {v : View} → 1 ≤ tokens v → Saw c Left v true
-unfolding sees tokens
-some-saw {c} {v} some = record { at = λ s e. lt-ltb 0 (length s.rest) (omega (arith, some, ap (λ (ts : List Token). length ts) e)) }
 
 -- so far ahead a token is left where its kind is not that of the end
 some-ahead : (n k : ℕ) (ts : List Token) → (ahead n ts).kind ≡ k → (k ≡ EOF → ⊥) → n < length ts
@@ -133,11 +142,6 @@ pattern-begins saw = record { at = λ s e. saw.at s e }
 pub arm-there : {c b : Bool} {v : View} → Saw c (looks rules.pattern) v b → Saw c (anew (looks rules.match_arm)) v b
 unfolding look_of begins_below whole rule items statements expressions patterns types paths there_at shift passes is_silent begins in_mode anew row one_of any_of no_longer longest is_longer sees
 arm-there saw = record { at = λ s e. saw.at s e }
-
--- A statement begins at any token.
-pub statement-there : {c : Bool} {v : View} → Saw c Left v true → Saw c (anew (looks rules.statement)) v true
-unfolding look_of begins_below whole rule items statements expressions patterns types paths there_at shift passes is_silent begins in_mode anew row one_of any_of no_longer longest is_longer
-statement-there saw = starts-here (Call rules.statement) (saw and nothing) refl
 
 pub param-left : {v : View} → Saw false (begins looks closure_param) v true → 1 ≤ tokens v
 unfolding look_of begins_below whole rule items statements expressions patterns types paths there_at shift passes is_silent begins in_mode anew row one_of any_of no_longer longest is_longer

@@ -1,4 +1,1 @@
-pub mod ByHand
-pub mod CanRead
-pub mod Looks
-pub mod Prices
+pub mod Told

@@ -1,13 +1,6 @@
-//! Reads any production by the table of the grammar.
-//!
-//! [`reader::production`] reads a production where a parser stands: by a function of its own, where
-//! it has one, else rule by rule. [`begin::begins`] tells whether a rule begins there. [`open`] has
-//! what leaves, messages and wraps make of the node that a production fills.
+//! Reads the productions of the grammar of Rust that call each other: the table, and what a rule
+//! means on an input, are `rust_grammar`'s; the productions that call none of these are
+//! `rust_productions`'.
 #![tactic(auto)]
 
-pub mod begin;
-pub mod by_hand;
-pub mod context;
-pub mod look;
-pub mod open;
-pub mod reader;
+pub mod grammar;

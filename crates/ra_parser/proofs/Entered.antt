@@ -1,9 +1,8 @@
 -- What an entry is, case by case.
-use Rattle.std.proofs.Common.{◌≡◌, ℕ, ◌≤◌, Bool, true, false, List, [], ◌∷◌, length, Option, Some, None, refl, sym, ap, subst, ◌∙◌, arith, true≢false, if◌then◌else◌, inl, inr}
-use Rattle.std.proofs.lemmas.Bool.{cases_Bool}
+use Rattle.std.proofs.Common.{◌≡◌, ◌≤◌, Bool, true, false, List, [], ◌∷◌, length, Option, Some, None, refl, sym, ap, subst, ◌∙◌, arith}
 use Rattle.parser_input.specs.Input.{Token}
 use Rattle.parser_events.specs.Forest as forest
-use Rattle.parser_events.specs.Forest.{Forest, Message, UnexpectedTokens, ◌then◌}
+use Rattle.parser_events.specs.Forest.{Forest, Message, UnexpectedTokens}
 use Rattle.parser_events.specs.Marked as marks
 use Rattle.parser_events.specs.Marked.{Marked, marked}
 use Rattle.parser_events.specs.Stack.{AreStepsOf}
@@ -11,18 +10,17 @@ use Rattle.parser_events.specs.Steps as walk
 use Rattle.parser_events.specs.Steps.{Step}
 use Rattle.parser_events.proofs.Balance.{walk-marked}
 use Rattle.parser_events.specs.View.{View}
-use Rattle.rust_grammar.specs.Rule.{Production}
-use Rattle.rust_grammar.specs.Notation.{wanted}
-use Rattle.rust_grammar.specs.Meaning.{Reading, meaning, sees, look_of}
 use Rattle.rust_grammar.specs.Entry.{is_used_up, takes_all, with_message, entry}
+use Rattle.rust_grammar.specs.Meaning.{Reading, after, fresh, look_of, meaning, sees}
+use Rattle.rust_grammar.specs.Notation.{wanted}
+use Rattle.rust_grammar.specs.Rule.{Production}
 use Rattle.rust_grammar.specs.Whole.{whole}
-use Rattle.rust_grammar.specs.Begun.{asks_nothing, IsBegun}
-use Rattle.rust_grammar.proofs.EntriesInOrder.{lists-begin}
-use Rattle.rust_grammar.specs.Whole as all
-use Rattle.rust_productions.specs.Stands.{Holds, Stands}
-use Rattle.grammar_table.proofs.Sizes.{few-ranks}
-use Rattle.rust_productions.specs.Moves.{Leaves}
-use Rattle.ra_parser.specs.Entries.{can_enter, strayed}
+use Rattle.rust_productions.specs.Moves.{Opens}
+use Rattle.rust_productions.specs.Reads.{looks, Does, Gives, Saw}
+use Rattle.rust_productions.specs.Stands.{left, Holds}
+use Rattle.ra_parser.specs.Entries.{single_of, strayed}
+use Rattle.ra_parser.specs.declared.entries.Single.{Single}
+use Rattle.ra_parser.specs.declared.entries.Single.TheVariants as singles
 
 -- where a reading of all these tokens begins
 abbrev pub from : List Token → Reading
@@ -32,66 +30,79 @@ from ts = record { given = forest.End; rest = ts }
 abbrev pub read_from : Production → List Token → Reading
 read_from x ts = meaning whole x false (from ts)
 
-entered-begun : (every : Bool) (x : Production) (s : Reading) → takes_all x ≡ every → (if every then true else sees false s (look_of whole x)) ≡ true → IsBegun x false s
-entered-begun true x s e h = rw (lists-begin x e) refl
-entered-begun false x s e h = either (asks_nothing x) h
-  where
-    either : (free : Bool) → sees false s (look_of whole x) ≡ true → (if free then true else sees false s (look_of whole x)) ≡ true
-    either true i = refl
-    either false i = i
-
-pub can-begin : (x : Production) (s : Reading) → can_enter x s ≡ true → IsBegun x false s
-unfolding can_enter
-can-begin x s h = entered-begun (takes_all x) x s refl h
+pub no-list : (single : Single) → takes_all (single_of single) ≡ false
+unfolding takes_all
+no-list singles.Expression = refl
+no-list singles.Meta = refl
+no-list singles.Pattern = refl
+no-list singles.Type = refl
 
 pub entry-every : (x : Production) (ts : List Token) → takes_all x ≡ true → entry whole x ts ≡ (read_from x ts).given
 unfolding entry
 entry-every x ts e = rw e refl
 
-pub entry-missing : (x : Production) (ts : List Token) (m : Message) → can_enter x (from ts) ≡ false → (takes_all x ≡ false → wanted x ≡ Some m) → entry whole x ts ≡ strayed m (from ts)
-unfolding entry with_message can_enter strayed
-entry-missing x ts m h says = elim (cases_Bool (takes_all x)) [
-  | inl e ↦ absurd (true≢false (let same : true ≡ false = subst (λ (b : Bool). (if b then true else sees false (from ts) (look_of whole x)) ≡ false) e h in same))
-  | inr e ↦ rw (e, subst (λ (b : Bool). (if b then true else sees false (from ts) (look_of whole x)) ≡ false) e h, says e) refl
-]
+pub entry-missing : (x : Production) (ts : List Token) (m : Message) → takes_all x ≡ false → sees false (from ts) (look_of whole x) ≡ false → wanted x ≡ Some m → entry whole x ts ≡ strayed m (from ts)
+unfolding entry with_message strayed
+entry-missing x ts m e h says = rw (e, h, says) refl
 
-seen : (x : Production) (ts : List Token) → takes_all x ≡ false → can_enter x (from ts) ≡ true → sees false (from ts) (look_of whole x) ≡ true
-unfolding can_enter
-seen x ts e h = subst (λ (b : Bool). (if b then true else sees false (from ts) (look_of whole x)) ≡ true) e h
-
-none-left : (ts : List Token) → length ts ≤ 0 → is_used_up ts ≡ true
+nothing-left : (ts : List Token) → length ts ≤ 0 → is_used_up ts ≡ true
 unfolding is_used_up
-none-left [] h = refl
-none-left (t ∷ ts) h = absurd (omega (arith, h))
+nothing-left [] h = refl
+nothing-left (t ∷ ts) h = absurd (omega (arith, h))
 
-some-left : (ts : List Token) → 1 ≤ length ts → is_used_up ts ≡ false
+something-left : (ts : List Token) → 1 ≤ length ts → is_used_up ts ≡ false
 unfolding is_used_up
-some-left [] h = absurd (omega (arith, h))
-some-left (t ∷ ts) h = refl
+something-left [] h = absurd (omega (arith, h))
+something-left (t ∷ ts) h = refl
 
-pub entry-whole : (x : Production) (ts : List Token) → takes_all x ≡ false → can_enter x (from ts) ≡ true → length (read_from x ts).rest ≤ 0 → entry whole x ts ≡ (read_from x ts).given
+pub entry-whole : (x : Production) (ts : List Token) → takes_all x ≡ false → sees false (from ts) (look_of whole x) ≡ true → length (read_from x ts).rest ≤ 0 → entry whole x ts ≡ (read_from x ts).given
 unfolding entry
-entry-whole x ts e h none = rw (e, seen x ts e h, none-left (read_from x ts).rest none) refl
+entry-whole x ts e h none = rw (e, h, nothing-left (read_from x ts).rest none) refl
 
-pub entry-over : (x : Production) (ts : List Token) → takes_all x ≡ false → can_enter x (from ts) ≡ true → 1 ≤ length (read_from x ts).rest → entry whole x ts ≡ strayed UnexpectedTokens (read_from x ts)
+pub entry-over : (x : Production) (ts : List Token) → takes_all x ≡ false → sees false (from ts) (look_of whole x) ≡ true → 1 ≤ length (read_from x ts).rest → entry whole x ts ≡ strayed UnexpectedTokens (read_from x ts)
 unfolding entry strayed
-entry-over x ts e h some = rw (e, seen x ts e h, some-left (read_from x ts).rest some) refl
+entry-over x ts e h some = rw (e, h, something-left (read_from x ts).rest some) refl
 
--- the trees of the only node that was open
-pub holds-left-out : {old new : View} (f : Forest) → Leaves old new → Holds old.nodes (marked f ∷ marks.End ∷ []) → Holds new.nodes (marked f ∷ [])
-holds-left-out f l h = l.nodes (marked f) marks.End [] h
+-- no tree stands in the only open node
+pub holds-none : {nodes : Option (List Marked)} → nodes ≡ Some (marks.End ∷ []) → Holds nodes (marked forest.End ∷ [])
+unfolding marked
+holds-none start = subst (λ (n : Option (List Marked)). Holds n (marks.End ∷ [])) (sym start) refl
 
--- an entry's production is read
-pub read-there :
-    {gave given mode : Bool} {old new : View} {ranks : ℕ} (x y : Production) (ts : List Token)
-    → ranks ≡ 20 → mode ≡ false
-    → ((s : Reading) (below : Option (List Marked)) → all.rank y ≤ ranks → Stands gave old s below → IsBegun y mode s → Stands given new (meaning whole y mode s) below)
-    → y ≡ x → Stands gave old (from ts) (Some (marks.End ∷ [])) → can_enter x (from ts) ≡ true → Stands given new (read_from x ts) (Some (marks.End ∷ []))
-read-there {gave} {given} {mode} {old} {new} x y ts any off reads e h b =
-    let begun = subst (λ (z : Production). IsBegun z false (from ts)) (sym e) (can-begin x (from ts) b) in
-    subst (λ (z : Production). Stands given new (meaning whole z false (from ts)) (Some (marks.End ∷ []))) e
-    (subst (λ (d : Bool). Stands given new (meaning whole y d (from ts)) (Some (marks.End ∷ []))) off
-    (reads (from ts) (Some (marks.End ∷ [])) (omega (arith, any, few-ranks y)) h (subst (λ (d : Bool). IsBegun y d (from ts)) (sym off) begun)))
+-- a list is read by what takes every input
+pub list-read : (x : Production) {old new : View} → takes_all x ≡ true → old.nodes ≡ Some (marks.End ∷ []) → Gives x false old new → Holds new.nodes (marked (entry whole x (left old)) ∷ [])
+unfolding after fresh
+list-read x {old} {new} every start gives =
+    subst (λ (f : Forest). Holds new.nodes (marked f ∷ [])) (sym (entry-every x (left old) every)) (gives.does.nodes (from (left old)) [] refl (holds-none start))
+
+-- A node was opened in the only one, and it was looked where the production begins.
+pub record Opened (old now : View) : Type 0 where
+  pub rest : left now ≡ left old
+  pub trees : Holds now.nodes (marked forest.End ∷ marks.End ∷ [])
+
+pub opened-seen : {old mid now : View} → old.nodes ≡ Some (marks.End ∷ []) → Opens old mid → Does (λ s. s) mid now → Opened old now
+unfolding marked
+opened-seen {old} start o d = record {
+  rest = d.rest (from (left old)) o.rest;
+  trees = d.nodes (from (left old)) (marks.End ∷ []) o.rest (o.nodes marks.End [] (holds-none start));
+}
+
+-- What is read after that.
+pub record ReadOf (x : Production) (ts : List Token) (now : View) : Type 0 where
+  pub rest : left now ≡ (read_from x ts).rest
+  pub trees : Holds now.nodes (marked (read_from x ts).given ∷ marks.End ∷ [])
+
+pub single-read : {x : Production} {old mid end now : View} → Opened old mid → Gives x false mid end → Does (λ s. s) end now → ReadOf x (left old) now
+unfolding after fresh
+single-read {x} {old} o g d =
+    let s = from (left old) in
+    record {
+      rest = d.rest (read_from x (left old)) (g.does.rest s o.rest);
+      trees = d.nodes (read_from x (left old)) (marks.End ∷ []) (g.does.rest s o.rest) (g.does.nodes s (marks.End ∷ []) o.rest o.trees);
+    }
+
+-- what was seen there
+pub seen-from : (x : Production) (old : View) {now : View} {b : Bool} → left now ≡ left old → Saw false (looks x) now b → sees false (from (left old)) (look_of whole x) ≡ b
+seen-from x old e saw = saw.at (from (left old)) e
 
 -- the steps of all trees
 pub parsed-steps : (nodes : Option (List Marked)) (f : Forest) (steps : List Step) → Holds nodes (marked f ∷ []) → AreStepsOf nodes steps → steps ≡ walk.steps f

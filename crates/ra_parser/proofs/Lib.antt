@@ -1,3 +1,2 @@
 pub mod Taking
 pub mod Entered
-pub mod EntryLooks

@@ -1,12 +1,13 @@
 -- Entries: what a text is asked to be.
-use Rattle.std.specs.Prelude.{ℕ, ◌<◌, ◌≤◌, Bool, true, false, List, [], length, if◌then◌else◌}
+use Rattle.std.specs.Prelude.{ℕ, ◌<◌, ◌≤◌, List, [], length}
 use Rattle.parser_input.specs.Kinds.{ERROR}
 use Rattle.parser_input.specs.Input.{Token}
 use Rattle.parser_events.specs.Forest.{Forest, Message, End, Said, Node, ◌then◌}
 use Rattle.rust_grammar.specs.Rule.{Production, source_file, macro_items, macro_statements, pattern, any_type, expression, meta}
-use Rattle.rust_grammar.specs.Meaning.{Reading, sees, look_of}
-use Rattle.rust_grammar.specs.Entry.{leaves, takes_all}
-use Rattle.rust_grammar.specs.Whole.{whole}
+use Rattle.rust_grammar.specs.Meaning.{Reading}
+use Rattle.rust_grammar.specs.Entry.{leaves}
+use Rattle.ra_parser.specs.declared.entries.Single.{Single}
+use Rattle.ra_parser.specs.declared.entries.Single.TheVariants as singles
 use Rattle.ra_parser.specs.declared.entry_points.TopEntryPoint.{TopEntryPoint}
 use Rattle.ra_parser.specs.declared.entry_points.TopEntryPoint.TheVariants.{SourceFile, MacroStmts, MacroItems, Pattern, Ty, Expr, MetaItem}
 use Rattle.ra_parser.specs.declared.entry_points.ParseError.{ParseError}
@@ -22,9 +23,12 @@ production_of Ty = any_type
 production_of Expr = expression
 production_of MetaItem = meta
 
--- an entry takes every input, or its production begins here
-unfoldable pub can_enter : Production → Reading → Bool
-can_enter x s = if takes_all x then true else sees false s (look_of whole x)
+-- where that is one thing and no list
+abbrev pub single_of : Single → Production
+single_of singles.Expression = expression
+single_of singles.Meta = meta
+single_of singles.Pattern = pattern
+single_of singles.Type = any_type
 
 -- so many tokens are read at most
 abbrev pub most_tokens : ℕ

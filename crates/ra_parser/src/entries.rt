@@ -1,120 +1,140 @@
 //! Reads all of an input as one thing: what is left over, or cannot begin it, stands in an error.
 
-ghost use Rattle.std.specs.Prelude.{◌≡◌, ◌≤◌, ◌<◌, ◌+◌, ◌*◌, ◌^◌, ℕ, List, [], ◌∷◌, Option, Some, false, length};
-ghost use Rattle.parser_events.specs.Marked.{Marked, End, marked};
+ghost use Rattle.std.specs.Prelude.{◌≡◌, ◌≤◌, ◌<◌, ◌+◌, ◌*◌, ◌^◌, Bool, IsTrue, Some, [], ◌∷◌, false, true, length};
+ghost use Rattle.parser_events.specs.Marked.{End, marked};
 ghost use Rattle.parser_events.specs.Seen.{message_of};
 ghost use Rattle.parser_events.specs.Stack.{IsInnermost};
-ghost use Rattle.rust_grammar.specs.Entry.{entry, takes_all};
+ghost use Rattle.rust_grammar.specs.Entry.{entry};
 ghost use Rattle.rust_grammar.specs.Meaning.{Reading};
 ghost use Rattle.rust_grammar.specs.Notation.{wanted};
+ghost use Rattle.rust_grammar.specs.Rule.{Left};
 ghost use Rattle.rust_grammar.specs.Whole.{whole};
-ghost use Rattle.grammar_table.specs.Data.{named};
-ghost use Rattle.rust_productions.specs.Stands.{Holds, Stands, left};
-ghost use Rattle.ra_parser.specs.Entries.{can_enter, production_of, strayed, with_leaves};
-ghost use Rattle.rust_productions.specs.Looks.{looks_per_token};
+ghost use Rattle.rust_productions.specs.Looks.{looks_per_token, spent, tokens};
+ghost use Rattle.rust_productions.specs.Reads.{looks, Does, Gives, Saw};
+ghost use Rattle.rust_productions.specs.Stands.{Holds, left};
+ghost use Rattle.ra_parser.specs.Entries.{production_of, single_of, strayed, with_leaves};
 
 use crate::entry_points::TopEntryPoint;
-use grammar_reader::context::Context;
-use grammar_reader::look::tokens_left;
-use grammar_reader::open::{Open, close, leave_out, start, take_any, tell};
-use grammar_reader::reader::{at, production};
-use grammar_table::production::Production;
-use grammar_table::table::rule_of;
+use grammar_reader::grammar::attributes::meta;
+use grammar_reader::grammar::entries::{macro_items, macro_statements, source_file};
+use grammar_reader::grammar::expressions::expression;
+use grammar_reader::grammar::or_patterns::pattern;
+use grammar_reader::grammar::types::any_type;
 use parser_events::message::Message;
-use parser_events::parser::Parser;
+use parser_events::parser::{Marker, Parser};
 use parser_input::syntax_kind::SyntaxKind;
+use rust_productions::grammar::expressions::at_expression;
+use rust_productions::grammar::paths::at_path;
+use rust_productions::grammar::patterns::at_pattern;
+use rust_productions::grammar::types::at_type;
+use rust_productions::grammar::{abandon, complete, current, error, start, take_any};
+
+/// What an input is asked to be, where that is one thing and no list.
+#[derive(Clone, Copy)]
+enum Single {
+    Expression,
+    Meta,
+    Pattern,
+    Type,
+}
+
+/// Whether a token is left.
+fn at_token(p: &mut Parser<'_>) -> bool
+    ensures sees { (c : Bool) → Saw c Left p.old result }
+    ensures same { Does (λ s. s) p.old p.new }
+    ensures left { tokens p.new ≡ tokens p.old }
+    ensures looks { spent p.new ≤ spent p.old + 1 }
+{
+    match current(p) {
+        SyntaxKind::EOF => false,
+        _ => true,
+    }
+}
 
 /// Takes the tokens that are left, each as a leaf.
-fn take_rest(p: &mut Parser<'_>, node: Open) -> Open
-    requires marker { IsInnermost node.marker p.old.nodes }
-    ensures marker { IsInnermost result.marker p.new.nodes }
-    ensures does { (s : Reading) (below : Option (List Marked)) → Stands node.given p.old s below
-        → Stands result.given p.new (with_leaves s) below }
-    ensures looks { p.new.looks ≤ p.old.looks + length (left p.old) }
+fn take_rest(p: &mut Parser<'_>)
+    ensures takes { Does with_leaves p.old p.new }
+    ensures looks { spent p.new ≤ spent p.old + 1 }
 {
-    let mut node = node;
-    'tokens: while tokens_left(p) > 0 {
-        node = take_any(p, node);
+    'tokens: while at_token(p) {
+        take_any(p);
     }
-    node
 }
 
 /// Closes the only open node as an error, with this message and the tokens that are left.
-fn stray(p: &mut Parser<'_>, node: Open, message: Message)
-    requires marker { IsInnermost node.marker p.old.nodes }
-    ensures tree { (s : Reading) → Stands node.given p.old s (Some (End ∷ []))
+fn stray(p: &mut Parser<'_>, frame: Marker, message: Message)
+    requires marker { IsInnermost frame p.old.nodes }
+    ensures tree { (s : Reading) → left p.old ≡ s.rest → Holds p.old.nodes (marked s.given ∷ End ∷ [])
         → Holds p.new.nodes (marked (strayed (message_of message) s) ∷ []) }
-    ensures looks { p.new.looks ≤ p.old.looks + length (left p.old) }
+    ensures looks { spent p.new ≤ spent p.old + 1 }
 {
-    let node = tell(p, node, message);
-    let node = take_rest(p, node);
-    close(p, node, SyntaxKind::ERROR);
+    error(p, message);
+    take_rest(p);
+    complete(p, frame, SyntaxKind::ERROR);
 }
 
-/// The production that an entry asks for.
-fn asked(entry_point: TopEntryPoint) -> Production
-    ensures { named result ≡ production_of entry_point }
+/// What is said where it does not begin.
+fn missing(single: Single) -> Message
+    ensures { wanted (single_of single) ≡ Some (message_of result) }
 {
-    match entry_point {
-        TopEntryPoint::SourceFile => Production::SourceFile,
-        TopEntryPoint::MacroStmts => Production::MacroStatements,
-        TopEntryPoint::MacroItems => Production::MacroItems,
-        TopEntryPoint::Pattern => Production::Pattern,
-        TopEntryPoint::Ty => Production::AnyType,
-        TopEntryPoint::Expr => Production::Expression,
-        TopEntryPoint::MetaItem => Production::Meta,
+    match single {
+        Single::Expression => Message::ExpectedExpression,
+        Single::Meta => Message::Expected(SyntaxKind::META),
+        Single::Pattern => Message::ExpectedPattern,
+        Single::Type => Message::ExpectedType,
     }
 }
 
-/// Whether an entry takes every input.
-#[tactic(auto, unfolding(rust_grammar::specs::Entry::takes_all))]
-fn takes_every_input(entry_point: TopEntryPoint) -> bool
-    ensures { result ≡ takes_all (production_of entry_point) }
+/// Whether it begins here.
+fn begins(p: &mut Parser<'_>, single: Single) -> bool
+    ensures sees { Saw false (looks (single_of single)) p.old result }
+    ensures some { IsTrue result → 1 ≤ tokens p.old }
+    ensures same { Does (λ s. s) p.old p.new }
+    ensures left { tokens p.new ≡ tokens p.old }
+    ensures looks { spent p.new ≤ spent p.old + 14 }
 {
-    match entry_point {
-        TopEntryPoint::SourceFile | TopEntryPoint::MacroStmts | TopEntryPoint::MacroItems => true,
-        TopEntryPoint::Pattern
-        | TopEntryPoint::Ty
-        | TopEntryPoint::Expr
-        | TopEntryPoint::MetaItem => false,
+    match single {
+        Single::Expression => at_expression(p, false),
+        Single::Meta => at_path(p),
+        Single::Pattern => at_pattern(p),
+        Single::Type => at_type(p),
     }
 }
 
-/// What is said where an entry does not begin. A list takes every input, so that nothing is said of
-/// one.
-#[tactic(auto, unfolding(rust_grammar::specs::Entry::takes_all))]
-fn missing(entry_point: TopEntryPoint) -> Message
-    ensures { takes_all (production_of entry_point) ≡ false
-        → wanted (production_of entry_point) ≡ Some (message_of result) }
-{
-    match entry_point {
-        TopEntryPoint::Pattern => Message::ExpectedPattern,
-        TopEntryPoint::Ty => Message::ExpectedType,
-        TopEntryPoint::MetaItem => Message::Expected(SyntaxKind::META),
-        TopEntryPoint::SourceFile
-        | TopEntryPoint::MacroStmts
-        | TopEntryPoint::MacroItems
-        | TopEntryPoint::Expr => Message::ExpectedExpression,
-    }
-}
-
-/// Whether an entry can be read.
-fn is_entered(p: &mut Parser<'_>, entry_point: TopEntryPoint) -> bool
+/// Reads it where it begins.
+fn read(p: &mut Parser<'_>, single: Single)
     requires short { length p.old.input < 2 ^ 64 }
-    ensures sees { (s : Reading) (below : Option (List Marked)) → Stands false p.old s below
-        → result ≡ can_enter (production_of entry_point) s }
-    ensures same { p.new ≡ record p.old { looks = p.new.looks } }
-    ensures looks { p.new.looks ≤ p.old.looks + 200 }
+    requires begins { Saw false (looks (single_of single)) p.old true }
+    requires some { 1 ≤ tokens p.old }
+    ensures gives { Gives (single_of single) false p.old p.new }
+    ensures looks { spent p.new ≤ spent p.old }
 {
-    if takes_every_input(entry_point) {
-        return true;
+    match single {
+        Single::Expression => expression(p, false),
+        Single::Meta => meta(p, false),
+        Single::Pattern => pattern(p),
+        Single::Type => any_type(p, false),
     }
-    at(
-        p,
-        false,
-        rule_of(asked(entry_point)),
-        Context::new(false, 20),
-    )
+}
+
+/// Reads an input that no token was taken of as one thing.
+fn read_single(p: &mut Parser<'_>, single: Single)
+    requires short { length p.old.input < 2 ^ 64 }
+    requires nodes { p.old.nodes ≡ Some (End ∷ []) }
+    ensures tree { Holds p.new.nodes (marked (entry whole (single_of single) (left p.old)) ∷ []) }
+    ensures looks { spent p.new ≤ spent p.old + 16 }
+{
+    let frame = start(p);
+    if !begins(p, single) {
+        stray(p, frame, missing(single));
+        return;
+    }
+    read(p, single);
+    if at_token(p) {
+        stray(p, frame, Message::UnexpectedTokens);
+        return;
+    }
+    abandon(p, frame);
 }
 
 /// Reads an input that no token was taken of.
@@ -124,19 +144,13 @@ pub(crate) fn read_entry(p: &mut Parser<'_>, entry_point: TopEntryPoint)
     ensures tree { Holds p.new.nodes (marked (entry whole (production_of entry_point) (left p.old)) ∷ []) }
     ensures looks { p.new.looks ≤ p.old.looks + looks_per_token * (length (left p.old) + 1) }
 {
-    let node = start(p);
-    if !is_entered(p, entry_point) {
-        stray(p, node, missing(entry_point));
-        return;
+    match entry_point {
+        TopEntryPoint::SourceFile => source_file(p),
+        TopEntryPoint::MacroStmts => macro_statements(p),
+        TopEntryPoint::MacroItems => macro_items(p),
+        TopEntryPoint::Pattern => read_single(p, Single::Pattern),
+        TopEntryPoint::Ty => read_single(p, Single::Type),
+        TopEntryPoint::Expr => read_single(p, Single::Expression),
+        TopEntryPoint::MetaItem => read_single(p, Single::Meta),
     }
-    let node = production(p, node, asked(entry_point), Context::new(false, 20));
-    if takes_every_input(entry_point) {
-        leave_out(p, node);
-        return;
-    }
-    if tokens_left(p) > 0 {
-        stray(p, node, Message::UnexpectedTokens);
-        return;
-    }
-    leave_out(p, node);
 }

@@ -2,7 +2,7 @@
 //! `rust_grammar`'s.
 //!
 //! An input is read as what is asked of it: [`TopEntryPoint::parse`]. What reads is
-//! `grammar_reader`: a production by its own function, where it has one, else as the table has it.
+//! `grammar_reader`, each production by its own function.
 #![tactic(auto)]
 
 mod entries;

@@ -28,13 +28,13 @@ seen-token v n = sym (get_or-drop v.position v.input n (plain EOF)) ∙ look n (
     look zero (t ∷ ts) = refl
     look (suc n) (t ∷ ts) = look n ts
 
-seen : (v : View) (n : ℕ) → (token_at v.input (v.position + n)).kind ≡ (ahead n (left v)).kind
-seen v n = ap (λ (t : Token). t.kind) (seen-token v n)
+pub kind-ahead : (v : View) (n : ℕ) → (token_at v.input (v.position + n)).kind ≡ (ahead n (left v)).kind
+kind-ahead v n = ap (λ (t : Token). t.kind) (seen-token v n)
 
 pub saw-next : (c : Bool) (n : ℕ) (v : View) (kind : ℕ) (answer : Bool) → answer ≡ nat_eq (token_at v.input (v.position + n)).kind kind → Saw c (Kind n kind) v answer
 unfolding sees
 saw-next c n v kind answer is = record {
-  at = λ s e. ap (λ (ts : List Token). (ahead n ts).kind == kind) (sym e) ∙ ap (λ (k : ℕ). nat_eq k kind) (sym (seen v n)) ∙ sym is;
+  at = λ s e. ap (λ (ts : List Token). (ahead n ts).kind == kind) (sym e) ∙ ap (λ (k : ℕ). nat_eq k kind) (sym (kind-ahead v n)) ∙ sym is;
 }
 
 -- the same, by raw numbers
@@ -88,12 +88,12 @@ few-left (suc n) (t ∷ ts) k e some = omega (arith, few-left n ts k e some)
 -- so many tokens are left where one is ahead
 pub left-next : (v : View) (kind : ℕ) → kind ≡ (token_at v.input (v.position + 0)).kind → kind ≢ EOF → 1 ≤ tokens v
 unfolding tokens
-left-next v kind is some = few-left 0 (left v) kind (sym (is ∙ seen v 0)) some
+left-next v kind is some = few-left 0 (left v) kind (sym (is ∙ kind-ahead v 0)) some
 
 pub some-ahead : (n : ℕ) (v : View) (seen_kind kind raw : ℕ) → seen_kind ≡ (token_at v.input (v.position + n)).kind → nat_eq seen_kind raw ≡ true → raw ≡ kind → kind ≢ EOF → n + 1 ≤ tokens v
 unfolding tokens
 some-ahead n v seen_kind kind raw is same e some =
-    few-left n (left v) seen_kind (sym (is ∙ seen v n)) (λ z. some (sym e ∙ sym (eqb-true seen_kind raw same) ∙ z))
+    few-left n (left v) seen_kind (sym (is ∙ kind-ahead v n)) (λ z. some (sym e ∙ sym (eqb-true seen_kind raw same) ∙ z))
 
 -- the kind of the next token
 pub kind-of-next : {v : View} (kind : SyntaxKind) → ((c : Bool) (k : ℕ) → Saw c (Kind 0 k) v (raw_of kind == k)) → (s : Reading) → left v ≡ s.rest → (ahead 0 s.rest).kind ≡ raw_of kind
@@ -108,7 +108,7 @@ saw-some c v kind is some = record { at = λ s e. ap (λ (ts : List Token). nat_
     end : (ts : List Token) → left v ≡ ts → (b : Bool) → (raw_of kind == EOF) ≡ b → nat_lt 0 (length ts) ≡ not b
     end [] e true f = refl
     end [] e false f =
-        let next : raw_of kind ≡ EOF = is ∙ seen v 0 ∙ ap (λ (us : List Token). (ahead 0 us).kind) e in
+        let next : raw_of kind ≡ EOF = is ∙ kind-ahead v 0 ∙ ap (λ (us : List Token). (ahead 0 us).kind) e in
         absurd (let z : true ≡ false = sym (eq-eqb (raw_of kind) EOF next) ∙ f in cc)
     end (t ∷ ts) e true f =
         let long : 0 < length (t ∷ ts) = omega arith in

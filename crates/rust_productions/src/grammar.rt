@@ -35,6 +35,13 @@ pub mod types;
 pub mod use_trees;
 pub mod visibility;
 
+/// How many tokens are left.
+pub fn tokens_left(p: &Parser<'_>) -> usize
+    ensures { result ≡ tokens p.now }
+{
+    p.tokens_left()
+}
+
 /// The kind of the next token.
 pub fn current(p: &mut Parser<'_>) -> SyntaxKind
     ensures sees { (c : Bool) (kind : ℕ) → Saw c (Kind 0 kind) p.old (raw_of result == kind) }
@@ -195,7 +202,7 @@ pub fn take_pair(p: &mut Parser<'_>, kind: SyntaxKind)
 }
 
 /// Takes the next token, whatever it is.
-fn take_any(p: &mut Parser<'_>)
+pub fn take_any(p: &mut Parser<'_>)
     requires { 1 ≤ tokens p.old }
     ensures reads { (c : Bool) → Reads c Any p.old p.new }
     ensures left { tokens p.new + 1 ≡ tokens p.old }

@@ -1,5 +1,5 @@
-//! The productions of the grammar of Rust that have a function of their own: the table, and what a
-//! rule means on an input, are `rust_grammar`'s. `grammar_reader` reads the others, rule by rule.
+//! Functions of the productions of the grammar of Rust that call none of the cycle of calls in
+//! `grammar_reader`: the table, and what a rule means on an input, are `rust_grammar`'s.
 #![tactic(auto)]
 
 pub mod grammar;

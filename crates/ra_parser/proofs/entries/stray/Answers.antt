@@ -1,20 +1,19 @@
-use Rattle.std.proofs.Common.{[], ◌∷◌, Some, None, arith}
+use Rattle.std.proofs.Common.{true, [], ◌∷◌}
 use Rattle.parser_events.specs.Marked.{End, marked}
 use Rattle.parser_events.specs.Seen.{message_of}
-use Rattle.rust_grammar.specs.Meaning.{say}
+use Rattle.rust_grammar.specs.Meaning.{read, say}
 use Rattle.ra_parser.specs.Entries.{with_leaves}
-use Rattle.grammar_reader.proofs.Spending.{same-length}
-use Rattle.ra_parser.proofs.Taking.{holds-strayed, somewhere, stands-somewhere}
+use Rattle.ra_parser.proofs.Taking.{holds-strayed}
 use Rattle.ra_parser.proofs.entries.stray.Goals as goal
 
-pub returns-clause-tree : goal.returns-clause-tree
-returns-clause-tree c s h =
-    let m = message_of c.args.message in
-    let rest = c.take_rest-node.ensures.does (say m s) (Some (End ∷ [])) (c.tell-node.ensures.does s (Some (End ∷ [])) h) in
-    holds-strayed c.close.new.p.nodes m s (c.close.ensures.closes.nodes (marked (with_leaves (say m s)).given) End [] rest.trees)
+pub complete-requires : goal.complete-requires
+complete-requires c = c.take_rest.ensures.takes.innermost _ ((c.error.ensures.reads true).does.innermost _ c.requires.marker)
 
-pub returns-clause-looks : goal.returns-clause-looks
-unfolding say somewhere
-returns-clause-looks c =
-    let there = c.tell-node.ensures.does (somewhere c.args.node.given c.args.p.now) None (stands-somewhere c.args.node.given c.args.p.now) in
-    omega (arith, c.take_rest-node.ensures.looks, c.tell-node.ensures.looks, c.close.ensures.looks, same-length there.at.rest)
+pub returns-clause-tree : goal.returns-clause-tree
+unfolding read
+returns-clause-tree c s e h =
+    let m = message_of c.args.message in
+    let told = (c.error.ensures.reads true).does in
+    holds-strayed c.complete.new.p.nodes m s
+    (c.complete.ensures.closes.nodes (marked (with_leaves (say m s)).given) End []
+    (c.take_rest.ensures.takes.nodes (say m s) (End ∷ []) (told.rest s e) (told.nodes s (End ∷ []) e h)))

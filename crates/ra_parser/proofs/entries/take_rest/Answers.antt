@@ -1,39 +1,37 @@
-use Rattle.std.proofs.Common.{◌≤◌, List, length, None, sym, ap, subst, ◌∙◌, arith}
+use Rattle.std.proofs.Common.{◌≤◌, false, List, length, refl, sym, ap, ◌∙◌, arith}
 use Rattle.parser_input.specs.Input.{Token}
-use Rattle.rust_grammar.specs.Meaning.{Reading, ahead, leaf}
-use Rattle.rust_productions.specs.Stands.{Stands}
-use Rattle.ra_parser.proofs.Taking.{somewhere, stands-somewhere, fewer-left, token-taken, all-taken}
+use Rattle.rust_grammar.specs.Meaning.{ahead, leaf, read}
+use Rattle.rust_productions.specs.Looks.{tokens}
+use Rattle.rust_productions.proofs.ByHand.{does-as, does-then}
+use Rattle.rust_productions.proofs.Facts.{saw-so}
+use Rattle.ra_parser.proofs.Taking.{all-taken, none-left, none-taken, some-left, token-taken}
 use Rattle.ra_parser.proofs.entries.take_rest.Goals as goal
 
-pub tokens-smaller : goal.tokens-smaller
-unfolding somewhere
-tokens-smaller c =
-    let s = somewhere c.tokens.node.given c.tokens.p in
-    let some : 1 ≤ length s.rest = omega (arith, c.tokens-test.true, c.tokens_left.ensures) in
-    fewer-left _ s (c.take_any-node.ensures.does s None (stands-somewhere c.tokens.node.given c.tokens.p) some) some
+pub tokens-init : goal.tokens-init
+tokens-init c = record { taken = none-taken _; looks = omega arith }
+
+pub take_any-requires : goal.take_any-requires
+take_any-requires c = omega (arith, some-left (saw-so (c.at_token.ensures.sees false) c.tokens-test.true), c.at_token.ensures.left)
 
 pub tokens-preserved : goal.tokens-preserved
-unfolding somewhere
-tokens-preserved c = record {
-  input = c.take_any-node.ensures.input ∙ c.tokens.invariant.input;
-  marker = c.take_any-node.ensures.marker;
-  taking = λ s below h.
-      let b = c.tokens.invariant.taking s below h in
-      let some : 1 ≤ length b.now.rest = omega (arith, c.tokens-test.true, c.tokens_left.ensures, ap (λ (ts : List Token). length ts) b.stands.at.rest) in
-      record {
-        now = leaf (ahead 0 b.now.rest).kind 1 b.now;
-        stands = c.take_any-node.ensures.does b.now below b.stands some;
-        same = token-taken b.now some ∙ b.same;
+unfolding read tokens
+tokens-preserved c =
+    let before = c.tokens.invariant.taken in
+    let some : 1 ≤ tokens c.tokens.p = some-left (saw-so (c.at_token.ensures.sees false) c.tokens-test.true) in
+    record {
+      taken = record {
+        moves = λ s. leaf (ahead 0 (before.moves s).rest).kind 1 (before.moves s);
+        does = does-then before.does (does-then c.at_token.ensures.same (does-as (λ s e. refl) (c.take_any.ensures.reads false).does));
+        same = λ s e. token-taken (before.moves s) (omega (arith, some, ap (λ (ts : List Token). length ts) (before.does.rest s e))) ∙ before.same s e;
       };
-  looks =
-      let s = somewhere c.tokens.node.given c.tokens.p in
-      let some : 1 ≤ length s.rest = omega (arith, c.tokens-test.true, c.tokens_left.ensures) in
-      let fewer = fewer-left _ s (c.take_any-node.ensures.does s None (stands-somewhere c.tokens.node.given c.tokens.p) some) some in
-      omega (arith, fewer, c.take_any-node.ensures.looks, c.tokens.invariant.looks);
-}
+      looks = omega (arith, c.tokens.invariant.looks, c.at_token.ensures.looks, c.take_any.ensures.looks);
+    }
 
-pub returns-clause-does : goal.returns-clause-does
-returns-clause-does c s below h =
-    let b = c.tokens.invariant.taking s below h in
-    let none : length b.now.rest ≤ 0 = omega (arith, c.tokens-test.false, c.tokens_left.ensures, ap (λ (ts : List Token). length ts) b.stands.at.rest) in
-    subst (λ (u : Reading). Stands c.tokens.node.given c.tokens.p u below) (sym (all-taken b.now none) ∙ b.same) b.stands
+pub returns-clause-takes : goal.returns-clause-takes
+unfolding tokens
+returns-clause-takes c =
+    let all = c.tokens.invariant.taken in
+    let none : tokens c.tokens.p ≤ 0 = none-left (saw-so (c.at_token.ensures.sees false) c.tokens-test.false) in
+    does-then
+    (does-as (λ s e. sym (all-taken (all.moves s) (omega (arith, none, ap (λ (ts : List Token). length ts) (all.does.rest s e)))) ∙ all.same s e) all.does)
+    c.at_token.ensures.same

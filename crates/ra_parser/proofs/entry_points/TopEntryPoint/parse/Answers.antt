@@ -1,11 +1,10 @@
-use Rattle.std.proofs.Common.{◌≡◌, ℕ, List, drop, ap, ◌∙◌, arith}
+use Rattle.std.proofs.Common.{◌≡◌, ℕ, List, drop, length, ap, ◌∙◌, arith}
 use Rattle.parser_input.specs.Input.{Token}
 use Rattle.parser_events.specs.Steps.{steps}
 use Rattle.rust_grammar.specs.Entry.{entry}
 use Rattle.rust_grammar.specs.Whole.{whole}
 use Rattle.rust_productions.specs.Stands.{left}
 use Rattle.ra_parser.specs.Entries.{production_of}
-use Rattle.grammar_reader.proofs.Spending.{same-length}
 use Rattle.ra_parser.proofs.Entered.{parsed-steps}
 use Rattle.ra_parser.proofs.entry_points.TopEntryPoint.parse.Goals as goal
 
@@ -21,4 +20,4 @@ pub returns-clause-looks : goal.returns-clause-looks
 returns-clause-looks c =
     let all : left c.new-parser.result ≡ c.args.input.now =
     ap (λ (n : ℕ). drop n c.new-parser.result.input) c.new-parser.ensures.position ∙ c.new-parser.ensures.input in
-    omega (arith, c.in_ok-output.ensures.looks, c.read_entry.ensures.looks, c.new-parser.ensures.looks, same-length all)
+    omega (arith, c.in_ok-output.ensures.looks, c.read_entry.ensures.looks, c.new-parser.ensures.looks, ap (λ (ts : List Token). length ts) all)

@@ -1,0 +1,73 @@
+-- Constants, statics and names of types, path by path.
+use Rattle.std.proofs.Common.{true, ◌∙◌, arith}
+use Rattle.rust_grammar.specs.Expressions.{expressions}
+use Rattle.rust_grammar.specs.Items.{items}
+use Rattle.rust_grammar.specs.Meaning.{begins_below, look_of}
+use Rattle.rust_grammar.specs.Notation.{any_of, is_longer, no_longer, longest, one_of, row}
+use Rattle.rust_grammar.specs.Paths.{paths}
+use Rattle.rust_grammar.specs.Patterns.{patterns}
+use Rattle.rust_grammar.specs.Rule.{begins, in_mode, anew, is_silent, passes, shift, there_at}
+use Rattle.rust_grammar.specs.Statements.{statements}
+use Rattle.rust_grammar.specs.Types.{types}
+use Rattle.rust_grammar.specs.Whole.{rule, whole}
+use Rattle.grammar_reader.proofs.Inputs.{short-still}
+use Rattle.rust_productions.proofs.ByHand.{after-look, completes-wrap, reads-nothing, reads-then}
+use Rattle.rust_productions.proofs.Choices.{reads-here}
+use Rattle.rust_productions.proofs.Facts.{nothing, saw-so, ◌and◌}
+use Rattle.grammar_reader.proofs.grammar.+grammar.Goals as goal
+
+pub consts::const_item-typed_value-requires : goal.consts::const_item-typed_value-requires
+consts::const_item-typed_value-requires t c = (omega arith, short-still _ _ ((c.underscore_or_name.ensures.reads true).does.input ∙ (c.take.ensures.reads true).does.input) c.requires.short)
+
+pub consts::const_item-complete-requires : goal.consts::const_item-complete-requires
+consts::const_item-complete-requires t c = c.typed_value.ensures.reads.does.innermost _ ((c.underscore_or_name.ensures.reads true).does.innermost _ ((c.take.ensures.reads true).does.innermost _ c.requires.innermost))
+
+pub consts::const_item-returns-clause-completes : goal.consts::const_item-returns-clause-completes
+consts::const_item-returns-clause-completes t c = completes-wrap (reads-then _ (c.take.ensures.reads c.args.condition) (reads-then _ (c.underscore_or_name.ensures.reads c.args.condition) c.typed_value.ensures.reads)) c.complete.ensures.closes
+
+pub consts::static_item-typed_value-requires : goal.consts::static_item-typed_value-requires
+consts::static_item-typed_value-requires t c = (omega arith, short-still _ _ ((c.expect_name.ensures.reads true).does.input ∙ (c.eat.ensures.reads true).does.input ∙ (c.take.ensures.reads true).does.input) c.requires.short)
+
+pub consts::static_item-complete-requires : goal.consts::static_item-complete-requires
+consts::static_item-complete-requires t c = c.typed_value.ensures.reads.does.innermost _ ((c.expect_name.ensures.reads true).does.innermost _ ((c.eat.ensures.reads true).does.innermost _ ((c.take.ensures.reads true).does.innermost _ c.requires.innermost)))
+
+pub consts::static_item-returns-clause-completes : goal.consts::static_item-returns-clause-completes
+consts::static_item-returns-clause-completes t c = completes-wrap (reads-then _ (c.take.ensures.reads c.args.condition) (reads-then _ (c.eat.ensures.reads c.args.condition) (reads-then _ (c.expect_name.ensures.reads c.args.condition) c.typed_value.ensures.reads))) c.complete.ensures.closes
+
+pub consts::typed_value-expect_type-requires : goal.consts::typed_value-expect_type-requires
+consts::typed_value-expect_type-requires t c = (omega arith, short-still _ _ (c.expect.ensures.reads true).does.input c.requires.short)
+
+pub consts::typed_value-opt_value-requires : goal.consts::typed_value-opt_value-requires
+consts::typed_value-opt_value-requires t c = (omega arith, short-still _ _ (c.expect_type.ensures.reads.does.input ∙ (c.expect.ensures.reads true).does.input) c.requires.short)
+
+pub consts::typed_value-returns-clause-reads : goal.consts::typed_value-returns-clause-reads
+consts::typed_value-returns-clause-reads t c = (reads-then _ (c.expect.ensures.reads c.args.condition) (reads-then _ c.expect_type.ensures.reads (reads-then _ c.opt_value.ensures.reads (c.expect-2.ensures.reads c.args.condition))))
+
+pub consts::opt_value-expect_expression-requires : goal.consts::opt_value-expect_expression-requires
+consts::opt_value-expect_expression-requires t c = (omega arith, short-still _ _ ((c.take.ensures.reads true).does.input ∙ c.at.ensures.same.input) c.requires.short)
+
+pub consts::opt_value-returns-then-at-clause-reads : goal.consts::opt_value-returns-then-at-clause-reads
+unfolding look_of begins_below whole rule items statements expressions patterns types paths there_at shift passes is_silent begins in_mode anew row one_of any_of no_longer longest is_longer
+consts::opt_value-returns-then-at-clause-reads t c = reads-here (saw-so (c.at.ensures.sees c.args.condition) c.if-at.true and nothing) (after-look _ c.at.ensures.same (reads-then _ (c.take.ensures.reads c.args.condition) c.expect_expression.ensures.reads))
+
+pub consts::opt_value-returns-else-at-clause-reads : goal.consts::opt_value-returns-else-at-clause-reads
+unfolding look_of begins_below whole rule items statements expressions patterns types paths there_at shift passes is_silent begins in_mode anew row one_of any_of no_longer longest is_longer
+consts::opt_value-returns-else-at-clause-reads t c = reads-here (saw-so (c.at.ensures.sees c.args.condition) c.if-at.false and nothing) (reads-nothing _ c.at.ensures.same)
+
+pub consts::type_alias-opt_generic_params-requires : goal.consts::type_alias-opt_generic_params-requires
+consts::type_alias-opt_generic_params-requires t c = (omega arith, short-still _ _ ((c.expect_name.ensures.reads true).does.input ∙ (c.take.ensures.reads true).does.input) c.requires.short)
+
+pub consts::type_alias-bounds_after_colon-requires : goal.consts::type_alias-bounds_after_colon-requires
+consts::type_alias-bounds_after_colon-requires t c = (omega arith, short-still _ _ ((c.opt_generic_params.ensures.reads true).does.input ∙ (c.expect_name.ensures.reads true).does.input ∙ (c.take.ensures.reads true).does.input) c.requires.short)
+
+pub consts::type_alias-opt_where_clause-requires : goal.consts::type_alias-opt_where_clause-requires
+consts::type_alias-opt_where_clause-requires t c = (omega arith, short-still _ _ ((c.bounds_after_colon.ensures.reads true).does.input ∙ (c.opt_generic_params.ensures.reads true).does.input ∙ (c.expect_name.ensures.reads true).does.input ∙ (c.take.ensures.reads true).does.input) c.requires.short)
+
+pub consts::type_alias-opt_type_after-requires : goal.consts::type_alias-opt_type_after-requires
+consts::type_alias-opt_type_after-requires t c = (omega arith, (short-still _ _ (c.opt_where_clause.ensures.reads.does.input ∙ (c.bounds_after_colon.ensures.reads true).does.input ∙ (c.opt_generic_params.ensures.reads true).does.input ∙ (c.expect_name.ensures.reads true).does.input ∙ (c.take.ensures.reads true).does.input) c.requires.short, omega arith))
+
+pub consts::type_alias-complete-requires : goal.consts::type_alias-complete-requires
+consts::type_alias-complete-requires t c = (c.expect.ensures.reads true).does.innermost _ (c.opt_type_after.ensures.reads.does.innermost _ (c.opt_where_clause.ensures.reads.does.innermost _ ((c.bounds_after_colon.ensures.reads true).does.innermost _ ((c.opt_generic_params.ensures.reads true).does.innermost _ ((c.expect_name.ensures.reads true).does.innermost _ ((c.take.ensures.reads true).does.innermost _ c.requires.innermost))))))
+
+pub consts::type_alias-returns-clause-completes : goal.consts::type_alias-returns-clause-completes
+consts::type_alias-returns-clause-completes t c = completes-wrap (reads-then _ (c.take.ensures.reads c.args.condition) (reads-then _ (c.expect_name.ensures.reads c.args.condition) (reads-then _ (c.opt_generic_params.ensures.reads c.args.condition) (reads-then _ (c.bounds_after_colon.ensures.reads c.args.condition) (reads-then _ c.opt_where_clause.ensures.reads (reads-then _ c.opt_type_after.ensures.reads (c.expect.ensures.reads c.args.condition))))))) c.complete.ensures.closes

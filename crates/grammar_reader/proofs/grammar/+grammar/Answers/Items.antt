@@ -1,0 +1,311 @@
+-- Items, path by path.
+use Rattle.std.proofs.Common.{true, false, List, length, refl, sym, ap, ◌∙◌, arith, true≢false}
+use Rattle.parser_input.specs.Input.{Token}
+use Rattle.parser_input.specs.Kind.{raw_of}
+use Rattle.rust_grammar.specs.Laws.{reads}
+use Rattle.rust_grammar.specs.Meaning.{fresh, read}
+use Rattle.rust_grammar.specs.Rule.{Call, Star}
+use Rattle.rust_grammar.specs.Rule as rules
+use Rattle.rust_grammar.specs.Expressions.{expressions}
+use Rattle.rust_grammar.specs.Items.{items}
+use Rattle.rust_grammar.specs.Meaning.{begins_below, look_of}
+use Rattle.rust_grammar.specs.Notation.{any_of, is_longer, no_longer, longest, one_of, row}
+use Rattle.rust_grammar.specs.Paths.{paths}
+use Rattle.rust_grammar.specs.Patterns.{patterns}
+use Rattle.rust_grammar.specs.Rule.{begins, in_mode, anew, is_silent, passes, shift, there_at}
+use Rattle.rust_grammar.specs.Statements.{statements}
+use Rattle.rust_grammar.specs.Types.{types}
+use Rattle.rust_grammar.specs.Whole.{rule, whole}
+use Rattle.grammar_reader.specs.Told.{item_or_attribute}
+use Rattle.grammar_reader.proofs.Ends.{left-within, over, over-at-end, some-within, within}
+use Rattle.grammar_reader.proofs.Inputs.{short-still}
+use Rattle.rust_productions.specs.Looks.{tokens}
+use Rattle.rust_productions.specs.Reads.{looks, Saw}
+use Rattle.rust_productions.proofs.ByHand.{after-look, completes-wrap, reads-call, reads-mode, reads-node, reads-nothing, reads-then, reads-unless}
+use Rattle.rust_productions.proofs.Choices.{anew-after, anew-here, anew-look, gives-anew, reads-here}
+use Rattle.rust_productions.proofs.Facts.{begun, nothing, saw-so, ◌and◌}
+use Rattle.rust_productions.proofs.Given.{anew-apart, anew-given, anew-nothing, call-gives, option-keeps, turns-give, where-any, where-here, where-look, where-more}
+use Rattle.rust_productions.proofs.Looking.{saw-arm, saw-not}
+use Rattle.rust_productions.proofs.Seen.{ends-at-end, saw-after, saw-before, saw-inside, saw-told, starts-here}
+use Rattle.rust_productions.proofs.Turns.{first-turn, last-turn, next-turn}
+use Rattle.grammar_reader.proofs.grammar.+grammar.Goals as goal
+
+pub items::item-attributed_item-requires : goal.items::item-attributed_item-requires
+unfolding look_of begins_below whole rule items statements expressions patterns types paths there_at shift passes is_silent begins in_mode anew row one_of any_of no_longer longest is_longer
+items::item-attributed_item-requires t c = (omega arith, (short-still _ _ c.current.ensures.same.input c.requires.short, ((λ d. saw-after c.current.ensures.same (saw-told (saw-arm c.in-POUND.is (c.current.ensures.sees d) and nothing) refl)), omega arith)))
+
+pub items::item-visible_item-requires : goal.items::item-visible_item-requires
+items::item-visible_item-requires t c = (omega arith, (short-still _ _ c.current.ensures.same.input c.requires.short, ((λ d. saw-after c.current.ensures.same (saw-arm c.in-PUB_KW.is (c.current.ensures.sees d))), omega arith)))
+
+pub items::item-bare_item-requires : goal.items::item-bare_item-requires
+items::item-bare_item-requires t c = (omega arith, (short-still _ _ c.current.ensures.same.input c.requires.short, ((λ d. saw-after c.current.ensures.same (saw-not c.in_default.not-POUND (c.current.ensures.sees d))), ((λ d. saw-after c.current.ensures.same (saw-not c.in_default.not-PUB_KW (c.current.ensures.sees d))), omega arith))))
+
+pub items::item-returns-in-POUND-clause-gives : goal.items::item-returns-in-POUND-clause-gives
+items::item-returns-in-POUND-clause-gives t c = gives-anew (anew-look c.current.ensures.same c.attributed_item.ensures.anew)
+
+pub items::item-returns-in-PUB_KW-clause-gives : goal.items::item-returns-in-PUB_KW-clause-gives
+items::item-returns-in-PUB_KW-clause-gives t c = gives-anew (anew-look c.current.ensures.same c.visible_item.ensures.anew)
+
+pub items::item-returns-in_default-clause-gives : goal.items::item-returns-in_default-clause-gives
+items::item-returns-in_default-clause-gives t c = gives-anew (anew-look c.current.ensures.same c.bare_item.ensures.anew)
+
+pub items::attributed_item-attributes_and_visibility-requires : goal.items::attributed_item-attributes_and_visibility-requires
+items::attributed_item-attributes_and_visibility-requires t c = (omega arith, (short-still _ _ c.start-item.ensures.opens.input c.requires.short, ((λ d. saw-inside c.start-item.ensures.opens (c.requires.begins d)), omega arith)))
+
+pub items::attributed_item-body-requires : goal.items::attributed_item-body-requires
+items::attributed_item-body-requires t c = (omega arith, (short-still _ _ ((c.attributes_and_visibility.ensures.reads true).does.input ∙ c.start-item.ensures.opens.input) c.requires.short, ((λ e. absurd (true≢false e)), (c.attributes_and_visibility.ensures.reads true).does.innermost _ c.start-item.ensures.marker)))
+
+pub items::attributed_item-returns-clause-anew : goal.items::attributed_item-returns-clause-anew
+unfolding tokens fresh read look_of begins_below whole rule items statements expressions patterns types paths there_at shift passes is_silent begins in_mode anew row one_of any_of no_longer longest is_longer
+items::attributed_item-returns-clause-anew t c =
+    let seen : Saw c.args.condition (begins looks (Call rules.attribute)) c.start-item.new.p true = saw-inside c.start-item.ensures.opens (c.requires.begins c.args.condition) in
+    anew-apart (anew-given c.start-item.ensures.opens (c.attributes_and_visibility.ensures.reads c.args.condition) (λ s e. option-keeps rules.visibility c.args.condition refl (reads c.args.condition (Star (Call rules.attribute)) (fresh s)) (turns-give rules.attribute c.args.condition refl (fresh s) (omega (arith, c.requires.some, c.start-item.ensures.left, ap (λ (ts : List Token). length ts) e)) (seen.at (fresh s) e))) (where-more c.body.ensures.completes))
+
+pub items::attributes_and_visibility-attributes-requires : goal.items::attributes_and_visibility-attributes-requires
+items::attributes_and_visibility-attributes-requires t c = (omega arith, short-still _ _ (c.attribute.ensures.gives true).does.input c.requires.short)
+
+pub items::attributes_and_visibility-returns-clause-reads : goal.items::attributes_and_visibility-returns-clause-reads
+unfolding tokens look_of begins_below whole rule items statements expressions patterns types paths there_at shift passes is_silent begins in_mode anew row one_of any_of no_longer longest is_longer
+items::attributes_and_visibility-returns-clause-reads t c = λ cond.
+    let first = next-turn cond (Call rules.attribute) (ends-at-end cond (Call rules.attribute) refl) _ _ _ first-turn (c.requires.begins cond) (reads-call cond (c.attribute.ensures.gives cond)) (omega (arith, c.attribute.ensures.left)) in
+    reads-then cond (first.rest _ (c.attributes.ensures.reads cond)) (c.opt_visibility.ensures.reads cond)
+
+pub items::visible_item-body-requires : goal.items::visible_item-body-requires
+items::visible_item-body-requires t c = (omega arith, (short-still _ _ ((c.visibility.ensures.gives true).does.input ∙ c.start-item.ensures.opens.input) c.requires.short, ((λ e. absurd (true≢false e)), (c.visibility.ensures.gives true).does.innermost _ c.start-item.ensures.marker)))
+
+pub items::visible_item-returns-clause-anew : goal.items::visible_item-returns-clause-anew
+unfolding look_of begins_below whole rule items statements expressions patterns types paths there_at shift passes is_silent begins in_mode anew row one_of any_of no_longer longest is_longer
+items::visible_item-returns-clause-anew t c = anew-here (c.requires.begins c.args.condition and nothing) (anew-given c.start-item.ensures.opens (reads-call _ (c.visibility.ensures.gives c.args.condition)) (λ s e. call-gives rules.visibility c.args.condition refl (fresh s)) (where-more c.body.ensures.completes))
+
+pub items::bare_item-body-requires : goal.items::bare_item-body-requires
+items::bare_item-body-requires t c = (omega arith, (short-still _ _ c.start-item.ensures.opens.input c.requires.short, ((λ e. omega (arith, c.requires.some, c.start-item.ensures.left)), c.start-item.ensures.marker)))
+
+pub items::bare_item-returns-clause-anew : goal.items::bare_item-returns-clause-anew
+unfolding look_of begins_below whole rule items statements expressions patterns types paths there_at shift passes is_silent begins in_mode anew row one_of any_of no_longer longest is_longer
+items::bare_item-returns-clause-anew t c = anew-here (c.requires.plain c.args.condition and c.requires.hidden c.args.condition and nothing) (anew-nothing c.start-item.ensures.opens (where-more c.body.ensures.completes))
+
+pub items::bare_item-returns-clause-left : goal.items::bare_item-returns-clause-left
+items::bare_item-returns-clause-left t c = omega (arith, c.start-item.ensures.left, c.body.ensures.takes refl)
+
+pub items::bare_item-returns-clause-looks : goal.items::bare_item-returns-clause-looks
+items::bare_item-returns-clause-looks t c = omega (arith, c.start-item.ensures.looks, c.body.ensures.pays refl)
+
+pub items::attributes-attribute-requires : goal.items::attributes-attribute-requires
+items::attributes-attribute-requires t c = (omega arith, (short-still _ _ (c.at.ensures.same.input ∙ c.turns.invariant.input) c.requires.short, omega arith))
+
+pub items::attributes-turns-preserved : goal.items::attributes-turns-preserved
+unfolding tokens look_of begins_below whole rule items statements expressions patterns types paths there_at shift passes is_silent begins in_mode anew row one_of any_of no_longer longest is_longer
+items::attributes-turns-preserved t c = record {
+  input = (c.attribute.ensures.gives true).does.input ∙ c.at.ensures.same.input ∙ c.turns.invariant.input;
+  innermost = λ n i. (c.attribute.ensures.gives true).does.innermost n (c.at.ensures.same.innermost n (c.turns.invariant.innermost n i));
+  goes = λ cond.
+      next-turn cond (Call rules.attribute) (ends-at-end cond (Call rules.attribute) refl) _ _ _ (c.turns.invariant.goes cond) (saw-told (saw-so (c.at.ensures.sees cond) c.turns-test.true and nothing) refl)
+      (after-look cond c.at.ensures.same (reads-call cond (c.attribute.ensures.gives cond))) (omega (arith, c.attribute.ensures.left, c.at.ensures.left));
+  left = omega (arith, c.turns.invariant.left, c.attribute.ensures.left, c.at.ensures.left);
+  looks = omega (arith, c.turns.invariant.looks, c.attribute.ensures.looks, c.at.ensures.looks);
+}
+
+pub items::attributes-returns-clause-reads : goal.items::attributes-returns-clause-reads
+unfolding look_of begins_below whole rule items statements expressions patterns types paths there_at shift passes is_silent begins in_mode anew row one_of any_of no_longer longest is_longer
+items::attributes-returns-clause-reads t c = λ cond. last-turn cond (Call rules.attribute) (ends-at-end cond (Call rules.attribute) refl) _ _ _ (c.turns.invariant.goes cond) (saw-told (saw-so (c.at.ensures.sees cond) c.turns-test.false and nothing) refl) c.at.ensures.same
+
+pub items::body-module-requires : goal.items::body-module-requires
+items::body-module-requires t c = (omega arith, (short-still _ _ c.current.ensures.same.input c.requires.short, (omega (arith, c.current.ensures.left, c.current.ensures.some (λ e. absurd (omega (arith, sym (ap raw_of c.in-MOD_KW.is) ∙ e)))), c.current.ensures.same.innermost _ c.requires.innermost)))
+
+pub items::body-returns-in-MOD_KW-clause-completes : goal.items::body-returns-in-MOD_KW-clause-completes
+unfolding look_of begins_below whole rule items statements expressions patterns types paths there_at shift passes is_silent begins in_mode anew row one_of any_of no_longer longest is_longer
+items::body-returns-in-MOD_KW-clause-completes t c = where-here (saw-arm c.in-MOD_KW.is (c.current.ensures.sees c.args.condition) and nothing) (where-look c.current.ensures.same (where-any (c.module.ensures.completes c.args.condition)))
+
+pub items::body-use_item-requires : goal.items::body-use_item-requires
+items::body-use_item-requires t c = record { some = omega (arith, c.current.ensures.left, c.current.ensures.some (λ e. absurd (omega (arith, sym (ap raw_of c.in-USE_KW.is) ∙ e)))); innermost = c.current.ensures.same.innermost _ c.requires.innermost }
+
+pub items::body-returns-in-USE_KW-clause-completes : goal.items::body-returns-in-USE_KW-clause-completes
+unfolding look_of begins_below whole rule items statements expressions patterns types paths there_at shift passes is_silent begins in_mode anew row one_of any_of no_longer longest is_longer
+items::body-returns-in-USE_KW-clause-completes t c = where-here (saw-arm c.in-USE_KW.is (c.current.ensures.sees c.args.condition) and nothing) (where-look c.current.ensures.same (where-any (c.use_item.ensures.completes c.args.condition)))
+
+pub items::body-struct_item-requires : goal.items::body-struct_item-requires
+items::body-struct_item-requires t c = (omega arith, (short-still _ _ c.current.ensures.same.input c.requires.short, (omega (arith, c.current.ensures.left, c.current.ensures.some (λ e. absurd (omega (arith, sym (ap raw_of c.in-STRUCT_KW.is) ∙ e)))), c.current.ensures.same.innermost _ c.requires.innermost)))
+
+pub items::body-returns-in-STRUCT_KW-clause-completes : goal.items::body-returns-in-STRUCT_KW-clause-completes
+unfolding look_of begins_below whole rule items statements expressions patterns types paths there_at shift passes is_silent begins in_mode anew row one_of any_of no_longer longest is_longer
+items::body-returns-in-STRUCT_KW-clause-completes t c = where-here (saw-arm c.in-STRUCT_KW.is (c.current.ensures.sees c.args.condition) and nothing) (where-look c.current.ensures.same (where-any c.struct_item.ensures.completes))
+
+pub items::body-enum_item-requires : goal.items::body-enum_item-requires
+items::body-enum_item-requires t c = (omega arith, (short-still _ _ c.current.ensures.same.input c.requires.short, (omega (arith, c.current.ensures.left, c.current.ensures.some (λ e. absurd (omega (arith, sym (ap raw_of c.in-ENUM_KW.is) ∙ e)))), c.current.ensures.same.innermost _ c.requires.innermost)))
+
+pub items::body-returns-in-ENUM_KW-clause-completes : goal.items::body-returns-in-ENUM_KW-clause-completes
+unfolding look_of begins_below whole rule items statements expressions patterns types paths there_at shift passes is_silent begins in_mode anew row one_of any_of no_longer longest is_longer
+items::body-returns-in-ENUM_KW-clause-completes t c = where-here (saw-arm c.in-ENUM_KW.is (c.current.ensures.sees c.args.condition) and nothing) (where-look c.current.ensures.same (where-any c.enum_item.ensures.completes))
+
+pub items::body-static_item-requires : goal.items::body-static_item-requires
+items::body-static_item-requires t c = (omega arith, (short-still _ _ c.current.ensures.same.input c.requires.short, (omega (arith, c.current.ensures.left, c.current.ensures.some (λ e. absurd (omega (arith, sym (ap raw_of c.in-STATIC_KW.is) ∙ e)))), c.current.ensures.same.innermost _ c.requires.innermost)))
+
+pub items::body-returns-in-STATIC_KW-clause-completes : goal.items::body-returns-in-STATIC_KW-clause-completes
+unfolding look_of begins_below whole rule items statements expressions patterns types paths there_at shift passes is_silent begins in_mode anew row one_of any_of no_longer longest is_longer
+items::body-returns-in-STATIC_KW-clause-completes t c = where-here (saw-arm c.in-STATIC_KW.is (c.current.ensures.sees c.args.condition) and nothing) (where-look c.current.ensures.same (where-any c.static_item.ensures.completes))
+
+pub items::body-type_alias-requires : goal.items::body-type_alias-requires
+items::body-type_alias-requires t c = (omega arith, (short-still _ _ c.current.ensures.same.input c.requires.short, (omega (arith, c.current.ensures.left, c.current.ensures.some (λ e. absurd (omega (arith, sym (ap raw_of c.in-TYPE_KW.is) ∙ e)))), c.current.ensures.same.innermost _ c.requires.innermost)))
+
+pub items::body-returns-in-TYPE_KW-clause-completes : goal.items::body-returns-in-TYPE_KW-clause-completes
+unfolding look_of begins_below whole rule items statements expressions patterns types paths there_at shift passes is_silent begins in_mode anew row one_of any_of no_longer longest is_longer
+items::body-returns-in-TYPE_KW-clause-completes t c = where-here (saw-arm c.in-TYPE_KW.is (c.current.ensures.sees c.args.condition) and nothing) (where-look c.current.ensures.same (where-any c.type_alias.ensures.completes))
+
+pub items::body-returns-then-at_fn-clause-completes : goal.items::body-returns-then-at_fn-clause-completes
+unfolding look_of begins_below whole rule items statements expressions patterns types paths there_at shift passes is_silent begins in_mode anew row one_of any_of no_longer longest is_longer
+items::body-returns-then-at_fn-clause-completes t c = where-here (saw-not c.in_default.not-MOD_KW (c.current.ensures.sees c.args.condition) and saw-not c.in_default.not-USE_KW (c.current.ensures.sees c.args.condition) and saw-not c.in_default.not-STRUCT_KW (c.current.ensures.sees c.args.condition) and saw-not c.in_default.not-ENUM_KW (c.current.ensures.sees c.args.condition) and saw-not c.in_default.not-STATIC_KW (c.current.ensures.sees c.args.condition) and saw-not c.in_default.not-TYPE_KW (c.current.ensures.sees c.args.condition) and saw-before c.current.ensures.same (saw-so (c.at_fn.ensures.sees c.args.condition) c.if-at_fn.true) and nothing) (where-look c.current.ensures.same (where-look c.at_fn.ensures.same (where-any c.fn_item.ensures.completes)))
+
+pub items::body-fn_item-requires : goal.items::body-fn_item-requires
+unfolding look_of begins_below whole rule items statements expressions patterns types paths there_at shift passes is_silent begins in_mode anew row one_of any_of no_longer longest is_longer
+items::body-fn_item-requires t c = (omega arith, (short-still _ _ (c.at_fn.ensures.same.input ∙ c.current.ensures.same.input) c.requires.short, ((λ d. saw-after c.at_fn.ensures.same (saw-so (c.at_fn.ensures.sees d) c.if-at_fn.true)), (omega (arith, c.current.ensures.left, c.at_fn.ensures.left, c.at_fn.ensures.some c.if-at_fn.true), c.at_fn.ensures.same.innermost _ (c.current.ensures.same.innermost _ c.requires.innermost)))))
+
+pub items::body-returns-then-at-clause-completes : goal.items::body-returns-then-at-clause-completes
+unfolding look_of begins_below whole rule items statements expressions patterns types paths there_at shift passes is_silent begins in_mode anew row one_of any_of no_longer longest is_longer
+items::body-returns-then-at-clause-completes t c = where-here (saw-not c.in_default.not-MOD_KW (c.current.ensures.sees c.args.condition) and saw-not c.in_default.not-USE_KW (c.current.ensures.sees c.args.condition) and saw-not c.in_default.not-STRUCT_KW (c.current.ensures.sees c.args.condition) and saw-not c.in_default.not-ENUM_KW (c.current.ensures.sees c.args.condition) and saw-not c.in_default.not-STATIC_KW (c.current.ensures.sees c.args.condition) and saw-not c.in_default.not-TYPE_KW (c.current.ensures.sees c.args.condition) and saw-before c.current.ensures.same (saw-so (c.at_fn.ensures.sees c.args.condition) c.if-at_fn.false) and saw-before c.current.ensures.same (saw-before c.at_fn.ensures.same (saw-so (c.at.ensures.sees c.args.condition) c.if-at.true)) and nothing) (where-look c.current.ensures.same (where-look c.at_fn.ensures.same (where-look c.at.ensures.same (where-any c.const_item.ensures.completes))))
+
+pub items::body-const_item-requires : goal.items::body-const_item-requires
+items::body-const_item-requires t c = (omega arith, (short-still _ _ (c.at.ensures.same.input ∙ c.at_fn.ensures.same.input ∙ c.current.ensures.same.input) c.requires.short, (omega (arith, c.current.ensures.left, c.at_fn.ensures.left, c.at.ensures.left, c.at.ensures.some c.if-at.true (λ e. absurd (omega (arith, e)))), c.at.ensures.same.innermost _ (c.at_fn.ensures.same.innermost _ (c.current.ensures.same.innermost _ c.requires.innermost)))))
+
+pub items::body-returns-then-at_unsafe-clause-completes : goal.items::body-returns-then-at_unsafe-clause-completes
+unfolding look_of begins_below whole rule items statements expressions patterns types paths there_at shift passes is_silent begins in_mode anew row one_of any_of no_longer longest is_longer
+items::body-returns-then-at_unsafe-clause-completes t c = where-here (saw-not c.in_default.not-MOD_KW (c.current.ensures.sees c.args.condition) and saw-not c.in_default.not-USE_KW (c.current.ensures.sees c.args.condition) and saw-not c.in_default.not-STRUCT_KW (c.current.ensures.sees c.args.condition) and saw-not c.in_default.not-ENUM_KW (c.current.ensures.sees c.args.condition) and saw-not c.in_default.not-STATIC_KW (c.current.ensures.sees c.args.condition) and saw-not c.in_default.not-TYPE_KW (c.current.ensures.sees c.args.condition) and saw-before c.current.ensures.same (saw-so (c.at_fn.ensures.sees c.args.condition) c.if-at_fn.false) and saw-before c.current.ensures.same (saw-before c.at_fn.ensures.same (saw-so (c.at.ensures.sees c.args.condition) c.if-at.false)) and saw-before c.current.ensures.same (saw-before c.at_fn.ensures.same (saw-before c.at.ensures.same (saw-so (c.at_unsafe.ensures.sees c.args.condition) c.if-at_unsafe.true))) and nothing) (where-look c.current.ensures.same (where-look c.at_fn.ensures.same (where-look c.at.ensures.same (where-look c.at_unsafe.ensures.same (where-any c.impl_item.ensures.completes)))))
+
+pub items::body-impl_item-requires : goal.items::body-impl_item-requires
+unfolding look_of begins_below whole rule items statements expressions patterns types paths there_at shift passes is_silent begins in_mode anew row one_of any_of no_longer longest is_longer
+items::body-impl_item-requires t c = (omega arith, (short-still _ _ (c.at_unsafe.ensures.same.input ∙ c.at.ensures.same.input ∙ c.at_fn.ensures.same.input ∙ c.current.ensures.same.input) c.requires.short, ((λ d. saw-after c.at_unsafe.ensures.same (saw-so (c.at_unsafe.ensures.sees d) c.if-at_unsafe.true)), (omega (arith, c.current.ensures.left, c.at_fn.ensures.left, c.at.ensures.left, c.at_unsafe.ensures.left, c.at_unsafe.ensures.some c.if-at_unsafe.true (λ e. absurd (omega (arith, e)))), c.at_unsafe.ensures.same.innermost _ (c.at.ensures.same.innermost _ (c.at_fn.ensures.same.innermost _ (c.current.ensures.same.innermost _ c.requires.innermost)))))))
+
+pub items::body-returns-then-at_unsafe-2-clause-completes : goal.items::body-returns-then-at_unsafe-2-clause-completes
+unfolding look_of begins_below whole rule items statements expressions patterns types paths there_at shift passes is_silent begins in_mode anew row one_of any_of no_longer longest is_longer
+items::body-returns-then-at_unsafe-2-clause-completes t c = where-here (saw-not c.in_default.not-MOD_KW (c.current.ensures.sees c.args.condition) and saw-not c.in_default.not-USE_KW (c.current.ensures.sees c.args.condition) and saw-not c.in_default.not-STRUCT_KW (c.current.ensures.sees c.args.condition) and saw-not c.in_default.not-ENUM_KW (c.current.ensures.sees c.args.condition) and saw-not c.in_default.not-STATIC_KW (c.current.ensures.sees c.args.condition) and saw-not c.in_default.not-TYPE_KW (c.current.ensures.sees c.args.condition) and saw-before c.current.ensures.same (saw-so (c.at_fn.ensures.sees c.args.condition) c.if-at_fn.false) and saw-before c.current.ensures.same (saw-before c.at_fn.ensures.same (saw-so (c.at.ensures.sees c.args.condition) c.if-at.false)) and saw-before c.current.ensures.same (saw-before c.at_fn.ensures.same (saw-before c.at.ensures.same (saw-so (c.at_unsafe.ensures.sees c.args.condition) c.if-at_unsafe.false))) and saw-before c.current.ensures.same (saw-before c.at_fn.ensures.same (saw-before c.at.ensures.same (saw-before c.at_unsafe.ensures.same (saw-so (c.at_unsafe-in_default.ensures.sees c.args.condition) c.if-at_unsafe-2.true)))) and nothing) (where-look c.current.ensures.same (where-look c.at_fn.ensures.same (where-look c.at.ensures.same (where-look c.at_unsafe.ensures.same (where-look c.at_unsafe-in_default.ensures.same (where-any c.trait_item.ensures.completes))))))
+
+pub items::body-trait_item-requires : goal.items::body-trait_item-requires
+unfolding look_of begins_below whole rule items statements expressions patterns types paths there_at shift passes is_silent begins in_mode anew row one_of any_of no_longer longest is_longer
+items::body-trait_item-requires t c = (omega arith, (short-still _ _ (c.at_unsafe-in_default.ensures.same.input ∙ c.at_unsafe.ensures.same.input ∙ c.at.ensures.same.input ∙ c.at_fn.ensures.same.input ∙ c.current.ensures.same.input) c.requires.short, ((λ d. saw-after c.at_unsafe-in_default.ensures.same (saw-so (c.at_unsafe-in_default.ensures.sees d) c.if-at_unsafe-2.true)), (omega (arith, c.current.ensures.left, c.at_fn.ensures.left, c.at.ensures.left, c.at_unsafe.ensures.left, c.at_unsafe-in_default.ensures.left, c.at_unsafe-in_default.ensures.some c.if-at_unsafe-2.true (λ e. absurd (omega (arith, e)))), c.at_unsafe-in_default.ensures.same.innermost _ (c.at_unsafe.ensures.same.innermost _ (c.at.ensures.same.innermost _ (c.at_fn.ensures.same.innermost _ (c.current.ensures.same.innermost _ c.requires.innermost))))))))
+
+pub items::body-returns-then-at_path-clause-completes : goal.items::body-returns-then-at_path-clause-completes
+unfolding look_of begins_below whole rule items statements expressions patterns types paths there_at shift passes is_silent begins in_mode anew row one_of any_of no_longer longest is_longer
+items::body-returns-then-at_path-clause-completes t c = where-here (saw-not c.in_default.not-MOD_KW (c.current.ensures.sees c.args.condition) and saw-not c.in_default.not-USE_KW (c.current.ensures.sees c.args.condition) and saw-not c.in_default.not-STRUCT_KW (c.current.ensures.sees c.args.condition) and saw-not c.in_default.not-ENUM_KW (c.current.ensures.sees c.args.condition) and saw-not c.in_default.not-STATIC_KW (c.current.ensures.sees c.args.condition) and saw-not c.in_default.not-TYPE_KW (c.current.ensures.sees c.args.condition) and saw-before c.current.ensures.same (saw-so (c.at_fn.ensures.sees c.args.condition) c.if-at_fn.false) and saw-before c.current.ensures.same (saw-before c.at_fn.ensures.same (saw-so (c.at.ensures.sees c.args.condition) c.if-at.false)) and saw-before c.current.ensures.same (saw-before c.at_fn.ensures.same (saw-before c.at.ensures.same (saw-so (c.at_unsafe.ensures.sees c.args.condition) c.if-at_unsafe.false))) and saw-before c.current.ensures.same (saw-before c.at_fn.ensures.same (saw-before c.at.ensures.same (saw-before c.at_unsafe.ensures.same (saw-so (c.at_unsafe-in_default.ensures.sees c.args.condition) c.if-at_unsafe-2.false)))) and begun rules.path (saw-before c.current.ensures.same (saw-before c.at_fn.ensures.same (saw-before c.at.ensures.same (saw-before c.at_unsafe.ensures.same (saw-before c.at_unsafe-in_default.ensures.same (saw-so (c.at_path.ensures.sees c.args.condition) c.if-at_path.true)))))) nothing) (where-look c.current.ensures.same (where-look c.at_fn.ensures.same (where-look c.at.ensures.same (where-look c.at_unsafe.ensures.same (where-look c.at_unsafe-in_default.ensures.same (where-look c.at_path.ensures.same (where-any (c.path_item.ensures.completes c.args.condition))))))))
+
+pub items::body-path_item-requires : goal.items::body-path_item-requires
+items::body-path_item-requires t c = record { begins = (λ d. saw-after c.at_path.ensures.same (saw-so (c.at_path.ensures.sees d) c.if-at_path.true)); some = omega (arith, c.current.ensures.left, c.at_fn.ensures.left, c.at.ensures.left, c.at_unsafe.ensures.left, c.at_unsafe-in_default.ensures.left, c.at_path.ensures.left, c.at_path.ensures.some c.if-at_path.true); innermost = c.at_path.ensures.same.innermost _ (c.at_unsafe-in_default.ensures.same.innermost _ (c.at_unsafe.ensures.same.innermost _ (c.at.ensures.same.innermost _ (c.at_fn.ensures.same.innermost _ (c.current.ensures.same.innermost _ c.requires.innermost))))) }
+
+pub items::body-returns-else-at_path-clause-completes : goal.items::body-returns-else-at_path-clause-completes
+unfolding look_of begins_below whole rule items statements expressions patterns types paths there_at shift passes is_silent begins in_mode anew row one_of any_of no_longer longest is_longer
+items::body-returns-else-at_path-clause-completes t c = where-here (saw-not c.in_default.not-MOD_KW (c.current.ensures.sees c.args.condition) and saw-not c.in_default.not-USE_KW (c.current.ensures.sees c.args.condition) and saw-not c.in_default.not-STRUCT_KW (c.current.ensures.sees c.args.condition) and saw-not c.in_default.not-ENUM_KW (c.current.ensures.sees c.args.condition) and saw-not c.in_default.not-STATIC_KW (c.current.ensures.sees c.args.condition) and saw-not c.in_default.not-TYPE_KW (c.current.ensures.sees c.args.condition) and saw-before c.current.ensures.same (saw-so (c.at_fn.ensures.sees c.args.condition) c.if-at_fn.false) and saw-before c.current.ensures.same (saw-before c.at_fn.ensures.same (saw-so (c.at.ensures.sees c.args.condition) c.if-at.false)) and saw-before c.current.ensures.same (saw-before c.at_fn.ensures.same (saw-before c.at.ensures.same (saw-so (c.at_unsafe.ensures.sees c.args.condition) c.if-at_unsafe.false))) and saw-before c.current.ensures.same (saw-before c.at_fn.ensures.same (saw-before c.at.ensures.same (saw-before c.at_unsafe.ensures.same (saw-so (c.at_unsafe-in_default.ensures.sees c.args.condition) c.if-at_unsafe-2.false)))) and begun rules.path (saw-before c.current.ensures.same (saw-before c.at_fn.ensures.same (saw-before c.at.ensures.same (saw-before c.at_unsafe.ensures.same (saw-before c.at_unsafe-in_default.ensures.same (saw-so (c.at_path.ensures.sees c.args.condition) c.if-at_path.false)))))) nothing) (where-look c.current.ensures.same (where-look c.at_fn.ensures.same (where-look c.at.ensures.same (where-look c.at_unsafe.ensures.same (where-look c.at_unsafe-in_default.ensures.same (where-look c.at_path.ensures.same (c.no_item.ensures.completes c.args.condition)))))))
+
+pub items::body-no_item-requires : goal.items::body-no_item-requires
+items::body-no_item-requires t c = record { some = λ e. omega (arith, c.current.ensures.left, c.at_fn.ensures.left, c.at.ensures.left, c.at_unsafe.ensures.left, c.at_unsafe-in_default.ensures.left, c.at_path.ensures.left, c.requires.some e); innermost = c.at_path.ensures.same.innermost _ (c.at_unsafe-in_default.ensures.same.innermost _ (c.at_unsafe.ensures.same.innermost _ (c.at.ensures.same.innermost _ (c.at_fn.ensures.same.innermost _ (c.current.ensures.same.innermost _ c.requires.innermost))))) }
+
+pub items::body-returns-else-at_path-clause-takes : goal.items::body-returns-else-at_path-clause-takes
+items::body-returns-else-at_path-clause-takes t c = λ e. omega (arith, c.current.ensures.left, c.at_fn.ensures.left, c.at.ensures.left, c.at_unsafe.ensures.left, c.at_unsafe-in_default.ensures.left, c.at_path.ensures.left, c.no_item.ensures.takes e)
+
+pub items::body-returns-else-at_path-clause-pays : goal.items::body-returns-else-at_path-clause-pays
+items::body-returns-else-at_path-clause-pays t c = λ e. omega (arith, c.current.ensures.looks, c.at_fn.ensures.looks, c.at.ensures.looks, c.at_unsafe.ensures.looks, c.at_unsafe-in_default.ensures.looks, c.at_path.ensures.looks, c.no_item.ensures.pays e)
+
+pub items::module-module_items-requires : goal.items::module-module_items-requires
+items::module-module_items-requires t c = (omega arith, short-still _ _ ((c.expect_name.ensures.reads true).does.input ∙ (c.take.ensures.reads true).does.input) c.requires.short)
+
+pub items::module-complete-requires : goal.items::module-complete-requires
+items::module-complete-requires t c = (c.module_items.ensures.reads true).does.innermost _ ((c.expect_name.ensures.reads true).does.innermost _ ((c.take.ensures.reads true).does.innermost _ c.requires.innermost))
+
+pub items::module-returns-clause-completes : goal.items::module-returns-clause-completes
+items::module-returns-clause-completes t c = λ cond. completes-wrap (reads-then cond (c.take.ensures.reads cond) (reads-then cond (c.expect_name.ensures.reads cond) (c.module_items.ensures.reads cond))) c.complete.ensures.closes
+
+pub items::module_items-item_list-requires : goal.items::module_items-item_list-requires
+items::module_items-item_list-requires t c = (omega arith, (short-still _ _ c.at.ensures.same.input c.requires.short, omega arith))
+
+pub items::module_items-returns-then-at-clause-reads : goal.items::module_items-returns-then-at-clause-reads
+unfolding look_of begins_below whole rule items statements expressions patterns types paths there_at shift passes is_silent begins in_mode anew row one_of any_of no_longer longest is_longer
+items::module_items-returns-then-at-clause-reads t c = λ cond. reads-here (saw-so (c.at.ensures.sees cond) c.if-at.true and nothing) (after-look cond c.at.ensures.same (c.item_list.ensures.reads cond))
+
+pub items::module_items-returns-clause-reads : goal.items::module_items-returns-clause-reads
+unfolding look_of begins_below whole rule items statements expressions patterns types paths there_at shift passes is_silent begins in_mode anew row one_of any_of no_longer longest is_longer
+items::module_items-returns-clause-reads t c = λ cond. reads-here (saw-so (c.at.ensures.sees cond) c.if-at.false and nothing) (after-look cond c.at.ensures.same (c.expect.ensures.reads cond))
+
+pub items::item_list-items-requires : goal.items::item_list-items-requires
+items::item_list-items-requires t c = (omega arith, short-still _ _ ((c.take.ensures.reads true).does.input ∙ c.start-list.ensures.opens.input) c.requires.short)
+
+pub items::item_list-complete-requires : goal.items::item_list-complete-requires
+items::item_list-complete-requires t c = (c.expect.ensures.reads true).does.innermost _ (c.items.ensures.reads.does.innermost _ ((c.take.ensures.reads true).does.innermost _ c.start-list.ensures.marker))
+
+pub items::item_list-returns-clause-reads : goal.items::item_list-returns-clause-reads
+items::item_list-returns-clause-reads t c = λ cond. reads-node cond c.start-list.ensures.opens (reads-then cond (c.take.ensures.reads cond) (reads-then cond (reads-mode cond c.items.ensures.reads) (c.expect.ensures.reads cond))) c.complete.ensures.closes
+
+pub items::assoc_items-item_list-requires : goal.items::assoc_items-item_list-requires
+items::assoc_items-item_list-requires t c = (omega arith, (c.requires.short, c.requires.some))
+
+pub items::assoc_items-returns-clause-gives : goal.items::assoc_items-returns-clause-gives
+unfolding look_of begins_below whole rule items statements expressions patterns types paths there_at shift passes is_silent begins in_mode anew row one_of any_of no_longer longest is_longer
+items::assoc_items-returns-clause-gives t c = λ cond. gives-anew (anew-after refl (c.item_list.ensures.reads cond))
+
+pub items::opt_generic_params-generic_params-requires : goal.items::opt_generic_params-generic_params-requires
+items::opt_generic_params-generic_params-requires t c = (omega arith, (short-still _ _ c.at.ensures.same.input c.requires.short, omega arith))
+
+pub items::opt_generic_params-returns-then-at-clause-reads : goal.items::opt_generic_params-returns-then-at-clause-reads
+unfolding look_of begins_below whole rule items statements expressions patterns types paths there_at shift passes is_silent begins in_mode anew row one_of any_of no_longer longest is_longer
+items::opt_generic_params-returns-then-at-clause-reads t c = λ cond. reads-here (saw-so (c.at.ensures.sees cond) c.if-at.true and nothing) (after-look cond c.at.ensures.same (reads-call cond (c.generic_params.ensures.gives cond)))
+
+pub items::opt_generic_params-returns-else-at-clause-reads : goal.items::opt_generic_params-returns-else-at-clause-reads
+unfolding look_of begins_below whole rule items statements expressions patterns types paths there_at shift passes is_silent begins in_mode anew row one_of any_of no_longer longest is_longer
+items::opt_generic_params-returns-else-at-clause-reads t c = λ cond. reads-here (saw-so (c.at.ensures.sees cond) c.if-at.false and nothing) (reads-nothing cond c.at.ensures.same)
+
+pub items::opt_where_clause-where_clause-requires : goal.items::opt_where_clause-where_clause-requires
+items::opt_where_clause-where_clause-requires t c = (omega arith, (short-still _ _ c.at.ensures.same.input c.requires.short, omega arith))
+
+pub items::opt_where_clause-returns-then-at-clause-reads : goal.items::opt_where_clause-returns-then-at-clause-reads
+unfolding look_of begins_below whole rule items statements expressions patterns types paths there_at shift passes is_silent begins in_mode anew row one_of any_of no_longer longest is_longer
+items::opt_where_clause-returns-then-at-clause-reads t c = reads-here (saw-so (c.at.ensures.sees c.args.condition) c.if-at.true and nothing) (after-look _ c.at.ensures.same (reads-call _ c.where_clause.ensures.gives))
+
+pub items::opt_where_clause-returns-else-at-clause-reads : goal.items::opt_where_clause-returns-else-at-clause-reads
+unfolding look_of begins_below whole rule items statements expressions patterns types paths there_at shift passes is_silent begins in_mode anew row one_of any_of no_longer longest is_longer
+items::opt_where_clause-returns-else-at-clause-reads t c = reads-here (saw-so (c.at.ensures.sees c.args.condition) c.if-at.false and nothing) (reads-nothing _ c.at.ensures.same)
+
+pub items::item_turn-returns-then-at_end_of-clause-ends : goal.items::item_turn-returns-then-at_end_of-clause-ends
+items::item_turn-returns-then-at_end_of-clause-ends t c = λ e. last-turn false _ (over-at-end c.args.end _) _ _ _ first-turn (over item_or_attribute (saw-so (c.at_end_of.ensures.sees false) c.if-at_end_of.true)) c.at_end_of.ensures.same
+
+pub items::item_turn-attribute-requires : goal.items::item_turn-attribute-requires
+items::item_turn-attribute-requires t c = (omega arith, (short-still _ _ (c.at_inner_attribute.ensures.same.input ∙ c.at_end_of.ensures.same.input) c.requires.short, omega (arith, c.at_inner_attribute.ensures.left, c.at_inner_attribute.ensures.some c.if-at_inner_attribute.true)))
+
+pub items::item_turn-returns-then-at_inner_attribute-clause-goes : goal.items::item_turn-returns-then-at_inner_attribute-clause-goes
+unfolding tokens look_of begins_below whole rule items statements expressions patterns types paths there_at shift passes is_silent begins in_mode anew row one_of any_of no_longer longest is_longer
+items::item_turn-returns-then-at_inner_attribute-clause-goes t c = λ e.
+    let seen = saw-before c.at_end_of.ensures.same (saw-so (c.at_inner_attribute.ensures.sees false) c.if-at_inner_attribute.true) in
+    next-turn false _ (over-at-end c.args.end item_or_attribute) _ _ _ first-turn (within item_or_attribute (saw-so (c.at_end_of.ensures.sees false) c.if-at_end_of.false) (starts-here item_or_attribute (seen and nothing) refl))
+    (reads-unless false (reads-here (seen and nothing) (after-look false c.at_end_of.ensures.same (after-look false c.at_inner_attribute.ensures.same (reads-call false (c.attribute.ensures.gives false))))))
+    (omega (arith, c.attribute.ensures.left, c.at_inner_attribute.ensures.left, c.at_end_of.ensures.left))
+
+pub items::item_turn-returns-then-at_inner_attribute-clause-input : goal.items::item_turn-returns-then-at_inner_attribute-clause-input
+items::item_turn-returns-then-at_inner_attribute-clause-input t c = (c.attribute.ensures.gives true).does.input ∙ c.at_inner_attribute.ensures.same.input ∙ c.at_end_of.ensures.same.input
+
+pub items::item_turn-returns-then-at_inner_attribute-clause-innermost : goal.items::item_turn-returns-then-at_inner_attribute-clause-innermost
+items::item_turn-returns-then-at_inner_attribute-clause-innermost t c = λ n i. (c.attribute.ensures.gives true).does.innermost n (c.at_inner_attribute.ensures.same.innermost n (c.at_end_of.ensures.same.innermost n i))
+
+pub items::item_turn-item-requires : goal.items::item_turn-item-requires
+items::item_turn-item-requires t c = (omega arith, (short-still _ _ (c.at_inner_attribute.ensures.same.input ∙ c.at_end_of.ensures.same.input) c.requires.short, omega (arith, some-within c.args.end (saw-so (c.at_end_of.ensures.sees false) c.if-at_end_of.false), c.at_end_of.ensures.left, c.at_inner_attribute.ensures.left)))
+
+pub items::item_turn-returns-clause-goes : goal.items::item_turn-returns-clause-goes
+unfolding tokens look_of begins_below whole rule items statements expressions patterns types paths there_at shift passes is_silent begins in_mode anew row one_of any_of no_longer longest is_longer
+items::item_turn-returns-clause-goes t c = λ e.
+    let more = saw-so (c.at_end_of.ensures.sees false) c.if-at_end_of.false in
+    let other = saw-before c.at_end_of.ensures.same (saw-so (c.at_inner_attribute.ensures.sees false) c.if-at_inner_attribute.false) in
+    next-turn false _ (over-at-end c.args.end item_or_attribute) _ _ _ first-turn (within item_or_attribute more (starts-here item_or_attribute (other and left-within c.args.end more and nothing) refl))
+    (reads-unless false (reads-here (other and nothing) (after-look false c.at_end_of.ensures.same (after-look false c.at_inner_attribute.ensures.same (reads-call false c.item.ensures.gives)))))
+    (omega (arith, c.item.ensures.left, c.at_inner_attribute.ensures.left, c.at_end_of.ensures.left))
+
+pub items::item_turn-returns-clause-input : goal.items::item_turn-returns-clause-input
+items::item_turn-returns-clause-input t c = c.item.ensures.gives.does.input ∙ c.at_inner_attribute.ensures.same.input ∙ c.at_end_of.ensures.same.input
+
+pub items::item_turn-returns-clause-innermost : goal.items::item_turn-returns-clause-innermost
+items::item_turn-returns-clause-innermost t c = λ n i. c.item.ensures.gives.does.innermost n (c.at_inner_attribute.ensures.same.innermost n (c.at_end_of.ensures.same.innermost n i))
+
+pub items::items-turns-preserved : goal.items::items-turns-preserved
+items::items-turns-preserved t c = record {
+  input = c.item_turn.ensures.input ∙ c.turns.invariant.input;
+  innermost = λ n i. c.item_turn.ensures.innermost n (c.turns.invariant.innermost n i);
+  goes = record { rest = λ end p. c.turns.invariant.goes.rest end ((c.item_turn.ensures.goes c.turns-test.true).rest end p) };
+  left = omega (arith, c.turns.invariant.left, c.item_turn.ensures.left);
+  looks = omega (arith, c.turns.invariant.looks, c.item_turn.ensures.pays c.turns-test.true);
+}
+
+pub items::items-returns-clause-reads : goal.items::items-returns-clause-reads
+items::items-returns-clause-reads t c = c.turns.invariant.goes.rest _ (c.item_turn.ensures.ends c.turns-test.false)

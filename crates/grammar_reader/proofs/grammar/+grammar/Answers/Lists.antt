@@ -1,0 +1,280 @@
+-- Lists, turn by turn.
+use Rattle.std.proofs.Common.{true, false, refl, sym, subst, ◌∙◌, arith}
+use Rattle.std.proofs.lemmas.Bool.{ltb-true, ltb-false}
+use Rattle.parser_input.specs.Kind.{raw_of}
+use Rattle.rust_grammar.specs.Rule as rules
+use Rattle.rust_grammar.specs.Rule.{Call}
+use Rattle.rust_grammar.specs.Expressions.{expressions}
+use Rattle.rust_grammar.specs.Items.{items, record_field, tuple_field, variant}
+use Rattle.rust_grammar.specs.Meaning.{begins_below, look_of}
+use Rattle.rust_grammar.specs.Notation.{any_of, is_longer, no_longer, longest, one_of, row}
+use Rattle.rust_grammar.specs.Paths.{paths}
+use Rattle.rust_grammar.specs.Patterns.{patterns}
+use Rattle.rust_grammar.specs.Rule.{begins, in_mode, anew, is_silent, passes, shift, there_at}
+use Rattle.rust_grammar.specs.Statements.{statements}
+use Rattle.rust_grammar.specs.Types.{types}
+use Rattle.rust_grammar.specs.Whole.{rule, whole}
+use Rattle.grammar_reader.specs.Told.{element_of, list_turn, looks_in}
+use Rattle.grammar_reader.specs.declared.grammar.lists.Element.{Element}
+use Rattle.grammar_reader.proofs.Elements.{element-pays, ends, few-looks-before, few-looks-in, more, over, over-there, reads-element, reads-stray, said-element, stray, sure-element}
+use Rattle.grammar_reader.proofs.AnyMode.{param-anywhere, pattern-anywhere, pattern-field-anywhere}
+use Rattle.grammar_reader.proofs.Seeing.{begun-left, param-left, pattern-begins, word-left}
+use Rattle.grammar_reader.proofs.Inputs.{short-still}
+use Rattle.rust_productions.specs.Looks.{tokens}
+use Rattle.rust_productions.specs.Reads.{looks, Reads, Saw}
+use Rattle.rust_productions.proofs.ByHand.{after-look, does-then, reads-call, reads-mode, reads-node, reads-then}
+use Rattle.rust_productions.proofs.Choices.{anew-after, gives-anew}
+use Rattle.rust_productions.proofs.Facts.{saw-so}
+use Rattle.rust_productions.proofs.Seen.{saw-after, saw-before}
+use Rattle.rust_productions.proofs.Turns.{first-turn, idle-turn, last-turn, next-turn}
+use Rattle.grammar_reader.proofs.grammar.+grammar.Goals as goal
+
+pub lists::turn-returns-then-at_list_end-clause-ends : goal.lists::turn-returns-then-at_list_end-clause-ends
+lists::turn-returns-then-at_list_end-clause-ends t c = λ e. last-turn false (list_turn (raw_of c.args.list) (element_of c.args.element) (raw_of c.args.closing)) (ends (raw_of c.args.list) (element_of c.args.element) (raw_of c.args.closing)) _ _ _ first-turn (over (raw_of c.args.list) (element_of c.args.element) (raw_of c.args.closing) (saw-so (c.at_list_end.ensures.sees false) c.if-at_list_end.true)) c.at_list_end.ensures.same
+
+pub lists::turn-read_element-requires : goal.lists::turn-read_element-requires
+lists::turn-read_element-requires t c = (omega arith, (short-still _ _ (c.at_element.ensures.same.input ∙ c.at_list_end.ensures.same.input) c.requires.short, saw-after c.at_element.ensures.same (saw-so c.at_element.ensures.sees c.if-at_element.true)))
+
+pub lists::turn-returns-then-at_element-clause-goes : goal.lists::turn-returns-then-at_element-clause-goes
+unfolding tokens
+lists::turn-returns-then-at_element-clause-goes t c = λ e. next-turn false (list_turn (raw_of c.args.list) (element_of c.args.element) (raw_of c.args.closing)) (ends (raw_of c.args.list) (element_of c.args.element) (raw_of c.args.closing)) _ _ _ first-turn (more (raw_of c.args.list) (element_of c.args.element) (raw_of c.args.closing) (said-element c.args.element) (sure-element c.args.element) (saw-so (c.at_list_end.ensures.sees false) c.if-at_list_end.false) (saw-before c.at_list_end.ensures.same (saw-so c.at_element.ensures.sees c.if-at_element.true))) (after-look false c.at_list_end.ensures.same (after-look false c.at_element.ensures.same (reads-element (raw_of c.args.list) (element_of c.args.element) (raw_of c.args.closing) (said-element c.args.element) (sure-element c.args.element) (saw-after c.at_element.ensures.same (saw-so c.at_element.ensures.sees c.if-at_element.true)) c.read_element.ensures.reads (c.comma.ensures.reads false)))) (omega (arith, (ltb-true c.tokens_left.result c.tokens_left-before.result e), c.tokens_left.ensures, c.tokens_left-before.ensures, c.at_list_end.ensures.left))
+
+pub lists::turn-returns-then-at_element-clause-ends : goal.lists::turn-returns-then-at_element-clause-ends
+unfolding tokens
+lists::turn-returns-then-at_element-clause-ends t c = λ e. idle-turn false (list_turn (raw_of c.args.list) (element_of c.args.element) (raw_of c.args.closing)) (ends (raw_of c.args.list) (element_of c.args.element) (raw_of c.args.closing)) _ _ _ first-turn (more (raw_of c.args.list) (element_of c.args.element) (raw_of c.args.closing) (said-element c.args.element) (sure-element c.args.element) (saw-so (c.at_list_end.ensures.sees false) c.if-at_list_end.false) (saw-before c.at_list_end.ensures.same (saw-so c.at_element.ensures.sees c.if-at_element.true))) (after-look false c.at_list_end.ensures.same (after-look false c.at_element.ensures.same (reads-element (raw_of c.args.list) (element_of c.args.element) (raw_of c.args.closing) (said-element c.args.element) (sure-element c.args.element) (saw-after c.at_element.ensures.same (saw-so c.at_element.ensures.sees c.if-at_element.true)) c.read_element.ensures.reads (c.comma.ensures.reads false)))) (omega (arith, (ltb-false c.tokens_left.result c.tokens_left-before.result e), c.tokens_left.ensures, c.tokens_left-before.ensures, c.at_list_end.ensures.left, c.comma.ensures.left, c.read_element.ensures.left, c.at_element.ensures.left))
+
+pub lists::turn-returns-then-at_element-clause-input : goal.lists::turn-returns-then-at_element-clause-input
+lists::turn-returns-then-at_element-clause-input t c = (c.comma.ensures.reads false).does.input ∙ c.read_element.ensures.reads.does.input ∙ c.at_element.ensures.same.input ∙ c.at_list_end.ensures.same.input
+
+pub lists::turn-returns-then-at_element-clause-innermost : goal.lists::turn-returns-then-at_element-clause-innermost
+lists::turn-returns-then-at_element-clause-innermost t c = λ n i. (c.comma.ensures.reads false).does.innermost n (c.read_element.ensures.reads.does.innermost n (c.at_element.ensures.same.innermost n (c.at_list_end.ensures.same.innermost n i)))
+
+pub lists::turn-returns-then-at_element-clause-fewer : goal.lists::turn-returns-then-at_element-clause-fewer
+unfolding tokens
+lists::turn-returns-then-at_element-clause-fewer t c = λ e. omega (arith, (ltb-true c.tokens_left.result c.tokens_left-before.result e), c.tokens_left.ensures, c.tokens_left-before.ensures, c.at_list_end.ensures.left)
+
+pub lists::turn-returns-then-at_element-clause-pays : goal.lists::turn-returns-then-at_element-clause-pays
+unfolding tokens
+lists::turn-returns-then-at_element-clause-pays t c = λ e. omega (arith, few-looks-before c.args.element, c.at_element.ensures.looks, c.at_list_end.ensures.looks, element-pays c.at_element.new.p c.read_element.new.p c.comma.new.p (looks_in c.args.element) (few-looks-in c.args.element) c.read_element.ensures.pays c.read_element.ensures.looks c.read_element.ensures.left c.comma.ensures.left c.comma.ensures.looks c.comma.ensures.pays (omega (arith, (ltb-true c.tokens_left.result c.tokens_left-before.result e), c.tokens_left.ensures, c.tokens_left-before.ensures, c.at_element.ensures.left, c.at_list_end.ensures.left)))
+
+pub lists::turn-returns-then-at_element-clause-looks : goal.lists::turn-returns-then-at_element-clause-looks
+lists::turn-returns-then-at_element-clause-looks t c = omega (arith, c.at_element.ensures.looks, c.at_list_end.ensures.looks, c.read_element.ensures.looks, c.comma.ensures.looks)
+
+pub lists::turn-returns-then-at_unexpected-clause-goes : goal.lists::turn-returns-then-at_unexpected-clause-goes
+unfolding tokens
+lists::turn-returns-then-at_unexpected-clause-goes t c = λ e. next-turn false (list_turn (raw_of c.args.list) (element_of c.args.element) (raw_of c.args.closing)) (ends (raw_of c.args.list) (element_of c.args.element) (raw_of c.args.closing)) _ _ _ first-turn (stray (raw_of c.args.list) (element_of c.args.element) (raw_of c.args.closing) (said-element c.args.element) (sure-element c.args.element) (saw-so (c.at_list_end.ensures.sees false) c.if-at_list_end.false) (saw-before c.at_list_end.ensures.same (saw-so c.at_element.ensures.sees c.if-at_element.false)) (saw-before c.at_list_end.ensures.same (saw-before c.at_element.ensures.same (saw-so (c.at_unexpected.ensures.sees false) c.if-at_unexpected.true)))) (after-look false c.at_list_end.ensures.same (after-look false c.at_element.ensures.same (reads-stray (raw_of c.args.list) (element_of c.args.element) (raw_of c.args.closing) (said-element c.args.element) (sure-element c.args.element) (saw-after c.at_element.ensures.same (saw-so c.at_element.ensures.sees c.if-at_element.false)) (after-look false c.at_unexpected.ensures.same (c.skip.ensures.reads false))))) (omega (arith, c.skip.ensures.left, c.at_unexpected.ensures.left, c.at_element.ensures.left, c.at_list_end.ensures.left))
+
+pub lists::turn-returns-then-at_unexpected-clause-input : goal.lists::turn-returns-then-at_unexpected-clause-input
+lists::turn-returns-then-at_unexpected-clause-input t c = (c.skip.ensures.reads false).does.input ∙ c.at_unexpected.ensures.same.input ∙ c.at_element.ensures.same.input ∙ c.at_list_end.ensures.same.input
+
+pub lists::turn-returns-then-at_unexpected-clause-innermost : goal.lists::turn-returns-then-at_unexpected-clause-innermost
+lists::turn-returns-then-at_unexpected-clause-innermost t c = λ n i. (c.skip.ensures.reads false).does.innermost n (c.at_unexpected.ensures.same.innermost n (c.at_element.ensures.same.innermost n (c.at_list_end.ensures.same.innermost n i)))
+
+pub lists::turn-returns-then-at_unexpected-clause-pays : goal.lists::turn-returns-then-at_unexpected-clause-pays
+lists::turn-returns-then-at_unexpected-clause-pays t c = λ e. omega (arith, few-looks-before c.args.element, c.at_element.ensures.looks, c.at_list_end.ensures.looks, c.at_unexpected.ensures.looks, c.skip.ensures.looks)
+
+pub lists::turn-returns-then-at_unexpected-clause-looks : goal.lists::turn-returns-then-at_unexpected-clause-looks
+lists::turn-returns-then-at_unexpected-clause-looks t c = omega (arith, few-looks-before c.args.element, c.at_element.ensures.looks, c.at_list_end.ensures.looks, c.at_unexpected.ensures.looks, c.skip.ensures.looks)
+
+pub lists::turn-returns-clause-ends : goal.lists::turn-returns-clause-ends
+lists::turn-returns-clause-ends t c = λ e. last-turn false (list_turn (raw_of c.args.list) (element_of c.args.element) (raw_of c.args.closing)) (ends (raw_of c.args.list) (element_of c.args.element) (raw_of c.args.closing)) _ _ _ first-turn (over-there (raw_of c.args.list) (element_of c.args.element) (raw_of c.args.closing) (said-element c.args.element) (sure-element c.args.element) (saw-so (c.at_list_end.ensures.sees false) c.if-at_list_end.false) (saw-before c.at_list_end.ensures.same (saw-so c.at_element.ensures.sees c.if-at_element.false)) (saw-before c.at_list_end.ensures.same (saw-before c.at_element.ensures.same (saw-so (c.at_unexpected.ensures.sees false) c.if-at_unexpected.false)))) (does-then c.at_list_end.ensures.same (does-then c.at_element.ensures.same c.at_unexpected.ensures.same))
+
+pub lists::turn-returns-clause-looks : goal.lists::turn-returns-clause-looks
+lists::turn-returns-clause-looks t c = omega (arith, c.at_element.ensures.looks, c.at_list_end.ensures.looks, c.at_unexpected.ensures.looks)
+
+pub lists::read_element-closure_param-requires : goal.lists::read_element-closure_param-requires
+lists::read_element-closure_param-requires t c =
+    let seen = subst (λ (e : Element). Saw false (begins looks (element_of e)) c.args.p.now true) c.in-ClosureParam.is c.requires.begins in
+    (omega arith, (c.requires.short, ((λ d. pattern-begins seen), param-left seen)))
+
+pub lists::read_element-expression-requires : goal.lists::read_element-expression-requires
+unfolding look_of begins_below whole rule items statements expressions patterns types paths there_at shift passes is_silent begins in_mode anew row one_of any_of no_longer longest is_longer
+lists::read_element-expression-requires t c =
+    let seen = subst (λ (e : Element). Saw false (begins looks (element_of e)) c.args.p.now true) c.in-Expression.is c.requires.begins in
+    (omega arith, (c.requires.short, (seen, begun-left (Call rules.expression) refl seen)))
+
+pub lists::read_element-returns-in-Expression-clause-reads : goal.lists::read_element-returns-in-Expression-clause-reads
+lists::read_element-returns-in-Expression-clause-reads t c = subst (λ (e : Element). Reads false (element_of e) c.args.p.now c.expression.new.p) (sym c.in-Expression.is) (reads-call false c.expression.ensures.gives)
+
+pub lists::read_element-field_value-requires : goal.lists::read_element-field_value-requires
+unfolding look_of begins_below whole rule items statements expressions patterns types paths there_at shift passes is_silent begins in_mode anew row one_of any_of no_longer longest is_longer
+lists::read_element-field_value-requires t c =
+    let seen = subst (λ (e : Element). Saw false (begins looks (element_of e)) c.args.p.now true) c.in-FieldValue.is c.requires.begins in
+    (omega arith, (c.requires.short, (seen, begun-left (Call rules.field_value) refl seen)))
+
+pub lists::read_element-returns-in-FieldValue-clause-reads : goal.lists::read_element-returns-in-FieldValue-clause-reads
+lists::read_element-returns-in-FieldValue-clause-reads t c = subst (λ (e : Element). Reads false (element_of e) c.args.p.now c.field_value.new.p) (sym c.in-FieldValue.is) (reads-call false c.field_value.ensures.gives)
+
+pub lists::read_element-generic_arg-requires : goal.lists::read_element-generic_arg-requires
+unfolding look_of begins_below whole rule items statements expressions patterns types paths there_at shift passes is_silent begins in_mode anew row one_of any_of no_longer longest is_longer
+lists::read_element-generic_arg-requires t c =
+    let seen = subst (λ (e : Element). Saw false (begins looks (element_of e)) c.args.p.now true) c.in-GenericArg.is c.requires.begins in
+    (omega arith, (c.requires.short, (seen, word-left (Call rules.generic_arg) refl seen)))
+
+pub lists::read_element-returns-in-GenericArg-clause-reads : goal.lists::read_element-returns-in-GenericArg-clause-reads
+lists::read_element-returns-in-GenericArg-clause-reads t c = subst (λ (e : Element). Reads false (element_of e) c.args.p.now c.generic_arg.new.p) (sym c.in-GenericArg.is) (reads-call false c.generic_arg.ensures.gives)
+
+pub lists::read_element-generic_param-requires : goal.lists::read_element-generic_param-requires
+unfolding look_of begins_below whole rule items statements expressions patterns types paths there_at shift passes is_silent begins in_mode anew row one_of any_of no_longer longest is_longer
+lists::read_element-generic_param-requires t c = (omega arith, (c.requires.short, begun-left (Call rules.generic_param) refl (subst (λ (e : Element). Saw false (begins looks (element_of e)) c.args.p.now true) c.in-GenericParam.is c.requires.begins)))
+
+pub lists::read_element-returns-in-GenericParam-clause-reads : goal.lists::read_element-returns-in-GenericParam-clause-reads
+lists::read_element-returns-in-GenericParam-clause-reads t c = subst (λ (e : Element). Reads false (element_of e) c.args.p.now c.generic_param.new.p) (sym c.in-GenericParam.is) (reads-call false c.generic_param.ensures.gives)
+
+pub lists::read_element-param-requires : goal.lists::read_element-param-requires
+unfolding look_of begins_below whole rule items statements expressions patterns types paths there_at shift passes is_silent begins in_mode anew row one_of any_of no_longer longest is_longer
+lists::read_element-param-requires t c =
+    let seen = subst (λ (e : Element). Saw false (begins looks (element_of e)) c.args.p.now true) c.in-Param.is c.requires.begins in
+    (omega arith, (c.requires.short, ((λ d. param-anywhere seen), begun-left (Call rules.param) refl seen)))
+
+pub lists::read_element-returns-in-Param-clause-reads : goal.lists::read_element-returns-in-Param-clause-reads
+lists::read_element-returns-in-Param-clause-reads t c = subst (λ (e : Element). Reads false (element_of e) c.args.p.now c.param.new.p) (sym c.in-Param.is) (reads-call false c.param.ensures.gives)
+
+pub lists::read_element-pattern-requires : goal.lists::read_element-pattern-requires
+unfolding look_of begins_below whole rule items statements expressions patterns types paths there_at shift passes is_silent begins in_mode anew row one_of any_of no_longer longest is_longer
+lists::read_element-pattern-requires t c =
+    let seen = subst (λ (e : Element). Saw false (begins looks (element_of e)) c.args.p.now true) c.in-Pattern.is c.requires.begins in
+    (omega arith, (c.requires.short, ((λ d. pattern-anywhere seen), begun-left (Call rules.pattern) refl seen)))
+
+pub lists::read_element-returns-in-Pattern-clause-reads : goal.lists::read_element-returns-in-Pattern-clause-reads
+lists::read_element-returns-in-Pattern-clause-reads t c = subst (λ (e : Element). Reads false (element_of e) c.args.p.now c.pattern.new.p) (sym c.in-Pattern.is) (reads-call false (c.pattern.ensures.gives false))
+
+pub lists::read_element-pattern_field-requires : goal.lists::read_element-pattern_field-requires
+unfolding look_of begins_below whole rule items statements expressions patterns types paths there_at shift passes is_silent begins in_mode anew row one_of any_of no_longer longest is_longer
+lists::read_element-pattern_field-requires t c =
+    let seen = subst (λ (e : Element). Saw false (begins looks (element_of e)) c.args.p.now true) c.in-PatternField.is c.requires.begins in
+    (omega arith, (c.requires.short, ((λ d. pattern-field-anywhere seen), begun-left (Call rules.pattern_field) refl seen)))
+
+pub lists::read_element-returns-in-PatternField-clause-reads : goal.lists::read_element-returns-in-PatternField-clause-reads
+lists::read_element-returns-in-PatternField-clause-reads t c = subst (λ (e : Element). Reads false (element_of e) c.args.p.now c.pattern_field.new.p) (sym c.in-PatternField.is) (reads-call false (c.pattern_field.ensures.gives false))
+
+pub lists::read_element-any_type-requires : goal.lists::read_element-any_type-requires
+unfolding look_of begins_below whole rule items statements expressions patterns types paths there_at shift passes is_silent begins in_mode anew row one_of any_of no_longer longest is_longer
+lists::read_element-any_type-requires t c =
+    let seen = subst (λ (e : Element). Saw false (begins looks (element_of e)) c.args.p.now true) c.in-Type.is c.requires.begins in
+    (omega arith, (c.requires.short, (seen, word-left (Call rules.any_type) refl seen)))
+
+pub lists::read_element-returns-in-Type-clause-reads : goal.lists::read_element-returns-in-Type-clause-reads
+lists::read_element-returns-in-Type-clause-reads t c = subst (λ (e : Element). Reads false (element_of e) c.args.p.now c.any_type.new.p) (sym c.in-Type.is) (reads-call false c.any_type.ensures.gives)
+
+pub lists::elements-turns-preserved : goal.lists::elements-turns-preserved
+lists::elements-turns-preserved t c = record {
+  input = c.turn.ensures.input ∙ c.turns.invariant.input;
+  innermost = λ n i. c.turn.ensures.innermost n (c.turns.invariant.innermost n i);
+  goes = record { rest = λ end p. c.turns.invariant.goes.rest end ((c.turn.ensures.goes c.turns-test.true).rest end p) };
+  left = omega (arith, c.turns.invariant.left, c.turn.ensures.left);
+  looks = omega (arith, c.turns.invariant.looks, c.turn.ensures.pays c.turns-test.true);
+}
+
+pub lists::elements-returns-clause-reads : goal.lists::elements-returns-clause-reads
+lists::elements-returns-clause-reads t c = c.turns.invariant.goes.rest _ (c.turn.ensures.ends c.turns-test.false)
+
+pub lists::rest_of_list-returns-clause-reads : goal.lists::rest_of_list-returns-clause-reads
+lists::rest_of_list-returns-clause-reads t c = λ cond. reads-then cond (reads-mode cond c.elements.ensures.reads) (c.expect.ensures.reads cond)
+
+pub lists::arguments-rest_of_list-requires : goal.lists::arguments-rest_of_list-requires
+lists::arguments-rest_of_list-requires t c = (omega arith, (short-still _ _ ((c.take.ensures.reads true).does.input ∙ c.start-list.ensures.opens.input) c.requires.short, omega arith))
+
+pub lists::arguments-complete-requires : goal.lists::arguments-complete-requires
+lists::arguments-complete-requires t c = (c.rest_of_list.ensures.reads true).does.innermost _ ((c.take.ensures.reads true).does.innermost _ c.start-list.ensures.marker)
+
+pub lists::arguments-returns-clause-gives : goal.lists::arguments-returns-clause-gives
+unfolding look_of begins_below whole rule items statements expressions patterns types paths there_at shift passes is_silent begins in_mode anew row one_of any_of no_longer longest is_longer
+lists::arguments-returns-clause-gives t c = λ cond. gives-anew (anew-after refl (reads-node cond c.start-list.ensures.opens (reads-then cond (c.take.ensures.reads cond) (c.rest_of_list.ensures.reads cond)) c.complete.ensures.closes))
+
+pub lists::field_values-rest_of_list-requires : goal.lists::field_values-rest_of_list-requires
+lists::field_values-rest_of_list-requires t c = (omega arith, (short-still _ _ ((c.take.ensures.reads true).does.input ∙ c.start-list.ensures.opens.input) c.requires.short, omega arith))
+
+pub lists::field_values-complete-requires : goal.lists::field_values-complete-requires
+lists::field_values-complete-requires t c = (c.rest_of_list.ensures.reads true).does.innermost _ ((c.take.ensures.reads true).does.innermost _ c.start-list.ensures.marker)
+
+pub lists::field_values-returns-clause-gives : goal.lists::field_values-returns-clause-gives
+unfolding look_of begins_below whole rule items statements expressions patterns types paths there_at shift passes is_silent begins in_mode anew row one_of any_of no_longer longest is_longer
+lists::field_values-returns-clause-gives t c = λ cond. gives-anew (anew-after refl (reads-node cond c.start-list.ensures.opens (reads-then cond (c.take.ensures.reads cond) (c.rest_of_list.ensures.reads cond)) c.complete.ensures.closes))
+
+pub lists::generic_params-rest_of_list-requires : goal.lists::generic_params-rest_of_list-requires
+lists::generic_params-rest_of_list-requires t c = (omega arith, (short-still _ _ ((c.take.ensures.reads true).does.input ∙ c.start-list.ensures.opens.input) c.requires.short, omega arith))
+
+pub lists::generic_params-complete-requires : goal.lists::generic_params-complete-requires
+lists::generic_params-complete-requires t c = (c.rest_of_list.ensures.reads true).does.innermost _ ((c.take.ensures.reads true).does.innermost _ c.start-list.ensures.marker)
+
+pub lists::generic_params-returns-clause-gives : goal.lists::generic_params-returns-clause-gives
+unfolding look_of begins_below whole rule items statements expressions patterns types paths there_at shift passes is_silent begins in_mode anew row one_of any_of no_longer longest is_longer
+lists::generic_params-returns-clause-gives t c = λ cond. gives-anew (anew-after refl (reads-node cond c.start-list.ensures.opens (reads-then cond (c.take.ensures.reads cond) (c.rest_of_list.ensures.reads cond)) c.complete.ensures.closes))
+
+pub lists::params-rest_of_list-requires : goal.lists::params-rest_of_list-requires
+lists::params-rest_of_list-requires t c = (omega arith, (short-still _ _ ((c.take.ensures.reads true).does.input ∙ c.start-list.ensures.opens.input) c.requires.short, omega arith))
+
+pub lists::params-complete-requires : goal.lists::params-complete-requires
+lists::params-complete-requires t c = (c.rest_of_list.ensures.reads true).does.innermost _ ((c.take.ensures.reads true).does.innermost _ c.start-list.ensures.marker)
+
+pub lists::params-returns-clause-gives : goal.lists::params-returns-clause-gives
+unfolding look_of begins_below whole rule items statements expressions patterns types paths there_at shift passes is_silent begins in_mode anew row one_of any_of no_longer longest is_longer
+lists::params-returns-clause-gives t c = λ cond. gives-anew (anew-after refl (reads-node cond c.start-list.ensures.opens (reads-then cond (c.take.ensures.reads cond) (c.rest_of_list.ensures.reads cond)) c.complete.ensures.closes))
+
+pub lists::pattern_fields-rest_of_list-requires : goal.lists::pattern_fields-rest_of_list-requires
+lists::pattern_fields-rest_of_list-requires t c = (omega arith, (short-still _ _ ((c.take.ensures.reads true).does.input ∙ c.start-list.ensures.opens.input) c.requires.short, omega arith))
+
+pub lists::pattern_fields-complete-requires : goal.lists::pattern_fields-complete-requires
+lists::pattern_fields-complete-requires t c = (c.rest_of_list.ensures.reads true).does.innermost _ ((c.take.ensures.reads true).does.innermost _ c.start-list.ensures.marker)
+
+pub lists::pattern_fields-returns-clause-gives : goal.lists::pattern_fields-returns-clause-gives
+unfolding look_of begins_below whole rule items statements expressions patterns types paths there_at shift passes is_silent begins in_mode anew row one_of any_of no_longer longest is_longer
+lists::pattern_fields-returns-clause-gives t c = λ cond. gives-anew (anew-after refl (reads-node cond c.start-list.ensures.opens (reads-then cond (c.take.ensures.reads cond) (c.rest_of_list.ensures.reads cond)) c.complete.ensures.closes))
+
+pub lists::read_element-record_field-requires : goal.lists::read_element-record_field-requires
+unfolding look_of begins_below whole rule items statements expressions patterns types paths there_at shift passes is_silent begins in_mode anew row one_of any_of no_longer longest is_longer
+lists::read_element-record_field-requires t c =
+    let seen = subst (λ (e : Element). Saw false (begins looks (element_of e)) c.args.p.now true) c.in-RecordField.is c.requires.begins in
+    (omega arith, (c.requires.short, (seen, begun-left record_field refl seen)))
+
+pub lists::read_element-returns-in-RecordField-clause-reads : goal.lists::read_element-returns-in-RecordField-clause-reads
+lists::read_element-returns-in-RecordField-clause-reads t c = subst (λ (e : Element). Reads false (element_of e) c.args.p.now c.record_field.new.p) (sym c.in-RecordField.is) c.record_field.ensures.reads
+
+pub lists::read_element-tuple_field-requires : goal.lists::read_element-tuple_field-requires
+unfolding look_of begins_below whole rule items statements expressions patterns types paths there_at shift passes is_silent begins in_mode anew row one_of any_of no_longer longest is_longer
+lists::read_element-tuple_field-requires t c =
+    let seen = subst (λ (e : Element). Saw false (begins looks (element_of e)) c.args.p.now true) c.in-TupleField.is c.requires.begins in
+    (omega arith, (c.requires.short, (seen, word-left tuple_field refl seen)))
+
+pub lists::read_element-returns-in-TupleField-clause-reads : goal.lists::read_element-returns-in-TupleField-clause-reads
+lists::read_element-returns-in-TupleField-clause-reads t c = subst (λ (e : Element). Reads false (element_of e) c.args.p.now c.tuple_field.new.p) (sym c.in-TupleField.is) c.tuple_field.ensures.reads
+
+pub lists::read_element-variant-requires : goal.lists::read_element-variant-requires
+unfolding look_of begins_below whole rule items statements expressions patterns types paths there_at shift passes is_silent begins in_mode anew row one_of any_of no_longer longest is_longer
+lists::read_element-variant-requires t c =
+    let seen = subst (λ (e : Element). Saw false (begins looks (element_of e)) c.args.p.now true) c.in-Variant.is c.requires.begins in
+    (omega arith, (c.requires.short, (seen, begun-left variant refl seen)))
+
+pub lists::read_element-returns-in-Variant-clause-reads : goal.lists::read_element-returns-in-Variant-clause-reads
+lists::read_element-returns-in-Variant-clause-reads t c = subst (λ (e : Element). Reads false (element_of e) c.args.p.now c.variant.new.p) (sym c.in-Variant.is) c.variant.ensures.reads
+
+pub lists::variants-rest_of_list-requires : goal.lists::variants-rest_of_list-requires
+lists::variants-rest_of_list-requires t c = (omega arith, (short-still _ _ ((c.take.ensures.reads true).does.input ∙ c.start-list.ensures.opens.input) c.requires.short, omega arith))
+
+pub lists::variants-complete-requires : goal.lists::variants-complete-requires
+lists::variants-complete-requires t c = (c.rest_of_list.ensures.reads true).does.innermost _ ((c.take.ensures.reads true).does.innermost _ c.start-list.ensures.marker)
+
+pub lists::variants-returns-clause-gives : goal.lists::variants-returns-clause-gives
+unfolding look_of begins_below whole rule items statements expressions patterns types paths there_at shift passes is_silent begins in_mode anew row one_of any_of no_longer longest is_longer
+lists::variants-returns-clause-gives t c = λ cond. gives-anew (anew-after refl (reads-node cond c.start-list.ensures.opens (reads-then cond (c.take.ensures.reads cond) (c.rest_of_list.ensures.reads cond)) c.complete.ensures.closes))
+
+pub lists::record_fields-rest_of_list-requires : goal.lists::record_fields-rest_of_list-requires
+lists::record_fields-rest_of_list-requires t c = (omega arith, (short-still _ _ ((c.take.ensures.reads true).does.input ∙ c.start-list.ensures.opens.input) c.requires.short, omega arith))
+
+pub lists::record_fields-complete-requires : goal.lists::record_fields-complete-requires
+lists::record_fields-complete-requires t c = (c.rest_of_list.ensures.reads true).does.innermost _ ((c.take.ensures.reads true).does.innermost _ c.start-list.ensures.marker)
+
+pub lists::record_fields-returns-clause-gives : goal.lists::record_fields-returns-clause-gives
+unfolding look_of begins_below whole rule items statements expressions patterns types paths there_at shift passes is_silent begins in_mode anew row one_of any_of no_longer longest is_longer
+lists::record_fields-returns-clause-gives t c = λ cond. gives-anew (anew-after refl (reads-node cond c.start-list.ensures.opens (reads-then cond (c.take.ensures.reads cond) (c.rest_of_list.ensures.reads cond)) c.complete.ensures.closes))
+
+pub lists::tuple_fields-rest_of_list-requires : goal.lists::tuple_fields-rest_of_list-requires
+lists::tuple_fields-rest_of_list-requires t c = (omega arith, (short-still _ _ ((c.take.ensures.reads true).does.input ∙ c.start-list.ensures.opens.input) c.requires.short, omega arith))
+
+pub lists::tuple_fields-complete-requires : goal.lists::tuple_fields-complete-requires
+lists::tuple_fields-complete-requires t c = (c.rest_of_list.ensures.reads true).does.innermost _ ((c.take.ensures.reads true).does.innermost _ c.start-list.ensures.marker)
+
+pub lists::tuple_fields-returns-clause-gives : goal.lists::tuple_fields-returns-clause-gives
+unfolding look_of begins_below whole rule items statements expressions patterns types paths there_at shift passes is_silent begins in_mode anew row one_of any_of no_longer longest is_longer
+lists::tuple_fields-returns-clause-gives t c = λ cond. gives-anew (anew-after refl (reads-node cond c.start-list.ensures.opens (reads-then cond (c.take.ensures.reads cond) (c.rest_of_list.ensures.reads cond)) c.complete.ensures.closes))

@@ -1,0 +1,799 @@
+-- What is left shrinks from call to call: the tokens, or else how many calls there can be before one is taken.
+use Rattle.std.specs.Prelude.{◌≡◌, ℕ, ◌+◌, ◌-◌, ◌*◌, ◌≤◌, Bool, false}
+use Rattle.parser_events.specs.Stack.{IsInnermost}
+use Rattle.rust_productions.specs.Looks.{tokens, spent}
+use Rattle.rust_productions.specs.Layers.{turns_from}
+use Rattle.rust_productions.specs.Operators.{IsMark, IsNext}
+use Rattle.rust_productions.specs.Turns.{GoesFrom, TurnsFrom}
+use Rattle.rust_productions.proofs.Powers.{LayersFrom}
+use Rattle.grammar_reader.specs.Told.{args_of, element_of, ends_of, item_or_attribute, list_turn, listing_of}
+use Rattle.parser_input.specs.Kind.{raw_of}
+use Rattle.parser_input.specs.Kinds.{PATH, PATH_SEGMENT}
+use Rattle.parser_events.specs.Forest.{ExpectedMatchArm}
+use Rattle.rust_grammar.specs.Calls.{MatchArm, Ref, SinglePattern, Bound, WherePred}
+use Rattle.rust_grammar.specs.Notation.{◌or◌, ◌▸◌, ◌!, ◌⟨◌⟩, ◌<⟨◌⟩, more, until, ⁅◌⁆}
+use Rattle.rust_grammar.specs.Rule as rules
+use Rattle.rust_grammar.specs.Rule.{Call, One, Skip, Unless}
+use Rattle.rust_grammar.specs.Shared.{colons_before_more}
+use Rattle.rust_grammar.specs.Words.{'::', '|', 'r_curly', '+', 'comma'}
+use Rattle.grammar_reader.proofs.grammar.+grammar.Given as goal
+
+abbrev pub decreases-paths::path_with_args : goal.decreases-paths::path_with_args
+decreases-paths::path_with_args l = 512 * tokens l.p.now + 8
+
+abbrev pub decreases-paths::first_segment : goal.decreases-paths::first_segment
+decreases-paths::first_segment l = 512 * tokens l.p.now + 7
+
+abbrev pub decreases-paths::next_segments : goal.decreases-paths::next_segments
+decreases-paths::next_segments l = 512 * tokens l.p.now + 7
+
+abbrev pub decreases-paths::next_segment : goal.decreases-paths::next_segment
+decreases-paths::next_segment l = 512 * tokens l.p.now + 6
+
+abbrev pub decreases-paths::expect_segment : goal.decreases-paths::expect_segment
+decreases-paths::expect_segment l = 512 * tokens l.p.now + 5
+
+abbrev pub decreases-paths::opt_args : goal.decreases-paths::opt_args
+decreases-paths::opt_args l = 512 * tokens l.p.now + 4
+
+abbrev pub decreases-paths::generic_args : goal.decreases-paths::generic_args
+decreases-paths::generic_args l = 512 * tokens l.p.now + 3
+
+abbrev pub decreases-lists::arguments : goal.decreases-lists::arguments
+decreases-lists::arguments l = 512 * tokens l.p.now
+
+abbrev pub decreases-lists::field_values : goal.decreases-lists::field_values
+decreases-lists::field_values l = 512 * tokens l.p.now
+
+abbrev pub decreases-lists::generic_params : goal.decreases-lists::generic_params
+decreases-lists::generic_params l = 512 * tokens l.p.now
+
+abbrev pub decreases-lists::params : goal.decreases-lists::params
+decreases-lists::params l = 512 * tokens l.p.now
+
+abbrev pub decreases-lists::pattern_fields : goal.decreases-lists::pattern_fields
+decreases-lists::pattern_fields l = 512 * tokens l.p.now
+
+abbrev pub decreases-lists::rest_of_list : goal.decreases-lists::rest_of_list
+decreases-lists::rest_of_list l = 512 * tokens l.p.now + 104
+
+abbrev pub decreases-lists::elements : goal.decreases-lists::elements
+decreases-lists::elements l = 512 * tokens l.p.now + 103
+
+abbrev pub decreases-lists::turn : goal.decreases-lists::turn
+decreases-lists::turn l = 512 * tokens l.p.now + 102
+
+abbrev pub invariant-lists::elements-turns : goal.invariant-lists::elements-turns
+invariant-lists::elements-turns l = record {
+  input : l.p.input ≡ l.initial.p.input;
+  innermost : (n : ℕ) → IsInnermost n l.initial.p.nodes → IsInnermost n l.p.nodes;
+  goes : TurnsFrom false (list_turn (raw_of l.list) (element_of l.element) (raw_of l.closing)) l.initial.p l.p;
+  left : tokens l.p ≤ tokens l.initial.p;
+  looks : spent l.p ≤ spent l.initial.p;
+}
+
+abbrev pub decreases-lists::elements-turns : goal.decreases-lists::elements-turns
+decreases-lists::elements-turns l = tokens l.p
+
+abbrev pub invariant-paths::next_segments-turns : goal.invariant-paths::next_segments-turns
+invariant-paths::next_segments-turns l = record {
+  input : l.p.input ≡ l.initial.p.input;
+  marker : IsInnermost l.path l.p.nodes;
+  goes : (c : Bool) → TurnsFrom c (Unless colons_before_more (PATH <⟨ One '::' ▸ (PATH_SEGMENT ⟨ Ref ▸ args_of l.mode ⟩) ! ⟩)) l.initial.p l.p;
+  left : tokens l.p ≤ tokens l.initial.p;
+  looks : spent l.p ≤ spent l.initial.p;
+}
+
+abbrev pub decreases-paths::next_segments-turns : goal.decreases-paths::next_segments-turns
+decreases-paths::next_segments-turns l = tokens l.p
+
+abbrev pub decreases-attributes::attribute : goal.decreases-attributes::attribute
+decreases-attributes::attribute l = 512 * tokens l.p.now
+
+abbrev pub decreases-attributes::expect_meta : goal.decreases-attributes::expect_meta
+decreases-attributes::expect_meta l = 512 * tokens l.p.now + 14
+
+abbrev pub decreases-attributes::meta : goal.decreases-attributes::meta
+decreases-attributes::meta l = 512 * tokens l.p.now + 13
+
+abbrev pub decreases-attributes::opt_value : goal.decreases-attributes::opt_value
+decreases-attributes::opt_value l = 512 * tokens l.p.now + 12
+
+abbrev pub decreases-blocks::block : goal.decreases-blocks::block
+decreases-blocks::block l = 512 * tokens l.p.now + 1
+
+abbrev pub decreases-blocks::statement_list : goal.decreases-blocks::statement_list
+decreases-blocks::statement_list l = 512 * tokens l.p.now
+
+abbrev pub decreases-blocks::statements : goal.decreases-blocks::statements
+decreases-blocks::statements l = 512 * tokens l.p.now + 107
+
+abbrev pub decreases-blocks::statement_turn : goal.decreases-blocks::statement_turn
+decreases-blocks::statement_turn l = 512 * tokens l.p.now + 106
+
+abbrev pub invariant-blocks::statements-turns : goal.invariant-blocks::statements-turns
+invariant-blocks::statements-turns l = record {
+  input : l.p.input ≡ l.initial.p.input;
+  innermost : (n : ℕ) → IsInnermost n l.initial.p.nodes → IsInnermost n l.p.nodes;
+  goes : TurnsFrom false (Unless (ends_of l.end) (Call (listing_of l.end).one)) l.initial.p l.p;
+  left : tokens l.p ≤ tokens l.initial.p;
+  looks : spent l.p ≤ spent l.initial.p;
+}
+
+abbrev pub decreases-blocks::statements-turns : goal.decreases-blocks::statements-turns
+decreases-blocks::statements-turns l = tokens l.p
+
+abbrev pub decreases-types::any_type : goal.decreases-types::any_type
+decreases-types::any_type l = 512 * tokens l.p.now + 18
+
+abbrev pub decreases-types::inside : goal.decreases-types::inside
+decreases-types::inside l = 512 * tokens l.p.now + 17
+
+abbrev pub decreases-types::bounded_type : goal.decreases-types::bounded_type
+decreases-types::bounded_type l = 512 * tokens l.p.now
+
+abbrev pub decreases-types::path_type : goal.decreases-types::path_type
+decreases-types::path_type l = 512 * tokens l.p.now + 16
+
+abbrev pub decreases-types::expect_type : goal.decreases-types::expect_type
+decreases-types::expect_type l = 512 * tokens l.p.now + 19
+
+abbrev pub decreases-types::ptr_type : goal.decreases-types::ptr_type
+decreases-types::ptr_type l = 512 * tokens l.p.now
+
+abbrev pub decreases-types::ref_type : goal.decreases-types::ref_type
+decreases-types::ref_type l = 512 * tokens l.p.now
+
+abbrev pub decreases-types::paren_type : goal.decreases-types::paren_type
+decreases-types::paren_type l = 512 * tokens l.p.now
+
+abbrev pub decreases-types::after_paren : goal.decreases-types::after_paren
+decreases-types::after_paren l = 512 * tokens l.p.now + 21
+
+abbrev pub decreases-types::after_first : goal.decreases-types::after_first
+decreases-types::after_first l = 512 * tokens l.p.now + 1
+
+abbrev pub decreases-types::bracket_type : goal.decreases-types::bracket_type
+decreases-types::bracket_type l = 512 * tokens l.p.now
+
+abbrev pub decreases-types::after_element : goal.decreases-types::after_element
+decreases-types::after_element l = 512 * tokens l.p.now + 1
+
+abbrev pub decreases-types::array_length : goal.decreases-types::array_length
+decreases-types::array_length l = 512 * tokens l.p.now + 107
+
+abbrev pub decreases-patterns::single_pattern : goal.decreases-patterns::single_pattern
+decreases-patterns::single_pattern l = 512 * tokens l.p.now + 22
+
+abbrev pub decreases-patterns::inside : goal.decreases-patterns::inside
+decreases-patterns::inside l = 512 * tokens l.p.now + 21
+
+abbrev pub decreases-patterns::expect_single : goal.decreases-patterns::expect_single
+decreases-patterns::expect_single l = 512 * tokens l.p.now + 23
+
+abbrev pub decreases-patterns::ref_pat : goal.decreases-patterns::ref_pat
+decreases-patterns::ref_pat l = 512 * tokens l.p.now
+
+abbrev pub decreases-patterns::slice_pat : goal.decreases-patterns::slice_pat
+decreases-patterns::slice_pat l = 512 * tokens l.p.now
+
+abbrev pub decreases-patterns::tuple_pat : goal.decreases-patterns::tuple_pat
+decreases-patterns::tuple_pat l = 512 * tokens l.p.now
+
+abbrev pub decreases-patterns::opt_at : goal.decreases-patterns::opt_at
+decreases-patterns::opt_at l = 512 * tokens l.p.now
+
+abbrev pub decreases-patterns::ident_pat : goal.decreases-patterns::ident_pat
+decreases-patterns::ident_pat l = 512 * tokens l.p.now + 1
+
+abbrev pub decreases-patterns::ident_after_mut : goal.decreases-patterns::ident_after_mut
+decreases-patterns::ident_after_mut l = 512 * tokens l.p.now
+
+abbrev pub decreases-patterns::ident_after_ref : goal.decreases-patterns::ident_after_ref
+decreases-patterns::ident_after_ref l = 512 * tokens l.p.now
+
+abbrev pub decreases-patterns::paren_pat : goal.decreases-patterns::paren_pat
+decreases-patterns::paren_pat l = 512 * tokens l.p.now
+
+abbrev pub decreases-patterns::after_paren : goal.decreases-patterns::after_paren
+decreases-patterns::after_paren l = 512 * tokens l.p.now + 26
+
+abbrev pub decreases-patterns::after_first : goal.decreases-patterns::after_first
+decreases-patterns::after_first l = 512 * tokens l.p.now + 1
+
+abbrev pub decreases-patterns::path_pat : goal.decreases-patterns::path_pat
+decreases-patterns::path_pat l = 512 * tokens l.p.now + 17
+
+abbrev pub decreases-patterns::after_path : goal.decreases-patterns::after_path
+decreases-patterns::after_path l = 512 * tokens l.p.now + 9
+
+abbrev pub decreases-or_patterns::expect_pattern : goal.decreases-or_patterns::expect_pattern
+decreases-or_patterns::expect_pattern l = 512 * tokens l.p.now + 25
+
+abbrev pub decreases-or_patterns::pattern : goal.decreases-or_patterns::pattern
+decreases-or_patterns::pattern l = 512 * tokens l.p.now + 24
+
+abbrev pub decreases-or_patterns::alternatives : goal.decreases-or_patterns::alternatives
+decreases-or_patterns::alternatives l = 512 * tokens l.p.now + 23
+
+abbrev pub decreases-or_patterns::one_further : goal.decreases-or_patterns::one_further
+decreases-or_patterns::one_further l = 512 * tokens l.p.now
+
+abbrev pub decreases-or_patterns::further : goal.decreases-or_patterns::further
+decreases-or_patterns::further l = 512 * tokens l.p.now + 1
+
+abbrev pub decreases-or_patterns::opt_further : goal.decreases-or_patterns::opt_further
+decreases-or_patterns::opt_further l = 512 * tokens l.p.now + 2
+
+abbrev pub invariant-or_patterns::further-turns : goal.invariant-or_patterns::further-turns
+invariant-or_patterns::further-turns l = record {
+  input : l.p.input ≡ l.initial.p.input;
+  goes : (c : Bool) → TurnsFrom c (One '|' ▸ SinglePattern !) l.initial.p l.p;
+  left : tokens l.p ≤ tokens l.initial.p;
+  looks : spent l.p ≤ spent l.initial.p;
+}
+
+abbrev pub decreases-or_patterns::further-turns : goal.decreases-or_patterns::further-turns
+decreases-or_patterns::further-turns l = tokens l.p
+
+-- expressions by hand
+abbrev pub decreases-control::unsafe_block : goal.decreases-control::unsafe_block
+decreases-control::unsafe_block l = 512 * tokens l.p.now
+
+abbrev pub decreases-control::if_expr : goal.decreases-control::if_expr
+decreases-control::if_expr l = 512 * tokens l.p.now
+
+abbrev pub decreases-control::while_expr : goal.decreases-control::while_expr
+decreases-control::while_expr l = 512 * tokens l.p.now
+
+abbrev pub decreases-control::loop_expr : goal.decreases-control::loop_expr
+decreases-control::loop_expr l = 512 * tokens l.p.now
+
+abbrev pub decreases-control::for_expr : goal.decreases-control::for_expr
+decreases-control::for_expr l = 512 * tokens l.p.now
+
+abbrev pub decreases-control::match_expr : goal.decreases-control::match_expr
+decreases-control::match_expr l = 512 * tokens l.p.now
+
+abbrev pub decreases-control::match_arms : goal.decreases-control::match_arms
+decreases-control::match_arms l = 512 * tokens l.p.now
+
+abbrev pub decreases-atoms::paren_expr : goal.decreases-atoms::paren_expr
+decreases-atoms::paren_expr l = 512 * tokens l.p.now
+
+abbrev pub decreases-atoms::array_expr : goal.decreases-atoms::array_expr
+decreases-atoms::array_expr l = 512 * tokens l.p.now
+
+abbrev pub decreases-atoms::value_expr : goal.decreases-atoms::value_expr
+decreases-atoms::value_expr l = 512 * tokens l.p.now
+
+abbrev pub decreases-closures::closure_params : goal.decreases-closures::closure_params
+decreases-closures::closure_params l = 512 * tokens l.p.now
+
+abbrev pub decreases-atoms::let_expr : goal.decreases-atoms::let_expr
+decreases-atoms::let_expr l = 512 * tokens l.p.now
+
+abbrev pub decreases-operands::prefix_expr : goal.decreases-operands::prefix_expr
+decreases-operands::prefix_expr l = 512 * tokens l.p.now
+
+abbrev pub decreases-operands::ref_expr : goal.decreases-operands::ref_expr
+decreases-operands::ref_expr l = 512 * tokens l.p.now
+
+abbrev pub decreases-operands::index : goal.decreases-operands::index
+decreases-operands::index l = 512 * tokens l.p.now
+
+abbrev pub decreases-operands::method_call : goal.decreases-operands::method_call
+decreases-operands::method_call l = 512 * tokens l.p.now
+
+abbrev pub decreases-closures::opt_type : goal.decreases-closures::opt_type
+decreases-closures::opt_type l = 512 * tokens l.p.now
+
+abbrev pub decreases-types::ret_type : goal.decreases-types::ret_type
+decreases-types::ret_type l = 512 * tokens l.p.now
+
+abbrev pub decreases-operands::float : goal.decreases-operands::float
+decreases-operands::float l = 512 * tokens l.p.now
+
+abbrev pub decreases-control::expect_statement_list : goal.decreases-control::expect_statement_list
+decreases-control::expect_statement_list l = 512 * tokens l.p.now + 1
+
+abbrev pub decreases-control::expect_block : goal.decreases-control::expect_block
+decreases-control::expect_block l = 512 * tokens l.p.now + 2
+
+abbrev pub decreases-control::expect_match_arms : goal.decreases-control::expect_match_arms
+decreases-control::expect_match_arms l = 512 * tokens l.p.now + 1
+
+abbrev pub decreases-control::opt_else : goal.decreases-control::opt_else
+decreases-control::opt_else l = 512 * tokens l.p.now + 1
+
+abbrev pub decreases-control::after_else : goal.decreases-control::after_else
+decreases-control::after_else l = 512 * tokens l.p.now + 3
+
+abbrev pub decreases-control::block_like : goal.decreases-control::block_like
+decreases-control::block_like l = 512 * tokens l.p.now + 5
+
+abbrev pub decreases-closures::expect_closure_params : goal.decreases-closures::expect_closure_params
+decreases-closures::expect_closure_params l = 512 * tokens l.p.now + 1
+
+abbrev pub decreases-closures::move_closure : goal.decreases-closures::move_closure
+decreases-closures::move_closure l = 512 * tokens l.p.now + 3
+
+abbrev pub decreases-closures::closure_expr : goal.decreases-closures::closure_expr
+decreases-closures::closure_expr l = 512 * tokens l.p.now + 3
+
+abbrev pub decreases-atoms::after_first : goal.decreases-atoms::after_first
+decreases-atoms::after_first l = 512 * tokens l.p.now + 1
+
+abbrev pub decreases-atoms::after_element : goal.decreases-atoms::after_element
+decreases-atoms::after_element l = 512 * tokens l.p.now + 1
+
+abbrev pub decreases-atoms::after_path : goal.decreases-atoms::after_path
+decreases-atoms::after_path l = 512 * tokens l.p.now + 2
+
+abbrev pub decreases-atoms::path_expr : goal.decreases-atoms::path_expr
+decreases-atoms::path_expr l = 512 * tokens l.p.now + 12
+
+abbrev pub decreases-atoms::inside : goal.decreases-atoms::inside
+decreases-atoms::inside l = 512 * tokens l.p.now + 30
+
+abbrev pub decreases-operands::operand : goal.decreases-operands::operand
+decreases-operands::operand l = 512 * tokens l.p.now + 32
+
+abbrev pub decreases-operands::prefixed : goal.decreases-operands::prefixed
+decreases-operands::prefixed l = 512 * tokens l.p.now + 33
+
+abbrev pub decreases-operands::postfix : goal.decreases-operands::postfix
+decreases-operands::postfix l = 512 * tokens l.p.now + 1
+
+abbrev pub decreases-operands::postfixes : goal.decreases-operands::postfixes
+decreases-operands::postfixes l = 512 * tokens l.p.now + 2
+
+abbrev pub decreases-operands::after_dot : goal.decreases-operands::after_dot
+decreases-operands::after_dot l = 512 * tokens l.p.now + 3
+
+abbrev pub decreases-operands::expect_arguments : goal.decreases-operands::expect_arguments
+decreases-operands::expect_arguments l = 512 * tokens l.p.now + 1
+
+abbrev pub decreases-paths::opt_generic_args : goal.decreases-paths::opt_generic_args
+decreases-paths::opt_generic_args l = 512 * tokens l.p.now + 4
+
+abbrev pub decreases-closures::closure_param : goal.decreases-closures::closure_param
+decreases-closures::closure_param l = 512 * tokens l.p.now + 40
+
+abbrev pub decreases-expressions::expect_expression : goal.decreases-expressions::expect_expression
+decreases-expressions::expect_expression l = 512 * tokens l.p.now + 40
+
+abbrev pub decreases-expressions::expect_condition : goal.decreases-expressions::expect_condition
+decreases-expressions::expect_condition l = 512 * tokens l.p.now + 104
+
+abbrev pub decreases-control::arms : goal.decreases-control::arms
+decreases-control::arms l = 512 * tokens l.p.now + 105
+
+abbrev pub decreases-control::arm_turn : goal.decreases-control::arm_turn
+decreases-control::arm_turn l = 512 * tokens l.p.now + 104
+
+abbrev pub decreases-atoms::after_paren : goal.decreases-atoms::after_paren
+decreases-atoms::after_paren l = 512 * tokens l.p.now + 105
+
+abbrev pub decreases-atoms::array_elements : goal.decreases-atoms::array_elements
+decreases-atoms::array_elements l = 512 * tokens l.p.now + 105
+
+abbrev pub decreases-atoms::opt_value : goal.decreases-atoms::opt_value
+decreases-atoms::opt_value l = 512 * tokens l.p.now + 105
+
+abbrev pub decreases-closures::closure_body : goal.decreases-closures::closure_body
+decreases-closures::closure_body l = 512 * tokens l.p.now + 105
+
+abbrev pub decreases-lists::read_element : goal.decreases-lists::read_element
+decreases-lists::read_element l = 512 * tokens l.p.now + 101
+
+abbrev pub decreases-statements::let_stmt : goal.decreases-statements::let_stmt
+decreases-statements::let_stmt l = 512 * tokens l.p.now
+
+abbrev pub decreases-statements::let_else : goal.decreases-statements::let_else
+decreases-statements::let_else l = 512 * tokens l.p.now
+
+abbrev pub decreases-statements::opt_else : goal.decreases-statements::opt_else
+decreases-statements::opt_else l = 512 * tokens l.p.now + 1
+
+abbrev pub decreases-statements::after_block : goal.decreases-statements::after_block
+decreases-statements::after_block l = 512 * tokens l.p.now + 3
+
+abbrev pub decreases-statements::block_statement : goal.decreases-statements::block_statement
+decreases-statements::block_statement l = 512 * tokens l.p.now + 10
+
+abbrev pub decreases-statements::ended_expression : goal.decreases-statements::ended_expression
+decreases-statements::ended_expression l = 512 * tokens l.p.now + 101
+
+abbrev pub decreases-statements::expression_statement : goal.decreases-statements::expression_statement
+decreases-statements::expression_statement l = 512 * tokens l.p.now + 102
+
+abbrev pub decreases-statements::statement : goal.decreases-statements::statement
+decreases-statements::statement l = 512 * tokens l.p.now + 103
+
+abbrev pub invariant-control::arms-turns : goal.invariant-control::arms-turns
+invariant-control::arms-turns l = record {
+  input : l.p.input ≡ l.initial.p.input;
+  innermost : (n : ℕ) → IsInnermost n l.initial.p.nodes → IsInnermost n l.p.nodes;
+  goes : TurnsFrom false (Unless (until 'r_curly') (MatchArm or Skip ExpectedMatchArm)) l.initial.p l.p;
+  left : tokens l.p ≤ tokens l.initial.p;
+  looks : spent l.p ≤ spent l.initial.p;
+}
+
+abbrev pub decreases-control::arms-turns : goal.decreases-control::arms-turns
+decreases-control::arms-turns l = tokens l.p
+
+abbrev pub invariant-operands::postfixes-turns : goal.invariant-operands::postfixes-turns
+invariant-operands::postfixes-turns l = record {
+  input : l.p.input ≡ l.initial.p.input;
+  marker : IsInnermost l.frame l.p.nodes;
+  goes : (c : Bool) → TurnsFrom c (more rules.postfix) l.initial.p l.p;
+  left : tokens l.p ≤ tokens l.initial.p;
+  looks : spent l.p ≤ spent l.initial.p;
+}
+
+abbrev pub decreases-operands::postfixes-turns : goal.decreases-operands::postfixes-turns
+decreases-operands::postfixes-turns l = tokens l.p
+
+-- items by hand
+abbrev pub decreases-items::item : goal.decreases-items::item
+decreases-items::item l = 512 * tokens l.p.now + 3
+
+abbrev pub decreases-items::attributed_item : goal.decreases-items::attributed_item
+decreases-items::attributed_item l = 512 * tokens l.p.now + 2
+
+abbrev pub decreases-items::visible_item : goal.decreases-items::visible_item
+decreases-items::visible_item l = 512 * tokens l.p.now
+
+abbrev pub decreases-items::bare_item : goal.decreases-items::bare_item
+decreases-items::bare_item l = 512 * tokens l.p.now + 2
+
+abbrev pub decreases-items::attributes : goal.decreases-items::attributes
+decreases-items::attributes l = 512 * tokens l.p.now + 1
+
+abbrev pub decreases-items::body : goal.decreases-items::body
+decreases-items::body l = 512 * tokens l.p.now + 1
+
+abbrev pub decreases-items::module : goal.decreases-items::module
+decreases-items::module l = 512 * tokens l.p.now
+
+abbrev pub decreases-items::module_items : goal.decreases-items::module_items
+decreases-items::module_items l = 512 * tokens l.p.now + 1
+
+abbrev pub decreases-items::item_list : goal.decreases-items::item_list
+decreases-items::item_list l = 512 * tokens l.p.now
+
+abbrev pub decreases-items::item_turn : goal.decreases-items::item_turn
+decreases-items::item_turn l = 512 * tokens l.p.now + 4
+
+abbrev pub decreases-items::items : goal.decreases-items::items
+decreases-items::items l = 512 * tokens l.p.now + 5
+
+abbrev pub decreases-items::assoc_items : goal.decreases-items::assoc_items
+decreases-items::assoc_items l = 512 * tokens l.p.now + 1
+
+abbrev pub decreases-items::opt_generic_params : goal.decreases-items::opt_generic_params
+decreases-items::opt_generic_params l = 512 * tokens l.p.now + 1
+
+abbrev pub decreases-items::opt_where_clause : goal.decreases-items::opt_where_clause
+decreases-items::opt_where_clause l = 512 * tokens l.p.now + 1
+
+abbrev pub decreases-adt::struct_item : goal.decreases-adt::struct_item
+decreases-adt::struct_item l = 512 * tokens l.p.now
+
+abbrev pub decreases-adt::fields : goal.decreases-adt::fields
+decreases-adt::fields l = 512 * tokens l.p.now + 2
+
+abbrev pub decreases-adt::named_fields : goal.decreases-adt::named_fields
+decreases-adt::named_fields l = 512 * tokens l.p.now + 1
+
+abbrev pub decreases-adt::enum_item : goal.decreases-adt::enum_item
+decreases-adt::enum_item l = 512 * tokens l.p.now
+
+abbrev pub decreases-adt::expect_variants : goal.decreases-adt::expect_variants
+decreases-adt::expect_variants l = 512 * tokens l.p.now + 1
+
+abbrev pub decreases-consts::const_item : goal.decreases-consts::const_item
+decreases-consts::const_item l = 512 * tokens l.p.now
+
+abbrev pub decreases-consts::static_item : goal.decreases-consts::static_item
+decreases-consts::static_item l = 512 * tokens l.p.now
+
+abbrev pub decreases-consts::typed_value : goal.decreases-consts::typed_value
+decreases-consts::typed_value l = 512 * tokens l.p.now + 20
+
+abbrev pub decreases-consts::opt_value : goal.decreases-consts::opt_value
+decreases-consts::opt_value l = 512 * tokens l.p.now
+
+abbrev pub decreases-consts::type_alias : goal.decreases-consts::type_alias
+decreases-consts::type_alias l = 512 * tokens l.p.now
+
+abbrev pub decreases-functions::fn_item : goal.decreases-functions::fn_item
+decreases-functions::fn_item l = 512 * tokens l.p.now
+
+abbrev pub decreases-functions::expect_params : goal.decreases-functions::expect_params
+decreases-functions::expect_params l = 512 * tokens l.p.now + 1
+
+abbrev pub decreases-functions::opt_ret_type : goal.decreases-functions::opt_ret_type
+decreases-functions::opt_ret_type l = 512 * tokens l.p.now + 1
+
+abbrev pub decreases-functions::fn_body : goal.decreases-functions::fn_body
+decreases-functions::fn_body l = 512 * tokens l.p.now + 2
+
+abbrev pub decreases-traits::impl_item : goal.decreases-traits::impl_item
+decreases-traits::impl_item l = 512 * tokens l.p.now
+
+abbrev pub decreases-traits::trait_item : goal.decreases-traits::trait_item
+decreases-traits::trait_item l = 512 * tokens l.p.now
+
+abbrev pub decreases-traits::expect_assoc_items : goal.decreases-traits::expect_assoc_items
+decreases-traits::expect_assoc_items l = 512 * tokens l.p.now + 2
+
+abbrev pub decreases-types::opt_type_after : goal.decreases-types::opt_type_after
+decreases-types::opt_type_after l = 512 * tokens l.p.now
+
+abbrev pub invariant-items::attributes-turns : goal.invariant-items::attributes-turns
+invariant-items::attributes-turns l = record {
+  input : l.p.input ≡ l.initial.p.input;
+  innermost : (n : ℕ) → IsInnermost n l.initial.p.nodes → IsInnermost n l.p.nodes;
+  goes : (c : Bool) → TurnsFrom c (Call rules.attribute) l.initial.p l.p;
+  left : tokens l.p ≤ tokens l.initial.p;
+  looks : spent l.p ≤ spent l.initial.p;
+}
+
+abbrev pub decreases-items::attributes-turns : goal.decreases-items::attributes-turns
+decreases-items::attributes-turns l = tokens l.p
+
+abbrev pub invariant-items::items-turns : goal.invariant-items::items-turns
+invariant-items::items-turns l = record {
+  input : l.p.input ≡ l.initial.p.input;
+  innermost : (n : ℕ) → IsInnermost n l.initial.p.nodes → IsInnermost n l.p.nodes;
+  goes : TurnsFrom false (Unless (ends_of l.end) item_or_attribute) l.initial.p l.p;
+  left : tokens l.p ≤ tokens l.initial.p;
+  looks : spent l.p ≤ spent l.initial.p;
+}
+
+abbrev pub decreases-items::items-turns : goal.decreases-items::items-turns
+decreases-items::items-turns l = tokens l.p
+
+-- generics, fields, arms and parameters by hand
+abbrev pub decreases-generics::bound : goal.decreases-generics::bound
+decreases-generics::bound l = 512 * tokens l.p.now + 18
+
+abbrev pub decreases-generics::lifetime_or_path : goal.decreases-generics::lifetime_or_path
+decreases-generics::lifetime_or_path l = 512 * tokens l.p.now + 17
+
+abbrev pub decreases-generics::path_after_question : goal.decreases-generics::path_after_question
+decreases-generics::path_after_question l = 512 * tokens l.p.now
+
+abbrev pub decreases-generics::expect_path_type : goal.decreases-generics::expect_path_type
+decreases-generics::expect_path_type l = 512 * tokens l.p.now + 17
+
+abbrev pub decreases-generics::bounds : goal.decreases-generics::bounds
+decreases-generics::bounds l = 512 * tokens l.p.now + 20
+
+abbrev pub decreases-generics::opt_bounds : goal.decreases-generics::opt_bounds
+decreases-generics::opt_bounds l = 512 * tokens l.p.now + 19
+
+abbrev pub decreases-generics::further_bounds : goal.decreases-generics::further_bounds
+decreases-generics::further_bounds l = 512 * tokens l.p.now + 1
+
+abbrev pub decreases-generics::further_bound : goal.decreases-generics::further_bound
+decreases-generics::further_bound l = 512 * tokens l.p.now
+
+abbrev pub decreases-generics::opt_bound : goal.decreases-generics::opt_bound
+decreases-generics::opt_bound l = 512 * tokens l.p.now + 19
+
+abbrev pub decreases-generics::bounds_after_colon : goal.decreases-generics::bounds_after_colon
+decreases-generics::bounds_after_colon l = 512 * tokens l.p.now
+
+abbrev pub decreases-generics::lifetime_param : goal.decreases-generics::lifetime_param
+decreases-generics::lifetime_param l = 512 * tokens l.p.now
+
+abbrev pub decreases-generics::type_param : goal.decreases-generics::type_param
+decreases-generics::type_param l = 512 * tokens l.p.now
+
+abbrev pub decreases-generics::generic_param : goal.decreases-generics::generic_param
+decreases-generics::generic_param l = 512 * tokens l.p.now + 1
+
+abbrev pub decreases-generics::lifetime_or_type : goal.decreases-generics::lifetime_or_type
+decreases-generics::lifetime_or_type l = 512 * tokens l.p.now + 19
+
+abbrev pub decreases-generics::where_pred : goal.decreases-generics::where_pred
+decreases-generics::where_pred l = 512 * tokens l.p.now + 20
+
+abbrev pub decreases-generics::where_clause : goal.decreases-generics::where_clause
+decreases-generics::where_clause l = 512 * tokens l.p.now
+
+abbrev pub decreases-generics::opt_preds : goal.decreases-generics::opt_preds
+decreases-generics::opt_preds l = 512 * tokens l.p.now + 21
+
+abbrev pub decreases-generics::further_preds : goal.decreases-generics::further_preds
+decreases-generics::further_preds l = 512 * tokens l.p.now + 1
+
+abbrev pub decreases-generics::further_pred : goal.decreases-generics::further_pred
+decreases-generics::further_pred l = 512 * tokens l.p.now
+
+abbrev pub decreases-generics::opt_pred : goal.decreases-generics::opt_pred
+decreases-generics::opt_pred l = 512 * tokens l.p.now + 21
+
+abbrev pub decreases-generic_arg::generic_arg : goal.decreases-generic_arg::generic_arg
+decreases-generic_arg::generic_arg l = 512 * tokens l.p.now + 21
+
+abbrev pub decreases-generic_arg::word_arg : goal.decreases-generic_arg::word_arg
+decreases-generic_arg::word_arg l = 512 * tokens l.p.now + 20
+
+abbrev pub decreases-generic_arg::assoc_type_arg : goal.decreases-generic_arg::assoc_type_arg
+decreases-generic_arg::assoc_type_arg l = 512 * tokens l.p.now
+
+abbrev pub decreases-generic_arg::type_arg : goal.decreases-generic_arg::type_arg
+decreases-generic_arg::type_arg l = 512 * tokens l.p.now + 19
+
+abbrev pub decreases-fields::field_value : goal.decreases-fields::field_value
+decreases-fields::field_value l = 512 * tokens l.p.now + 10
+
+abbrev pub decreases-fields::named_value : goal.decreases-fields::named_value
+decreases-fields::named_value l = 512 * tokens l.p.now
+
+abbrev pub decreases-fields::other_fields : goal.decreases-fields::other_fields
+decreases-fields::other_fields l = 512 * tokens l.p.now
+
+abbrev pub decreases-fields::opt_expression : goal.decreases-fields::opt_expression
+decreases-fields::opt_expression l = 512 * tokens l.p.now + 101
+
+abbrev pub decreases-fields::path_value : goal.decreases-fields::path_value
+decreases-fields::path_value l = 512 * tokens l.p.now + 9
+
+abbrev pub decreases-fields::pattern_field : goal.decreases-fields::pattern_field
+decreases-fields::pattern_field l = 512 * tokens l.p.now + 1
+
+abbrev pub decreases-fields::named_pattern : goal.decreases-fields::named_pattern
+decreases-fields::named_pattern l = 512 * tokens l.p.now
+
+abbrev pub decreases-match_arm::match_arm : goal.decreases-match_arm::match_arm
+decreases-match_arm::match_arm l = 512 * tokens l.p.now + 25
+
+abbrev pub decreases-match_arm::opt_guard : goal.decreases-match_arm::opt_guard
+decreases-match_arm::opt_guard l = 512 * tokens l.p.now
+
+abbrev pub decreases-match_arm::arm_value : goal.decreases-match_arm::arm_value
+decreases-match_arm::arm_value l = 512 * tokens l.p.now + 102
+
+abbrev pub decreases-param::param : goal.decreases-param::param
+decreases-param::param l = 512 * tokens l.p.now + 26
+
+abbrev pub decreases-param::pattern_param : goal.decreases-param::pattern_param
+decreases-param::pattern_param l = 512 * tokens l.p.now + 25
+
+abbrev pub decreases-param::self_param : goal.decreases-param::self_param
+decreases-param::self_param l = 512 * tokens l.p.now + 1
+
+abbrev pub decreases-param::self_after_ref : goal.decreases-param::self_after_ref
+decreases-param::self_after_ref l = 512 * tokens l.p.now
+
+abbrev pub decreases-param::self_after_mut : goal.decreases-param::self_after_mut
+decreases-param::self_after_mut l = 512 * tokens l.p.now
+
+abbrev pub decreases-param::self_alone : goal.decreases-param::self_alone
+decreases-param::self_alone l = 512 * tokens l.p.now
+
+abbrev pub invariant-generics::further_bounds-turns : goal.invariant-generics::further_bounds-turns
+invariant-generics::further_bounds-turns l = record {
+  input : l.p.input ≡ l.initial.p.input;
+  goes : (c : Bool) → TurnsFrom c (One '+' ▸ ⁅ Bound ⁆) l.initial.p l.p;
+  left : tokens l.p ≤ tokens l.initial.p;
+  looks : spent l.p ≤ spent l.initial.p;
+}
+
+abbrev pub decreases-generics::further_bounds-turns : goal.decreases-generics::further_bounds-turns
+decreases-generics::further_bounds-turns l = tokens l.p
+
+abbrev pub invariant-generics::further_preds-turns : goal.invariant-generics::further_preds-turns
+invariant-generics::further_preds-turns l = record {
+  input : l.p.input ≡ l.initial.p.input;
+  goes : TurnsFrom l.condition (One 'comma' ▸ ⁅ WherePred ⁆) l.initial.p l.p;
+  left : tokens l.p ≤ tokens l.initial.p;
+  looks : spent l.p ≤ spent l.initial.p;
+}
+
+abbrev pub decreases-generics::further_preds-turns : goal.decreases-generics::further_preds-turns
+decreases-generics::further_preds-turns l = tokens l.p
+
+-- operations by hand
+abbrev pub decreases-layers::layers : goal.decreases-layers::layers
+decreases-layers::layers l = 512 * tokens l.p.now + 34
+
+abbrev pub decreases-layers::expect_layer : goal.decreases-layers::expect_layer
+decreases-layers::expect_layer l = 512 * tokens l.p.now + 35
+
+abbrev pub decreases-layers::climb : goal.decreases-layers::climb
+decreases-layers::climb l = 512 * tokens l.p.now + 1
+
+abbrev pub decreases-layers::turn : goal.decreases-layers::turn
+decreases-layers::turn l = 512 * tokens l.p.now
+
+abbrev pub decreases-expressions::expect_any : goal.decreases-expressions::expect_any
+decreases-expressions::expect_any l = 512 * tokens l.p.now + 39
+
+abbrev pub decreases-expressions::expect_operation : goal.decreases-expressions::expect_operation
+decreases-expressions::expect_operation l = 512 * tokens l.p.now + 38
+
+abbrev pub decreases-expressions::expression : goal.decreases-expressions::expression
+decreases-expressions::expression l = 512 * tokens l.p.now + 38
+
+abbrev pub decreases-expressions::operation : goal.decreases-expressions::operation
+decreases-expressions::operation l = 512 * tokens l.p.now + 37
+
+abbrev pub decreases-expressions::operands : goal.decreases-expressions::operands
+decreases-expressions::operands l = 512 * tokens l.p.now + 36
+
+abbrev pub decreases-expressions::range : goal.decreases-expressions::range
+decreases-expressions::range l = 512 * tokens l.p.now + 3
+
+abbrev pub decreases-expressions::operation_tail : goal.decreases-expressions::operation_tail
+decreases-expressions::operation_tail l = 512 * tokens l.p.now + 2
+
+abbrev pub decreases-expressions::range_end : goal.decreases-expressions::range_end
+decreases-expressions::range_end l = 512 * tokens l.p.now
+
+abbrev pub decreases-expressions::assignment : goal.decreases-expressions::assignment
+decreases-expressions::assignment l = 512 * tokens l.p.now
+
+abbrev pub invariant-layers::climb-turns : goal.invariant-layers::climb-turns
+invariant-layers::climb-turns l = record {
+  input : l.p.input ≡ l.initial.p.input;
+  marker : IsInnermost l.frame l.p.nodes;
+  next : IsNext l.next l.p;
+  goes : LayersFrom l.condition (turns_from l.top 1) (turns_from (l.top + 1 - l.lowest) l.lowest) l.initial.p l.p;
+  some : 1 ≤ l.lowest;
+  low : l.lowest ≤ l.top + 1;
+  left : tokens l.p ≤ tokens l.initial.p;
+  looks : spent l.p ≤ spent l.initial.p;
+}
+
+abbrev pub decreases-layers::climb-turns : goal.decreases-layers::climb-turns
+decreases-layers::climb-turns l = tokens l.p
+
+abbrev pub invariant-expressions::operation_tail-ranges-2 : goal.invariant-expressions::operation_tail-ranges-2
+invariant-expressions::operation_tail-ranges-2 l = record {
+  input : l.p.input ≡ l.initial.p.input;
+  marker : IsInnermost l.frame l.p.nodes;
+  mark : IsMark l.mark l.p;
+  goes : GoesFrom rules.operation_tail l.condition l.initial.p l.p;
+  left : tokens l.p ≤ tokens l.initial.p;
+  looks : spent l.p ≤ spent l.initial.p;
+}
+
+abbrev pub decreases-expressions::operation_tail-ranges-2 : goal.decreases-expressions::operation_tail-ranges-2
+decreases-expressions::operation_tail-ranges-2 l = tokens l.p
+
+-- variants and fields by hand
+abbrev pub decreases-lists::variants : goal.decreases-lists::variants
+decreases-lists::variants l = 512 * tokens l.p.now
+
+abbrev pub decreases-lists::record_fields : goal.decreases-lists::record_fields
+decreases-lists::record_fields l = 512 * tokens l.p.now
+
+abbrev pub decreases-lists::tuple_fields : goal.decreases-lists::tuple_fields
+decreases-lists::tuple_fields l = 512 * tokens l.p.now
+
+abbrev pub decreases-items::attributes_and_visibility : goal.decreases-items::attributes_and_visibility
+decreases-items::attributes_and_visibility l = 512 * tokens l.p.now + 1
+
+abbrev pub decreases-members::named : goal.decreases-members::named
+decreases-members::named l = 512 * tokens l.p.now + 2
+
+abbrev pub decreases-members::typed : goal.decreases-members::typed
+decreases-members::typed l = 512 * tokens l.p.now + 20
+
+abbrev pub decreases-members::opt_fields : goal.decreases-members::opt_fields
+decreases-members::opt_fields l = 512 * tokens l.p.now + 1
+
+abbrev pub decreases-members::variant : goal.decreases-members::variant
+decreases-members::variant l = 512 * tokens l.p.now + 3
+
+abbrev pub decreases-members::record_field : goal.decreases-members::record_field
+decreases-members::record_field l = 512 * tokens l.p.now + 3
+
+abbrev pub decreases-members::tuple_field : goal.decreases-members::tuple_field
+decreases-members::tuple_field l = 512 * tokens l.p.now + 21

@@ -1,0 +1,91 @@
+-- What a function that reads several things is told to read.
+use Rattle.std.specs.Prelude.{ℕ, [], ◌∷◌}
+use Rattle.parser_input.specs.Kinds.{COMMA, EXPR_STMT}
+use Rattle.parser_events.specs.Forest.{Expected, UnexpectedIn}
+use Rattle.rust_grammar.specs.Calls.{Attribute, GenericArgs, Item}
+use Rattle.rust_grammar.specs.Notation.{◌or◌, ◌▸◌, ⁅◌⁆, ◌⁺, ◌⟨◌⟩, ◌<⟨◌⟩, more, ◌before◌, ◌not_before◌, next, one_of, stops, until}
+use Rattle.rust_grammar.specs.Rule as rules
+use Rattle.rust_grammar.specs.Rule.{Look, Both, Either, Left, Not, Rule, Call, Nothing, One, Say, Skip, Unless, When}
+use Rattle.rust_grammar.specs.Statements.{Listing, goes_on, in_block, in_macro}
+use Rattle.rust_grammar.specs.Words.{one, '::', '<', '=', '#', '!', 'comma', 'semi'}
+use Rattle.rust_grammar.specs.Expressions.{closure_param}
+use Rattle.rust_grammar.specs.Items.{record_field, tuple_field, variant}
+use Rattle.grammar_reader.specs.declared.grammar.expressions.Level.{Level}
+use Rattle.grammar_reader.specs.declared.grammar.expressions.Level.TheVariants as levels
+use Rattle.grammar_reader.specs.declared.grammar.list_end.ListEnd.{ListEnd}
+use Rattle.grammar_reader.specs.declared.grammar.list_end.ListEnd.TheVariants as list_ends
+use Rattle.grammar_reader.specs.declared.grammar.lists.Element.{Element}
+use Rattle.grammar_reader.specs.declared.grammar.lists.Element.TheVariants as elements
+use Rattle.grammar_reader.specs.declared.grammar.paths.Mode.{Mode}
+use Rattle.grammar_reader.specs.declared.grammar.paths.Mode.TheVariants as modes
+
+-- which operators an expression has outside of brackets
+abbrev pub level_of : Level → rules.Production
+level_of levels.Comparison = rules.comparison
+level_of levels.Expression = rules.expression
+level_of levels.Operation = rules.operation
+level_of levels.Prefixed = rules.prefixed
+
+-- what the elements of a list are
+abbrev pub element_of : Element → Rule
+element_of elements.ClosureParam = closure_param
+element_of elements.Expression = Call rules.expression
+element_of elements.FieldValue = Call rules.field_value
+element_of elements.GenericArg = Call rules.generic_arg
+element_of elements.GenericParam = Call rules.generic_param
+element_of elements.Param = Call rules.param
+element_of elements.Pattern = Call rules.pattern
+element_of elements.PatternField = Call rules.pattern_field
+element_of elements.RecordField = record_field
+element_of elements.TupleField = tuple_field
+element_of elements.Type = Call rules.any_type
+element_of elements.Variant = variant
+
+-- how many looks tell at most whether an element is next, and how many one takes that takes no token
+abbrev pub looks_before : Element → ℕ
+looks_before elements.ClosureParam = 8
+looks_before elements.Expression = 14
+looks_before x = 9
+
+abbrev pub looks_in : Element → ℕ
+looks_in elements.ClosureParam = 0
+looks_in x = 600
+
+-- what a list repeats
+abbrev pub list_turn : (list : ℕ) → (element : Rule) → (close : ℕ) → Rule
+list_turn list element close =
+    Unless (until (one close))
+    (element ▸ (One 'comma' or When (next (one close)) Nothing or Say (Expected COMMA)) or When (Both Left (Not (one_of 0 stops))) (Skip (UnexpectedIn list)))
+
+-- Where arguments begin in a path of an expression, and of a type.
+abbrev pub angle : Look
+angle = '<' not_before ('=' ∷ [])
+
+abbrev pub args_look : Mode → Look
+args_look modes.Expr = '::' before '<'
+args_look modes.Type = Either ('::' before '<') angle
+
+abbrev pub args_of : Mode → Rule
+args_of mode = ⁅ When (args_look mode) GenericArgs ⁆
+
+abbrev pub path_of : Mode → rules.Production
+path_of modes.Expr = rules.expr_path
+path_of modes.Type = rules.type_path
+
+-- A list of statements up to a brace is that of a block, and one up to the end of the input that of a macro.
+abbrev pub listing_of : ListEnd → Listing
+listing_of list_ends.Brace = in_block
+listing_of list_ends.Input = in_macro
+
+-- where a list of items or of statements ends
+abbrev pub ends_of : ListEnd → Look
+ends_of end = (listing_of end).ends
+
+-- what a list of items repeats
+abbrev pub item_or_attribute : Rule
+item_or_attribute = When ('#' before '!') Attribute or Item
+
+-- what stands in a list after an expression that ends in a block
+abbrev pub after_block_of : ListEnd → Rule
+after_block_of end =
+    When goes_on ((more rules.postfix) ⁺ ▸ more (listing_of end).end) or EXPR_STMT <⟨ One 'semi' ⟩ or When (ends_of end) Nothing or EXPR_STMT <⟨ Nothing ⟩

@@ -1,0 +1,106 @@
+//! Structs and enums.
+
+ghost use Rattle.std.specs.Prelude.{◌≡◌, ◌≤◌, ◌<◌, ◌+◌, ◌*◌, ◌^◌, Bool, length};
+ghost use Rattle.parser_input.specs.Kinds.{ENUM, STRUCT};
+ghost use Rattle.parser_events.specs.Stack.{IsInnermost};
+ghost use Rattle.rust_grammar.specs.Calls.{GenericParams, Name, RecordFields, TupleFields, Variants, WhereClause};
+ghost use Rattle.rust_grammar.specs.Notation.{◌or◌, ◌▸◌, ⁅◌⁆, ◌!, ◌<⟨◌⟩};
+ghost use Rattle.rust_grammar.specs.Rule.{One};
+ghost use Rattle.rust_grammar.specs.Words.{'enum', 'semi', 'struct'};
+ghost use Rattle.rust_productions.specs.Looks.{tokens, spent};
+ghost use Rattle.rust_productions.specs.Reads.{Completes, Reads};
+
+use crate::grammar::items::{opt_generic_params, opt_where_clause};
+use crate::grammar::lists::{record_fields, tuple_fields, variants};
+use parser_events::message::Message;
+use parser_events::parser::{Marker, Parser};
+use parser_input::syntax_kind::SyntaxKind;
+use rust_productions::grammar::names::expect_name;
+use rust_productions::grammar::{at, complete, error, expect, take};
+
+/// A struct.
+#[cycle(grammar)]
+pub(crate) fn struct_item(p: &mut Parser<'_>, item: Marker, condition: bool)
+    requires short { length p.old.input < 2 ^ 64 }
+    requires some { 1 ≤ tokens p.old }
+    requires innermost { IsInnermost item p.old.nodes }
+    ensures completes { Completes condition (STRUCT <⟨ One 'struct' ▸ Name ! ▸ ⁅ GenericParams ⁆
+        ▸ (TupleFields ▸ ⁅ WhereClause ⁆ ▸ One 'semi' !
+        or ⁅ WhereClause ⁆ ▸ (RecordFields or One 'semi' !)) ⟩) p.old p.new }
+    ensures left { tokens p.new + 1 ≤ tokens p.old }
+    ensures looks { spent p.new + 4080 ≤ spent p.old }
+{
+    take(p, SyntaxKind::STRUCT_KW);
+    expect_name(p);
+    opt_generic_params(p);
+    fields(p, condition);
+    complete(p, item, SyntaxKind::STRUCT);
+}
+
+/// The fields of a struct, or its `;`.
+#[cycle(grammar)]
+fn fields(p: &mut Parser<'_>, condition: bool)
+    requires short { length p.old.input < 2 ^ 64 }
+    ensures reads { Reads condition (TupleFields ▸ ⁅ WhereClause ⁆ ▸ One 'semi' !
+        or ⁅ WhereClause ⁆ ▸ (RecordFields or One 'semi' !)) p.old p.new }
+    ensures left { tokens p.new ≤ tokens p.old }
+    ensures looks { spent p.new ≤ spent p.old + 4 }
+{
+    if at(p, SyntaxKind::L_PAREN) {
+        tuple_fields(p);
+        opt_where_clause(p, condition);
+        expect(p, SyntaxKind::SEMICOLON);
+        return;
+    }
+    opt_where_clause(p, condition);
+    named_fields(p);
+}
+
+/// The named fields of a struct, or the `;` of one that has none.
+#[cycle(grammar)]
+fn named_fields(p: &mut Parser<'_>)
+    requires short { length p.old.input < 2 ^ 64 }
+    ensures reads { (c : Bool) → Reads c (RecordFields or One 'semi' !) p.old p.new }
+    ensures left { tokens p.new ≤ tokens p.old }
+    ensures looks { spent p.new ≤ spent p.old + 2 }
+{
+    if at(p, SyntaxKind::L_CURLY) {
+        record_fields(p);
+        return;
+    }
+    expect(p, SyntaxKind::SEMICOLON);
+}
+
+/// An enum.
+#[cycle(grammar)]
+pub(crate) fn enum_item(p: &mut Parser<'_>, item: Marker, condition: bool)
+    requires short { length p.old.input < 2 ^ 64 }
+    requires some { 1 ≤ tokens p.old }
+    requires innermost { IsInnermost item p.old.nodes }
+    ensures completes { Completes condition (ENUM <⟨ One 'enum' ▸ Name ! ▸ ⁅ GenericParams ⁆
+        ▸ ⁅ WhereClause ⁆ ▸ Variants ! ⟩) p.old p.new }
+    ensures left { tokens p.new + 1 ≤ tokens p.old }
+    ensures looks { spent p.new + 4080 ≤ spent p.old }
+{
+    take(p, SyntaxKind::ENUM_KW);
+    expect_name(p);
+    opt_generic_params(p);
+    opt_where_clause(p, condition);
+    expect_variants(p);
+    complete(p, item, SyntaxKind::ENUM);
+}
+
+/// The variants of an enum, or the message that they are missing.
+#[cycle(grammar)]
+fn expect_variants(p: &mut Parser<'_>)
+    requires short { length p.old.input < 2 ^ 64 }
+    ensures reads { (c : Bool) → Reads c (Variants !) p.old p.new }
+    ensures left { tokens p.new ≤ tokens p.old }
+    ensures looks { spent p.new ≤ spent p.old + 1 }
+{
+    if at(p, SyntaxKind::L_CURLY) {
+        variants(p);
+        return;
+    }
+    error(p, Message::Expected(SyntaxKind::VARIANT_LIST));
+}

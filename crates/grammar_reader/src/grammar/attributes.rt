@@ -1,0 +1,85 @@
+//! Attributes.
+
+ghost use Rattle.std.specs.Prelude.{◌≡◌, ◌≤◌, ◌<◌, ◌+◌, ◌*◌, ◌^◌, Bool, true, false, length};
+ghost use Rattle.rust_grammar.specs.Calls.{Expression, Meta, TokenTree};
+ghost use Rattle.rust_grammar.specs.Notation.{◌or◌, ◌▸◌, ⁅◌⁆, ◌! };
+ghost use Rattle.rust_grammar.specs.Rule as rules;
+ghost use Rattle.rust_grammar.specs.Rule.{One};
+ghost use Rattle.rust_grammar.specs.Words.{'='};
+ghost use Rattle.rust_productions.specs.Looks.{tokens, spent};
+ghost use Rattle.rust_productions.specs.Reads.{looks, Gives, Reads, Saw};
+
+use crate::grammar::expressions::{Level, expect_expression};
+use parser_events::message::Message;
+use parser_events::parser::Parser;
+use parser_input::syntax_kind::SyntaxKind;
+use rust_productions::grammar::paths::{at_path, path};
+use rust_productions::grammar::token_trees::{at_token_tree, token_tree};
+use rust_productions::grammar::{at, complete, eat, error, expect, start, take};
+
+/// An attribute.
+#[cycle(grammar)]
+pub(crate) fn attribute(p: &mut Parser<'_>)
+    requires short { length p.old.input < 2 ^ 64 }
+    requires some { 1 ≤ tokens p.old }
+    ensures gives { (c : Bool) → Gives rules.attribute c p.old p.new }
+    ensures left { tokens p.new + 1 ≤ tokens p.old }
+    ensures looks { spent p.new + 4080 ≤ spent p.old }
+{
+    let attribute = start(p);
+    take(p, SyntaxKind::POUND);
+    eat(p, SyntaxKind::BANG);
+    expect(p, SyntaxKind::L_BRACK);
+    expect_meta(p);
+    expect(p, SyntaxKind::R_BRACK);
+    complete(p, attribute, SyntaxKind::ATTR);
+}
+
+/// What an attribute says, or the message that it is missing.
+#[cycle(grammar)]
+fn expect_meta(p: &mut Parser<'_>)
+    requires short { length p.old.input < 2 ^ 64 }
+    ensures reads { Reads false (Meta !) p.old p.new }
+    ensures left { tokens p.new ≤ tokens p.old }
+    ensures looks { spent p.new ≤ spent p.old + 3 }
+{
+    if at_path(p) {
+        meta(p, false);
+        return;
+    }
+    error(p, Message::Expected(SyntaxKind::META));
+}
+
+/// What an attribute says: a path, and a value or tokens.
+#[cycle(grammar)]
+pub fn meta(p: &mut Parser<'_>, condition: bool)
+    requires short { length p.old.input < 2 ^ 64 }
+    requires begins { (c : Bool) → Saw c (looks rules.path) p.old true }
+    requires some { 1 ≤ tokens p.old }
+    ensures gives { Gives rules.meta condition p.old p.new }
+    ensures left { tokens p.new + 1 ≤ tokens p.old }
+    ensures looks { spent p.new + 3990 ≤ spent p.old }
+{
+    let meta = start(p);
+    path(p);
+    opt_value(p, condition);
+    complete(p, meta, SyntaxKind::META);
+}
+
+/// The value or the tokens after the path of what an attribute says, where there are some.
+#[cycle(grammar)]
+fn opt_value(p: &mut Parser<'_>, condition: bool)
+    requires short { length p.old.input < 2 ^ 64 }
+    ensures reads { Reads condition (⁅ One '=' ▸ Expression ! or TokenTree ⁆) p.old p.new }
+    ensures left { tokens p.new ≤ tokens p.old }
+    ensures looks { spent p.new ≤ spent p.old + 2 }
+{
+    if at(p, SyntaxKind::EQ) {
+        take(p, SyntaxKind::EQ);
+        expect_expression(p, Level::Expression, condition);
+        return;
+    }
+    if at_token_tree(p) {
+        token_tree(p);
+    }
+}

@@ -1,0 +1,80 @@
+//! Blocks.
+
+ghost use Rattle.std.specs.Prelude.{◌≡◌, ◌≤◌, ◌<◌, ◌+◌, ◌*◌, ◌^◌, Bool, ℕ, IsTrue, false, length};
+ghost use Rattle.parser_events.specs.Stack.{IsInnermost};
+ghost use Rattle.rust_grammar.specs.Rule as rules;
+ghost use Rattle.rust_grammar.specs.Rule.{Call, Unless};
+ghost use Rattle.rust_grammar.specs.Statements.{all_of};
+ghost use Rattle.grammar_reader.specs.Told.{ends_of, listing_of};
+ghost use Rattle.rust_productions.specs.Looks.{tokens, spent};
+ghost use Rattle.rust_productions.specs.Reads.{Gives, Reads};
+ghost use Rattle.rust_productions.specs.Turns.{TurnsFrom};
+
+use crate::grammar::list_end::{ListEnd, at_end_of};
+use crate::grammar::statements::statement;
+use parser_events::parser::Parser;
+use parser_input::syntax_kind::SyntaxKind;
+use rust_productions::grammar::{complete, expect, start, take, tokens_left};
+
+/// A block.
+#[cycle(grammar)]
+pub(crate) fn block(p: &mut Parser<'_>)
+    requires short { length p.old.input < 2 ^ 64 }
+    requires some { 1 ≤ tokens p.old }
+    ensures gives { (c : Bool) → Gives rules.block c p.old p.new }
+    ensures left { tokens p.new + 1 ≤ tokens p.old }
+    ensures looks { spent p.new + 2990 ≤ spent p.old }
+{
+    let block = start(p);
+    statement_list(p);
+    complete(p, block, SyntaxKind::BLOCK_EXPR);
+}
+
+/// The statements of a block, in their braces.
+#[cycle(grammar)]
+pub(crate) fn statement_list(p: &mut Parser<'_>)
+    requires short { length p.old.input < 2 ^ 64 }
+    requires some { 1 ≤ tokens p.old }
+    ensures gives { (c : Bool) → Gives rules.statement_list c p.old p.new }
+    ensures left { tokens p.new + 1 ≤ tokens p.old }
+    ensures looks { spent p.new + 3000 ≤ spent p.old }
+{
+    let list = start(p);
+    take(p, SyntaxKind::L_CURLY);
+    statements(p, ListEnd::Brace);
+    expect(p, SyntaxKind::R_CURLY);
+    complete(p, list, SyntaxKind::STMT_LIST);
+}
+
+/// Reads a statement, which any token begins. Whether more may follow is the answer.
+#[cycle(grammar)]
+fn statement_turn(p: &mut Parser<'_>, end: ListEnd) -> bool
+    requires short { length p.old.input < 2 ^ 64 }
+    ensures goes { IsTrue result
+        → TurnsFrom false (Unless (ends_of end) (Call (listing_of end).one)) p.old p.new }
+    ensures ends { result ≡ false → Reads false (all_of (listing_of end)) p.old p.new }
+    ensures input { p.new.input ≡ p.old.input }
+    ensures innermost { (n : ℕ) → IsInnermost n p.old.nodes → IsInnermost n p.new.nodes }
+    ensures fewer { IsTrue result → tokens p.new < tokens p.old }
+    ensures left { tokens p.new ≤ tokens p.old }
+    ensures pays { IsTrue result → spent p.new ≤ spent p.old }
+    ensures looks { spent p.new ≤ spent p.old + 901 }
+{
+    if at_end_of(p, end) {
+        return false;
+    }
+    let before = tokens_left(p);
+    statement(p, end);
+    tokens_left(p) < before
+}
+
+/// Reads statements up to where their list ends.
+#[cycle(grammar)]
+pub(crate) fn statements(p: &mut Parser<'_>, end: ListEnd)
+    requires short { length p.old.input < 2 ^ 64 }
+    ensures reads { Reads false (all_of (listing_of end)) p.old p.new }
+    ensures left { tokens p.new ≤ tokens p.old }
+    ensures looks { spent p.new ≤ spent p.old + 901 }
+{
+    'turns: while statement_turn(p, end) {}
+}

@@ -1,0 +1,51 @@
+//! What a whole input is read as, where nothing is left over.
+
+ghost use Rattle.std.specs.Prelude.{◌≡◌, ◌≤◌, ◌<◌, ◌+◌, ◌*◌, ◌^◌, false, length};
+ghost use Rattle.rust_grammar.specs.Rule as rules;
+ghost use Rattle.rust_productions.specs.Looks.{tokens, spent};
+ghost use Rattle.rust_productions.specs.Reads.{Gives};
+
+use crate::grammar::blocks::statements;
+use crate::grammar::items::items;
+use crate::grammar::list_end::ListEnd;
+use parser_events::parser::Parser;
+use parser_input::syntax_kind::SyntaxKind;
+use rust_productions::grammar::{complete, eat, start};
+
+/// A file: items, and what may stand before them.
+pub fn source_file(p: &mut Parser<'_>)
+    requires short { length p.old.input < 2 ^ 64 }
+    ensures gives { Gives rules.source_file false p.old p.new }
+    ensures left { tokens p.new ≤ tokens p.old }
+    ensures looks { spent p.new ≤ spent p.old + 4 }
+{
+    let file = start(p);
+    eat(p, SyntaxKind::SHEBANG);
+    eat(p, SyntaxKind::FRONTMATTER);
+    items(p, ListEnd::Input);
+    complete(p, file, SyntaxKind::SOURCE_FILE);
+}
+
+/// The items that a macro stands for.
+pub fn macro_items(p: &mut Parser<'_>)
+    requires short { length p.old.input < 2 ^ 64 }
+    ensures gives { Gives rules.macro_items false p.old p.new }
+    ensures left { tokens p.new ≤ tokens p.old }
+    ensures looks { spent p.new ≤ spent p.old + 2 }
+{
+    let list = start(p);
+    items(p, ListEnd::Input);
+    complete(p, list, SyntaxKind::MACRO_ITEMS);
+}
+
+/// The statements that a macro stands for.
+pub fn macro_statements(p: &mut Parser<'_>)
+    requires short { length p.old.input < 2 ^ 64 }
+    ensures gives { Gives rules.macro_statements false p.old p.new }
+    ensures left { tokens p.new ≤ tokens p.old }
+    ensures looks { spent p.new ≤ spent p.old + 901 }
+{
+    let list = start(p);
+    statements(p, ListEnd::Input);
+    complete(p, list, SyntaxKind::MACRO_STMTS);
+}

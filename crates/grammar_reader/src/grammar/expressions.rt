@@ -1,0 +1,225 @@
+//! Expressions: operations, ranges and assignments.
+
+ghost use Rattle.std.specs.Prelude.{◌≡◌, ◌≤◌, ◌<◌, ◌+◌, ◌*◌, ◌^◌, ℕ, Bool, IsTrue, Some, None, true, false, length};
+ghost use Rattle.parser_events.specs.Forest.{ExpectedExpression};
+ghost use Rattle.parser_events.specs.Stack.{IsInnermost};
+ghost use Rattle.rust_grammar.specs.Calls.{Disjunction, Operation};
+ghost use Rattle.rust_grammar.specs.Expressions.{body_begins, range_to};
+ghost use Rattle.rust_grammar.specs.Notation.{◌▸◌, ◌!, more, on};
+ghost use Rattle.rust_grammar.specs.Rule as rules;
+ghost use Rattle.rust_grammar.specs.Rule.{Call, One, Unless, Want, begins};
+ghost use Rattle.grammar_reader.specs.Told.{level_of};
+ghost use Rattle.rust_productions.specs.Looks.{tokens, spent};
+ghost use Rattle.rust_productions.specs.Operators.{IsMark, spelling_of};
+ghost use Rattle.rust_productions.specs.Reads.{looks, Gives, Reads, Saw};
+ghost use Rattle.rust_productions.specs.Turns.{GoesFrom};
+
+use crate::grammar::layers::{climb, expect_layer, layers};
+use crate::grammar::operands::prefixed;
+use parser_events::message::Message;
+use parser_events::parser::{Marker, Parser};
+use parser_input::syntax_kind::SyntaxKind;
+use rust_productions::grammar::expressions::{at_expression, at_operation, at_range_operand};
+use rust_productions::grammar::operators::{
+    RangeMark, current_op, range_mark, take_mark, take_operator,
+};
+use rust_productions::grammar::{abandon, complete, error, start, wrap};
+
+/// Which operators an expression may have outside of brackets.
+#[derive(Clone, Copy)]
+pub(crate) enum Level {
+    Comparison,
+    Expression,
+    Operation,
+    Prefixed,
+}
+
+/// An expression with these operators, or the message that it is missing.
+#[cycle(grammar)]
+pub(crate) fn expect_expression(p: &mut Parser<'_>, level: Level, condition: bool)
+    requires short { length p.old.input < 2 ^ 64 }
+    ensures reads { Reads condition (Want (Call (level_of level)) ExpectedExpression) p.old p.new }
+    ensures left { tokens p.new ≤ tokens p.old }
+    ensures looks { spent p.new ≤ spent p.old + 20 }
+{
+    match level {
+        Level::Comparison => expect_layer(p, 8, condition),
+        Level::Expression => expect_any(p, condition),
+        Level::Operation => expect_operation(p, condition),
+        Level::Prefixed => expect_layer(p, 0, condition),
+    }
+}
+
+/// An expression, or the message that it is missing.
+#[cycle(grammar)]
+fn expect_any(p: &mut Parser<'_>, condition: bool)
+    requires short { length p.old.input < 2 ^ 64 }
+    ensures reads { Reads condition (Want (Call rules.expression) ExpectedExpression) p.old p.new }
+    ensures left { tokens p.new ≤ tokens p.old }
+    ensures looks { spent p.new ≤ spent p.old + 14 }
+{
+    if at_expression(p, condition) {
+        expression(p, condition);
+        return;
+    }
+    error(p, Message::ExpectedExpression);
+}
+
+/// An operation, or the message that it is missing.
+#[cycle(grammar)]
+fn expect_operation(p: &mut Parser<'_>, condition: bool)
+    requires short { length p.old.input < 2 ^ 64 }
+    ensures reads { Reads condition (Operation !) p.old p.new }
+    ensures left { tokens p.new ≤ tokens p.old }
+    ensures looks { spent p.new ≤ spent p.old + 14 }
+{
+    if at_operation(p, condition) {
+        operation(p, condition);
+        return;
+    }
+    error(p, Message::ExpectedExpression);
+}
+
+/// A condition, or the message that it is missing.
+#[cycle(grammar)]
+pub(crate) fn expect_condition(p: &mut Parser<'_>)
+    requires short { length p.old.input < 2 ^ 64 }
+    ensures reads { (c : Bool) → Reads c (on Operation !) p.old p.new }
+    ensures left { tokens p.new ≤ tokens p.old }
+    ensures looks { spent p.new ≤ spent p.old + 20 }
+{
+    expect_expression(p, Level::Operation, true);
+}
+
+/// An expression.
+#[cycle(grammar)]
+pub fn expression(p: &mut Parser<'_>, condition: bool)
+    requires short { length p.old.input < 2 ^ 64 }
+    requires begins { Saw condition (looks rules.expression) p.old true }
+    requires some { 1 ≤ tokens p.old }
+    ensures gives { Gives rules.expression condition p.old p.new }
+    ensures left { tokens p.new + 1 ≤ tokens p.old }
+    ensures looks { spent p.new + 2840 ≤ spent p.old }
+{
+    operation(p, condition);
+}
+
+/// An operand with all operators after it, a range, or an assignment.
+#[cycle(grammar)]
+pub(crate) fn operation(p: &mut Parser<'_>, condition: bool)
+    requires short { length p.old.input < 2 ^ 64 }
+    requires begins { Saw condition (looks rules.operation) p.old true }
+    requires some { 1 ≤ tokens p.old }
+    ensures gives { Gives rules.operation condition p.old p.new }
+    ensures left { tokens p.new + 1 ≤ tokens p.old }
+    ensures looks { spent p.new + 2840 ≤ spent p.old }
+{
+    match range_mark(p) {
+        Some(mark) => range(p, mark, condition),
+        None => operands(p, condition),
+    }
+}
+
+/// An operation that begins with an operand.
+#[cycle(grammar)]
+fn operands(p: &mut Parser<'_>, condition: bool)
+    requires short { length p.old.input < 2 ^ 64 }
+    requires unmarked { IsMark None p.old }
+    requires begins { Saw condition (looks rules.prefixed) p.old true }
+    requires some { 1 ≤ tokens p.old }
+    ensures gives { Gives rules.operation condition p.old p.new }
+    ensures left { tokens p.new + 1 ≤ tokens p.old }
+    ensures looks { spent p.new + 2843 ≤ spent p.old }
+{
+    let frame = start(p);
+    prefixed(p, condition);
+    let frame = climb(p, frame, 10, condition);
+    let frame = operation_tail(p, frame, condition);
+    abandon(p, frame);
+}
+
+/// An operation that begins with the mark of a range.
+#[cycle(grammar)]
+fn range(p: &mut Parser<'_>, mark: RangeMark, condition: bool)
+    requires short { length p.old.input < 2 ^ 64 }
+    requires marked { IsMark (Some mark) p.old }
+    ensures gives { Gives rules.operation condition p.old p.new }
+    ensures left { tokens p.new + 1 ≤ tokens p.old }
+    ensures looks { spent p.new + 4060 ≤ spent p.old }
+{
+    let frame = start(p);
+    let range = start(p);
+    let more = range_end(p, mark, condition);
+    complete(p, range, SyntaxKind::RANGE_EXPR);
+    if !more {
+        abandon(p, frame);
+        return;
+    }
+    let frame = operation_tail(p, frame, condition);
+    abandon(p, frame);
+}
+
+/// The mark of a range, and the operand after it, if one is there: that is the answer.
+#[cycle(grammar)]
+fn range_end(p: &mut Parser<'_>, mark: RangeMark, condition: bool) -> bool
+    requires short { length p.old.input < 2 ^ 64 }
+    requires marked { IsMark (Some mark) p.old }
+    ensures near { Saw condition (begins looks (range_to (spelling_of mark))) p.old result }
+    ensures to { IsTrue result → Reads condition
+        (One (spelling_of mark) ▸ Unless body_begins Disjunction) p.old p.new }
+    ensures alone { result ≡ false → Reads condition (One (spelling_of mark)) p.old p.new }
+    ensures input { p.new.input ≡ p.old.input }
+    ensures innermost { (n : ℕ) → IsInnermost n p.old.nodes → IsInnermost n p.new.nodes }
+    ensures left { tokens p.new + 1 ≤ tokens p.old }
+    ensures looks { spent p.new + 4080 ≤ spent p.old }
+{
+    take_mark(p, mark);
+    if at_range_operand(p, condition) {
+        layers(p, 10, condition);
+        return true;
+    }
+    false
+}
+
+/// What stands after an operand and its operators: ranges, and an assignment.
+#[cycle(grammar)]
+fn operation_tail(p: &mut Parser<'_>, frame: Marker, condition: bool) -> Marker
+    requires short { length p.old.input < 2 ^ 64 }
+    requires innermost { IsInnermost frame p.old.nodes }
+    ensures reads { Reads condition (more rules.operation_tail) p.old p.new }
+    ensures marker { IsInnermost result p.new.nodes }
+    ensures left { tokens p.new ≤ tokens p.old }
+    ensures looks { spent p.new ≤ spent p.old + 7 }
+{
+    let mut frame = frame;
+    let mut mark = range_mark(p);
+    'ranges: while let Some(found) = mark {
+        let more = range_end(p, found, condition);
+        frame = wrap(p, frame, SyntaxKind::RANGE_EXPR);
+        if !more {
+            return frame;
+        }
+        mark = range_mark(p);
+    }
+    assignment(p, frame, condition)
+}
+
+/// An assignment to what stands before it, or nothing.
+#[cycle(grammar)]
+fn assignment(p: &mut Parser<'_>, frame: Marker, condition: bool) -> Marker
+    requires short { length p.old.input < 2 ^ 64 }
+    requires unmarked { IsMark None p.old }
+    requires innermost { IsInnermost frame p.old.nodes }
+    ensures reads { Reads condition (more rules.operation_tail) p.old p.new }
+    ensures marker { IsInnermost result p.new.nodes }
+    ensures left { tokens p.new ≤ tokens p.old }
+    ensures looks { spent p.new ≤ spent p.old + 4 }
+{
+    let operator = current_op(p);
+    if operator.height != 11 {
+        return frame;
+    }
+    take_operator(p, operator);
+    expect_operation(p, condition);
+    wrap(p, frame, SyntaxKind::BIN_EXPR)
+}

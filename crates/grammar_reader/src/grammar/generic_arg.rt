@@ -1,0 +1,129 @@
+//! Arguments of generics.
+
+ghost use Rattle.std.specs.Prelude.{◌≡◌, ◌≤◌, ◌<◌, ◌+◌, ◌*◌, ◌^◌, Bool, true, false, length};
+ghost use Rattle.parser_input.specs.Kinds as kinds;
+ghost use Rattle.parser_input.specs.Kinds.{ASSOC_TYPE_ARG, CONST_ARG, LIFETIME_ARG, NAME_REF, TYPE_ARG};
+ghost use Rattle.rust_grammar.specs.Calls.{AnyType, Lifetime, Literal};
+ghost use Rattle.rust_grammar.specs.Notation.{◌▸◌, ◌!, ◌⟨◌⟩};
+ghost use Rattle.rust_grammar.specs.Rule as rules;
+ghost use Rattle.rust_grammar.specs.Rule.{Kind, One};
+ghost use Rattle.rust_grammar.specs.Whole.{rule};
+ghost use Rattle.rust_grammar.specs.Words.{'=', '-', 'ident'};
+ghost use Rattle.rust_productions.specs.Looks.{tokens, spent};
+ghost use Rattle.rust_productions.specs.Reads.{looks, Gives, Reads, Saw};
+
+use crate::grammar::types::{any_type, expect_type, word_type};
+use parser_events::parser::Parser;
+use parser_input::syntax_kind::SyntaxKind;
+use rust_productions::grammar::names::{at_literal, expect_literal, lifetime, literal};
+use rust_productions::grammar::{at_second, complete, current, start, take};
+
+/// A generic argument.
+#[cycle(grammar)]
+pub(crate) fn generic_arg(p: &mut Parser<'_>, condition: bool)
+    requires short { length p.old.input < 2 ^ 64 }
+    requires begins { Saw condition (looks rules.generic_arg) p.old true }
+    requires some { 1 ≤ tokens p.old }
+    ensures gives { Gives rules.generic_arg condition p.old p.new }
+    ensures left { tokens p.new + 1 ≤ tokens p.old }
+    ensures looks { spent p.new + 2890 ≤ spent p.old }
+{
+    match current(p) {
+        SyntaxKind::LIFETIME_IDENT => lifetime_arg(p),
+        SyntaxKind::MINUS => negative_arg(p),
+        SyntaxKind::IDENT => word_arg(p, condition),
+        _ => {
+            if at_literal(p) {
+                literal_arg(p);
+                return;
+            }
+            type_arg(p, condition);
+        }
+    }
+}
+
+/// A lifetime as an argument.
+fn lifetime_arg(p: &mut Parser<'_>)
+    requires { 1 ≤ tokens p.old }
+    ensures reads { (c : Bool) → Reads c (LIFETIME_ARG ⟨ Lifetime ⟩) p.old p.new }
+    ensures left { tokens p.new + 1 ≡ tokens p.old }
+    ensures looks { spent p.new + 4096 ≡ spent p.old }
+{
+    let node = start(p);
+    lifetime(p);
+    complete(p, node, SyntaxKind::LIFETIME_ARG);
+}
+
+/// A literal with a `-` before it, as an argument.
+fn negative_arg(p: &mut Parser<'_>)
+    requires { 1 ≤ tokens p.old }
+    ensures reads { (c : Bool) → Reads c (CONST_ARG ⟨ One '-' ▸ Literal ! ⟩) p.old p.new }
+    ensures left { tokens p.new + 1 ≤ tokens p.old }
+    ensures looks { spent p.new + 4090 ≤ spent p.old }
+{
+    let node = start(p);
+    take(p, SyntaxKind::MINUS);
+    expect_literal(p);
+    complete(p, node, SyntaxKind::CONST_ARG);
+}
+
+/// A literal as an argument.
+fn literal_arg(p: &mut Parser<'_>)
+    requires { 1 ≤ tokens p.old }
+    ensures reads { (c : Bool) → Reads c (CONST_ARG ⟨ Literal ⟩) p.old p.new }
+    ensures left { tokens p.new + 1 ≡ tokens p.old }
+    ensures looks { spent p.new + 4095 ≤ spent p.old }
+{
+    let node = start(p);
+    literal(p);
+    complete(p, node, SyntaxKind::CONST_ARG);
+}
+
+/// An argument that begins with a word: the type of an associated one, by its name, or a type.
+#[cycle(grammar)]
+fn word_arg(p: &mut Parser<'_>, condition: bool)
+    requires short { length p.old.input < 2 ^ 64 }
+    requires word { Saw condition (Kind 0 kinds.IDENT) p.old true }
+    requires some { 1 ≤ tokens p.old }
+    ensures reads { Reads condition (rule rules.generic_arg) p.old p.new }
+    ensures left { tokens p.new + 1 ≤ tokens p.old }
+    ensures looks { spent p.new + 2900 ≤ spent p.old }
+{
+    if at_second(p, SyntaxKind::EQ) {
+        assoc_type_arg(p, condition);
+        return;
+    }
+    type_arg(p, condition);
+}
+
+/// The type of an associated one, after its name and a `=`.
+#[cycle(grammar)]
+fn assoc_type_arg(p: &mut Parser<'_>, condition: bool)
+    requires short { length p.old.input < 2 ^ 64 }
+    requires some { 2 ≤ tokens p.old }
+    ensures reads { Reads condition
+        (ASSOC_TYPE_ARG ⟨ NAME_REF ⟨ One 'ident' ⟩ ▸ One '=' ▸ AnyType ! ⟩) p.old p.new }
+    ensures left { tokens p.new + 1 ≤ tokens p.old }
+    ensures looks { spent p.new + 8000 ≤ spent p.old }
+{
+    let node = start(p);
+    word_type(p, SyntaxKind::IDENT, SyntaxKind::NAME_REF);
+    take(p, SyntaxKind::EQ);
+    expect_type(p, condition);
+    complete(p, node, SyntaxKind::ASSOC_TYPE_ARG);
+}
+
+/// A type as an argument.
+#[cycle(grammar)]
+fn type_arg(p: &mut Parser<'_>, condition: bool)
+    requires short { length p.old.input < 2 ^ 64 }
+    requires begins { Saw condition (looks rules.any_type) p.old true }
+    requires some { 1 ≤ tokens p.old }
+    ensures reads { Reads condition (TYPE_ARG ⟨ AnyType ⟩) p.old p.new }
+    ensures left { tokens p.new + 1 ≤ tokens p.old }
+    ensures looks { spent p.new + 2910 ≤ spent p.old }
+{
+    let node = start(p);
+    any_type(p, condition);
+    complete(p, node, SyntaxKind::TYPE_ARG);
+}

@@ -1,0 +1,290 @@
+//! Items.
+
+ghost use Rattle.std.specs.Prelude.{◌≡◌, ◌≤◌, ◌<◌, ◌+◌, ◌*◌, ◌^◌, Bool, ℕ, IsTrue, true, false, [], ◌∷◌, length};
+ghost use Rattle.parser_input.specs.Kind.{raw_of};
+ghost use Rattle.parser_input.specs.Kinds.{ITEM_LIST, MODULE, POUND, PUB_KW};
+ghost use Rattle.parser_events.specs.Stack.{IsInnermost};
+ghost use Rattle.grammar_reader.specs.Told.{ends_of, item_or_attribute};
+ghost use Rattle.rust_grammar.specs.Calls.{Attribute, GenericParams, Name, WhereClause, Item, Visibility};
+ghost use Rattle.rust_grammar.specs.Items.{items_in_braces, items_until};
+ghost use Rattle.rust_grammar.specs.Notation.{◌or◌, ◌▸◌, ⁅◌⁆, ◌*, ◌!, ◌⟨◌⟩, ◌<⟨◌⟩};
+ghost use Rattle.rust_grammar.specs.Rule as rules;
+ghost use Rattle.rust_grammar.specs.Rule.{Kind, One, Unless};
+ghost use Rattle.rust_grammar.specs.Whole.{rule};
+ghost use Rattle.rust_grammar.specs.Words.{'semi', 'mod'};
+ghost use Rattle.rust_productions.specs.Looks.{tokens, spent};
+ghost use Rattle.rust_productions.specs.Reads.{looks, Anew, Completes, CompletesWhere, Gives, Reads, Saw};
+ghost use Rattle.rust_productions.specs.Turns.{TurnsFrom};
+
+use crate::grammar::adt::{enum_item, struct_item};
+use crate::grammar::attributes::attribute;
+use crate::grammar::consts::{const_item, static_item, type_alias};
+use crate::grammar::functions::fn_item;
+use crate::grammar::generics::where_clause;
+use crate::grammar::list_end::{ListEnd, at_end_of};
+use crate::grammar::lists::generic_params;
+use crate::grammar::statements::at_inner_attribute;
+use crate::grammar::traits::{impl_item, trait_item};
+use parser_events::parser::{Marker, Parser};
+use parser_input::syntax_kind::SyntaxKind;
+use rust_productions::grammar::items::{at_fn, at_unsafe, no_item, path_item, use_item};
+use rust_productions::grammar::names::expect_name;
+use rust_productions::grammar::paths::at_path;
+use rust_productions::grammar::visibility::{opt_visibility, visibility};
+use rust_productions::grammar::{at, complete, current, expect, start, take};
+
+/// An item.
+#[cycle(grammar)]
+pub(crate) fn item(p: &mut Parser<'_>, condition: bool)
+    requires short { length p.old.input < 2 ^ 64 }
+    requires some { 1 ≤ tokens p.old }
+    ensures gives { Gives rules.item condition p.old p.new }
+    ensures left { tokens p.new + 1 ≤ tokens p.old }
+    ensures looks { spent p.new + 2900 ≤ spent p.old }
+{
+    match current(p) {
+        SyntaxKind::POUND => attributed_item(p, condition),
+        SyntaxKind::PUB_KW => visible_item(p, condition),
+        _ => bare_item(p, condition),
+    }
+}
+
+/// An item that begins with an attribute.
+#[cycle(grammar)]
+fn attributed_item(p: &mut Parser<'_>, condition: bool)
+    requires short { length p.old.input < 2 ^ 64 }
+    requires begins { (c : Bool) → Saw c (looks rules.attribute) p.old true }
+    requires some { 1 ≤ tokens p.old }
+    ensures anew { Anew condition (rule rules.item) p.old p.new }
+    ensures left { tokens p.new + 1 ≤ tokens p.old }
+    ensures looks { spent p.new + 4000 ≤ spent p.old }
+{
+    let item = start(p);
+    attributes_and_visibility(p);
+    body(p, item, true, condition);
+}
+
+/// An item that begins with its visibility.
+#[cycle(grammar)]
+fn visible_item(p: &mut Parser<'_>, condition: bool)
+    requires short { length p.old.input < 2 ^ 64 }
+    requires begins { (c : Bool) → Saw c (Kind 0 PUB_KW) p.old true }
+    requires some { 1 ≤ tokens p.old }
+    ensures anew { Anew condition (rule rules.item) p.old p.new }
+    ensures left { tokens p.new + 1 ≤ tokens p.old }
+    ensures looks { spent p.new + 4000 ≤ spent p.old }
+{
+    let item = start(p);
+    visibility(p);
+    body(p, item, true, condition);
+}
+
+/// An item that begins with neither.
+#[cycle(grammar)]
+fn bare_item(p: &mut Parser<'_>, condition: bool)
+    requires short { length p.old.input < 2 ^ 64 }
+    requires plain { (c : Bool) → Saw c (Kind 0 POUND) p.old false }
+    requires hidden { (c : Bool) → Saw c (Kind 0 PUB_KW) p.old false }
+    requires some { 1 ≤ tokens p.old }
+    ensures anew { Anew condition (rule rules.item) p.old p.new }
+    ensures left { tokens p.new + 1 ≤ tokens p.old }
+    ensures looks { spent p.new + 2910 ≤ spent p.old }
+{
+    let item = start(p);
+    body(p, item, false, condition);
+}
+
+/// Attributes.
+#[cycle(grammar)]
+fn attributes(p: &mut Parser<'_>)
+    requires short { length p.old.input < 2 ^ 64 }
+    ensures reads { (c : Bool) → Reads c (Attribute *) p.old p.new }
+    ensures left { tokens p.new ≤ tokens p.old }
+    ensures looks { spent p.new ≤ spent p.old + 1 }
+{
+    'turns: while at(p, SyntaxKind::POUND) {
+        attribute(p);
+    }
+}
+
+/// Attributes, of which one begins here, and the visibility after them, where there is one.
+#[cycle(grammar)]
+pub(crate) fn attributes_and_visibility(p: &mut Parser<'_>)
+    requires short { length p.old.input < 2 ^ 64 }
+    requires begins { (c : Bool) → Saw c (looks rules.attribute) p.old true }
+    requires some { 1 ≤ tokens p.old }
+    ensures reads { (c : Bool) → Reads c (Attribute * ▸ ⁅ Visibility ⁆) p.old p.new }
+    ensures left { tokens p.new + 1 ≤ tokens p.old }
+    ensures looks { spent p.new + 4070 ≤ spent p.old }
+{
+    attribute(p);
+    attributes(p);
+    opt_visibility(p);
+}
+
+/// What an item is, after its attributes and its visibility. Whether there was one is given.
+#[cycle(grammar)]
+fn body(p: &mut Parser<'_>, item: Marker, given: bool, condition: bool)
+    requires short { length p.old.input < 2 ^ 64 }
+    requires some { given ≡ false → 1 ≤ tokens p.old }
+    requires innermost { IsInnermost item p.old.nodes }
+    ensures completes { CompletesWhere given condition (rule rules.body) p.old p.new }
+    ensures left { tokens p.new ≤ tokens p.old }
+    ensures takes { given ≡ false → tokens p.new + 1 ≤ tokens p.old }
+    ensures pays { given ≡ false → spent p.new + 2910 ≤ spent p.old }
+    ensures looks { spent p.new ≤ spent p.old + 16 }
+{
+    match current(p) {
+        SyntaxKind::MOD_KW => module(p, item),
+        SyntaxKind::USE_KW => use_item(p, item),
+        SyntaxKind::STRUCT_KW => struct_item(p, item, condition),
+        SyntaxKind::ENUM_KW => enum_item(p, item, condition),
+        SyntaxKind::STATIC_KW => static_item(p, item, condition),
+        SyntaxKind::TYPE_KW => type_alias(p, item, condition),
+        _ => {
+            if at_fn(p) {
+                fn_item(p, item, condition);
+                return;
+            }
+            if at(p, SyntaxKind::CONST_KW) {
+                const_item(p, item, condition);
+                return;
+            }
+            if at_unsafe(p, SyntaxKind::IMPL_KW) {
+                impl_item(p, item, condition);
+                return;
+            }
+            if at_unsafe(p, SyntaxKind::TRAIT_KW) {
+                trait_item(p, item, condition);
+                return;
+            }
+            if at_path(p) {
+                path_item(p, item);
+                return;
+            }
+            no_item(p, item, given);
+        }
+    }
+}
+
+/// A module.
+#[cycle(grammar)]
+fn module(p: &mut Parser<'_>, item: Marker)
+    requires short { length p.old.input < 2 ^ 64 }
+    requires some { 1 ≤ tokens p.old }
+    requires innermost { IsInnermost item p.old.nodes }
+    ensures completes { (c : Bool) → Completes c
+        (MODULE <⟨ One 'mod' ▸ Name ! ▸ (ITEM_LIST ⟨ items_in_braces ⟩ or One 'semi' !) ⟩) p.old p.new }
+    ensures left { tokens p.new + 1 ≤ tokens p.old }
+    ensures looks { spent p.new + 4090 ≤ spent p.old }
+{
+    take(p, SyntaxKind::MOD_KW);
+    expect_name(p);
+    module_items(p);
+    complete(p, item, SyntaxKind::MODULE);
+}
+
+/// The items of a module, or the `;` of one that stands elsewhere.
+#[cycle(grammar)]
+fn module_items(p: &mut Parser<'_>)
+    requires short { length p.old.input < 2 ^ 64 }
+    ensures reads { (c : Bool) → Reads c (ITEM_LIST ⟨ items_in_braces ⟩ or One 'semi' !) p.old p.new }
+    ensures left { tokens p.new ≤ tokens p.old }
+    ensures looks { spent p.new ≤ spent p.old + 2 }
+{
+    if at(p, SyntaxKind::L_CURLY) {
+        item_list(p, SyntaxKind::ITEM_LIST);
+        return;
+    }
+    expect(p, SyntaxKind::SEMICOLON);
+}
+
+/// Items in braces, in a node of this kind.
+#[cycle(grammar)]
+fn item_list(p: &mut Parser<'_>, kind: SyntaxKind)
+    requires short { length p.old.input < 2 ^ 64 }
+    requires some { 1 ≤ tokens p.old }
+    ensures reads { (c : Bool) → Reads c (raw_of kind ⟨ items_in_braces ⟩) p.old p.new }
+    ensures left { tokens p.new + 1 ≤ tokens p.old }
+    ensures looks { spent p.new + 4080 ≤ spent p.old }
+{
+    let list = start(p);
+    take(p, SyntaxKind::L_CURLY);
+    items(p, ListEnd::Brace);
+    expect(p, SyntaxKind::R_CURLY);
+    complete(p, list, kind);
+}
+
+/// Reads an item, or an attribute of what the items stand in. Whether more may follow is the
+/// answer.
+#[cycle(grammar)]
+fn item_turn(p: &mut Parser<'_>, end: ListEnd) -> bool
+    requires short { length p.old.input < 2 ^ 64 }
+    ensures goes { IsTrue result → TurnsFrom false (Unless (ends_of end) item_or_attribute) p.old p.new }
+    ensures ends { result ≡ false → Reads false (items_until (ends_of end)) p.old p.new }
+    ensures input { p.new.input ≡ p.old.input }
+    ensures innermost { (n : ℕ) → IsInnermost n p.old.nodes → IsInnermost n p.new.nodes }
+    ensures fewer { IsTrue result → tokens p.new < tokens p.old }
+    ensures left { tokens p.new ≤ tokens p.old }
+    ensures pays { IsTrue result → spent p.new ≤ spent p.old }
+    ensures looks { spent p.new ≤ spent p.old + 2 }
+{
+    if at_end_of(p, end) {
+        return false;
+    }
+    if at_inner_attribute(p) {
+        attribute(p);
+        return true;
+    }
+    item(p, false);
+    true
+}
+
+/// Items up to where their list ends.
+#[cycle(grammar)]
+pub(crate) fn items(p: &mut Parser<'_>, end: ListEnd)
+    requires short { length p.old.input < 2 ^ 64 }
+    ensures reads { Reads false (items_until (ends_of end)) p.old p.new }
+    ensures left { tokens p.new ≤ tokens p.old }
+    ensures looks { spent p.new ≤ spent p.old + 2 }
+{
+    'turns: while item_turn(p, end) {}
+}
+
+/// The items of a trait or of an `impl`.
+#[cycle(grammar)]
+pub(crate) fn assoc_items(p: &mut Parser<'_>)
+    requires short { length p.old.input < 2 ^ 64 }
+    requires some { 1 ≤ tokens p.old }
+    ensures gives { (c : Bool) → Gives rules.assoc_items c p.old p.new }
+    ensures left { tokens p.new + 1 ≤ tokens p.old }
+    ensures looks { spent p.new + 4080 ≤ spent p.old }
+{
+    item_list(p, SyntaxKind::ASSOC_ITEM_LIST);
+}
+
+/// Generic parameters, where there are some.
+#[cycle(grammar)]
+pub(crate) fn opt_generic_params(p: &mut Parser<'_>)
+    requires short { length p.old.input < 2 ^ 64 }
+    ensures reads { (c : Bool) → Reads c ⁅ GenericParams ⁆ p.old p.new }
+    ensures left { tokens p.new ≤ tokens p.old }
+    ensures looks { spent p.new ≤ spent p.old + 1 }
+{
+    if at(p, SyntaxKind::L_ANGLE) {
+        generic_params(p);
+    }
+}
+
+/// What a `where` asks, where there is one.
+#[cycle(grammar)]
+pub(crate) fn opt_where_clause(p: &mut Parser<'_>, condition: bool)
+    requires short { length p.old.input < 2 ^ 64 }
+    ensures reads { Reads condition ⁅ WhereClause ⁆ p.old p.new }
+    ensures left { tokens p.new ≤ tokens p.old }
+    ensures looks { spent p.new ≤ spent p.old + 1 }
+{
+    if at(p, SyntaxKind::WHERE_KW) {
+        where_clause(p, condition);
+    }
+}

@@ -1,0 +1,34 @@
+//! Where a list of items or of statements ends.
+
+ghost use Rattle.std.specs.Prelude.{◌≡◌, ◌≤◌, ◌+◌, ◌*◌, Bool};
+ghost use Rattle.grammar_reader.specs.Told.{ends_of};
+ghost use Rattle.rust_productions.specs.Looks.{tokens, spent};
+ghost use Rattle.rust_productions.specs.Reads.{Does, Saw};
+
+use parser_events::parser::Parser;
+use parser_input::syntax_kind::SyntaxKind;
+use rust_productions::grammar::current;
+
+/// Where a list ends, if not before: at its closing brace or with the input, or with that alone.
+#[derive(Clone, Copy)]
+pub(crate) enum ListEnd {
+    Brace,
+    Input,
+}
+
+/// Whether such a list ends here.
+pub(crate) fn at_end_of(p: &mut Parser<'_>, end: ListEnd) -> bool
+    ensures sees { (c : Bool) → Saw c (ends_of end) p.old result }
+    ensures same { Does (λ s. s) p.old p.new }
+    ensures left { tokens p.new ≡ tokens p.old }
+    ensures looks { spent p.new ≤ spent p.old + 1 }
+{
+    match current(p) {
+        SyntaxKind::EOF => true,
+        SyntaxKind::R_CURLY => match end {
+            ListEnd::Brace => true,
+            ListEnd::Input => false,
+        },
+        _ => false,
+    }
+}

@@ -1,0 +1,328 @@
+//! Lists of elements with commas between them.
+
+ghost use Rattle.std.specs.Prelude.{◌≡◌, ◌≢◌, ◌≤◌, ◌<◌, ◌+◌, ◌*◌, ◌^◌, Bool, IsTrue, ℕ, true, false, length};
+ghost use Rattle.parser_input.specs.Kind.{raw_of};
+ghost use Rattle.parser_input.specs.Kinds as kinds;
+ghost use Rattle.parser_events.specs.Stack.{IsInnermost};
+ghost use Rattle.rust_grammar.specs.Notation.{◌*, rest_listed};
+ghost use Rattle.rust_grammar.specs.Rule as rules;
+ghost use Rattle.rust_grammar.specs.Rule.{begins};
+ghost use Rattle.rust_grammar.specs.Words.{one};
+ghost use Rattle.grammar_reader.specs.Told.{element_of, list_turn, looks_before, looks_in};
+ghost use Rattle.rust_productions.specs.Looks.{tokens, spent};
+ghost use Rattle.rust_productions.specs.Reads.{looks, Does, Gives, Reads, Saw};
+ghost use Rattle.rust_productions.specs.Turns.{TurnsFrom};
+
+use crate::grammar::closures::closure_param;
+use crate::grammar::expressions::expression;
+use crate::grammar::fields::{field_value, pattern_field};
+use crate::grammar::generic_arg::generic_arg;
+use crate::grammar::generics::generic_param;
+use crate::grammar::members::{
+    at_named_member, at_tuple_field, record_field, tuple_field, variant,
+};
+use crate::grammar::or_patterns::pattern;
+use crate::grammar::param::param;
+use crate::grammar::types::any_type;
+use parser_events::message::Message;
+use parser_events::parser::Parser;
+use parser_input::syntax_kind::SyntaxKind;
+use rust_productions::grammar::expressions::at_expression;
+use rust_productions::grammar::fields::at_field_value;
+use rust_productions::grammar::generic_args::at_generic_arg;
+use rust_productions::grammar::generic_params::at_generic_param;
+use rust_productions::grammar::lists::{at_list_end, at_unexpected, comma};
+use rust_productions::grammar::params::at_param;
+use rust_productions::grammar::patterns::{at_pattern, at_pattern_field, at_single_pattern};
+use rust_productions::grammar::types::at_type;
+use rust_productions::grammar::{complete, expect, skip, start, take, tokens_left};
+
+/// What a list holds.
+#[derive(Clone, Copy)]
+pub(crate) enum Element {
+    ClosureParam,
+    Expression,
+    FieldValue,
+    GenericArg,
+    GenericParam,
+    Param,
+    Pattern,
+    PatternField,
+    RecordField,
+    TupleField,
+    Type,
+    Variant,
+}
+
+/// Whether an element begins here.
+fn at_element(p: &mut Parser<'_>, element: Element) -> bool
+    requires short { length p.old.input < 2 ^ 64 }
+    ensures sees { Saw false (begins looks (element_of element)) p.old result }
+    ensures same { Does (λ s. s) p.old p.new }
+    ensures left { tokens p.new ≡ tokens p.old }
+    ensures looks { spent p.new ≤ spent p.old + looks_before element }
+{
+    match element {
+        Element::ClosureParam => at_single_pattern(p),
+        Element::Expression => at_expression(p, false),
+        Element::FieldValue => at_field_value(p),
+        Element::GenericArg => at_generic_arg(p),
+        Element::GenericParam => at_generic_param(p),
+        Element::Param => at_param(p),
+        Element::Pattern => at_pattern(p),
+        Element::PatternField => at_pattern_field(p),
+        Element::RecordField => at_named_member(p),
+        Element::TupleField => at_tuple_field(p),
+        Element::Type => at_type(p),
+        Element::Variant => at_named_member(p),
+    }
+}
+
+/// Reads an element.
+#[cycle(grammar)]
+fn read_element(p: &mut Parser<'_>, element: Element)
+    requires short { length p.old.input < 2 ^ 64 }
+    requires begins { Saw false (begins looks (element_of element)) p.old true }
+    ensures reads { Reads false (element_of element) p.old p.new }
+    ensures left { tokens p.new ≤ tokens p.old }
+    ensures pays { tokens p.new < tokens p.old → spent p.new + 1000 ≤ spent p.old }
+    ensures looks { spent p.new ≤ spent p.old + looks_in element }
+{
+    match element {
+        Element::ClosureParam => closure_param(p),
+        Element::Expression => expression(p, false),
+        Element::FieldValue => field_value(p, false),
+        Element::GenericArg => generic_arg(p, false),
+        Element::GenericParam => generic_param(p, false),
+        Element::Param => param(p, false),
+        Element::Pattern => pattern(p),
+        Element::PatternField => pattern_field(p),
+        Element::RecordField => record_field(p),
+        Element::TupleField => tuple_field(p),
+        Element::Type => any_type(p, false),
+        Element::Variant => variant(p),
+    }
+}
+
+/// Reads an element with the comma after it, or a token that begins none. Whether the list may go
+/// on is the answer.
+#[cycle(grammar)]
+fn turn(p: &mut Parser<'_>, list: SyntaxKind, element: Element, closing: SyntaxKind) -> bool
+    requires short { length p.old.input < 2 ^ 64 }
+    ensures goes { IsTrue result → TurnsFrom false
+        (list_turn (raw_of list) (element_of element) (raw_of closing)) p.old p.new }
+    ensures ends { result ≡ false → Reads false
+        ((list_turn (raw_of list) (element_of element) (raw_of closing)) *) p.old p.new }
+    ensures input { p.new.input ≡ p.old.input }
+    ensures innermost { (n : ℕ) → IsInnermost n p.old.nodes → IsInnermost n p.new.nodes }
+    ensures fewer { IsTrue result → tokens p.new < tokens p.old }
+    ensures left { tokens p.new ≤ tokens p.old }
+    ensures pays { IsTrue result → spent p.new ≤ spent p.old }
+    ensures looks { spent p.new ≤ spent p.old + looks_before element + looks_in element + 10 }
+{
+    if at_list_end(p, closing) {
+        return false;
+    }
+    let before = tokens_left(p);
+    if at_element(p, element) {
+        read_element(p, element);
+        comma(p, closing);
+        return tokens_left(p) < before;
+    }
+    if at_unexpected(p) {
+        skip(p, Message::UnexpectedIn(list));
+        return true;
+    }
+    false
+}
+
+/// Reads the elements of a list.
+#[cycle(grammar)]
+fn elements(p: &mut Parser<'_>, list: SyntaxKind, element: Element, closing: SyntaxKind)
+    requires short { length p.old.input < 2 ^ 64 }
+    ensures reads { Reads false
+        ((list_turn (raw_of list) (element_of element) (raw_of closing)) *) p.old p.new }
+    ensures left { tokens p.new ≤ tokens p.old }
+    ensures looks { spent p.new ≤ spent p.old + looks_before element + looks_in element + 10 }
+{
+    'turns: while turn(p, list, element, closing) {}
+}
+
+/// Reads the rest of a list after its opening token.
+#[cycle(grammar)]
+pub(crate) fn rest_of_list(
+    p: &mut Parser<'_>,
+    list: SyntaxKind,
+    element: Element,
+    closing: SyntaxKind,
+)
+    requires short { length p.old.input < 2 ^ 64 }
+    requires closing { raw_of closing ≢ kinds.EOF }
+    ensures reads { (c : Bool) → Reads c (rest_listed (raw_of list) (element_of element)
+        (one (raw_of closing))) p.old p.new }
+    ensures left { tokens p.new ≤ tokens p.old }
+    ensures looks { spent p.new ≤ spent p.old + looks_before element + looks_in element + 11 }
+{
+    elements(p, list, element, closing);
+    expect(p, closing);
+}
+
+/// The arguments of a call.
+#[cycle(grammar)]
+pub(crate) fn arguments(p: &mut Parser<'_>)
+    requires short { length p.old.input < 2 ^ 64 }
+    requires some { 1 ≤ tokens p.old }
+    ensures gives { (c : Bool) → Gives rules.arguments c p.old p.new }
+    ensures left { tokens p.new + 1 ≤ tokens p.old }
+    ensures looks { spent p.new + 3300 ≤ spent p.old }
+{
+    let list = start(p);
+    take(p, SyntaxKind::L_PAREN);
+    rest_of_list(
+        p,
+        SyntaxKind::ARG_LIST,
+        Element::Expression,
+        SyntaxKind::R_PAREN,
+    );
+    complete(p, list, SyntaxKind::ARG_LIST);
+}
+
+/// The fields of a record expression.
+#[cycle(grammar)]
+pub(crate) fn field_values(p: &mut Parser<'_>)
+    requires short { length p.old.input < 2 ^ 64 }
+    requires some { 1 ≤ tokens p.old }
+    ensures gives { (c : Bool) → Gives rules.field_values c p.old p.new }
+    ensures left { tokens p.new + 1 ≤ tokens p.old }
+    ensures looks { spent p.new + 3300 ≤ spent p.old }
+{
+    let list = start(p);
+    take(p, SyntaxKind::L_CURLY);
+    rest_of_list(
+        p,
+        SyntaxKind::RECORD_EXPR_FIELD_LIST,
+        Element::FieldValue,
+        SyntaxKind::R_CURLY,
+    );
+    complete(p, list, SyntaxKind::RECORD_EXPR_FIELD_LIST);
+}
+
+/// The fields of a record pattern.
+#[cycle(grammar)]
+pub(crate) fn pattern_fields(p: &mut Parser<'_>)
+    requires short { length p.old.input < 2 ^ 64 }
+    requires some { 1 ≤ tokens p.old }
+    ensures gives { (c : Bool) → Gives rules.pattern_fields c p.old p.new }
+    ensures left { tokens p.new + 1 ≤ tokens p.old }
+    ensures looks { spent p.new + 3300 ≤ spent p.old }
+{
+    let list = start(p);
+    take(p, SyntaxKind::L_CURLY);
+    rest_of_list(
+        p,
+        SyntaxKind::RECORD_PAT_FIELD_LIST,
+        Element::PatternField,
+        SyntaxKind::R_CURLY,
+    );
+    complete(p, list, SyntaxKind::RECORD_PAT_FIELD_LIST);
+}
+
+/// The parameters of a function.
+#[cycle(grammar)]
+pub(crate) fn params(p: &mut Parser<'_>)
+    requires short { length p.old.input < 2 ^ 64 }
+    requires some { 1 ≤ tokens p.old }
+    ensures gives { (c : Bool) → Gives rules.params c p.old p.new }
+    ensures left { tokens p.new + 1 ≤ tokens p.old }
+    ensures looks { spent p.new + 3300 ≤ spent p.old }
+{
+    let list = start(p);
+    take(p, SyntaxKind::L_PAREN);
+    rest_of_list(
+        p,
+        SyntaxKind::PARAM_LIST,
+        Element::Param,
+        SyntaxKind::R_PAREN,
+    );
+    complete(p, list, SyntaxKind::PARAM_LIST);
+}
+
+/// Generic parameters.
+#[cycle(grammar)]
+pub(crate) fn generic_params(p: &mut Parser<'_>)
+    requires short { length p.old.input < 2 ^ 64 }
+    requires some { 1 ≤ tokens p.old }
+    ensures gives { (c : Bool) → Gives rules.generic_params c p.old p.new }
+    ensures left { tokens p.new + 1 ≤ tokens p.old }
+    ensures looks { spent p.new + 3300 ≤ spent p.old }
+{
+    let list = start(p);
+    take(p, SyntaxKind::L_ANGLE);
+    rest_of_list(
+        p,
+        SyntaxKind::GENERIC_PARAM_LIST,
+        Element::GenericParam,
+        SyntaxKind::R_ANGLE,
+    );
+    complete(p, list, SyntaxKind::GENERIC_PARAM_LIST);
+}
+
+/// The variants of an enum.
+#[cycle(grammar)]
+pub(crate) fn variants(p: &mut Parser<'_>)
+    requires short { length p.old.input < 2 ^ 64 }
+    requires some { 1 ≤ tokens p.old }
+    ensures gives { (c : Bool) → Gives rules.variants c p.old p.new }
+    ensures left { tokens p.new + 1 ≤ tokens p.old }
+    ensures looks { spent p.new + 3300 ≤ spent p.old }
+{
+    let list = start(p);
+    take(p, SyntaxKind::L_CURLY);
+    rest_of_list(
+        p,
+        SyntaxKind::VARIANT_LIST,
+        Element::Variant,
+        SyntaxKind::R_CURLY,
+    );
+    complete(p, list, SyntaxKind::VARIANT_LIST);
+}
+
+/// Fields with names.
+#[cycle(grammar)]
+pub(crate) fn record_fields(p: &mut Parser<'_>)
+    requires short { length p.old.input < 2 ^ 64 }
+    requires some { 1 ≤ tokens p.old }
+    ensures gives { (c : Bool) → Gives rules.record_fields c p.old p.new }
+    ensures left { tokens p.new + 1 ≤ tokens p.old }
+    ensures looks { spent p.new + 3300 ≤ spent p.old }
+{
+    let list = start(p);
+    take(p, SyntaxKind::L_CURLY);
+    rest_of_list(
+        p,
+        SyntaxKind::RECORD_FIELD_LIST,
+        Element::RecordField,
+        SyntaxKind::R_CURLY,
+    );
+    complete(p, list, SyntaxKind::RECORD_FIELD_LIST);
+}
+
+/// Fields without names.
+#[cycle(grammar)]
+pub(crate) fn tuple_fields(p: &mut Parser<'_>)
+    requires short { length p.old.input < 2 ^ 64 }
+    requires some { 1 ≤ tokens p.old }
+    ensures gives { (c : Bool) → Gives rules.tuple_fields c p.old p.new }
+    ensures left { tokens p.new + 1 ≤ tokens p.old }
+    ensures looks { spent p.new + 3300 ≤ spent p.old }
+{
+    let list = start(p);
+    take(p, SyntaxKind::L_PAREN);
+    rest_of_list(
+        p,
+        SyntaxKind::TUPLE_FIELD_LIST,
+        Element::TupleField,
+        SyntaxKind::R_PAREN,
+    );
+    complete(p, list, SyntaxKind::TUPLE_FIELD_LIST);
+}

@@ -1,0 +1,159 @@
+//! What stands in structs and enums: variants, and fields with and without names.
+
+ghost use Rattle.std.specs.Prelude.{◌≡◌, ◌≤◌, ◌<◌, ◌+◌, ◌*◌, ◌^◌, Bool, false, true, length};
+ghost use Rattle.rust_grammar.specs.Calls.{AnyType, Attribute, Name, RecordFields, TupleFields, Visibility};
+ghost use Rattle.rust_grammar.specs.Items as rows;
+ghost use Rattle.rust_grammar.specs.Notation.{◌or◌, ◌▸◌, ⁅◌⁆, ◌*, ◌! };
+ghost use Rattle.rust_grammar.specs.Rule.{begins};
+ghost use Rattle.rust_productions.specs.Looks.{tokens, spent};
+ghost use Rattle.rust_productions.specs.Reads.{looks, Does, Reads, Saw};
+
+use crate::grammar::items::attributes_and_visibility;
+use crate::grammar::lists::{record_fields, tuple_fields};
+use crate::grammar::types::{any_type, expect_type};
+use parser_events::parser::Parser;
+use parser_input::syntax_kind::SyntaxKind;
+use rust_productions::grammar::names::{expect_name, name};
+use rust_productions::grammar::types::at_type;
+use rust_productions::grammar::visibility::visibility;
+use rust_productions::grammar::{complete, current, expect, start};
+
+/// Whether a variant or a field with a name begins here: with an attribute, with a visibility, or
+/// with its name.
+pub(crate) fn at_named_member(p: &mut Parser<'_>) -> bool
+    ensures sees { (c : Bool) → Saw c
+        (begins looks (Attribute * ▸ ⁅ Visibility ⁆ ▸ Name !)) p.old result }
+    ensures same { Does (λ s. s) p.old p.new }
+    ensures left { tokens p.new ≡ tokens p.old }
+    ensures looks { spent p.new ≤ spent p.old + 1 }
+{
+    match current(p) {
+        SyntaxKind::POUND | SyntaxKind::PUB_KW | SyntaxKind::IDENT => true,
+        _ => false,
+    }
+}
+
+/// Whether a field without a name begins here: with an attribute, with a visibility, or with its
+/// type.
+pub(crate) fn at_tuple_field(p: &mut Parser<'_>) -> bool
+    ensures sees { (c : Bool) → Saw c
+        (begins looks (Attribute * ▸ ⁅ Visibility ⁆ ▸ AnyType !)) p.old result }
+    ensures same { Does (λ s. s) p.old p.new }
+    ensures left { tokens p.new ≡ tokens p.old }
+    ensures looks { spent p.new ≤ spent p.old + 6 }
+{
+    match current(p) {
+        SyntaxKind::POUND | SyntaxKind::PUB_KW => true,
+        _ => at_type(p),
+    }
+}
+
+/// A variant.
+#[cycle(grammar)]
+pub(crate) fn variant(p: &mut Parser<'_>)
+    requires short { length p.old.input < 2 ^ 64 }
+    requires begins { Saw false (begins looks rows.variant) p.old true }
+    requires some { 1 ≤ tokens p.old }
+    ensures reads { Reads false rows.variant p.old p.new }
+    ensures left { tokens p.new + 1 ≤ tokens p.old }
+    ensures looks { spent p.new + 4000 ≤ spent p.old }
+{
+    let variant = start(p);
+    named(p);
+    opt_fields(p);
+    complete(p, variant, SyntaxKind::VARIANT);
+}
+
+/// A field with a name.
+#[cycle(grammar)]
+pub(crate) fn record_field(p: &mut Parser<'_>)
+    requires short { length p.old.input < 2 ^ 64 }
+    requires begins { Saw false (begins looks rows.record_field) p.old true }
+    requires some { 1 ≤ tokens p.old }
+    ensures reads { Reads false rows.record_field p.old p.new }
+    ensures left { tokens p.new + 1 ≤ tokens p.old }
+    ensures looks { spent p.new + 4000 ≤ spent p.old }
+{
+    let field = start(p);
+    named(p);
+    expect(p, SyntaxKind::COLON);
+    expect_type(p, false);
+    complete(p, field, SyntaxKind::RECORD_FIELD);
+}
+
+/// A field without a name.
+#[cycle(grammar)]
+pub(crate) fn tuple_field(p: &mut Parser<'_>)
+    requires short { length p.old.input < 2 ^ 64 }
+    requires begins { Saw false (begins looks rows.tuple_field) p.old true }
+    requires some { 1 ≤ tokens p.old }
+    ensures reads { Reads false rows.tuple_field p.old p.new }
+    ensures left { tokens p.new + 1 ≤ tokens p.old }
+    ensures looks { spent p.new + 2900 ≤ spent p.old }
+{
+    let field = start(p);
+    typed(p);
+    complete(p, field, SyntaxKind::TUPLE_FIELD);
+}
+
+/// The attributes, the visibility and the name of a variant or a field.
+#[cycle(grammar)]
+fn named(p: &mut Parser<'_>)
+    requires short { length p.old.input < 2 ^ 64 }
+    requires begins { Saw false (begins looks (Attribute * ▸ ⁅ Visibility ⁆ ▸ Name !)) p.old true }
+    requires some { 1 ≤ tokens p.old }
+    ensures reads { Reads false (Attribute * ▸ ⁅ Visibility ⁆ ▸ Name !) p.old p.new }
+    ensures left { tokens p.new + 1 ≤ tokens p.old }
+    ensures looks { spent p.new + 4060 ≤ spent p.old }
+{
+    match current(p) {
+        SyntaxKind::POUND => {
+            attributes_and_visibility(p);
+            expect_name(p);
+        }
+        SyntaxKind::PUB_KW => {
+            visibility(p);
+            expect_name(p);
+        }
+        _ => name(p),
+    }
+}
+
+/// The attributes, the visibility and the type of a field.
+#[cycle(grammar)]
+fn typed(p: &mut Parser<'_>)
+    requires short { length p.old.input < 2 ^ 64 }
+    requires begins { Saw false
+        (begins looks (Attribute * ▸ ⁅ Visibility ⁆ ▸ AnyType !)) p.old true }
+    requires some { 1 ≤ tokens p.old }
+    ensures reads { Reads false (Attribute * ▸ ⁅ Visibility ⁆ ▸ AnyType !) p.old p.new }
+    ensures left { tokens p.new + 1 ≤ tokens p.old }
+    ensures looks { spent p.new + 2900 ≤ spent p.old }
+{
+    match current(p) {
+        SyntaxKind::POUND => {
+            attributes_and_visibility(p);
+            expect_type(p, false);
+        }
+        SyntaxKind::PUB_KW => {
+            visibility(p);
+            expect_type(p, false);
+        }
+        _ => any_type(p, false),
+    }
+}
+
+/// The fields of a variant, where it has some.
+#[cycle(grammar)]
+fn opt_fields(p: &mut Parser<'_>)
+    requires short { length p.old.input < 2 ^ 64 }
+    ensures reads { (c : Bool) → Reads c ⁅ RecordFields or TupleFields ⁆ p.old p.new }
+    ensures left { tokens p.new ≤ tokens p.old }
+    ensures looks { spent p.new ≤ spent p.old + 1 }
+{
+    match current(p) {
+        SyntaxKind::L_CURLY => record_fields(p),
+        SyntaxKind::L_PAREN => tuple_fields(p),
+        _ => {}
+    }
+}

@@ -1,0 +1,240 @@
+//! Paths with arguments.
+
+ghost use Rattle.std.specs.Prelude.{◌≡◌, ◌≤◌, ◌<◌, ◌+◌, ◌*◌, ◌^◌, Bool, true, IsTrue, length};
+ghost use Rattle.parser_input.specs.Kinds.{PATH, PATH_SEGMENT};
+ghost use Rattle.parser_events.specs.Stack.{IsInnermost};
+ghost use Rattle.rust_grammar.specs.Notation.{◌▸◌, ⁅◌⁆, ◌*, ◌!, ◌⟨◌⟩, ◌<⟨◌⟩, ◌before◌};
+ghost use Rattle.rust_grammar.specs.Words.{'::', '<'};
+ghost use Rattle.rust_grammar.specs.Calls.{GenericArgs, Ref};
+ghost use Rattle.rust_grammar.specs.Shared.{colons_before_more};
+ghost use Rattle.rust_grammar.specs.Rule as rules;
+ghost use Rattle.rust_grammar.specs.Rule.{One, Unless};
+ghost use Rattle.grammar_reader.specs.Told.{angle, args_look, args_of, path_of};
+ghost use Rattle.rust_productions.specs.Looks.{tokens, spent};
+ghost use Rattle.rust_productions.specs.Reads.{looks, Does, Gives, Reads, Saw};
+
+use crate::grammar::lists::{Element, rest_of_list};
+use parser_events::message::Message;
+use parser_events::parser::{Marker, Parser};
+use parser_input::syntax_kind::SyntaxKind;
+use rust_productions::grammar::names::{at_name_ref, name_ref};
+use rust_productions::grammar::paths::{at_colons, at_next_segment, first_word};
+use rust_productions::grammar::{
+    abandon, at, at_second, at_third, complete, error, start, take, take_pair, wrap,
+};
+
+/// Where a path with arguments stands, which tells where these begin.
+#[derive(Clone, Copy)]
+pub(crate) enum Mode {
+    Expr,
+    Type,
+}
+
+/// Whether a `::` is next with a `<` after it.
+fn at_colons_before_args(p: &mut Parser<'_>) -> bool
+    ensures sees { (c : Bool) → Saw c ('::' before '<') p.old result }
+    ensures some { IsTrue result → 3 ≤ tokens p.old }
+    ensures same { Does (λ s. s) p.old p.new }
+    ensures left { tokens p.new ≡ tokens p.old }
+    ensures looks { spent p.new ≤ spent p.old + 3 }
+{
+    if !at_colons(p) {
+        return false;
+    }
+    at_third(p, SyntaxKind::L_ANGLE)
+}
+
+/// Whether a `<` is next that no comparison with `=` is.
+fn at_angle(p: &mut Parser<'_>) -> bool
+    ensures sees { (c : Bool) → Saw c angle p.old result }
+    ensures some { IsTrue result → 1 ≤ tokens p.old }
+    ensures same { Does (λ s. s) p.old p.new }
+    ensures left { tokens p.new ≡ tokens p.old }
+    ensures looks { spent p.new ≤ spent p.old + 2 }
+{
+    if !at(p, SyntaxKind::L_ANGLE) {
+        return false;
+    }
+    !at_second(p, SyntaxKind::EQ)
+}
+
+/// Whether arguments of a segment begin here.
+fn at_args(p: &mut Parser<'_>, mode: Mode) -> bool
+    ensures sees { (c : Bool) → Saw c (args_look mode) p.old result }
+    ensures some { IsTrue result → 1 ≤ tokens p.old }
+    ensures same { Does (λ s. s) p.old p.new }
+    ensures left { tokens p.new ≡ tokens p.old }
+    ensures looks { spent p.new ≤ spent p.old + 5 }
+{
+    if at_colons_before_args(p) {
+        return true;
+    }
+    match mode {
+        Mode::Expr => false,
+        Mode::Type => at_angle(p),
+    }
+}
+
+/// The `::` that generic arguments can begin with.
+fn opt_colons(p: &mut Parser<'_>)
+    requires begins { (c : Bool) → Saw c (looks rules.generic_args) p.old true }
+    requires some { 1 ≤ tokens p.old }
+    ensures reads { (c : Bool) → Reads c ⁅ One '::' ⁆ p.old p.new }
+    ensures some { 1 ≤ tokens p.new }
+    ensures left { tokens p.new ≤ tokens p.old }
+    ensures looks { spent p.new ≤ spent p.old + 3 }
+{
+    if at_colons_before_args(p) {
+        take_pair(p, SyntaxKind::COLON2);
+    }
+}
+
+/// Generic arguments.
+#[cycle(grammar)]
+pub(crate) fn generic_args(p: &mut Parser<'_>)
+    requires short { length p.old.input < 2 ^ 64 }
+    requires begins { (c : Bool) → Saw c (looks rules.generic_args) p.old true }
+    requires some { 1 ≤ tokens p.old }
+    ensures gives { (c : Bool) → Gives rules.generic_args c p.old p.new }
+    ensures left { tokens p.new + 1 ≤ tokens p.old }
+    ensures looks { spent p.new + 3300 ≤ spent p.old }
+{
+    let list = start(p);
+    opt_colons(p);
+    take(p, SyntaxKind::L_ANGLE);
+    rest_of_list(
+        p,
+        SyntaxKind::GENERIC_ARG_LIST,
+        Element::GenericArg,
+        SyntaxKind::R_ANGLE,
+    );
+    complete(p, list, SyntaxKind::GENERIC_ARG_LIST);
+}
+
+/// Whether generic arguments are next.
+fn at_generic_args(p: &mut Parser<'_>) -> bool
+    ensures sees { (c : Bool) → Saw c (looks rules.generic_args) p.old result }
+    ensures some { IsTrue result → 1 ≤ tokens p.old }
+    ensures same { Does (λ s. s) p.old p.new }
+    ensures left { tokens p.new ≡ tokens p.old }
+    ensures looks { spent p.new ≤ spent p.old + 4 }
+{
+    if at_colons_before_args(p) {
+        return true;
+    }
+    at(p, SyntaxKind::L_ANGLE)
+}
+
+/// Generic arguments, where there are some.
+#[cycle(grammar)]
+pub(crate) fn opt_generic_args(p: &mut Parser<'_>)
+    requires short { length p.old.input < 2 ^ 64 }
+    ensures reads { (c : Bool) → Reads c ⁅ GenericArgs ⁆ p.old p.new }
+    ensures left { tokens p.new ≤ tokens p.old }
+    ensures looks { spent p.new ≤ spent p.old + 4 }
+{
+    if at_generic_args(p) {
+        generic_args(p);
+    }
+}
+
+/// The arguments of a segment, where there are some.
+#[cycle(grammar)]
+fn opt_args(p: &mut Parser<'_>, mode: Mode)
+    requires short { length p.old.input < 2 ^ 64 }
+    ensures reads { (c : Bool) → Reads c (args_of mode) p.old p.new }
+    ensures left { tokens p.new ≤ tokens p.old }
+    ensures looks { spent p.new ≤ spent p.old + 5 }
+{
+    if at_args(p, mode) {
+        generic_args(p);
+    }
+}
+
+/// The first segment of a path.
+#[cycle(grammar)]
+fn first_segment(p: &mut Parser<'_>, mode: Mode)
+    requires short { length p.old.input < 2 ^ 64 }
+    requires begins { (c : Bool) → Saw c (looks rules.path) p.old true }
+    requires some { 1 ≤ tokens p.old }
+    ensures reads { (c : Bool) → Reads c
+        (PATH ⟨ PATH_SEGMENT ⟨ ⁅ One '::' ⁆ ▸ Ref ! ▸ args_of mode ⟩ ⟩) p.old p.new }
+    ensures left { tokens p.new + 1 ≤ tokens p.old }
+    ensures looks { spent p.new + 4080 ≤ spent p.old }
+{
+    let path = start(p);
+    let segment = start(p);
+    first_word(p);
+    opt_args(p, mode);
+    complete(p, segment, SyntaxKind::PATH_SEGMENT);
+    complete(p, path, SyntaxKind::PATH);
+}
+
+/// A segment, or the message that it is missing.
+#[cycle(grammar)]
+fn expect_segment(p: &mut Parser<'_>, mode: Mode)
+    requires short { length p.old.input < 2 ^ 64 }
+    ensures reads { (c : Bool) → Reads c ((PATH_SEGMENT ⟨ Ref ▸ args_of mode ⟩) !) p.old p.new }
+    ensures left { tokens p.new ≤ tokens p.old }
+    ensures looks { spent p.new ≤ spent p.old + 1 }
+{
+    if at_name_ref(p) {
+        let segment = start(p);
+        name_ref(p);
+        opt_args(p, mode);
+        complete(p, segment, SyntaxKind::PATH_SEGMENT);
+        return;
+    }
+    error(p, Message::Expected(SyntaxKind::PATH_SEGMENT));
+}
+
+/// One more segment of a path, around which the node is closed.
+#[cycle(grammar)]
+fn next_segment(p: &mut Parser<'_>, path: Marker, mode: Mode) -> Marker
+    requires short { length p.old.input < 2 ^ 64 }
+    requires innermost { IsInnermost path p.old.nodes }
+    requires some { 2 ≤ tokens p.old }
+    ensures reads { (c : Bool) → Reads c
+        (PATH <⟨ One '::' ▸ (PATH_SEGMENT ⟨ Ref ▸ args_of mode ⟩) ! ⟩) p.old p.new }
+    ensures marker { IsInnermost result p.new.nodes }
+    ensures left { tokens p.new + 2 ≤ tokens p.old }
+    ensures looks { spent p.new + 8000 ≤ spent p.old }
+{
+    take_pair(p, SyntaxKind::COLON2);
+    expect_segment(p, mode);
+    wrap(p, path, SyntaxKind::PATH)
+}
+
+/// The further segments of a path.
+#[cycle(grammar)]
+fn next_segments(p: &mut Parser<'_>, path: Marker, mode: Mode) -> Marker
+    requires short { length p.old.input < 2 ^ 64 }
+    requires innermost { IsInnermost path p.old.nodes }
+    ensures reads { (c : Bool) → Reads c ((Unless colons_before_more
+        (PATH <⟨ One '::' ▸ (PATH_SEGMENT ⟨ Ref ▸ args_of mode ⟩) ! ⟩)) *) p.old p.new }
+    ensures marker { IsInnermost result p.new.nodes }
+    ensures left { tokens p.new ≤ tokens p.old }
+    ensures looks { spent p.new ≤ spent p.old + 3 }
+{
+    let mut path = path;
+    'turns: while at_next_segment(p) {
+        path = next_segment(p, path, mode);
+    }
+    path
+}
+
+/// A path with arguments.
+#[cycle(grammar)]
+pub(crate) fn path_with_args(p: &mut Parser<'_>, mode: Mode)
+    requires short { length p.old.input < 2 ^ 64 }
+    requires begins { (c : Bool) → Saw c (looks rules.path) p.old true }
+    requires some { 1 ≤ tokens p.old }
+    ensures gives { (c : Bool) → Gives (path_of mode) c p.old p.new }
+    ensures left { tokens p.new + 1 ≤ tokens p.old }
+    ensures looks { spent p.new + 4000 ≤ spent p.old }
+{
+    let frame = start(p);
+    first_segment(p, mode);
+    let frame = next_segments(p, frame, mode);
+    abandon(p, frame);
+}

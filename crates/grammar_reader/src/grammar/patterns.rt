@@ -1,0 +1,428 @@
+//! Patterns.
+
+ghost use Rattle.std.specs.Prelude.{◌≡◌, ◌≤◌, ◌<◌, ◌+◌, ◌*◌, ◌^◌, Bool, true, false, IsTrue, [], ◌∷◌, length};
+ghost use Rattle.parser_input.specs.Kinds.{IDENT_PAT, LITERAL_PAT, PAREN_PAT, PATH_PAT, RECORD_PAT, REF_PAT, REST_PAT, SLICE_PAT, TUPLE_PAT, TUPLE_STRUCT_PAT};
+ghost use Rattle.parser_events.specs.Stack.{IsInnermost};
+ghost use Rattle.rust_grammar.specs.Calls.{ExprPath, Literal, Name, Pattern, PatternFields, SinglePattern};
+ghost use Rattle.rust_grammar.specs.Notation.{◌or◌, ◌▸◌, ⁅◌⁆, ◌!, ◌⟨◌⟩, ◌<⟨◌⟩, ◌before◌, ◌not_before◌, listed, rest_listed};
+ghost use Rattle.rust_grammar.specs.Rule as rules;
+ghost use Rattle.rust_grammar.specs.Rule.{Nothing, One};
+ghost use Rattle.rust_grammar.specs.Whole.{rule};
+ghost use Rattle.rust_grammar.specs.Words.{'::', 'at', 'comma', 'dots', 'ident', 'l_curly', 'l_paren', 'r_paren', '[', ']', '!', '-', '&', 'mut', 'ref'};
+ghost use Rattle.rust_productions.specs.Looks.{tokens, spent};
+ghost use Rattle.rust_productions.specs.Reads.{looks, Does, Gives, Reads, Saw};
+
+use crate::grammar::lists::{Element, pattern_fields, rest_of_list};
+use crate::grammar::or_patterns::expect_pattern;
+use crate::grammar::paths::{Mode, path_with_args};
+use crate::grammar::types::word_type;
+use parser_events::message::Message;
+use parser_events::parser::{Marker, Parser};
+use parser_input::syntax_kind::SyntaxKind;
+use rust_productions::grammar::names::{at_literal, expect_literal, expect_name, literal, name};
+use rust_productions::grammar::patterns::at_single_pattern;
+use rust_productions::grammar::{
+    abandon, at, at_pair, at_pair_after, complete, current, eat, error, expect, nth, start, take,
+    take_pair, wrap,
+};
+
+/// Whether a word is next that is a name in a pattern: before neither `::`, nor a bracket of
+/// fields, nor `!`.
+fn at_ident_pat(p: &mut Parser<'_>) -> bool
+    ensures sees { (c : Bool) → Saw c
+        ('ident' not_before ('::' ∷ 'l_paren' ∷ 'l_curly' ∷ '!' ∷ [])) p.old result }
+    ensures some { IsTrue result → 1 ≤ tokens p.old }
+    ensures same { Does (λ s. s) p.old p.new }
+    ensures left { tokens p.new ≡ tokens p.old }
+    ensures looks { spent p.new ≤ spent p.old + 4 }
+{
+    if !at(p, SyntaxKind::IDENT) {
+        return false;
+    }
+    if at_pair_after(p, SyntaxKind::COLON, SyntaxKind::COLON) {
+        return false;
+    }
+    match nth(p, 1) {
+        SyntaxKind::L_PAREN | SyntaxKind::L_CURLY | SyntaxKind::BANG => false,
+        _ => true,
+    }
+}
+
+/// Whether a `(` is next with `..` after it.
+fn at_paren_before_dots(p: &mut Parser<'_>) -> bool
+    ensures sees { (c : Bool) → Saw c ('l_paren' before 'dots') p.old result }
+    ensures some { IsTrue result → 1 ≤ tokens p.old }
+    ensures same { Does (λ s. s) p.old p.new }
+    ensures left { tokens p.new ≡ tokens p.old }
+    ensures looks { spent p.new ≤ spent p.old + 3 }
+{
+    if !at(p, SyntaxKind::L_PAREN) {
+        return false;
+    }
+    at_pair_after(p, SyntaxKind::DOT, SyntaxKind::DOT)
+}
+
+/// A pattern without a `|` before it or in it.
+#[cycle(grammar)]
+pub(crate) fn single_pattern(p: &mut Parser<'_>)
+    requires short { length p.old.input < 2 ^ 64 }
+    requires begins { (c : Bool) → Saw c (looks rules.single_pattern) p.old true }
+    requires some { 1 ≤ tokens p.old }
+    ensures gives { (c : Bool) → Gives rules.single_pattern c p.old p.new }
+    ensures left { tokens p.new + 1 ≤ tokens p.old }
+    ensures looks { spent p.new + 2910 ≤ spent p.old }
+{
+    let frame = start(p);
+    let frame = inside(p, frame);
+    abandon(p, frame);
+}
+
+/// A pattern, inside the node that is left out around it.
+#[cycle(grammar)]
+fn inside(p: &mut Parser<'_>, frame: Marker) -> Marker
+    requires short { length p.old.input < 2 ^ 64 }
+    requires begins { (c : Bool) → Saw c (looks rules.single_pattern) p.old true }
+    requires some { 1 ≤ tokens p.old }
+    requires innermost { IsInnermost frame p.old.nodes }
+    ensures reads { (c : Bool) → Reads c (rule rules.single_pattern) p.old p.new }
+    ensures marker { IsInnermost result p.new.nodes }
+    ensures left { tokens p.new + 1 ≤ tokens p.old }
+    ensures looks { spent p.new + 2910 ≤ spent p.old }
+{
+    match current(p) {
+        SyntaxKind::MINUS => {
+            negative(p);
+            frame
+        }
+        SyntaxKind::UNDERSCORE => {
+            word_type(p, SyntaxKind::UNDERSCORE, SyntaxKind::WILDCARD_PAT);
+            frame
+        }
+        SyntaxKind::AMP => {
+            ref_pat(p);
+            frame
+        }
+        SyntaxKind::L_BRACK => {
+            slice_pat(p);
+            frame
+        }
+        SyntaxKind::REF_KW => {
+            ident_after_ref(p);
+            frame
+        }
+        SyntaxKind::MUT_KW => {
+            ident_after_mut(p);
+            frame
+        }
+        SyntaxKind::L_PAREN => {
+            if at_paren_before_dots(p) {
+                tuple_pat(p);
+                return frame;
+            }
+            paren_pat(p, frame)
+        }
+        _ => {
+            if at_ident_pat(p) {
+                ident_pat(p);
+                return frame;
+            }
+            if at_pair(p, SyntaxKind::DOT, SyntaxKind::DOT) {
+                rest_pat(p);
+                return frame;
+            }
+            if at_literal(p) {
+                literal_pat(p);
+                return frame;
+            }
+            path_pat(p, frame)
+        }
+    }
+}
+
+/// A literal with a `-` before it.
+fn negative(p: &mut Parser<'_>)
+    requires { 1 ≤ tokens p.old }
+    ensures reads { (c : Bool) → Reads c (LITERAL_PAT ⟨ One '-' ▸ Literal ! ⟩) p.old p.new }
+    ensures left { tokens p.new + 1 ≤ tokens p.old }
+    ensures looks { spent p.new + 4090 ≤ spent p.old }
+{
+    let node = start(p);
+    take(p, SyntaxKind::MINUS);
+    expect_literal(p);
+    complete(p, node, SyntaxKind::LITERAL_PAT);
+}
+
+/// A literal.
+fn literal_pat(p: &mut Parser<'_>)
+    requires { 1 ≤ tokens p.old }
+    ensures reads { (c : Bool) → Reads c (LITERAL_PAT ⟨ Literal ⟩) p.old p.new }
+    ensures left { tokens p.new + 1 ≡ tokens p.old }
+    ensures looks { spent p.new + 4095 ≤ spent p.old }
+{
+    let node = start(p);
+    literal(p);
+    complete(p, node, SyntaxKind::LITERAL_PAT);
+}
+
+/// The two dots that stand for the rest.
+pub(crate) fn rest_pat(p: &mut Parser<'_>)
+    requires { 2 ≤ tokens p.old }
+    ensures reads { (c : Bool) → Reads c (REST_PAT ⟨ One 'dots' ⟩) p.old p.new }
+    ensures left { tokens p.new + 2 ≡ tokens p.old }
+    ensures looks { spent p.new + 8192 ≡ spent p.old }
+{
+    let node = start(p);
+    take_pair(p, SyntaxKind::DOT2);
+    complete(p, node, SyntaxKind::REST_PAT);
+}
+
+/// A single pattern, or the message that it is missing.
+#[cycle(grammar)]
+pub(crate) fn expect_single(p: &mut Parser<'_>)
+    requires short { length p.old.input < 2 ^ 64 }
+    ensures reads { (c : Bool) → Reads c (SinglePattern !) p.old p.new }
+    ensures left { tokens p.new ≤ tokens p.old }
+    ensures looks { spent p.new ≤ spent p.old + 8 }
+{
+    if at_single_pattern(p) {
+        single_pattern(p);
+        return;
+    }
+    error(p, Message::ExpectedPattern);
+}
+
+/// A reference.
+#[cycle(grammar)]
+fn ref_pat(p: &mut Parser<'_>)
+    requires short { length p.old.input < 2 ^ 64 }
+    requires some { 1 ≤ tokens p.old }
+    ensures reads { (c : Bool) → Reads c
+        (REF_PAT ⟨ One '&' ▸ ⁅ One 'mut' ⁆ ▸ SinglePattern ! ⟩) p.old p.new }
+    ensures left { tokens p.new + 1 ≤ tokens p.old }
+    ensures looks { spent p.new + 4080 ≤ spent p.old }
+{
+    let node = start(p);
+    take(p, SyntaxKind::AMP);
+    eat(p, SyntaxKind::MUT_KW);
+    expect_single(p);
+    complete(p, node, SyntaxKind::REF_PAT);
+}
+
+/// A slice.
+#[cycle(grammar)]
+fn slice_pat(p: &mut Parser<'_>)
+    requires short { length p.old.input < 2 ^ 64 }
+    requires some { 1 ≤ tokens p.old }
+    ensures reads { (c : Bool) → Reads c
+        (SLICE_PAT ⟨ listed SLICE_PAT '[' Pattern ']' ⟩) p.old p.new }
+    ensures left { tokens p.new + 1 ≤ tokens p.old }
+    ensures looks { spent p.new + 3300 ≤ spent p.old }
+{
+    let node = start(p);
+    take(p, SyntaxKind::L_BRACK);
+    rest_of_list(
+        p,
+        SyntaxKind::SLICE_PAT,
+        Element::Pattern,
+        SyntaxKind::R_BRACK,
+    );
+    complete(p, node, SyntaxKind::SLICE_PAT);
+}
+
+/// A tuple that begins with two dots.
+#[cycle(grammar)]
+fn tuple_pat(p: &mut Parser<'_>)
+    requires short { length p.old.input < 2 ^ 64 }
+    requires some { 1 ≤ tokens p.old }
+    ensures reads { (c : Bool) → Reads c
+        (TUPLE_PAT ⟨ listed TUPLE_PAT 'l_paren' Pattern 'r_paren' ⟩) p.old p.new }
+    ensures left { tokens p.new + 1 ≤ tokens p.old }
+    ensures looks { spent p.new + 3300 ≤ spent p.old }
+{
+    let node = start(p);
+    take(p, SyntaxKind::L_PAREN);
+    rest_of_list(
+        p,
+        SyntaxKind::TUPLE_PAT,
+        Element::Pattern,
+        SyntaxKind::R_PAREN,
+    );
+    complete(p, node, SyntaxKind::TUPLE_PAT);
+}
+
+/// The pattern after the `@` of a name, where there is one.
+#[cycle(grammar)]
+fn opt_at(p: &mut Parser<'_>)
+    requires short { length p.old.input < 2 ^ 64 }
+    ensures reads { (c : Bool) → Reads c ⁅ One 'at' ▸ SinglePattern ! ⁆ p.old p.new }
+    ensures left { tokens p.new ≤ tokens p.old }
+    ensures looks { spent p.new ≤ spent p.old + 1 }
+{
+    if at(p, SyntaxKind::AT) {
+        take(p, SyntaxKind::AT);
+        expect_single(p);
+    }
+}
+
+/// A name.
+#[cycle(grammar)]
+fn ident_pat(p: &mut Parser<'_>)
+    requires short { length p.old.input < 2 ^ 64 }
+    requires some { 1 ≤ tokens p.old }
+    ensures reads { (c : Bool) → Reads c
+        (IDENT_PAT ⟨ Name ▸ ⁅ One 'at' ▸ SinglePattern ! ⁆ ⟩) p.old p.new }
+    ensures left { tokens p.new + 1 ≤ tokens p.old }
+    ensures looks { spent p.new + 4090 ≤ spent p.old }
+{
+    let node = start(p);
+    name(p);
+    opt_at(p);
+    complete(p, node, SyntaxKind::IDENT_PAT);
+}
+
+/// A name after `mut`.
+#[cycle(grammar)]
+fn ident_after_mut(p: &mut Parser<'_>)
+    requires short { length p.old.input < 2 ^ 64 }
+    requires some { 1 ≤ tokens p.old }
+    ensures reads { (c : Bool) → Reads c
+        (IDENT_PAT ⟨ One 'mut' ▸ Name ! ▸ ⁅ One 'at' ▸ SinglePattern ! ⁆ ⟩) p.old p.new }
+    ensures left { tokens p.new + 1 ≤ tokens p.old }
+    ensures looks { spent p.new + 4090 ≤ spent p.old }
+{
+    let node = start(p);
+    take(p, SyntaxKind::MUT_KW);
+    expect_name(p);
+    opt_at(p);
+    complete(p, node, SyntaxKind::IDENT_PAT);
+}
+
+/// A name after `ref`.
+#[cycle(grammar)]
+fn ident_after_ref(p: &mut Parser<'_>)
+    requires short { length p.old.input < 2 ^ 64 }
+    requires some { 1 ≤ tokens p.old }
+    ensures reads { (c : Bool) → Reads c (IDENT_PAT ⟨ One 'ref' ▸ ⁅ One 'mut' ⁆ ▸ Name !
+        ▸ ⁅ One 'at' ▸ SinglePattern ! ⁆ ⟩) p.old p.new }
+    ensures left { tokens p.new + 1 ≤ tokens p.old }
+    ensures looks { spent p.new + 4090 ≤ spent p.old }
+{
+    let node = start(p);
+    take(p, SyntaxKind::REF_KW);
+    eat(p, SyntaxKind::MUT_KW);
+    expect_name(p);
+    opt_at(p);
+    complete(p, node, SyntaxKind::IDENT_PAT);
+}
+
+/// A pattern that begins with `(`: a tuple, or one in parentheses.
+#[cycle(grammar)]
+fn paren_pat(p: &mut Parser<'_>, frame: Marker) -> Marker
+    requires short { length p.old.input < 2 ^ 64 }
+    requires some { 1 ≤ tokens p.old }
+    requires innermost { IsInnermost frame p.old.nodes }
+    ensures reads { (c : Bool) → Reads c (One 'l_paren' ▸ (TUPLE_PAT <⟨ One 'r_paren' ⟩
+        or Pattern ! ▸ (TUPLE_PAT <⟨ One 'comma' ▸ rest_listed TUPLE_PAT Pattern 'r_paren' ⟩
+        or PAREN_PAT <⟨ One 'r_paren' ! ⟩))) p.old p.new }
+    ensures marker { IsInnermost result p.new.nodes }
+    ensures left { tokens p.new + 1 ≤ tokens p.old }
+    ensures looks { spent p.new + 3000 ≤ spent p.old }
+{
+    take(p, SyntaxKind::L_PAREN);
+    after_paren(p, frame)
+}
+
+/// What stands after the `(`.
+#[cycle(grammar)]
+fn after_paren(p: &mut Parser<'_>, frame: Marker) -> Marker
+    requires short { length p.old.input < 2 ^ 64 }
+    requires innermost { IsInnermost frame p.old.nodes }
+    ensures reads { (c : Bool) → Reads c (TUPLE_PAT <⟨ One 'r_paren' ⟩
+        or Pattern ! ▸ (TUPLE_PAT <⟨ One 'comma' ▸ rest_listed TUPLE_PAT Pattern 'r_paren' ⟩
+        or PAREN_PAT <⟨ One 'r_paren' ! ⟩)) p.old p.new }
+    ensures marker { IsInnermost result p.new.nodes }
+    ensures left { tokens p.new ≤ tokens p.old }
+    ensures looks { spent p.new ≤ spent p.old + 20 }
+{
+    if at(p, SyntaxKind::R_PAREN) {
+        take(p, SyntaxKind::R_PAREN);
+        return wrap(p, frame, SyntaxKind::TUPLE_PAT);
+    }
+    expect_pattern(p);
+    after_first(p, frame)
+}
+
+/// What stands after the first pattern in parentheses.
+#[cycle(grammar)]
+fn after_first(p: &mut Parser<'_>, frame: Marker) -> Marker
+    requires short { length p.old.input < 2 ^ 64 }
+    requires innermost { IsInnermost frame p.old.nodes }
+    ensures reads { (c : Bool) → Reads c
+        (TUPLE_PAT <⟨ One 'comma' ▸ rest_listed TUPLE_PAT Pattern 'r_paren' ⟩
+        or PAREN_PAT <⟨ One 'r_paren' ! ⟩) p.old p.new }
+    ensures marker { IsInnermost result p.new.nodes }
+    ensures left { tokens p.new ≤ tokens p.old }
+    ensures looks { spent p.new ≤ spent p.old + 2 }
+{
+    if at(p, SyntaxKind::COMMA) {
+        take(p, SyntaxKind::COMMA);
+        rest_of_list(
+            p,
+            SyntaxKind::TUPLE_PAT,
+            Element::Pattern,
+            SyntaxKind::R_PAREN,
+        );
+        return wrap(p, frame, SyntaxKind::TUPLE_PAT);
+    }
+    expect(p, SyntaxKind::R_PAREN);
+    wrap(p, frame, SyntaxKind::PAREN_PAT)
+}
+
+/// A path, with fields after it or alone.
+#[cycle(grammar)]
+fn path_pat(p: &mut Parser<'_>, frame: Marker) -> Marker
+    requires short { length p.old.input < 2 ^ 64 }
+    requires begins { (c : Bool) → Saw c (looks rules.path) p.old true }
+    requires some { 1 ≤ tokens p.old }
+    requires innermost { IsInnermost frame p.old.nodes }
+    ensures reads { (c : Bool) → Reads c
+        (ExprPath ▸ (TUPLE_STRUCT_PAT <⟨ listed TUPLE_STRUCT_PAT 'l_paren' Pattern 'r_paren' ⟩
+        or RECORD_PAT <⟨ PatternFields ⟩
+        or PATH_PAT <⟨ Nothing ⟩)) p.old p.new }
+    ensures marker { IsInnermost result p.new.nodes }
+    ensures left { tokens p.new + 1 ≤ tokens p.old }
+    ensures looks { spent p.new + 3990 ≤ spent p.old }
+{
+    path_with_args(p, Mode::Expr);
+    after_path(p, frame)
+}
+
+/// The fields after a path, or nothing.
+#[cycle(grammar)]
+fn after_path(p: &mut Parser<'_>, frame: Marker) -> Marker
+    requires short { length p.old.input < 2 ^ 64 }
+    requires innermost { IsInnermost frame p.old.nodes }
+    ensures reads { (c : Bool) → Reads c
+        (TUPLE_STRUCT_PAT <⟨ listed TUPLE_STRUCT_PAT 'l_paren' Pattern 'r_paren' ⟩
+        or RECORD_PAT <⟨ PatternFields ⟩
+        or PATH_PAT <⟨ Nothing ⟩) p.old p.new }
+    ensures marker { IsInnermost result p.new.nodes }
+    ensures left { tokens p.new ≤ tokens p.old }
+    ensures looks { spent p.new ≤ spent p.old + 2 }
+{
+    if at(p, SyntaxKind::L_PAREN) {
+        take(p, SyntaxKind::L_PAREN);
+        rest_of_list(
+            p,
+            SyntaxKind::TUPLE_STRUCT_PAT,
+            Element::Pattern,
+            SyntaxKind::R_PAREN,
+        );
+        return wrap(p, frame, SyntaxKind::TUPLE_STRUCT_PAT);
+    }
+    if at(p, SyntaxKind::L_CURLY) {
+        pattern_fields(p);
+        return wrap(p, frame, SyntaxKind::RECORD_PAT);
+    }
+    wrap(p, frame, SyntaxKind::PATH_PAT)
+}

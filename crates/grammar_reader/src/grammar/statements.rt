@@ -1,0 +1,280 @@
+//! Statements.
+
+ghost use Rattle.std.specs.Prelude.{◌≡◌, ◌≤◌, ◌<◌, ◌+◌, ◌*◌, ◌^◌, Bool, IsTrue, true, false, [], ◌∷◌, length};
+ghost use Rattle.parser_input.specs.Kinds.{LET_ELSE, LET_STMT};
+ghost use Rattle.parser_events.specs.Forest.{ExpectedStatement};
+ghost use Rattle.parser_events.specs.Stack.{IsInnermost};
+ghost use Rattle.rust_grammar.specs.Calls.{AnyType, Block, BlockLike, Expression, Pattern};
+ghost use Rattle.rust_grammar.specs.Notation.{◌or◌, ◌▸◌, ⁅◌⁆, ◌!, ◌⟨◌⟩, ◌before◌, more, one_of};
+ghost use Rattle.rust_grammar.specs.Rule as rules;
+ghost use Rattle.rust_grammar.specs.Rule.{One, Skip};
+ghost use Rattle.rust_grammar.specs.Statements.{goes_on, item_begins};
+ghost use Rattle.rust_grammar.specs.Words.{'semi', '#', ':', '=', '!', 'else', 'fn', 'impl', 'let', 'trait'};
+ghost use Rattle.grammar_reader.specs.Told.{after_block_of, listing_of};
+ghost use Rattle.rust_productions.specs.Looks.{tokens, spent};
+ghost use Rattle.rust_productions.specs.Reads.{looks, Anew, Does, Gives, Reads, Saw};
+
+use crate::grammar::attributes::attribute;
+use crate::grammar::closures::opt_type;
+use crate::grammar::consts::opt_value;
+use crate::grammar::control::{block_like, expect_block};
+use crate::grammar::expressions::expression;
+use crate::grammar::items::item;
+use crate::grammar::list_end::{ListEnd, at_end_of};
+use crate::grammar::operands::{postfix, postfixes};
+use crate::grammar::or_patterns::expect_pattern;
+use parser_events::message::Message;
+use parser_events::parser::{Marker, Parser};
+use parser_input::syntax_kind::SyntaxKind;
+use rust_productions::grammar::expressions::{at_block_like, at_expression};
+use rust_productions::grammar::{
+    abandon, at, at_pair, at_second, complete, current, error, expect, nth, skip, start, take, wrap,
+};
+
+/// A statement of a list.
+#[cycle(grammar)]
+pub(crate) fn statement(p: &mut Parser<'_>, end: ListEnd)
+    requires short { length p.old.input < 2 ^ 64 }
+    requires some { 1 ≤ tokens p.old }
+    ensures gives { Gives (listing_of end).one false p.old p.new }
+    ensures left { tokens p.new ≤ tokens p.old }
+    ensures pays { tokens p.new < tokens p.old → spent p.new + 1500 ≤ spent p.old }
+    ensures looks { spent p.new ≤ spent p.old + 900 }
+{
+    match current(p) {
+        SyntaxKind::SEMICOLON => take(p, SyntaxKind::SEMICOLON),
+        SyntaxKind::LET_KW => let_stmt(p),
+        _ => {
+            if at_inner_attribute(p) {
+                attribute(p);
+                return;
+            }
+            if at_item(p) {
+                item(p, false);
+                return;
+            }
+            expression_statement(p, end);
+        }
+    }
+}
+
+/// Whether an attribute of what holds the statements is next.
+pub(crate) fn at_inner_attribute(p: &mut Parser<'_>) -> bool
+    ensures sees { (c : Bool) → Saw c ('#' before '!') p.old result }
+    ensures some { IsTrue result → 1 ≤ tokens p.old }
+    ensures same { Does (λ s. s) p.old p.new }
+    ensures left { tokens p.new ≡ tokens p.old }
+    ensures looks { spent p.new ≤ spent p.old + 2 }
+{
+    if !at(p, SyntaxKind::POUND) {
+        return false;
+    }
+    at_second(p, SyntaxKind::BANG)
+}
+
+/// Whether an item begins here, among statements.
+fn at_item(p: &mut Parser<'_>) -> bool
+    ensures sees { (c : Bool) → Saw c item_begins p.old result }
+    ensures some { IsTrue result → 1 ≤ tokens p.old }
+    ensures same { Does (λ s. s) p.old p.new }
+    ensures left { tokens p.new ≡ tokens p.old }
+    ensures looks { spent p.new ≤ spent p.old + 2 }
+{
+    match current(p) {
+        SyntaxKind::POUND
+        | SyntaxKind::PUB_KW
+        | SyntaxKind::MOD_KW
+        | SyntaxKind::USE_KW
+        | SyntaxKind::STRUCT_KW
+        | SyntaxKind::ENUM_KW
+        | SyntaxKind::FN_KW
+        | SyntaxKind::CONST_KW
+        | SyntaxKind::STATIC_KW
+        | SyntaxKind::TYPE_KW
+        | SyntaxKind::IMPL_KW
+        | SyntaxKind::TRAIT_KW => true,
+        SyntaxKind::UNSAFE_KW => at_item_after_unsafe(p),
+        _ => false,
+    }
+}
+
+/// Whether a word is the next but one that begins an item after `unsafe`.
+fn at_item_after_unsafe(p: &mut Parser<'_>) -> bool
+    ensures sees { (c : Bool) → Saw c (one_of 1 ('fn' ∷ 'impl' ∷ 'trait' ∷ [])) p.old result }
+    ensures same { Does (λ s. s) p.old p.new }
+    ensures left { tokens p.new ≡ tokens p.old }
+    ensures looks { spent p.new ≤ spent p.old + 1 }
+{
+    match nth(p, 1) {
+        SyntaxKind::FN_KW | SyntaxKind::IMPL_KW | SyntaxKind::TRAIT_KW => true,
+        _ => false,
+    }
+}
+
+/// A `let`.
+#[cycle(grammar)]
+fn let_stmt(p: &mut Parser<'_>)
+    requires short { length p.old.input < 2 ^ 64 }
+    requires some { 1 ≤ tokens p.old }
+    ensures reads { Reads false (LET_STMT ⟨ One 'let' ▸ Pattern ! ▸ ⁅ One ':' ▸ AnyType ! ⁆
+        ▸ ⁅ One '=' ▸ Expression ! ⁆ ▸ ⁅ LET_ELSE ⟨ One 'else' ▸ Block ! ⟩ ⁆ ▸ One 'semi' ! ⟩) p.old p.new }
+    ensures left { tokens p.new + 1 ≤ tokens p.old }
+    ensures looks { spent p.new + 4000 ≤ spent p.old }
+{
+    let node = start(p);
+    take(p, SyntaxKind::LET_KW);
+    expect_pattern(p);
+    opt_type(p, false);
+    opt_value(p, false);
+    opt_else(p);
+    expect(p, SyntaxKind::SEMICOLON);
+    complete(p, node, SyntaxKind::LET_STMT);
+}
+
+/// What is done where the pattern of a `let` does not fit, if that is said.
+#[cycle(grammar)]
+fn opt_else(p: &mut Parser<'_>)
+    requires short { length p.old.input < 2 ^ 64 }
+    ensures reads { (c : Bool) → Reads c ⁅ LET_ELSE ⟨ One 'else' ▸ Block ! ⟩ ⁆ p.old p.new }
+    ensures left { tokens p.new ≤ tokens p.old }
+    ensures looks { spent p.new ≤ spent p.old + 1 }
+{
+    if at(p, SyntaxKind::ELSE_KW) {
+        let_else(p);
+    }
+}
+
+/// What is done where the pattern of a `let` does not fit.
+#[cycle(grammar)]
+fn let_else(p: &mut Parser<'_>)
+    requires short { length p.old.input < 2 ^ 64 }
+    requires some { 1 ≤ tokens p.old }
+    ensures reads { (c : Bool) → Reads c (LET_ELSE ⟨ One 'else' ▸ Block ! ⟩) p.old p.new }
+    ensures left { tokens p.new + 1 ≤ tokens p.old }
+    ensures looks { spent p.new + 4090 ≤ spent p.old }
+{
+    let node = start(p);
+    take(p, SyntaxKind::ELSE_KW);
+    expect_block(p);
+    complete(p, node, SyntaxKind::LET_ELSE);
+}
+
+/// An expression as a statement or as the last of its list, or a token that begins none.
+#[cycle(grammar)]
+fn expression_statement(p: &mut Parser<'_>, end: ListEnd)
+    requires short { length p.old.input < 2 ^ 64 }
+    requires some { 1 ≤ tokens p.old }
+    ensures anew { Anew false (BlockLike ▸ after_block_of end or Expression ▸ more (listing_of end).end
+        or Skip ExpectedStatement) p.old p.new }
+    ensures left { tokens p.new ≤ tokens p.old }
+    ensures pays { tokens p.new < tokens p.old → spent p.new + 1550 ≤ spent p.old }
+    ensures looks { spent p.new ≤ spent p.old + 800 }
+{
+    if at_block_like(p) {
+        block_statement(p, end);
+        return;
+    }
+    if at_expression(p, false) {
+        ended_expression(p, end);
+        return;
+    }
+    skip(p, Message::ExpectedStatement);
+}
+
+/// An expression that ends in a block, with what stands after it.
+#[cycle(grammar)]
+fn block_statement(p: &mut Parser<'_>, end: ListEnd)
+    requires short { length p.old.input < 2 ^ 64 }
+    requires begins { (c : Bool) → Saw c (looks rules.block_like) p.old true }
+    requires some { 1 ≤ tokens p.old }
+    ensures anew { (c : Bool) → Anew c (BlockLike ▸ after_block_of end) p.old p.new }
+    ensures left { tokens p.new + 1 ≤ tokens p.old }
+    ensures looks { spent p.new + 2880 ≤ spent p.old }
+{
+    let frame = start(p);
+    block_like(p);
+    let frame = after_block(p, frame, end);
+    abandon(p, frame);
+}
+
+/// Whether an expression that ends in a block goes on, by a `?` or a dot that begins no range.
+fn at_more(p: &mut Parser<'_>) -> bool
+    ensures sees { (c : Bool) → Saw c goes_on p.old result }
+    ensures some { IsTrue result → 1 ≤ tokens p.old }
+    ensures same { Does (λ s. s) p.old p.new }
+    ensures left { tokens p.new ≡ tokens p.old }
+    ensures looks { spent p.new ≤ spent p.old + 3 }
+{
+    match current(p) {
+        SyntaxKind::QUESTION => true,
+        SyntaxKind::DOT => {
+            if at_pair(p, SyntaxKind::DOT, SyntaxKind::DOT) {
+                return false;
+            }
+            true
+        }
+        _ => false,
+    }
+}
+
+/// What stands after an expression that ends in a block.
+#[cycle(grammar)]
+fn after_block(p: &mut Parser<'_>, frame: Marker, end: ListEnd) -> Marker
+    requires short { length p.old.input < 2 ^ 64 }
+    requires innermost { IsInnermost frame p.old.nodes }
+    ensures reads { (c : Bool) → Reads c (after_block_of end) p.old p.new }
+    ensures marker { IsInnermost result p.new.nodes }
+    ensures left { tokens p.new ≤ tokens p.old }
+    ensures looks { spent p.new ≤ spent p.old + 6 }
+{
+    if at_more(p) {
+        let frame = postfix(p, frame);
+        let frame = postfixes(p, frame);
+        return statement_end(p, frame, end);
+    }
+    if at(p, SyntaxKind::SEMICOLON) {
+        take(p, SyntaxKind::SEMICOLON);
+        return wrap(p, frame, SyntaxKind::EXPR_STMT);
+    }
+    if at_end_of(p, end) {
+        return frame;
+    }
+    wrap(p, frame, SyntaxKind::EXPR_STMT)
+}
+
+/// An expression with what stands after it.
+#[cycle(grammar)]
+fn ended_expression(p: &mut Parser<'_>, end: ListEnd)
+    requires short { length p.old.input < 2 ^ 64 }
+    requires begins { Saw false (looks rules.expression) p.old true }
+    requires some { 1 ≤ tokens p.old }
+    ensures anew { Anew false (Expression ▸ more (listing_of end).end) p.old p.new }
+    ensures left { tokens p.new ≤ tokens p.old }
+    ensures pays { tokens p.new < tokens p.old → spent p.new + 1790 ≤ spent p.old }
+    ensures looks { spent p.new ≤ spent p.old + 604 }
+{
+    let frame = start(p);
+    expression(p, false);
+    let frame = statement_end(p, frame, end);
+    abandon(p, frame);
+}
+
+/// What stands after an expression that needs a `;`, unless it is the last of its list.
+fn statement_end(p: &mut Parser<'_>, frame: Marker, end: ListEnd) -> Marker
+    requires { IsInnermost frame p.old.nodes }
+    ensures reads { (c : Bool) → Reads c (more (listing_of end).end) p.old p.new }
+    ensures marker { IsInnermost result p.new.nodes }
+    ensures left { tokens p.new ≤ tokens p.old }
+    ensures pays { tokens p.new < tokens p.old → spent p.new + 4000 ≤ spent p.old }
+    ensures looks { spent p.new ≤ spent p.old + 3 }
+{
+    if at(p, SyntaxKind::SEMICOLON) {
+        take(p, SyntaxKind::SEMICOLON);
+        return wrap(p, frame, SyntaxKind::EXPR_STMT);
+    }
+    if at_end_of(p, end) {
+        return frame;
+    }
+    error(p, Message::Expected(SyntaxKind::SEMICOLON));
+    wrap(p, frame, SyntaxKind::EXPR_STMT)
+}

@@ -1,0 +1,345 @@
+//! Types.
+
+ghost use Rattle.std.specs.Prelude.{◌≡◌, ◌≢◌, ◌≤◌, ◌<◌, ◌+◌, ◌*◌, ◌^◌, Bool, true, length};
+ghost use Rattle.parser_input.specs.Kind.{raw_of};
+ghost use Rattle.parser_input.specs.Kinds as kinds;
+ghost use Rattle.parser_input.specs.Kinds.{ARRAY_TYPE, CONST_ARG, PAREN_TYPE, PTR_TYPE, PATH_TYPE, REF_TYPE, SLICE_TYPE, TUPLE_TYPE};
+ghost use Rattle.parser_events.specs.Stack.{IsInnermost};
+ghost use Rattle.rust_grammar.specs.Calls.{AnyType, Bounds, Expression, Lifetime, TypePath};
+ghost use Rattle.rust_grammar.specs.Notation.{◌or◌, ◌▸◌, ⁅◌⁆, ◌!, ◌⟨◌⟩, ◌<⟨◌⟩, off, rest_listed};
+ghost use Rattle.rust_grammar.specs.Rule as rules;
+ghost use Rattle.rust_grammar.specs.Rule.{One};
+ghost use Rattle.rust_grammar.specs.Whole.{rule};
+ghost use Rattle.rust_grammar.specs.Words.{one, 'comma', 'semi', 'l_paren', 'r_paren', '[', ']', '&', '*', 'const', 'mut'};
+ghost use Rattle.rust_productions.specs.Looks.{tokens, spent};
+ghost use Rattle.rust_productions.specs.Reads.{looks, Gives, Reads, Saw};
+
+use crate::grammar::expressions::{Level, expect_expression};
+use crate::grammar::generics::bounds;
+use crate::grammar::lists::{Element, rest_of_list};
+use crate::grammar::paths::{Mode, path_with_args};
+use parser_events::message::Message;
+use parser_events::parser::{Marker, Parser};
+use parser_input::syntax_kind::SyntaxKind;
+use rust_productions::grammar::names::opt_lifetime;
+use rust_productions::grammar::types::{at_dyn_word, at_type};
+use rust_productions::grammar::{
+    abandon, at, complete, current, eat, error, expect, start, take, take_pair, wrap,
+};
+
+/// A type.
+#[cycle(grammar)]
+pub fn any_type(p: &mut Parser<'_>, condition: bool)
+    requires short { length p.old.input < 2 ^ 64 }
+    requires begins { Saw condition (looks rules.any_type) p.old true }
+    requires some { 1 ≤ tokens p.old }
+    ensures gives { Gives rules.any_type condition p.old p.new }
+    ensures left { tokens p.new + 1 ≤ tokens p.old }
+    ensures looks { spent p.new + 2910 ≤ spent p.old }
+{
+    let frame = start(p);
+    let frame = inside(p, frame, condition);
+    abandon(p, frame);
+}
+
+/// A type, inside the node that is left out around it.
+#[cycle(grammar)]
+fn inside(p: &mut Parser<'_>, frame: Marker, condition: bool) -> Marker
+    requires short { length p.old.input < 2 ^ 64 }
+    requires begins { Saw condition (looks rules.any_type) p.old true }
+    requires some { 1 ≤ tokens p.old }
+    requires innermost { IsInnermost frame p.old.nodes }
+    ensures reads { Reads condition (rule rules.any_type) p.old p.new }
+    ensures marker { IsInnermost result p.new.nodes }
+    ensures left { tokens p.new + 1 ≤ tokens p.old }
+    ensures looks { spent p.new + 2910 ≤ spent p.old }
+{
+    match current(p) {
+        SyntaxKind::L_PAREN => paren_type(p, frame, condition),
+        SyntaxKind::L_BRACK => bracket_type(p, frame, condition),
+        SyntaxKind::BANG => {
+            word_type(p, SyntaxKind::BANG, SyntaxKind::NEVER_TYPE);
+            frame
+        }
+        SyntaxKind::UNDERSCORE => {
+            word_type(p, SyntaxKind::UNDERSCORE, SyntaxKind::INFER_TYPE);
+            frame
+        }
+        SyntaxKind::STAR => {
+            ptr_type(p, condition);
+            frame
+        }
+        SyntaxKind::AMP => {
+            ref_type(p, condition);
+            frame
+        }
+        SyntaxKind::IMPL_KW => {
+            bounded_type(p, SyntaxKind::IMPL_KW, SyntaxKind::IMPL_TRAIT_TYPE);
+            frame
+        }
+        SyntaxKind::DYN_KW => {
+            bounded_type(p, SyntaxKind::DYN_KW, SyntaxKind::DYN_TRAIT_TYPE);
+            frame
+        }
+        _ => {
+            if at_dyn_word(p) {
+                bounded_type(p, SyntaxKind::DYN_KW, SyntaxKind::DYN_TRAIT_TYPE);
+                return frame;
+            }
+            path_type(p);
+            frame
+        }
+    }
+}
+
+/// A type of one token, in a node of this kind.
+pub(crate) fn word_type(p: &mut Parser<'_>, token: SyntaxKind, kind: SyntaxKind)
+    requires { 1 ≤ tokens p.old }
+    ensures reads { (c : Bool) → Reads c (raw_of kind ⟨ One (one (raw_of token)) ⟩) p.old p.new }
+    ensures left { tokens p.new + 1 ≡ tokens p.old }
+    ensures looks { spent p.new + 4096 ≡ spent p.old }
+{
+    let node = start(p);
+    take(p, token);
+    complete(p, node, kind);
+}
+
+/// A token and bounds after it, in a node of this kind.
+#[cycle(grammar)]
+fn bounded_type(p: &mut Parser<'_>, token: SyntaxKind, kind: SyntaxKind)
+    requires short { length p.old.input < 2 ^ 64 }
+    requires some { 1 ≤ tokens p.old }
+    ensures reads { (c : Bool) → Reads c
+        (raw_of kind ⟨ One (one (raw_of token)) ▸ Bounds ⟩) p.old p.new }
+    ensures left { tokens p.new + 1 ≤ tokens p.old }
+    ensures looks { spent p.new + 4090 ≤ spent p.old }
+{
+    let node = start(p);
+    take(p, token);
+    bounds(p);
+    complete(p, node, kind);
+}
+
+/// A path as a type.
+#[cycle(grammar)]
+pub(crate) fn path_type(p: &mut Parser<'_>)
+    requires short { length p.old.input < 2 ^ 64 }
+    requires begins { (c : Bool) → Saw c (looks rules.path) p.old true }
+    requires some { 1 ≤ tokens p.old }
+    ensures reads { (c : Bool) → Reads c (PATH_TYPE ⟨ TypePath ⟩) p.old p.new }
+    ensures left { tokens p.new + 1 ≤ tokens p.old }
+    ensures looks { spent p.new + 4000 ≤ spent p.old }
+{
+    let node = start(p);
+    path_with_args(p, Mode::Type);
+    complete(p, node, SyntaxKind::PATH_TYPE);
+}
+
+/// A type, or the message that it is missing.
+#[cycle(grammar)]
+pub(crate) fn expect_type(p: &mut Parser<'_>, condition: bool)
+    requires short { length p.old.input < 2 ^ 64 }
+    ensures reads { Reads condition (AnyType !) p.old p.new }
+    ensures left { tokens p.new ≤ tokens p.old }
+    ensures looks { spent p.new ≤ spent p.old + 5 }
+{
+    if at_type(p) {
+        any_type(p, condition);
+        return;
+    }
+    error(p, Message::ExpectedType);
+}
+
+/// A pointer.
+#[cycle(grammar)]
+fn ptr_type(p: &mut Parser<'_>, condition: bool)
+    requires short { length p.old.input < 2 ^ 64 }
+    requires some { 1 ≤ tokens p.old }
+    ensures reads { Reads condition
+        (PTR_TYPE ⟨ One '*' ▸ (One 'const' or One 'mut' !) ▸ AnyType ! ⟩) p.old p.new }
+    ensures left { tokens p.new + 1 ≤ tokens p.old }
+    ensures looks { spent p.new + 4080 ≤ spent p.old }
+{
+    let node = start(p);
+    take(p, SyntaxKind::STAR);
+    const_or_mut(p);
+    expect_type(p, condition);
+    complete(p, node, SyntaxKind::PTR_TYPE);
+}
+
+/// The word `const` or `mut`, or the message that `mut` is missing.
+fn const_or_mut(p: &mut Parser<'_>)
+    ensures reads { (c : Bool) → Reads c (One 'const' or One 'mut' !) p.old p.new }
+    ensures left { tokens p.new ≤ tokens p.old }
+    ensures looks { spent p.new ≤ spent p.old + 2 }
+{
+    if at(p, SyntaxKind::CONST_KW) {
+        take(p, SyntaxKind::CONST_KW);
+        return;
+    }
+    expect(p, SyntaxKind::MUT_KW);
+}
+
+/// A reference.
+#[cycle(grammar)]
+fn ref_type(p: &mut Parser<'_>, condition: bool)
+    requires short { length p.old.input < 2 ^ 64 }
+    requires some { 1 ≤ tokens p.old }
+    ensures reads { Reads condition
+        (REF_TYPE ⟨ One '&' ▸ ⁅ Lifetime ⁆ ▸ ⁅ One 'mut' ⁆ ▸ AnyType ! ⟩) p.old p.new }
+    ensures left { tokens p.new + 1 ≤ tokens p.old }
+    ensures looks { spent p.new + 4080 ≤ spent p.old }
+{
+    let node = start(p);
+    take(p, SyntaxKind::AMP);
+    opt_lifetime(p);
+    eat(p, SyntaxKind::MUT_KW);
+    expect_type(p, condition);
+    complete(p, node, SyntaxKind::REF_TYPE);
+}
+
+/// A type that begins with `(`: a tuple, or one in parentheses.
+#[cycle(grammar)]
+fn paren_type(p: &mut Parser<'_>, frame: Marker, condition: bool) -> Marker
+    requires short { length p.old.input < 2 ^ 64 }
+    requires some { 1 ≤ tokens p.old }
+    requires innermost { IsInnermost frame p.old.nodes }
+    ensures reads { Reads condition (One 'l_paren' ▸ (TUPLE_TYPE <⟨ One 'r_paren' ⟩
+        or AnyType ! ▸ (TUPLE_TYPE <⟨ One 'comma' ▸ rest_listed TUPLE_TYPE AnyType 'r_paren' ⟩
+        or PAREN_TYPE <⟨ One 'r_paren' ! ⟩))) p.old p.new }
+    ensures marker { IsInnermost result p.new.nodes }
+    ensures left { tokens p.new + 1 ≤ tokens p.old }
+    ensures looks { spent p.new + 3200 ≤ spent p.old }
+{
+    take(p, SyntaxKind::L_PAREN);
+    after_paren(p, frame, condition)
+}
+
+/// What stands after the `(`.
+#[cycle(grammar)]
+fn after_paren(p: &mut Parser<'_>, frame: Marker, condition: bool) -> Marker
+    requires short { length p.old.input < 2 ^ 64 }
+    requires innermost { IsInnermost frame p.old.nodes }
+    ensures reads { Reads condition (TUPLE_TYPE <⟨ One 'r_paren' ⟩
+        or AnyType ! ▸ (TUPLE_TYPE <⟨ One 'comma' ▸ rest_listed TUPLE_TYPE AnyType 'r_paren' ⟩
+        or PAREN_TYPE <⟨ One 'r_paren' ! ⟩)) p.old p.new }
+    ensures marker { IsInnermost result p.new.nodes }
+    ensures left { tokens p.new ≤ tokens p.old }
+    ensures looks { spent p.new ≤ spent p.old + 8 }
+{
+    if at(p, SyntaxKind::R_PAREN) {
+        take(p, SyntaxKind::R_PAREN);
+        return wrap(p, frame, SyntaxKind::TUPLE_TYPE);
+    }
+    expect_type(p, condition);
+    after_first(p, frame)
+}
+
+/// What stands after the first type in parentheses.
+#[cycle(grammar)]
+fn after_first(p: &mut Parser<'_>, frame: Marker) -> Marker
+    requires short { length p.old.input < 2 ^ 64 }
+    requires innermost { IsInnermost frame p.old.nodes }
+    ensures reads { (c : Bool) → Reads c
+        (TUPLE_TYPE <⟨ One 'comma' ▸ rest_listed TUPLE_TYPE AnyType 'r_paren' ⟩
+        or PAREN_TYPE <⟨ One 'r_paren' ! ⟩) p.old p.new }
+    ensures marker { IsInnermost result p.new.nodes }
+    ensures left { tokens p.new ≤ tokens p.old }
+    ensures looks { spent p.new ≤ spent p.old + 2 }
+{
+    if at(p, SyntaxKind::COMMA) {
+        take(p, SyntaxKind::COMMA);
+        rest_of_list(
+            p,
+            SyntaxKind::TUPLE_TYPE,
+            Element::Type,
+            SyntaxKind::R_PAREN,
+        );
+        return wrap(p, frame, SyntaxKind::TUPLE_TYPE);
+    }
+    expect(p, SyntaxKind::R_PAREN);
+    wrap(p, frame, SyntaxKind::PAREN_TYPE)
+}
+
+/// An array or a slice.
+#[cycle(grammar)]
+fn bracket_type(p: &mut Parser<'_>, frame: Marker, condition: bool) -> Marker
+    requires short { length p.old.input < 2 ^ 64 }
+    requires some { 1 ≤ tokens p.old }
+    requires innermost { IsInnermost frame p.old.nodes }
+    ensures reads { Reads condition (One '[' ▸ AnyType !
+        ▸ (ARRAY_TYPE <⟨ One 'semi' ▸ CONST_ARG ⟨ off (Expression !) ⟩ ▸ One ']' ! ⟩
+        or SLICE_TYPE <⟨ One ']' ! ⟩)) p.old p.new }
+    ensures marker { IsInnermost result p.new.nodes }
+    ensures left { tokens p.new + 1 ≤ tokens p.old }
+    ensures looks { spent p.new + 3200 ≤ spent p.old }
+{
+    take(p, SyntaxKind::L_BRACK);
+    expect_type(p, condition);
+    after_element(p, frame)
+}
+
+/// What stands after the type of an element.
+#[cycle(grammar)]
+fn after_element(p: &mut Parser<'_>, frame: Marker) -> Marker
+    requires short { length p.old.input < 2 ^ 64 }
+    requires innermost { IsInnermost frame p.old.nodes }
+    ensures reads { (c : Bool) → Reads c
+        (ARRAY_TYPE <⟨ One 'semi' ▸ CONST_ARG ⟨ off (Expression !) ⟩ ▸ One ']' ! ⟩
+        or SLICE_TYPE <⟨ One ']' ! ⟩) p.old p.new }
+    ensures marker { IsInnermost result p.new.nodes }
+    ensures left { tokens p.new ≤ tokens p.old }
+    ensures looks { spent p.new ≤ spent p.old + 2 }
+{
+    if at(p, SyntaxKind::SEMICOLON) {
+        take(p, SyntaxKind::SEMICOLON);
+        array_length(p);
+        expect(p, SyntaxKind::R_BRACK);
+        return wrap(p, frame, SyntaxKind::ARRAY_TYPE);
+    }
+    expect(p, SyntaxKind::R_BRACK);
+    wrap(p, frame, SyntaxKind::SLICE_TYPE)
+}
+
+/// How many elements an array has.
+#[cycle(grammar)]
+fn array_length(p: &mut Parser<'_>)
+    requires short { length p.old.input < 2 ^ 64 }
+    ensures reads { (c : Bool) → Reads c (CONST_ARG ⟨ off (Expression !) ⟩) p.old p.new }
+    ensures left { tokens p.new ≤ tokens p.old }
+    ensures looks { spent p.new ≤ spent p.old + 770 }
+{
+    let node = start(p);
+    expect_expression(p, Level::Expression, false);
+    complete(p, node, SyntaxKind::CONST_ARG);
+}
+
+/// The type that a function gives.
+#[cycle(grammar)]
+pub(crate) fn ret_type(p: &mut Parser<'_>, condition: bool)
+    requires short { length p.old.input < 2 ^ 64 }
+    requires some { 2 ≤ tokens p.old }
+    ensures gives { Gives rules.ret_type condition p.old p.new }
+    ensures left { tokens p.new + 1 ≤ tokens p.old }
+    ensures looks { spent p.new + 4090 ≤ spent p.old }
+{
+    let node = start(p);
+    take_pair(p, SyntaxKind::THIN_ARROW);
+    expect_type(p, condition);
+    complete(p, node, SyntaxKind::RET_TYPE);
+}
+
+/// The type after this word, where that is next.
+#[cycle(grammar)]
+pub(crate) fn opt_type_after(p: &mut Parser<'_>, word: SyntaxKind, condition: bool)
+    requires short { length p.old.input < 2 ^ 64 }
+    requires inside { raw_of word ≢ kinds.EOF }
+    ensures reads { Reads condition ⁅ One (one (raw_of word)) ▸ AnyType ! ⁆ p.old p.new }
+    ensures left { tokens p.new ≤ tokens p.old }
+    ensures looks { spent p.new ≤ spent p.old + 1 }
+{
+    if at(p, word) {
+        take(p, word);
+        expect_type(p, condition);
+    }
+}

@@ -1,3 +1,0 @@
-pub mod Data
-pub mod Layers
-pub mod Size

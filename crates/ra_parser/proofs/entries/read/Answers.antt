@@ -1,0 +1,49 @@
+use Rattle.std.proofs.Common.{false, true, subst}
+use Rattle.rust_grammar.specs.Rule.{Look}
+use Rattle.rust_productions.specs.Reads.{looks, Saw}
+use Rattle.rust_productions.proofs.Begins.{meta-begins}
+use Rattle.grammar_reader.proofs.AnyMode.{pattern-mode}
+use Rattle.grammar_reader.proofs.PathArgs.{any-mode}
+use Rattle.ra_parser.specs.Entries.{single_of}
+use Rattle.ra_parser.specs.declared.entries.Single.{Single}
+use Rattle.ra_parser.proofs.entries.read.Goals as goal
+
+pub expression-requires : goal.expression-requires
+expression-requires c = record {
+  short = c.requires.short;
+  begins = subst (λ (s : Single). Saw false (looks (single_of s)) c.args.p.now true) c.in-Expression.is c.requires.begins;
+  some = c.requires.some;
+}
+
+pub meta-requires : goal.meta-requires
+meta-requires c = record {
+  short = c.requires.short;
+  begins = λ d. any-mode (subst (λ (l : Look). Saw false l c.args.p.now true) meta-begins (subst (λ (s : Single). Saw false (looks (single_of s)) c.args.p.now true) c.in-Meta.is c.requires.begins));
+  some = c.requires.some;
+}
+
+pub pattern-requires : goal.pattern-requires
+pattern-requires c = record {
+  short = c.requires.short;
+  begins = λ d. pattern-mode (subst (λ (s : Single). Saw false (looks (single_of s)) c.args.p.now true) c.in-Pattern.is c.requires.begins);
+  some = c.requires.some;
+}
+
+pub any_type-requires : goal.any_type-requires
+any_type-requires c = record {
+  short = c.requires.short;
+  begins = subst (λ (s : Single). Saw false (looks (single_of s)) c.args.p.now true) c.in-Type.is c.requires.begins;
+  some = c.requires.some;
+}
+
+pub returns-in-Expression-clause-gives : goal.returns-in-Expression-clause-gives
+returns-in-Expression-clause-gives c = rw c.in-Expression.is c.expression.ensures.gives
+
+pub returns-in-Meta-clause-gives : goal.returns-in-Meta-clause-gives
+returns-in-Meta-clause-gives c = rw c.in-Meta.is c.meta.ensures.gives
+
+pub returns-in-Pattern-clause-gives : goal.returns-in-Pattern-clause-gives
+returns-in-Pattern-clause-gives c = rw c.in-Pattern.is (c.pattern.ensures.gives false)
+
+pub returns-in-Type-clause-gives : goal.returns-in-Type-clause-gives
+returns-in-Type-clause-gives c = rw c.in-Type.is c.any_type.ensures.gives
