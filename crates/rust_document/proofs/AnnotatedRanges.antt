@@ -6,7 +6,8 @@ use Rattle.rowan.specs.Place.{start_of, end_of}
 use Rattle.syntax_tree.specs.Element.{Way, element_at}
 use Rattle.syntax_tree.specs.declared.element.SyntaxElement.{SyntaxElement}
 use Rattle.tree_rewrite.specs.Fits.{IsNode}
-use Rattle.syntax_editor.specs.Again.{annotated_at, found_again}
+use Rattle.annotated_elements.specs.Annotated as again
+use Rattle.syntax_editor.specs.Again.{annotated_at, found_again, numbered}
 use Rattle.syntax_editor.specs.Editing.{Annotated, Editing}
 use Rattle.syntax_editor.specs.Inside as inside
 use Rattle.syntax_editor.specs.Rewriting.{rewriting}
@@ -25,3 +26,8 @@ ranges-found e t n found is same =
     ∙ ap (map bounds) same
     ∙ map-map bounds (annotated_at (element_at n t [])) (found_again e)
     ∙ ap in_tree (sym own)
+
+-- where no element is annotated
+pub none-annotated : (e : Editing) → e.annotations ≡ [] → annotated e ≡ []
+none-annotated e none =
+    ap (λ (xs : List Annotated). map (λ (x : Way × ℕ). (bounds_at (rewritten e) x.0, x.1)) (again.annotated e.mapping (map numbered xs) (rewriting e))) none

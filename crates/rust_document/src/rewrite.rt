@@ -1,8 +1,7 @@
 //! Reads the text of a rewritten tree, and compares.
 ghost use Rattle.std.specs.Prelude.{◌≡◌, length, map, string_bytes, IfOk, IfErr};
-ghost use Rattle.syntax_tree.specs.Handle.{element_of};
 ghost use Rattle.tree_rewrite.specs.Fits.{IsNode};
-ghost use Rattle.tree_rewrite.specs.Marked.{origins};
+ghost use Rattle.tree_rewrite.specs.Pieces.{Say};
 ghost use Rattle.syntax_editor.specs.Rewriting.{rewriting};
 ghost use Rattle.rust_document.specs.Committed.{annotated_ends, bounds_of};
 ghost use Rattle.rust_document.specs.Rewrite.{annotated};
@@ -18,6 +17,8 @@ use rowan_green::{GreenNode, TextRange};
 use std::alloc::{AllocError, Global};
 use syntax_editor::{SyntaxAnnotation, SyntaxEditor};
 use syntax_tree::{SyntaxElement, SyntaxNode, TreeIds};
+use tree_rewrite::origins::origins_of;
+use tree_rewrite::piece::Piece;
 
 /// The text of a rewritten tree, with its reading, the bytes of it that were put in, and those of
 /// annotated elements.
@@ -67,23 +68,27 @@ fn ranges_of(
     Ok(ranges)
 }
 
-/// The bytes of the annotated elements that stand in the rewritten tree of an editor, whose
-/// elements have these origins in preorder.
+/// The bytes of the annotated elements that stand in the rewritten tree of an editor, which was
+/// made of these pieces.
 fn annotated_ranges(
     alloc: Global,
     editor: &SyntaxEditor,
     tree: GreenNode,
-    came_from: &[SyntaxElement],
+    pieces: &[Piece],
 ) -> Result<Vec<(TextRange, SyntaxAnnotation)>, AllocError>
     requires tree { IsNode (rewriting editor.now) tree }
-    requires origins { map element_of came_from.now ≡ origins (rewriting editor.now) }
+    requires says { Say pieces.now (rewriting editor.now) }
     ensures { IfOk result (λ v. map annotated_ends v.items ≡ annotated editor.now) }
 {
+    if !editor.is_annotated() {
+        return Ok(Vec::new(alloc));
+    }
+    let came_from = origins_of(alloc, pieces)?;
     // (the number is of a source of its own: these handles are gone when their ranges are told)
     let Ok(root) = SyntaxNode::new_root(alloc, tree, &mut TreeIds::new()) else {
         return Err(AllocError);
     };
-    let found = editor.annotated_in(alloc, &root, came_from)?;
+    let found = editor.annotated_in(alloc, &root, &came_from.elements)?;
     ranges_of(alloc, &found)
 }
 
@@ -100,7 +105,7 @@ pub fn rewrite(
 {
     let rewritten = editor.rewritten(alloc)?;
     let ReadBack { text, reading } = read_back(alloc, edition, &rewritten.green)?;
-    let annotated = annotated_ranges(alloc, editor, rewritten.green, &rewritten.origins)?;
+    let annotated = annotated_ranges(alloc, editor, rewritten.green, &rewritten.pieces)?;
     Ok(Rewritten {
         text,
         reading,

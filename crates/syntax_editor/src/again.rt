@@ -1,5 +1,5 @@
 //! Annotated elements, found again in the rewritten tree.
-ghost use Rattle.std.specs.Prelude.{◌≡◌, map, IfOk};
+ghost use Rattle.std.specs.Prelude.{◌≡◌, ◌↔◌, [], false, map, IfOk};
 ghost use Rattle.syntax_tree.specs.Handle.{element_of};
 ghost use Rattle.annotated_elements.specs.Found.{AreOrigins};
 ghost use Rattle.syntax_editor.specs.Again.{annotated_at, found_again};
@@ -13,11 +13,18 @@ use std::alloc::{AllocError, Global};
 use syntax_tree::{SyntaxElement, SyntaxNode};
 
 impl SyntaxEditor {
+    /// Whether an element is annotated.
+    pub fn is_annotated(&self) -> bool
+        ensures { (result ≡ false) ↔ (self.now.annotations ≡ []) }
+    {
+        !self.annotations.is_empty()
+    }
+
     /// The annotated elements that stand in the rewritten tree, each with its annotation: an
     /// element is followed by the mapping to its end, and found at each element that was copied
     /// from there; by order of annotation, then of the tree. The root is that of the edited tree
-    /// with all recorded changes made, and these are the origins of its elements in preorder, as
-    /// `rewritten` gives both.
+    /// with all recorded changes made, as `rewritten` gives it, and these are the origins of its
+    /// elements in preorder, as `origins_of` tells them of its pieces.
     pub fn annotated_in(
         &self,
         alloc: Global,

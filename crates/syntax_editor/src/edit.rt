@@ -25,6 +25,7 @@ use rowan_green::TextRange;
 use std::alloc::{AllocError, Global};
 use std::marker::Model;
 use syntax_tree::{SyntaxElement, SyntaxMapping, SyntaxNode, TreeIds};
+use tree_rewrite::origins::{Origins, origins_of};
 use tree_rewrite::plan::Rewritten;
 
 /// A tree as it was, and with all recorded changes made.
@@ -184,9 +185,12 @@ impl SyntaxEditor {
         let Rewritten {
             green,
             changed,
-            origins,
-            put,
+            pieces,
         } = made(alloc, &old_root, changes, &mapping)?;
+        let Origins {
+            elements: origins,
+            put,
+        } = origins_of(alloc, &pieces)?;
         let new_root = SyntaxNode::new_root(alloc, green, ids)?;
         let Ok(told) = Told::of(alloc, &mapping, &annotations, &new_root, &origins, &put) else {
             // (the number is given back: nothing has it)

@@ -1,10 +1,9 @@
 //! The edited tree with all recorded changes made.
-ghost use Rattle.std.specs.Prelude.{◌≡◌, ◌+◌, [], true, map, IfOk, IfErr, OnOk};
+ghost use Rattle.std.specs.Prelude.{◌≡◌, ◌+◌, [], true, IfOk, IfErr, OnOk};
 ghost use Rattle.std.specs.List.{All};
-ghost use Rattle.syntax_tree.specs.Handle.{element_of};
 ghost use Rattle.tree_rewrite.specs.Changed.{AreChanged};
 ghost use Rattle.tree_rewrite.specs.Fits.{IsNode, new_fits};
-ghost use Rattle.tree_rewrite.specs.Marked.{origins, put_marks};
+ghost use Rattle.tree_rewrite.specs.Pieces.{Say};
 ghost use Rattle.tree_rewrite.specs.Recorded.{IsOrdered, KeepsOneRoot};
 ghost use Rattle.syntax_editor.specs.Inside.{editing_of};
 ghost use Rattle.syntax_editor.specs.Rewriting.{rewriting, IsPlaceable, RefusesRewriting};
@@ -19,8 +18,8 @@ use tree_rewrite::error::ExecuteError;
 use tree_rewrite::plan::{Plan, Rewritten};
 
 impl SyntaxEditor {
-    /// The tree with all recorded changes made at once, what changed in it, where each of its
-    /// elements came from, and which were put in.
+    /// The tree with all recorded changes made at once, what changed in it, and the pieces that it
+    /// was made of, which say where each of its elements came from.
     ///
     /// Refuses, in this order, as `Intersecting` where two changes replace one element, as
     /// `MissingMapping` where a change in a node that is replaced by a node has no place in that,
@@ -29,8 +28,7 @@ impl SyntaxEditor {
         ensures placeable { OnOk result (IsPlaceable self.now) }
         ensures green { IfOk result (λ r. IsNode (rewriting self.now) r.green) }
         ensures changed { IfOk result (λ r. AreChanged r.changed.items (rewriting self.now)) }
-        ensures origins { IfOk result (λ r. map element_of r.origins.items ≡ origins (rewriting self.now)) }
-        ensures put { IfOk result (λ r. r.put.items ≡ put_marks (rewriting self.now)) }
+        ensures says { IfOk result (λ r. Say r.pieces.items (rewriting self.now)) }
         ensures fits { OnOk result (new_fits (rewriting self.now) ≡ true) }
         ensures refused { IfErr result (RefusesRewriting self.now) }
     {
@@ -39,8 +37,8 @@ impl SyntaxEditor {
     }
 }
 
-/// The tree of a root with changes made at once, what changed in it, and where each of its elements
-/// came from.
+/// The tree of a root with changes made at once, what changed in it, and the pieces that it was made
+/// of.
 pub(crate) fn made(
     alloc: Global,
     root: &SyntaxNode,
@@ -55,10 +53,8 @@ pub(crate) fn made(
         (rewriting (editing_of root.now changes.items mapping.now)) r.green) }
     ensures changed { IfOk result (λ r. AreChanged r.changed.items
         (rewriting (editing_of root.now changes.items mapping.now))) }
-    ensures origins { IfOk result (λ r. map element_of r.origins.items
-        ≡ origins (rewriting (editing_of root.now changes.items mapping.now))) }
-    ensures put { IfOk result (λ r. r.put.items
-        ≡ put_marks (rewriting (editing_of root.now changes.items mapping.now))) }
+    ensures says { IfOk result (λ r. Say r.pieces.items
+        (rewriting (editing_of root.now changes.items mapping.now))) }
     ensures fits { OnOk result (new_fits (rewriting (editing_of root.now changes.items mapping.now))
         ≡ true) }
     ensures refused { IfErr result (RefusesRewriting (editing_of root.now changes.items mapping.now)) }

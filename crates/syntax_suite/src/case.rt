@@ -16,6 +16,7 @@ use syntax_tree::{
 };
 use tree_rewrite::change::Change;
 use tree_rewrite::error::PlanError;
+use tree_rewrite::origins::origins_of;
 use tree_rewrite::plan::Plan;
 
 /// A member of an object.
@@ -356,7 +357,8 @@ fn is_made(alloc: Global, case: &Value, plan: &Plan, order: &[usize]) -> anyhow:
     }
     let rewritten = plan.execute(alloc, order)?;
     let changed = are_changed(case, &rewritten.changed)?;
-    let origins = are_origins(alloc, case, &rewritten.origins)?;
+    let came_from = origins_of(alloc, &rewritten.pieces)?;
+    let origins = are_origins(alloc, case, &came_from.elements)?;
     let expected = green(alloc, member(case, "tree")?)?;
     Ok(rewritten.green == expected && changed && origins)
 }

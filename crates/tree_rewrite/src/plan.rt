@@ -5,7 +5,6 @@ ghost use Rattle.rowan_green.specs.Forest.{Tree};
 ghost use Rattle.syntax_tree.specs.Handle.{element_of};
 ghost use Rattle.tree_rewrite.specs.Change.{has_collision};
 ghost use Rattle.tree_rewrite.specs.Held.{FitsRow};
-ghost use Rattle.tree_rewrite.specs.Marked.{origins, put_marks};
 ghost use Rattle.tree_rewrite.specs.Rewrite.{jobs, rewritten};
 ghost use Rattle.tree_rewrite.specs.Orders.{is_order};
 ghost use Rattle.tree_rewrite.specs.Recorded.{recorded, IsOrdered, KeepsOneRoot};
@@ -25,7 +24,6 @@ use crate::held_ways::held_ways;
 use crate::job::{Job, is_order};
 use crate::kept::jobs_of;
 use crate::lists::on_sheet;
-use crate::origins::{Origins, origins_of};
 use crate::piece::Piece;
 use crate::tree_change::TreeChange;
 use rowan_green::{GreenNode, TextRange};
@@ -48,10 +46,9 @@ pub struct Rewritten {
     /// The bytes of what was put in by changes that lie in no other, in the order of the tree. A
     /// deletion has none.
     pub changed: Vec<TextRange>,
-    /// Where each of its elements came from, in preorder.
-    pub origins: Vec<SyntaxElement>,
-    /// Whether each of its elements was put in by a change that lies in no other, in preorder.
-    pub put: Vec<bool>,
+    /// What it was made of: by `origins_of` they say where each of its elements came from, and
+    /// whether it was put in by a change that lies in no other.
+    pub pieces: Vec<Piece>,
 }
 
 impl Model for Plan {
@@ -130,10 +127,8 @@ impl Plan {
         ensures green { IfOk result (λ r. IsNode (rewritten self.now.top (reverse self.now.jobs)) r.green) }
         ensures changed { IfOk result (λ r. AreChanged r.changed.items
             (rewritten self.now.top (reverse self.now.jobs))) }
-        ensures origins { IfOk result (λ r. map element_of r.origins.items
-            ≡ origins (rewritten self.now.top (reverse self.now.jobs))) }
-        ensures put { IfOk result (λ r. r.put.items
-            ≡ put_marks (rewritten self.now.top (reverse self.now.jobs))) }
+        ensures says { IfOk result (λ r. Say r.pieces.items
+            (rewritten self.now.top (reverse self.now.jobs))) }
         ensures fits { OnOk result (new_fits (rewritten self.now.top (reverse self.now.jobs)) ≡ true) }
         ensures refused { IfErr result (RefusesRewrite (rewritten self.now.top (reverse self.now.jobs))) }
     {
@@ -144,12 +139,10 @@ impl Plan {
         };
         let _fits = green.text_len();
         let changed = changed_of(alloc, &pieces)?;
-        let Origins { elements, put } = origins_of(alloc, &pieces)?;
         Ok(Rewritten {
             green,
             changed,
-            origins: elements,
-            put,
+            pieces,
         })
     }
 

@@ -4,6 +4,7 @@ use Rattle.syntax_tree.specs.Handle.{element_of}
 use Rattle.tree_rewrite.specs.Changed.{bounds}
 use Rattle.tree_rewrite.specs.Fits.{IsNode}
 use Rattle.tree_rewrite.specs.Marked.{changed}
+use Rattle.tree_rewrite.specs.Pieces.{Say}
 use Rattle.annotated_elements.specs.Annotated.{annotated, elements_at, elements_of}
 use Rattle.annotated_elements.specs.Changed.{ArePutMarks}
 use Rattle.annotated_elements.specs.Found.{AreOrigins}
@@ -26,13 +27,15 @@ returns-clause-finished c =
     let is : root ≡ element_at c.args.ids.now tree [] = c.in_ok-new_root.ensures.ok in
     let top = ap (λ e. e.place.up) is in
     let node : IsNode m root.place.root = subst (IsNode m) (sym (ap (λ e. e.place.root) is)) made.green in
-    let put : ArePutMarks m root c.deref-3.result.now = record { top = top; tree = node; marks = c.deref-3.ensures.value ∙ made.put } in
-    let came : AreOrigins m root (map element_of c.deref-2.result.now) = record { top = top; tree = node; origins = ap (map element_of) c.deref-2.ensures.value ∙ made.origins } in
+    let says : Say c.deref.result.now m = subst (λ ps. Say ps m) (sym c.deref.ensures.value) made.says in
+    let came_from = c.in_ok-origins.ensures in
+    let put : ArePutMarks m root c.deref-4.result.now = record { top = top; tree = node; marks = c.deref-4.ensures.value ∙ came_from.put m says } in
+    let came : AreOrigins m root (map element_of c.deref-3.result.now) = record { top = top; tree = node; origins = ap (map element_of) c.deref-3.ensures.value ∙ came_from.elements m says } in
     let edit : Edit = record {
       old_root = own.root;
       new_root = root;
       changed = map bounds c.in_ok-green.field-0.changed.items;
-      origins = map element_of c.in_ok-green.field-0.origins.items;
+      origins = map element_of c.in_ok-origins.field-0.elements.items;
       changed_elements = map element_of c.in-Ok.told.changed_elements.items;
       annotated = map inside.annotated c.in-Ok.told.annotated.items;
     } in
@@ -42,8 +45,8 @@ returns-clause-finished c =
       old_root = refl;
       new_root = is;
       changed = made.changed;
-      origins = made.origins;
+      origins = came_from.elements m says;
       changed_elements = c.in-Ok.ensures.changed m put ∙ ap (λ e. map (element_at e.number e.place.root) (changed m)) is;
       annotated = seen-again own.mapping own.annotations.items c.in-Ok.told.annotated.items m root
-          (c.in-Ok.ensures.annotated m came ∙ ap (λ xs. elements_at root (annotated own.mapping (elements_of xs) m)) c.deref.ensures.value);
+          (c.in-Ok.ensures.annotated m came ∙ ap (λ xs. elements_at root (annotated own.mapping (elements_of xs) m)) c.deref-2.ensures.value);
     })

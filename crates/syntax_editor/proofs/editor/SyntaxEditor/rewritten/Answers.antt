@@ -1,12 +1,12 @@
 -- The copies are seen as the changes are.
 use Rattle.std.proofs.Common.{◌≡◌, true, List, [], map, ap, ◌∙◌, subst, IfOk, IfErr, OnOk}
 use Rattle.syntax_tree.specs.Element.{Element}
-use Rattle.syntax_tree.specs.Handle.{element_of}
 use Rattle.syntax_tree.specs.Mapping.{Mapping}
 use Rattle.tree_rewrite.specs.Change.{Change}
 use Rattle.tree_rewrite.specs.Changed.{AreChanged}
 use Rattle.tree_rewrite.specs.Fits.{IsNode, new_fits}
-use Rattle.tree_rewrite.specs.Marked.{Marked, origins}
+use Rattle.tree_rewrite.specs.Marked.{Marked}
+use Rattle.tree_rewrite.specs.Pieces.{Say}
 use Rattle.tree_rewrite.specs.Recorded.{recorded}
 use Rattle.tree_rewrite.specs.declared.change.Change as declared
 use Rattle.tree_rewrite.specs.declared.plan.Rewritten.{Rewritten}
@@ -41,11 +41,11 @@ returns-clause-changed c =
     let whole = same-rewriting c.args.self.now c.self.inside.root c.self.inside.mapping _ _ (ap rewriting c.self.view_is) same in
     subst (λ (m : Marked). IfOk c.made.result (λ (r : Rewritten). AreChanged r.changed.items m)) whole c.made.ensures.changed
 
-pub returns-clause-origins : goal.returns-clause-origins
-returns-clause-origins c =
+pub returns-clause-says : goal.returns-clause-says
+returns-clause-says c =
     let same = same-changes _ _ _ c.deref.ensures.value c.in_ok-changes.ensures.same in
     let whole = same-rewriting c.args.self.now c.self.inside.root c.self.inside.mapping _ _ (ap rewriting c.self.view_is) same in
-    subst (λ (m : Marked). IfOk c.made.result (λ (r : Rewritten). map element_of r.origins.items ≡ origins m)) whole c.made.ensures.origins
+    subst (λ (m : Marked). IfOk c.made.result (λ (r : Rewritten). Say r.pieces.items m)) whole c.made.ensures.says
 
 pub returns-clause-fits : goal.returns-clause-fits
 returns-clause-fits c =

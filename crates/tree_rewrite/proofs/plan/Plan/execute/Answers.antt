@@ -40,15 +40,8 @@ returns-clause-changed c =
     let m = rewritten c.args.self.now.top (reverse c.args.self.now.jobs) in
     c.in_ok-changed.ensures m (subst (λ l. Say l m) (sym c.deref-2.ensures.value) c.in_ok-pieces.ensures.says)
 
-pub returns-clause-origins : goal.returns-clause-origins
-returns-clause-origins c =
-    let m = rewritten c.args.self.now.top (reverse c.args.self.now.jobs) in
-    c.in_ok-elements-2.ensures.elements m (subst (λ l. Say l m) (sym c.deref-3.ensures.value) c.in_ok-pieces.ensures.says)
-
-pub returns-clause-put : goal.returns-clause-put
-returns-clause-put c =
-    let m = rewritten c.args.self.now.top (reverse c.args.self.now.jobs) in
-    c.in_ok-elements-2.ensures.put m (subst (λ l. Say l m) (sym c.deref-3.ensures.value) c.in_ok-pieces.ensures.says)
+pub returns-clause-says : goal.returns-clause-says
+returns-clause-says c = c.in_ok-pieces.ensures.says
 
 pub returns-in_err-elements-clause-refused : goal.returns-in_err-elements-clause-refused
 returns-in_err-elements-clause-refused c =
