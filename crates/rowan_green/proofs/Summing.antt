@@ -10,7 +10,7 @@ use Rattle.rowan_green.specs.ChildAt.{IsChildAt}
 use Rattle.std.specs.declared.rc.Rc.{Rc}
 use Rattle.std.specs.declared.alloc.Global.{Global}
 use Rattle.std.proofs.Common.{get_or, Vec}
-use Rattle.rowan_green.specs.Balanced.{fewest, IsFork, IsBalanced, IsSummed, terms_in, height_of, middle_of, half_of}
+use Rattle.rowan_green.specs.Balanced.{fewest, IsFork, IsBalanced, IsSummed, terms_in, height_of, middle_of, half_of, IsBlock}
 use Rattle.rowan_green.specs.Term.{text_of, term_len}
 use Rattle.rowan_green.specs.declared.element_list.Part.{Part}
 use Rattle.rowan_green.specs.declared.element_list.Link.{Link}
@@ -167,13 +167,15 @@ pub record AtBlock (d : List Term × ℕ) (xs : List Term) (half : ℕ) : Type 0
   pub fits : FitsNode xs
 
 pub at_block : {link : Link} {half : ℕ} {d : List Term × ℕ} {v : Vec Term Global} → (terms_in link, height_of link) ≡ d → IsSummed link → link ≡ Block half v → AtBlock d v.items half
-at_block {link} {half} {d} {v} w p e = record {
-  terms = sym (ap (λ x. x.0) w) ∙ ap terms_in e;
-  height = sym (ap (λ x. x.1) w) ∙ ap height_of e;
-  few = subst IsBalanced e p.balanced;
-  before = sym (ap half_of e) ∙ p.before_middle ∙ ap (λ x. length (texts_of (take (middle_of x) (terms_in x)))) e;
-  fits = subst (λ x. FitsNode (terms_in x)) e p.fits;
-}
+at_block {link} {half} {d} {v} w p e =
+    let b : IsBlock v.items = subst IsBalanced e p.balanced in
+    record {
+      terms = sym (ap (λ x. x.0) w) ∙ ap terms_in e;
+      height = sym (ap (λ x. x.1) w) ∙ ap height_of e;
+      few = b.few;
+      before = sym (ap half_of e) ∙ p.before_middle ∙ ap (λ x. length (texts_of (take (middle_of x) (terms_in x)))) e;
+      fits = subst (λ x. FitsNode (terms_in x)) e p.fits;
+    }
 
 pub new_fork : (d e : List Term × ℕ) (a b m n k : ℕ) → 8 ≤ length d.0 → 8 ≤ length e.0 → d.1 ≤ e.1 + 1 → e.1 ≤ d.1 + 1 → a ≡ d.1 → b ≡ e.1 → (8 ≤ length d.0 → fewest a ≤ length d.0) → (8 ≤ length e.0 → fewest b ≤ length e.0) → m ≡ max a b → n ≡ length d.0 → k ≡ length e.0 → IsFork d.0 d.1 e.0 e.1 (n + k) (m + 1)
 new_fork d e a b m n k p q x y s t u v w i j =

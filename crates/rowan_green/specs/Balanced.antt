@@ -1,26 +1,30 @@
--- Children as a balanced tree: blocks of terms in order, below forks that keep sums.
-use Rattle.std.specs.Prelude.{◌≡◌, ℕ, zero, suc, ◌+◌, ◌*◌, ◌/◌, ◌≤◌, max, List, ◌++◌, length, take}
+-- Children as a balanced tree: one term alone, or blocks of terms in order, below forks that keep sums.
+use Rattle.std.specs.Prelude.{◌≡◌, ◌≢◌, ℕ, zero, suc, ◌+◌, ◌*◌, ◌/◌, ◌≤◌, max, List, [], ◌∷◌, ◌++◌, length, take, ⊤}
 use Rattle.rowan_green.specs.Term.{Term, texts_of, FitsNode}
 use Rattle.rowan_green.specs.declared.element_list.Link.{Link}
-use Rattle.rowan_green.specs.declared.element_list.Link.TheVariants.{Block, Fork}
+use Rattle.rowan_green.specs.declared.element_list.Link.TheVariants.{One, Block, Fork}
 
 -- the terms in order
 abbrev pub terms_in : Link → List Term
+terms_in (One e) = e ∷ []
 terms_in (Block half v) = v.items
 terms_in (Fork half l r n h) = l.value.0 ++ r.value.0
 
 -- how many forks lie above the deepest block
 abbrev pub height_of : Link → ℕ
+height_of (One e) = 0
 height_of (Block half v) = 0
 height_of (Fork half l r n h) = h
 
 -- how many terms come before the middle
 abbrev pub middle_of : Link → ℕ
+middle_of (One e) = 0
 middle_of (Block half v) = length v.items / 2
 middle_of (Fork half l r n h) = length l.value.0
 
 -- what is kept as the length of the text before the middle
 abbrev pub half_of : Link → ℕ
+half_of (One e) = 0
 half_of (Block half v) = half
 half_of (Fork half l r n h) = half
 
@@ -40,9 +44,15 @@ pub record IsFork (xs : List Term) (a : ℕ) (ys : List Term) (b : ℕ) (n : ℕ
   pub height : h ≡ max a b + 1
   pub many : fewest h ≤ n
 
--- a block has at most 16 terms; the sides of a fork have at least 8, and heights that differ by at most one
+-- these terms are kept as a block: at most 16, and not one alone
+pub record IsBlock (xs : List Term) : Type 0 where
+  pub not_one : length xs ≢ 1
+  pub few : length xs ≤ 16
+
+-- the sides of a fork have at least 8, and heights that differ by at most one
 abbrev pub IsBalanced : Link → Type 0
-IsBalanced (Block half v) = length v.items ≤ 16
+IsBalanced (One e) = ⊤
+IsBalanced (Block half v) = IsBlock v.items
 IsBalanced (Fork half l r n h) = IsFork l.value.0 l.value.1 r.value.0 r.value.1 n h
 
 -- the list of this link keeps the length of the text before its middle

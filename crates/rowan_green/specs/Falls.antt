@@ -6,7 +6,7 @@ use Rattle.rowan_green.specs.Forest.{Tree, tree_count, forest_count}
 use Rattle.rowan_green.specs.Term.{Term, forest_of}
 use Rattle.rowan_green.specs.declared.utility_types.NodeOrToken.TheVariants.{Node, Token}
 use Rattle.rowan_green.specs.declared.element_list.Link.{Link}
-use Rattle.rowan_green.specs.declared.element_list.Link.TheVariants.{Block, Fork}
+use Rattle.rowan_green.specs.declared.element_list.Link.TheVariants.{One, Block, Fork}
 use Rattle.rowan_green.specs.declared.element_list.ElementList.TheDeep.{deep-Link}
 use Rattle.rowan_green.specs.Balanced.{terms_in, IsBalanced}
 use denote.Param.Weighed.{most}
@@ -33,5 +33,7 @@ fork_falls : (xs ys : List Term) → 8 ≤ length xs → 8 ≤ length ys → max
 fork_falls xs ys p q = omega (arith, count-append xs ys, length-le-count xs, length-le-count ys)
 
 pub falls : (l : Link) → IsBalanced l → max (deep-Link l) 0 ≤ 2 * forest_count (forest_of (terms_in l)) + 1
+falls (One (Node t)) p = omega arith
+falls (One (Token l)) p = omega arith
 falls (Block half v) p = block_falls _ (λ t. omega arith) (λ l. omega arith) v.items
 falls (Fork half l r n h) p = fork_falls l.value.0 r.value.0 p.left p.right

@@ -9,11 +9,12 @@ ghost use Rattle.rowan_green.specs.Building.{nothing_built, with_sign, with_open
 
 use crate::element::GreenElement;
 use crate::error::GreenError;
+use crate::fingerprint::{Fingerprint, SmallNode};
 use crate::node::GreenNode;
 use crate::node_cache::NodeCache;
 use crate::syntax_kind::SyntaxKind;
 use crate::utility_types::NodeOrToken;
-use std::alloc::Global;
+use std::alloc::{AllocError, Global};
 use std::fmt;
 use std::marker::Model;
 
@@ -312,16 +313,20 @@ fn close(
     ensures refused { IfErr result (RefusesUnless (FitsNode (drop first done.old.items))) }
     ensures err { OnErr result (done.new.items ≡ done.old.items) }
 {
+    if done.len() == first + 1 {
+        return close_one(alloc, cache, done, kind, first);
+    }
     done.reserve(1)?;
-    if let Some(node) = cache.node(kind, &done[first..]) {
+    let small = SmallNode::of(kind.0, &done[first..]);
+    if let Some(node) = cache.node(kind, small, &done[first..]) {
         done.truncate(first);
         done.push(NodeOrToken::Node(node))?;
         return Ok(());
     }
     let children = done.split_off(first)?;
-    match GreenNode::from_vec(alloc, kind, children) {
+    match GreenNode::from_vec(alloc, kind, Fingerprint::of(small), children) {
         Ok(node) => {
-            cache.keep_node(&node);
+            cache.keep_node(small, &node);
             done.push(NodeOrToken::Node(node))?;
             Ok(())
         }
@@ -330,4 +335,43 @@ fn close(
             Err(refused.error)
         }
     }
+}
+
+/// Makes a node of the last element, whose number is `last`.
+fn close_one(
+    alloc: Global,
+    cache: &mut NodeCache,
+    done: &mut Vec<GreenElement>,
+    kind: SyntaxKind,
+    last: usize,
+) -> Result<(), GreenError>
+    requires { last + 1 ≡ length done.old.items }
+    ensures ok { OnOk result (done.new.items ≡ take last done.old.items ++ NodeOrToken.Node
+        (tree_of kind.0 (drop last done.old.items)) ∷ []) }
+    ensures fits { OnOk result (FitsNode (drop last done.old.items)) }
+    ensures refused { IfErr result (λ e. e ≡ GreenError.NoMemory) }
+    ensures err { OnErr result (done.new.items ≡ done.old.items) }
+{
+    let node = parent_of(alloc, cache, kind, &done[last])?;
+    done[last] = NodeOrToken::Node(node);
+    Ok(())
+}
+
+/// A node of one child, an old one where the cache has it.
+fn parent_of(
+    alloc: Global,
+    cache: &mut NodeCache,
+    kind: SyntaxKind,
+    child: &GreenElement,
+) -> Result<GreenNode, AllocError>
+    ensures ok { IfOk result (λ n. n ≡ tree_of kind.0 (child.now ∷ [])) }
+    ensures fits { OnOk result (FitsNode (child.now ∷ [])) }
+{
+    let small = SmallNode::of_one(kind.0, child);
+    if let Some(node) = cache.node_of_one(kind, small, child) {
+        return Ok(node);
+    }
+    let node = GreenNode::of_one(alloc, kind, Fingerprint::of(small), child.clone()?)?;
+    cache.keep_node(small, &node);
+    Ok(node)
 }

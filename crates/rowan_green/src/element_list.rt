@@ -1,5 +1,5 @@
 //! The children of a node: a balanced tree over blocks of them, whose parts lists share.
-ghost use Rattle.std.specs.Prelude.{◌≡◌, ◌+◌, ◌*◌, ◌<◌, ◌≤◌, ◌^◌, ◌++◌, max, length, slice_get, slice_index_or, take, ◌/◌, IfOk, IfSome, OnOk, MatchOption, drop};
+ghost use Rattle.std.specs.Prelude.{◌≡◌, ◌≢◌, ◌+◌, ◌*◌, ◌<◌, ◌≤◌, ◌^◌, ◌++◌, max, length, slice_get, slice_index_or, take, ◌/◌, IfOk, IfSome, OnOk, MatchOption, drop, [], ◌∷◌};
 ghost use Rattle.std.specs.Option.{option_copied};
 ghost use Rattle.rowan_green.specs.Term.{texts_of, FitsNode};
 ghost use Rattle.rowan_green.specs.ChildAt.{IsChildAt};
@@ -9,6 +9,7 @@ use crate::element::GreenElement;
 use std::alloc::{AllocError, Global};
 use std::marker::Model;
 use std::rc::Rc;
+use std::slice;
 
 /// The most elements of a block.
 pub(crate) const MOST: usize = 16;
@@ -23,11 +24,13 @@ pub(crate) struct ElementList {
     link: Link,
 }
 
-/// A block, or two lists with the count of their elements and their height; first the length of the
-/// text before the middle, which takes no room of its own beside the mark of the variant.
+/// One element, a block, or two lists with the count of their elements and their height; of the
+/// latter two first the length of the text before the middle, which takes no room of its own beside
+/// the mark of the variant.
 #[cycle(green)]
 #[derive(Drop)]
 enum Link {
+    One(GreenElement),
     Block(u32, Vec<GreenElement>),
     Fork(u32, Rc<Part>, Rc<Part>, u32, u8),
 }
@@ -99,6 +102,7 @@ impl ElementList {
         ensures bound { result < 2 ^ 32 }
     {
         match &self.link {
+            Link::One(_) => 1,
             Link::Block(_, elements) => elements.len(),
             Link::Fork(_, _, _, count, _) => *count as usize,
         }
@@ -112,6 +116,7 @@ impl ElementList {
         ensures low { result ≤ 56 }
     {
         match &self.link {
+            Link::One(_) => 0,
             Link::Block(_, _) => 0,
             Link::Fork(_, _, _, _, height) => *height,
         }
@@ -123,6 +128,7 @@ impl ElementList {
             (λ s. IsJoined self.now s.0.now.value s.1.now.value) }
     {
         match &self.link {
+            Link::One(_) => None,
             Link::Block(_, _) => None,
             Link::Fork(_, left, right, _, _) => Some((left, right)),
         }
@@ -133,7 +139,19 @@ impl ElementList {
         ensures { IfSome result (λ s. s.now ≡ self.now.0) }
     {
         match &self.link {
+            Link::One(element) => Some(slice::from_ref(element)),
             Link::Block(_, elements) => Some(elements),
+            Link::Fork(_, _, _, _, _) => None,
+        }
+    }
+
+    /// The element, where the list is kept as one alone.
+    pub(crate) fn as_one(&self) -> Option<&GreenElement>
+        ensures { IfSome result (λ e. self.now.0 ≡ e.now ∷ []) }
+    {
+        match &self.link {
+            Link::One(element) => Some(element),
+            Link::Block(_, _) => None,
             Link::Fork(_, _, _, _, _) => None,
         }
     }
@@ -144,6 +162,7 @@ impl ElementList {
         ensures { result.now ≡ slice_index_or self.now.0 index result.now }
     {
         match &self.link {
+            Link::One(element) => element,
             Link::Block(_, elements) => &elements[index],
             Link::Fork(_, left, right, _, _) => {
                 let before = left.len();
@@ -172,6 +191,7 @@ impl ElementList {
         ensures { result ≡ length (texts_of (take index self.now.0)) }
     {
         match &self.link {
+            Link::One(_) => 0,
             Link::Block(_, elements) => text_sum(&elements[..index]),
             Link::Fork(half, left, right, _, _) => {
                 let before = left.len();
@@ -193,6 +213,11 @@ impl ElementList {
         ensures many { 8 ≤ length self.now.0 → fewest self.now.1 ≤ length self.now.0 }
     {
         match &self.link {
+            Link::One(_) => Place {
+                index: 0,
+                start: 0,
+                looks: 1,
+            },
             Link::Block(half, elements) => find_in_block(elements, *half, offset),
             Link::Fork(half, left, right, _, _) => {
                 if offset < *half {
@@ -206,13 +231,15 @@ impl ElementList {
 }
 
 impl ElementList {
-    /// The elements of a list that has only a few.
+    /// The elements of a list that is one block.
     pub(crate) fn into_block(self) -> Vec<GreenElement>
-        requires { self.1 ≡ 0 }
+        requires low { self.1 ≡ 0 }
+        requires not_one { length self.0 ≢ 1 }
         ensures { result.items ≡ self.0 }
     {
         match self.link {
             Link::Block(_, elements) => elements,
+            Link::One(_) => unreachable!(),
             Link::Fork(_, _, _, _, _) => unreachable!(),
         }
     }
@@ -226,7 +253,7 @@ impl ElementList {
             None => {
                 let mut elements = Vec::with_capacity(alloc, self.len())?;
                 push_clones(&mut elements, self, 0, self.len())?;
-                Ok(Part::block(elements))
+                Ok(Part::few(elements))
             }
         }
     }
@@ -280,8 +307,35 @@ impl Part {
         (self.text_len, self.list)
     }
 
+    /// The list of one element.
+    pub(crate) fn one(element: GreenElement) -> Part
+        ensures { result ≡ (element ∷ [], 0) }
+    {
+        let text_len = element.text_len().0;
+        let list = ElementList {
+            link: Link::One(element),
+        };
+        Part { text_len, list }
+    }
+
     /// The list of a few elements.
+    pub(crate) fn few(mut elements: Vec<GreenElement>) -> Part
+        requires few { length elements.items ≤ 16 }
+        requires fits { length (texts_of elements.items) < 2 ^ 32 }
+        ensures { result ≡ (elements.items, 0) }
+    {
+        if elements.len() != 1 {
+            return Part::block(elements);
+        }
+        match elements.pop() {
+            Some(element) => Part::one(element),
+            None => unreachable!(),
+        }
+    }
+
+    /// The list of a few elements, in one block.
     pub(crate) fn block(elements: Vec<GreenElement>) -> Part
+        requires not_one { length elements.items ≢ 1 }
         requires few { length elements.items ≤ 16 }
         requires fits { length (texts_of elements.items) < 2 ^ 32 }
         ensures { result ≡ (elements.items, 0) }
@@ -336,7 +390,7 @@ impl Part {
         ensures { IfOk result (λ l. l.0 ≡ elements.now) }
     {
         if elements.len() <= MOST {
-            Ok(Part::block(clones(alloc, elements)?))
+            Ok(Part::few(clones(alloc, elements)?))
         } else {
             Part::of_many(alloc, elements)
         }

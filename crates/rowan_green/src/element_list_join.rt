@@ -92,7 +92,7 @@ fn in_blocks(alloc: Global, mut elements: Vec<GreenElement>) -> Result<Rc<Part>,
     ensures low { IfOk result (λ l. l.value.1 ≤ 1) }
 {
     if elements.len() <= MOST {
-        return Ok(Rc::new(alloc, Part::block(elements))?);
+        return Ok(Rc::new(alloc, Part::few(elements))?);
     }
     let back = elements.split_off(elements.len() / 2)?;
     let left = Rc::new(alloc, Part::block(elements))?;
@@ -161,7 +161,7 @@ fn part_of_block(
 {
     let mut elements = Vec::with_capacity(alloc, end - start)?;
     push_clones(&mut elements, list.list(), start, end)?;
-    Ok(Rc::new(alloc, Part::block(elements))?)
+    Ok(Rc::new(alloc, Part::few(elements))?)
 }
 
 /// The first elements of a list, so many.

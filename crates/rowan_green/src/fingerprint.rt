@@ -9,9 +9,7 @@ const MOST_ELEMENTS: u16 = 14;
 
 const MOST_BYTES: u32 = 63;
 
-/// The bits of a fingerprint that hold a count of elements, and the count that stands for many.
-const SIZE_BITS: u32 = 4;
-
+/// The bits of a fingerprint that hold a count of elements; all of them stand for many.
 const MANY: u16 = 15;
 
 const SEED: u64 = 0x9E37_79B9_7F4A_7C15;
@@ -38,14 +36,54 @@ pub(crate) fn of_token(kind: u16, text: &str) -> u32 {
         return 0;
     }
     let mut hash = mixed(SEED, u64::from(kind));
-    for byte in text.as_bytes() {
-        hash = mixed(hash, u64::from(*byte));
+    let (words, rest) = text.as_bytes().as_chunks::<8>();
+    for word in words {
+        hash = mixed(hash, u64::from_le_bytes(*word));
     }
-    upper_half(hash)
+    let mut last = 0;
+    for byte in rest {
+        last = last << 8 | u64::from(*byte);
+    }
+    upper_half(mixed(hash, last))
 }
 
-/// Of a node: how many elements lie below it, where these are few, and above that a hash of as many
-/// bits as a cache has use for.
+/// What a cache looks for a small node by: how many elements lie below it, and a hash of it.
+#[derive(Clone, Copy)]
+pub(crate) struct SmallNode {
+    size: u16,
+    pub(crate) hash: u32,
+}
+
+impl SmallNode {
+    /// Of the node of this kind with these children, if it is small.
+    pub(crate) fn of(kind: u16, children: &[GreenElement]) -> Option<SmallNode> {
+        let size = small_size(children)?;
+        let mut hash = mixed(SEED, u64::from(kind));
+        for child in children {
+            hash = mixed(hash, part_of(child));
+        }
+        Some(SmallNode {
+            size,
+            hash: upper_half(hash),
+        })
+    }
+
+    /// Of the node of this kind with this child alone, if it is small.
+    pub(crate) fn of_one(kind: u16, child: &GreenElement) -> Option<SmallNode> {
+        let below = size_below(child)?;
+        if below >= MOST_ELEMENTS || child.text_len().0 > MOST_BYTES {
+            return None;
+        }
+        let hash = mixed(SEED, u64::from(kind));
+        Some(SmallNode {
+            size: below + 1,
+            hash: upper_half(mixed(hash, part_of(child))),
+        })
+    }
+}
+
+/// Of a node: how many elements lie below it, where these are few, and above that the upper bits of
+/// its hash.
 #[derive(Clone, Copy)]
 pub(crate) struct Fingerprint(u16);
 
@@ -53,10 +91,9 @@ pub(crate) struct Fingerprint(u16);
 pub(crate) const LARGE: Fingerprint = Fingerprint(MANY);
 
 impl Fingerprint {
-    /// Of the node of this kind with these children.
-    pub(crate) fn of_node(kind: u16, children: &[GreenElement]) -> Fingerprint {
-        match small_size(children) {
-            Some(size) => Fingerprint(hash_of(kind, children) << SIZE_BITS | size),
+    pub(crate) fn of(small: Option<SmallNode>) -> Fingerprint {
+        match small {
+            Some(small) => Fingerprint((small.hash >> 16) as u16 & !MANY | small.size),
             None => LARGE,
         }
     }
@@ -66,11 +103,13 @@ impl Fingerprint {
         let size = self.0 & MANY;
         if size == MANY { None } else { Some(size) }
     }
+}
 
-    /// The hash, if the node is small.
-    pub(crate) fn hash(self) -> Option<u32> {
-        self.size()?;
-        Some(u32::from(self.0 >> SIZE_BITS))
+/// How many elements lie below this one, where that is small.
+fn size_below(element: &GreenElement) -> Option<u16> {
+    match element {
+        NodeOrToken::Node(node) => node.fingerprint().size(),
+        NodeOrToken::Token(_) => Some(0),
     }
 }
 
@@ -82,10 +121,7 @@ fn small_size(children: &[GreenElement]) -> Option<u16> {
     let mut elements: u16 = 0;
     let mut bytes: u32 = 0;
     for child in children {
-        let below = match child {
-            NodeOrToken::Node(node) => node.fingerprint().size()?,
-            NodeOrToken::Token(_) => 0,
-        };
+        let below = size_below(child)?;
         elements = elements.checked_add(below)?.checked_add(1)?;
         bytes = bytes.checked_add(child.text_len().0)?;
     }
@@ -95,15 +131,10 @@ fn small_size(children: &[GreenElement]) -> Option<u16> {
     Some(elements)
 }
 
-/// A hash of a kind and a few children.
-fn hash_of(kind: u16, children: &[GreenElement]) -> u16 {
-    let mut hash = mixed(SEED, u64::from(kind));
-    for child in children {
-        let part = match child {
-            NodeOrToken::Node(node) => u32::from(node.fingerprint().0).rotate_left(17),
-            NodeOrToken::Token(token) => token.fingerprint(),
-        };
-        hash = mixed(hash, u64::from(part));
+/// The part that an element has in the hash of the node around it.
+fn part_of(element: &GreenElement) -> u64 {
+    match element {
+        NodeOrToken::Node(node) => u64::from(node.fingerprint().0).rotate_left(17),
+        NodeOrToken::Token(token) => u64::from(token.fingerprint()),
     }
-    (hash >> 48) as u16
 }

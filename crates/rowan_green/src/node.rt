@@ -1,5 +1,5 @@
 //! Nodes: a kind and children, shared by all that hold the node.
-ghost use Rattle.std.specs.Prelude.{ℕ, ◌≡◌, ◌*◌, ◌↔◌, ◌+◌, ◌<◌, ◌≤◌, ◌^◌, length, take, IsSome, IfSome, IfOk, IfErr, OnOk, MatchOption, List, slice_get};
+ghost use Rattle.std.specs.Prelude.{ℕ, ◌≡◌, ◌≢◌, [], ◌∷◌, ◌*◌, ◌↔◌, ◌+◌, ◌<◌, ◌≤◌, ◌^◌, length, take, IsSome, IfSome, IfOk, IfErr, OnOk, MatchOption, List, slice_get};
 ghost use Rattle.std.specs.Option.{SomeIff, option_copied};
 ghost use Rattle.std.specs.Iterator.{IsFinite, Drains};
 ghost use Rattle.rowan_green.specs.Forest.{same_forest, same_tree, tree_text};
@@ -11,7 +11,7 @@ use crate::child_at::ChildAt;
 use crate::element::GreenElement;
 use crate::element_list::{ElementList, MOST, Part};
 use crate::error::GreenError;
-use crate::fingerprint::{self, Fingerprint};
+use crate::fingerprint::{self, Fingerprint, SmallNode};
 use crate::node_children::Children;
 use crate::syntax_kind::SyntaxKind;
 use crate::text_size::TextSize;
@@ -85,7 +85,8 @@ impl GreenNode {
             (RefusesUnless ((es : List Term) → Drains I.next_gives children es → FitsNode es)) }
     {
         let children = collected(alloc, children)?;
-        match GreenNode::from_vec(alloc, kind, children) {
+        let fingerprint = Fingerprint::of(SmallNode::of(kind.0, &children));
+        match GreenNode::from_vec(alloc, kind, fingerprint, children) {
             Ok(node) => Ok(node),
             Err(refused) => Err(refused.error),
         }
@@ -95,6 +96,7 @@ impl GreenNode {
     pub(crate) fn from_vec(
         alloc: Global,
         kind: SyntaxKind,
+        fingerprint: Fingerprint,
         children: Vec<GreenElement>,
     ) -> Result<GreenNode, RefusedChildren>
         ensures ok { IfOk result (λ n. n ≡ tree_of kind.0 children.items) }
@@ -108,10 +110,10 @@ impl GreenNode {
                 children,
             });
         }
-        if children.len() <= MOST {
-            return GreenNode::of_few(alloc, kind, children);
+        if children.len() <= MOST && children.len() != 1 {
+            return GreenNode::of_few(alloc, kind, fingerprint, children);
         }
-        match GreenNode::of_many(alloc, kind, &children) {
+        match GreenNode::of_clones(alloc, kind, fingerprint, &children) {
             Ok(node) => Ok(node),
             Err(_) => Err(RefusedChildren {
                 error: GreenError::NoMemory,
@@ -120,19 +122,41 @@ impl GreenNode {
         }
     }
 
-    /// The node of at most 16 children.
+    /// The node of one child.
+    pub(crate) fn of_one(
+        alloc: Global,
+        kind: SyntaxKind,
+        fingerprint: Fingerprint,
+        child: GreenElement,
+    ) -> Result<GreenNode, AllocError>
+        ensures ok { IfOk result (λ n. n ≡ tree_of kind.0 (child ∷ [])) }
+        ensures fits { OnOk result (FitsNode (child ∷ [])) }
+    {
+        let (text_len, children) = Part::one(child).into_list();
+        let data = NodeData {
+            kind: kind.0,
+            fingerprint,
+            text_len,
+            children,
+        };
+        let shared = Rc::new(alloc, data)?;
+        Ok(GreenNode { shared })
+    }
+
+    /// The node of at most 16 children, and not of one.
     fn of_few(
         alloc: Global,
         kind: SyntaxKind,
+        fingerprint: Fingerprint,
         children: Vec<GreenElement>,
     ) -> Result<GreenNode, RefusedChildren>
+        requires not_one { length children.items ≢ 1 }
         requires few { length children.items ≤ 16 }
         requires fits { FitsNode children.items }
         ensures ok { IfOk result (λ n. n ≡ tree_of kind.0 children.items) }
         ensures refused { IfErr result (λ r. r.error ≡ GreenError.NoMemory) }
         ensures returned { IfErr result (λ r. r.children.items ≡ children.items) }
     {
-        let fingerprint = Fingerprint::of_node(kind.0, &children);
         let (text_len, children) = Part::block(children).into_list();
         let data = NodeData {
             kind: kind.0,
@@ -168,16 +192,20 @@ impl GreenNode {
         Ok(GreenNode { shared })
     }
 
-    /// The node of clones of many children.
-    fn of_many(
+    /// The node of clones of one child, or of many children.
+    fn of_clones(
         alloc: Global,
         kind: SyntaxKind,
+        fingerprint: Fingerprint,
         children: &[GreenElement],
     ) -> Result<GreenNode, AllocError>
-        requires many { 8 ≤ length children.now }
+        requires one_or_many { length children.now ≤ 7 → length children.now ≡ 1 }
         requires fits { FitsNode children.now }
         ensures { IfOk result (λ n. n ≡ tree_of kind.0 children.now) }
     {
+        if let [child] = children {
+            return GreenNode::of_one(alloc, kind, fingerprint, child.clone()?);
+        }
         GreenNode::of_list(alloc, kind, Part::of_many(alloc, children)?)
     }
 
@@ -214,6 +242,14 @@ impl GreenNode {
         ensures fits { FitsNode (children_of self.now) }
     {
         self.elements().as_block()
+    }
+
+    /// The child, where it is one that the node holds in place.
+    pub(crate) fn only_element(&self) -> Option<&GreenElement>
+        ensures child { IfSome result (λ e. children_of self.now ≡ e.now ∷ []) }
+        ensures fits { FitsNode (children_of self.now) }
+    {
+        self.elements().as_one()
     }
 
     /// The children in order, nodes and tokens.
@@ -336,7 +372,7 @@ pub(crate) fn same_elements(a: &[GreenElement], b: &[GreenElement]) -> bool
 }
 
 #[cycle(same)]
-fn same_element(a: &GreenElement, b: &GreenElement) -> bool
+pub(crate) fn same_element(a: &GreenElement, b: &GreenElement) -> bool
     ensures { result ≡ same_term a.now b.now }
 {
     match (a, b) {

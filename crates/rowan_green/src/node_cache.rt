@@ -3,14 +3,14 @@
 //! A cache changes no tree: what it gives was compared with what was asked for. A slot is taken
 //! over by the token or node that was made last, and memory refused for the slots only means that
 //! less is shared.
-ghost use Rattle.std.specs.Prelude.{◌≡◌, IfOk, IfErr, IfSome, OnOk, OnSome};
+ghost use Rattle.std.specs.Prelude.{◌≡◌, [], ◌∷◌, IfOk, IfErr, IfSome, OnOk, OnSome};
 ghost use Rattle.rowan_green.specs.Term.{tree_of, FitsToken, FitsNode};
 ghost use Rattle.rowan_green.specs.Refusal.{RefusesUnless};
 
 use crate::element::GreenElement;
 use crate::error::GreenError;
-use crate::fingerprint::{self, Fingerprint};
-use crate::node::{GreenNode, same_elements};
+use crate::fingerprint::{self, SmallNode};
+use crate::node::{GreenNode, same_element, same_elements};
 use crate::syntax_kind::SyntaxKind;
 use crate::token::GreenToken;
 use std::alloc::{AllocError, Global};
@@ -18,7 +18,7 @@ use std::alloc::{AllocError, Global};
 /// How many slots there are at first, and at most.
 const FEWEST_SLOTS: usize = 64;
 
-const MOST_SLOTS: usize = 4096;
+const MOST_SLOTS: usize = 1024;
 
 /// A value with its fingerprint, so that another one is passed over unread.
 #[derive(Drop)]
@@ -125,21 +125,38 @@ impl NodeCache {
     }
 
     /// The node of this kind with these children, if the cache has it.
-    pub(crate) fn node(&self, kind: SyntaxKind, children: &[GreenElement]) -> Option<GreenNode>
+    pub(crate) fn node(
+        &self,
+        kind: SyntaxKind,
+        small: Option<SmallNode>,
+        children: &[GreenElement],
+    ) -> Option<GreenNode>
         ensures found { IfSome result (λ n. n ≡ tree_of kind.0 children.now) }
         ensures fits { OnSome result (FitsNode children.now) }
     {
-        let hash = Fingerprint::of_node(kind.0, children).hash()?;
-        found_node(self.nodes.get(hash), kind, children)
+        found_node(self.nodes.get(small?.hash), kind, children)
+    }
+
+    /// The node of this kind with this child alone, if the cache has it.
+    pub(crate) fn node_of_one(
+        &self,
+        kind: SyntaxKind,
+        small: Option<SmallNode>,
+        child: &GreenElement,
+    ) -> Option<GreenNode>
+        ensures found { IfSome result (λ n. n ≡ tree_of kind.0 (child.now ∷ [])) }
+        ensures fits { OnSome result (FitsNode (child.now ∷ [])) }
+    {
+        found_node_of_one(self.nodes.get(small?.hash), kind, child)
     }
 
     /// Keeps a clone of the node, if it is small.
-    pub(crate) fn keep_node(&mut self, node: &GreenNode) {
-        let Some(hash) = node.fingerprint().hash() else {
+    pub(crate) fn keep_node(&mut self, small: Option<SmallNode>, node: &GreenNode) {
+        let Some(small) = small else {
             return;
         };
         if let Ok(copy) = node.clone() {
-            self.nodes.keep(self.alloc, hash, copy);
+            self.nodes.keep(self.alloc, small.hash, copy);
         }
     }
 }
@@ -168,6 +185,23 @@ fn found_node(
     let found = found?;
     let elements = found.few_elements()?;
     if found.kind().0 != kind.0 || !same_elements(elements, children) {
+        return None;
+    }
+    found.clone().ok()
+}
+
+/// The node found, if it is the one with this child alone that is asked for.
+fn found_node_of_one(
+    found: Option<&GreenNode>,
+    kind: SyntaxKind,
+    child: &GreenElement,
+) -> Option<GreenNode>
+    ensures found { IfSome result (λ n. n ≡ tree_of kind.0 (child.now ∷ [])) }
+    ensures fits { OnSome result (FitsNode (child.now ∷ [])) }
+{
+    let found = found?;
+    let only = found.only_element()?;
+    if found.kind().0 != kind.0 || !same_element(only, child) {
         return None;
     }
     found.clone().ok()

@@ -8,6 +8,7 @@ use crate::element::GreenElement;
 use crate::element_list::{MOST, Part, push_clones};
 use crate::element_list_join;
 use crate::error::GreenError;
+use crate::fingerprint::{Fingerprint, SmallNode};
 use crate::node::{GreenNode, collected, fitting_len};
 use std::alloc::Global;
 use std::ops::Range;
@@ -108,7 +109,8 @@ impl GreenNode {
         push_clones(&mut children, old, 0, start)?;
         children.append(&mut new_children)?;
         push_clones(&mut children, old, end, old.len())?;
-        match GreenNode::from_vec(alloc, self.kind(), children) {
+        let fingerprint = Fingerprint::of(SmallNode::of(self.kind().0, &children));
+        match GreenNode::from_vec(alloc, self.kind(), fingerprint, children) {
             Ok(node) => Ok(node),
             Err(refused) => Err(refused.error),
         }

@@ -21,7 +21,7 @@ invariant_of-list c =
     let a = rw (c.split_at.ensures.front, c.deref.ensures.value) at c.text_sum-half.ensures in
     let n : c.len.result ≡ length c.args.elements.items = c.len.ensures ∙ sym c.deref.ensures.len ∙ ap length c.deref.ensures.value in
     record {
-      balanced = c.requires.few;
+      balanced = record { not_one = c.requires.not_one; few = c.requires.few };
       fits = record { count = omega (arith, c.requires.few); text = c.requires.fits };
       before_middle = rw n at a;
     }
