@@ -17,6 +17,10 @@ leaf-steps-then : (xs ys : List leaves.Leaf) → leaf_steps (xs ++ ys) ≡ leaf_
 leaf-steps-then [] ys = refl
 leaf-steps-then (l ∷ xs) ys = ap (λ (r : List TextStep). Token l.kind l.text ∷ r) (leaf-steps-then xs ys)
 
+-- from a number to the same there is none
+pub none-between : (ls : List leaves.Leaf) (a b : ℕ) → a ≡ b → slice_range ls a b ≡ []
+none-between ls a b same = ap (λ (n : ℕ). take n (drop a ls)) (let e : b - a ≡ 0 = omega (arith, same) in e)
+
 -- one leaf more
 pub slice-more : (ls : List Lexed) (a b : ℕ) → a ≤ b → b < length ls →
     slice_range (leaves_of ls) a (b + 1) ≡ slice_range (leaves_of ls) a b ++ (leaf_at ls b).leaf ∷ []

@@ -99,6 +99,14 @@ pub attached-none : (k : ℕ) (ls : List Leaf) → list_any (λ n. n == k) takin
 unfolding attached
 attached-none k ls e = rw e refl
 
+either-way : (b : Bool) (n : ℕ) → (if b then n else n) ≡ n
+either-way true n = refl
+either-way false n = refl
+
+pub attached-nothing : (k : ℕ) → attached k [] ≡ 0
+unfolding attached walk
+attached-nothing k = either-way (list_any (λ n. n == k) taking) 0
+
 pub attached-walked : (k : ℕ) (ls : List Leaf) → list_any (λ n. n == k) taking ≡ true → walk 0 0 (reverse ls) ≡ attached k ls
 unfolding attached
 attached-walked k ls e = rw e refl

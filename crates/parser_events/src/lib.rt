@@ -14,6 +14,7 @@ pub mod message;
 pub mod output;
 pub mod parser;
 mod recorder;
+mod room;
 pub mod shortcuts;
 pub mod step;
 pub mod str_sink;

@@ -8,6 +8,7 @@ ghost use Rattle.parser_events.specs.Seen.{event_of, step_of};
 ghost use Rattle.parser_input.specs.Kind.{raw_of};
 
 use crate::event::Event;
+use crate::room::with_room;
 use crate::step::Step;
 use crate::unwinding::steps_backwards;
 use parser_input::syntax_kind::SyntaxKind;
@@ -154,16 +155,6 @@ impl Recorder {
         ensures { (kept : Kept) → self.now ≡ Some kept → result ≡ innermost kept }
     {
         self.open_nodes.last().copied().unwrap_or(0)
-    }
-}
-
-// An empty list with room for so many entries, unless that is refused: then it grows entry by entry.
-fn with_room(alloc: Global, entries: usize) -> Vec<Event>
-    ensures { result.items ≡ [] }
-{
-    match Vec::with_capacity(alloc, entries) {
-        Ok(events) => events,
-        Err(_refused) => Vec::new(alloc),
     }
 }
 

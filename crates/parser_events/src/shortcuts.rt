@@ -39,8 +39,40 @@ pub(crate) fn put_all<S: StrSink>(steps: &[StrStep<'_>], sink: &mut S) -> Result
     Ok(())
 }
 
-/// Gives a sink the leaves from one number to another, as they are.
+/// Gives a sink this step.
+fn put_one<S: StrSink>(step: StrStep<'_>, sink: &mut S) -> Result<(), S::Error>
+    ensures taken { OnOk result (TakesAll S.takes sink.old (text_step_of step.entry ∷ []) sink.new) }
+    ensures refused { IfErr result
+        (λ error. RefusesOne S.takes S.refuses sink.old (text_step_of step.entry ∷ []) error sink.new) }
+{
+    match sink.step(step) {
+        Ok(()) => Ok(()),
+        Err(error) => Err(error),
+    }
+}
+
+/// Gives a sink the leaves from one number to another, as they are. Most often there is none.
 pub(crate) fn put_leaves<S: StrSink>(
+    lexed: &LexedStr<'_>,
+    start: usize,
+    end: usize,
+    sink: &mut S,
+) -> Result<(), S::Error>
+    requires order { start ≤ end }
+    requires within { end ≤ length lexed.now.leaves }
+    ensures taken { OnOk result (TakesAll S.takes sink.old
+        (leaf_steps (slice_range (leaves_of lexed.now.leaves) start end)) sink.new) }
+    ensures refused { IfErr result (λ error. RefusesOne S.takes S.refuses sink.old
+        (leaf_steps (slice_range (leaves_of lexed.now.leaves) start end)) error sink.new) }
+{
+    if start == end {
+        return Ok(());
+    }
+    put_each(lexed, start, end, sink)
+}
+
+/// Gives a sink the leaves from one number to another, one by one.
+fn put_each<S: StrSink>(
     lexed: &LexedStr<'_>,
     start: usize,
     end: usize,
@@ -115,7 +147,7 @@ pub(crate) fn put_token<S: StrSink>(
         Ok(()) => {}
         Err(error) => return Err(error),
     }
-    match put_all(&[StrStep::Token { kind, text }], sink) {
+    match put_one(StrStep::Token { kind, text }, sink) {
         Ok(()) => Ok(end),
         Err(error) => Err(error),
     }
@@ -140,7 +172,7 @@ pub(crate) fn put_enter<S: StrSink>(
         Ok(()) => {}
         Err(error) => return Err(error),
     }
-    match put_all(&[StrStep::Enter { kind }], sink) {
+    match put_one(StrStep::Enter { kind }, sink) {
         Ok(()) => {}
         Err(error) => return Err(error),
     }
@@ -206,7 +238,7 @@ fn put_exit<S: StrSink>(lexed: &LexedStr<'_>, start: usize, sink: &mut S) -> Res
     ensures refused { IfErr result (λ error. RefusesOne S.takes S.refuses sink.old
         (put_by steps.Exit (place_at lexed.now.leaves start)) error sink.new) }
 {
-    match put_all(&[StrStep::Exit], sink) {
+    match put_one(StrStep::Exit, sink) {
         Ok(()) => Ok(start),
         Err(error) => Err(error),
     }
@@ -226,7 +258,7 @@ fn put_message<S: StrSink>(
         (put_by (steps.Error (message_of msg)) (place_at lexed.now.leaves start)) error sink.new) }
 {
     let pos = start_of(lexed, start);
-    match put_all(&[StrStep::Error { msg, pos }], sink) {
+    match put_one(StrStep::Error { msg, pos }, sink) {
         Ok(()) => Ok(start),
         Err(error) => Err(error),
     }
@@ -269,7 +301,7 @@ fn put_end<S: StrSink>(lexed: &LexedStr<'_>, start: usize, sink: &mut S) -> Resu
         Ok(()) => {}
         Err(error) => return Err(error),
     }
-    match put_all(&[StrStep::Exit], sink) {
+    match put_one(StrStep::Exit, sink) {
         Ok(()) => Ok(()),
         Err(error) => Err(error),
     }
@@ -342,7 +374,7 @@ fn put_output<S: StrSink>(
         Some(kind) => kind,
         None => return Ok(()),
     };
-    match put_all(&[StrStep::Enter { kind }], sink) {
+    match put_one(StrStep::Enter { kind }, sink) {
         Ok(()) => {}
         Err(error) => return Err(error),
     }

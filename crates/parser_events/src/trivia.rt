@@ -168,6 +168,9 @@ pub(crate) fn attached_from(
     ensures after { start ≤ result }
     ensures before { result ≤ end }
 {
+    if start == end {
+        return end;
+    }
     if !takes_comments(kind) {
         return end;
     }

@@ -8,6 +8,7 @@ ghost use Rattle.parser_events.specs.Unwinding.{begun, passed};
 ghost use Rattle.parser_input.specs.Kind.{raw_of};
 
 use crate::event::Event;
+use crate::room::with_room;
 use crate::step::Step;
 use parser_input::syntax_kind::SyntaxKind;
 use std::alloc::{AllocError, Global};
@@ -114,7 +115,7 @@ pub(crate) fn steps_backwards(alloc: Global, events: &[Event]) -> Result<Vec<Ste
     // A closed node has two steps, any other entry one.
     let most = events.len().saturating_mul(2);
     let mut unwinding = Unwinding {
-        steps: Vec::with_capacity(alloc, most)?,
+        steps: with_room(alloc, most),
         pending: Vec::new(alloc),
     };
     let mut index = events.len();

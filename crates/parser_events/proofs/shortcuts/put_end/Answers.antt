@@ -13,14 +13,14 @@ returns-in-Err-clause-refused g c =
     (slice-rest c.args.lexed.now.leaves c.args.start c.len.result c.len.ensures)
     (refuses-in g.S.StrSink.takes g.S.StrSink.refuses c.args.sink.now c.put_leaves.new.sink c.in-Err.error _ (Exit ∷ []) c.in-Err.ensures.refused)
 
-pub returns-in-Err-put_all-clause-refused : goal.returns-in-Err-put_all-clause-refused
-returns-in-Err-put_all-clause-refused g c =
-    subst (λ (r : List Leaf). RefusesOne g.S.StrSink.takes g.S.StrSink.refuses c.args.sink.now (leaf_steps r ++ Exit ∷ []) c.in-Err-put_all.error c.put_all.new.sink)
+pub returns-in-Err-put_one-clause-refused : goal.returns-in-Err-put_one-clause-refused
+returns-in-Err-put_one-clause-refused g c =
+    subst (λ (r : List Leaf). RefusesOne g.S.StrSink.takes g.S.StrSink.refuses c.args.sink.now (leaf_steps r ++ Exit ∷ []) c.in-Err-put_one.error c.put_one.new.sink)
     (slice-rest c.args.lexed.now.leaves c.args.start c.len.result c.len.ensures)
-    (refuses-after g.S.StrSink.takes g.S.StrSink.refuses c.args.sink.now c.put_leaves.new.sink c.put_all.new.sink c.in-Err-put_all.error _ (Exit ∷ []) c.in-Ok.ensures.taken c.in-Err-put_all.ensures.refused)
+    (refuses-after g.S.StrSink.takes g.S.StrSink.refuses c.args.sink.now c.put_leaves.new.sink c.put_one.new.sink c.in-Err-put_one.error _ (Exit ∷ []) c.in-Ok.ensures.taken c.in-Err-put_one.ensures.refused)
 
-pub returns-in-Ok-put_all-clause-taken : goal.returns-in-Ok-put_all-clause-taken
-returns-in-Ok-put_all-clause-taken g c =
-    subst (λ (r : List Leaf). TakesAll g.S.StrSink.takes c.args.sink.now (leaf_steps r ++ Exit ∷ []) c.put_all.new.sink)
+pub returns-in-Ok-put_one-clause-taken : goal.returns-in-Ok-put_one-clause-taken
+returns-in-Ok-put_one-clause-taken g c =
+    subst (λ (r : List Leaf). TakesAll g.S.StrSink.takes c.args.sink.now (leaf_steps r ++ Exit ∷ []) c.put_one.new.sink)
     (slice-rest c.args.lexed.now.leaves c.args.start c.len.result c.len.ensures)
-    (takes-then g.S.StrSink.takes c.args.sink.now c.put_leaves.new.sink c.put_all.new.sink _ (Exit ∷ []) c.in-Ok.ensures.taken c.in-Ok-put_all.ensures.taken)
+    (takes-then g.S.StrSink.takes c.args.sink.now c.put_leaves.new.sink c.put_one.new.sink _ (Exit ∷ []) c.in-Ok.ensures.taken c.in-Ok-put_one.ensures.taken)

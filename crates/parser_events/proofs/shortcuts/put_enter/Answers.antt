@@ -15,16 +15,16 @@ returns-in-Err-clause-refused g c =
     subst (λ (ss : List TextStep). RefusesOne g.S.StrSink.takes g.S.StrSink.refuses c.args.sink.now ss c.in-Err.error c.put_leaves.new.sink) is
     (refuses-in g.S.StrSink.takes g.S.StrSink.refuses c.args.sink.now c.put_leaves.new.sink c.in-Err.error _ _ c.in-Err.ensures.refused)
 
-pub returns-in-Err-put_all-clause-refused : goal.returns-in-Err-put_all-clause-refused
-returns-in-Err-put_all-clause-refused g c =
+pub returns-in-Err-put_one-clause-refused : goal.returns-in-Err-put_one-clause-refused
+returns-in-Err-put_one-clause-refused g c =
     let takes = g.S.StrSink.takes in
     let refuses = g.S.StrSink.refuses in
     let ls = c.args.lexed.now.leaves in
     let is = enter-steps ls (raw_of c.args.kind) c.args.start c.attached_from-first.result c.pending_end-end.result c.pending_end-end.ensures.end c.attached_from-first.ensures.inside c.attached_from-first.ensures.after c.attached_from-first.ensures.before in
     let rest : List TextStep = leaf_steps (slice_range (leaves_of ls) c.attached_from-first.result c.pending_end-end.result) in
-    subst (λ (ss : List TextStep). RefusesOne takes refuses c.args.sink.now ss c.in-Err-put_all.error c.put_all.new.sink) is
-    (refuses-after takes refuses c.args.sink.now c.put_leaves.new.sink c.put_all.new.sink c.in-Err-put_all.error _ _ c.in-Ok.ensures.taken
-    (refuses-in takes refuses c.put_leaves.new.sink c.put_all.new.sink c.in-Err-put_all.error (Enter (raw_of c.args.kind) ∷ []) rest c.in-Err-put_all.ensures.refused))
+    subst (λ (ss : List TextStep). RefusesOne takes refuses c.args.sink.now ss c.in-Err-put_one.error c.put_one.new.sink) is
+    (refuses-after takes refuses c.args.sink.now c.put_leaves.new.sink c.put_one.new.sink c.in-Err-put_one.error _ _ c.in-Ok.ensures.taken
+    (refuses-in takes refuses c.put_leaves.new.sink c.put_one.new.sink c.in-Err-put_one.error (Enter (raw_of c.args.kind) ∷ []) rest c.in-Err-put_one.ensures.refused))
 
 pub returns-in-Err-put_leaves-clause-refused : goal.returns-in-Err-put_leaves-clause-refused
 returns-in-Err-put_leaves-clause-refused g c =
@@ -35,7 +35,7 @@ returns-in-Err-put_leaves-clause-refused g c =
     let rest : List TextStep = leaf_steps (slice_range (leaves_of ls) c.attached_from-first.result c.pending_end-end.result) in
     subst (λ (ss : List TextStep). RefusesOne takes refuses c.args.sink.now ss c.in-Err-put_leaves.error c.put_leaves-2.new.sink) is
     (refuses-after takes refuses c.args.sink.now c.put_leaves.new.sink c.put_leaves-2.new.sink c.in-Err-put_leaves.error _ _ c.in-Ok.ensures.taken
-    (refuses-after takes refuses c.put_leaves.new.sink c.put_all.new.sink c.put_leaves-2.new.sink c.in-Err-put_leaves.error (Enter (raw_of c.args.kind) ∷ []) rest c.in-Ok-put_all.ensures.taken c.in-Err-put_leaves.ensures.refused))
+    (refuses-after takes refuses c.put_leaves.new.sink c.put_one.new.sink c.put_leaves-2.new.sink c.in-Err-put_leaves.error (Enter (raw_of c.args.kind) ∷ []) rest c.in-Ok-put_one.ensures.taken c.in-Err-put_leaves.ensures.refused))
 
 pub returns-in-Ok-put_leaves-clause-taken : goal.returns-in-Ok-put_leaves-clause-taken
 returns-in-Ok-put_leaves-clause-taken g c =
@@ -46,7 +46,7 @@ returns-in-Ok-put_leaves-clause-taken g c =
     record {
       taken = subst (λ (ss : List TextStep). TakesAll takes c.args.sink.now ss c.put_leaves-2.new.sink) is
           (takes-then takes c.args.sink.now c.put_leaves.new.sink c.put_leaves-2.new.sink _ _ c.in-Ok.ensures.taken
-          (takes-then takes c.put_leaves.new.sink c.put_all.new.sink c.put_leaves-2.new.sink (Enter (raw_of c.args.kind) ∷ []) rest c.in-Ok-put_all.ensures.taken c.in-Ok-put_leaves.ensures.taken));
+          (takes-then takes c.put_leaves.new.sink c.put_one.new.sink c.put_leaves-2.new.sink (Enter (raw_of c.args.kind) ∷ []) rest c.in-Ok-put_one.ensures.taken c.in-Ok-put_leaves.ensures.taken));
       at = enter-at ls (raw_of c.args.kind) c.args.start c.attached_from-first.result c.pending_end-end.result c.pending_end-end.ensures.end c.attached_from-first.ensures.inside c.attached_from-first.ensures.after c.attached_from-first.ensures.before;
       within = c.pending_end-end.ensures.within;
     }

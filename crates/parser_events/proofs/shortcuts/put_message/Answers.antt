@@ -7,11 +7,11 @@ use Rattle.parser_events.proofs.shortcuts.put_message.Goals as goal
 pub returns-in-Ok-clause-taken : goal.returns-in-Ok-clause-taken
 returns-in-Ok-clause-taken g c =
     record {
-      taken = subst (λ (n : ℕ). TakesAll g.S.StrSink.takes c.args.sink.now (Error (message_of c.args.msg) n ∷ []) c.put_all.new.sink) c.start_of-pos.ensures c.in-Ok.ensures.taken;
+      taken = subst (λ (n : ℕ). TakesAll g.S.StrSink.takes c.args.sink.now (Error (message_of c.args.msg) n ∷ []) c.put_one.new.sink) c.start_of-pos.ensures c.in-Ok.ensures.taken;
       at = refl;
       within = c.requires;
     }
 
 pub returns-in-Err-clause-refused : goal.returns-in-Err-clause-refused
 returns-in-Err-clause-refused g c =
-    subst (λ (n : ℕ). RefusesOne g.S.StrSink.takes g.S.StrSink.refuses c.args.sink.now (Error (message_of c.args.msg) n ∷ []) c.in-Err.error c.put_all.new.sink) c.start_of-pos.ensures c.in-Err.ensures.refused
+    subst (λ (n : ℕ). RefusesOne g.S.StrSink.takes g.S.StrSink.refuses c.args.sink.now (Error (message_of c.args.msg) n ∷ []) c.in-Err.error c.put_one.new.sink) c.start_of-pos.ensures c.in-Err.ensures.refused

@@ -14,21 +14,21 @@ returns-in-Err-clause-refused g c =
     subst (λ (ss : List TextStep). RefusesOne g.S.StrSink.takes g.S.StrSink.refuses c.args.sink.now ss c.in-Err.error c.put_leaves.new.sink) is
     (refuses-in g.S.StrSink.takes g.S.StrSink.refuses c.args.sink.now c.put_leaves.new.sink c.in-Err.error _ _ c.in-Err.ensures.refused)
 
-pub returns-in-Err-put_all-clause-refused : goal.returns-in-Err-put_all-clause-refused
-returns-in-Err-put_all-clause-refused g c =
+pub returns-in-Err-put_one-clause-refused : goal.returns-in-Err-put_one-clause-refused
+returns-in-Err-put_one-clause-refused g c =
     let ls = c.args.lexed.now.leaves in
     let is = token-steps ls (raw_of c.args.kind) c.args.n c.args.start c.pending_end-first.result c.token_end-end.result _ c.pending_end-first.ensures.end c.token_end-end.ensures.end c.range_text-text.ensures in
-    subst (λ (ss : List TextStep). RefusesOne g.S.StrSink.takes g.S.StrSink.refuses c.args.sink.now ss c.in-Err-put_all.error c.put_all.new.sink) is
-    (refuses-after g.S.StrSink.takes g.S.StrSink.refuses c.args.sink.now c.put_leaves.new.sink c.put_all.new.sink c.in-Err-put_all.error _ _ c.in-Ok.ensures.taken c.in-Err-put_all.ensures.refused)
+    subst (λ (ss : List TextStep). RefusesOne g.S.StrSink.takes g.S.StrSink.refuses c.args.sink.now ss c.in-Err-put_one.error c.put_one.new.sink) is
+    (refuses-after g.S.StrSink.takes g.S.StrSink.refuses c.args.sink.now c.put_leaves.new.sink c.put_one.new.sink c.in-Err-put_one.error _ _ c.in-Ok.ensures.taken c.in-Err-put_one.ensures.refused)
 
-pub returns-in-Ok-put_all-clause-taken : goal.returns-in-Ok-put_all-clause-taken
-returns-in-Ok-put_all-clause-taken g c =
+pub returns-in-Ok-put_one-clause-taken : goal.returns-in-Ok-put_one-clause-taken
+returns-in-Ok-put_one-clause-taken g c =
     let ls = c.args.lexed.now.leaves in
     let kind = raw_of c.args.kind in
     let is = token-steps ls kind c.args.n c.args.start c.pending_end-first.result c.token_end-end.result _ c.pending_end-first.ensures.end c.token_end-end.ensures.end c.range_text-text.ensures in
     record {
-      taken = subst (λ (ss : List TextStep). TakesAll g.S.StrSink.takes c.args.sink.now ss c.put_all.new.sink) is
-          (takes-then g.S.StrSink.takes c.args.sink.now c.put_leaves.new.sink c.put_all.new.sink _ _ c.in-Ok.ensures.taken c.in-Ok-put_all.ensures.taken);
+      taken = subst (λ (ss : List TextStep). TakesAll g.S.StrSink.takes c.args.sink.now ss c.put_one.new.sink) is
+          (takes-then g.S.StrSink.takes c.args.sink.now c.put_leaves.new.sink c.put_one.new.sink _ _ c.in-Ok.ensures.taken c.in-Ok-put_one.ensures.taken);
       at = token-at ls kind c.args.n c.args.start c.pending_end-first.result c.token_end-end.result c.pending_end-first.ensures.end c.token_end-end.ensures.end;
       within = c.token_end-end.ensures.within;
     }

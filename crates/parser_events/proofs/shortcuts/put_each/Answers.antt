@@ -5,7 +5,7 @@ use Rattle.parser_events.specs.Sinks.{TakesAll, RefusesOne}
 use Rattle.parser_events.specs.TextSteps.{TextStep, leaf_steps}
 use Rattle.parser_events.proofs.Putting.{leaf-more, leaf-from}
 use Rattle.parser_events.proofs.Sinks.{takes-then, takes-one, refuses-after}
-use Rattle.parser_events.proofs.shortcuts.put_leaves.Goals as goal
+use Rattle.parser_events.proofs.shortcuts.put_each.Goals as goal
 
 pub loop-i-preserved : goal.loop-i-preserved
 loop-i-preserved g c =
