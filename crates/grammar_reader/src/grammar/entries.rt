@@ -5,7 +5,7 @@ ghost use Rattle.rust_grammar.specs.Rule as rules;
 ghost use Rattle.rust_productions.specs.Looks.{tokens, spent};
 ghost use Rattle.rust_productions.specs.Reads.{Gives};
 
-use crate::grammar::blocks::statements;
+use crate::grammar::expressions::blocks::statements;
 use crate::grammar::items::items;
 use crate::grammar::list_end::ListEnd;
 use parser_events::parser::Parser;

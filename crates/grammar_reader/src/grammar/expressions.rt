@@ -14,8 +14,8 @@ ghost use Rattle.rust_productions.specs.Operators.{IsMark, spelling_of};
 ghost use Rattle.rust_productions.specs.Reads.{looks, Gives, Reads, Saw};
 ghost use Rattle.rust_productions.specs.Turns.{GoesFrom};
 
-use crate::grammar::layers::{climb, expect_layer, layers};
-use crate::grammar::operands::prefixed;
+use crate::grammar::expressions::layers::{climb, expect_layer, layers};
+use crate::grammar::expressions::operand::prefixed;
 use parser_events::message::Message;
 use parser_events::parser::{Marker, Parser};
 use parser_input::syntax_kind::SyntaxKind;
@@ -24,6 +24,14 @@ use rust_productions::grammar::operators::{
     RangeMark, current_op, range_mark, take_mark, take_operator,
 };
 use rust_productions::grammar::{abandon, complete, error, start, wrap};
+
+pub(crate) mod atom;
+pub(crate) mod blocks;
+pub(crate) mod closures;
+pub(crate) mod control;
+pub(crate) mod layers;
+pub(crate) mod match_arm;
+pub(crate) mod operand;
 
 /// Which operators an expression may have outside of brackets.
 #[derive(Clone, Copy)]

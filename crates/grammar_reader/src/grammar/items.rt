@@ -16,15 +16,15 @@ ghost use Rattle.rust_productions.specs.Looks.{tokens, spent};
 ghost use Rattle.rust_productions.specs.Reads.{looks, Anew, Completes, CompletesWhere, Gives, Reads, Saw};
 ghost use Rattle.rust_productions.specs.Turns.{TurnsFrom};
 
-use crate::grammar::adt::{enum_item, struct_item};
 use crate::grammar::attributes::attribute;
-use crate::grammar::consts::{const_item, static_item, type_alias};
-use crate::grammar::functions::fn_item;
-use crate::grammar::generics::where_clause;
+use crate::grammar::generic_params::where_clause;
+use crate::grammar::items::adt::{enum_item, struct_item};
+use crate::grammar::items::consts::{const_item, static_item, type_alias};
+use crate::grammar::items::functions::fn_item;
+use crate::grammar::items::traits::{impl_item, trait_item};
 use crate::grammar::list_end::{ListEnd, at_end_of};
 use crate::grammar::lists::generic_params;
 use crate::grammar::statements::at_inner_attribute;
-use crate::grammar::traits::{impl_item, trait_item};
 use parser_events::parser::{Marker, Parser};
 use parser_input::syntax_kind::SyntaxKind;
 use rust_productions::grammar::items::{at_fn, at_unsafe, no_item, path_item, use_item};
@@ -32,6 +32,12 @@ use rust_productions::grammar::names::expect_name;
 use rust_productions::grammar::paths::at_path;
 use rust_productions::grammar::visibility::{opt_visibility, visibility};
 use rust_productions::grammar::{at, complete, current, expect, start, take};
+
+pub(crate) mod adt;
+pub(crate) mod consts;
+pub(crate) mod functions;
+pub(crate) mod members;
+pub(crate) mod traits;
 
 /// An item.
 #[cycle(grammar)]

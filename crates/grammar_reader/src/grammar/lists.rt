@@ -13,16 +13,16 @@ ghost use Rattle.rust_productions.specs.Looks.{tokens, spent};
 ghost use Rattle.rust_productions.specs.Reads.{looks, Does, Gives, Reads, Saw};
 ghost use Rattle.rust_productions.specs.Turns.{TurnsFrom};
 
-use crate::grammar::closures::closure_param;
+use crate::grammar::expressions::closures::closure_param;
 use crate::grammar::expressions::expression;
 use crate::grammar::fields::{field_value, pattern_field};
-use crate::grammar::generic_arg::generic_arg;
-use crate::grammar::generics::generic_param;
-use crate::grammar::members::{
+use crate::grammar::generic_args::generic_arg;
+use crate::grammar::generic_params::generic_param;
+use crate::grammar::items::members::{
     at_named_member, at_tuple_field, record_field, tuple_field, variant,
 };
 use crate::grammar::or_patterns::pattern;
-use crate::grammar::param::param;
+use crate::grammar::params::param;
 use crate::grammar::types::any_type;
 use parser_events::message::Message;
 use parser_events::parser::Parser;

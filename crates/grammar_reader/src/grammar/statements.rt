@@ -15,13 +15,13 @@ ghost use Rattle.rust_productions.specs.Looks.{tokens, spent};
 ghost use Rattle.rust_productions.specs.Reads.{looks, Anew, Does, Gives, Reads, Saw};
 
 use crate::grammar::attributes::attribute;
-use crate::grammar::closures::opt_type;
-use crate::grammar::consts::opt_value;
-use crate::grammar::control::{block_like, expect_block};
+use crate::grammar::expressions::closures::opt_type;
+use crate::grammar::expressions::control::{block_like, expect_block};
 use crate::grammar::expressions::expression;
+use crate::grammar::expressions::operand::{postfix, postfixes};
+use crate::grammar::items::consts::opt_value;
 use crate::grammar::items::item;
 use crate::grammar::list_end::{ListEnd, at_end_of};
-use crate::grammar::operands::{postfix, postfixes};
 use crate::grammar::or_patterns::expect_pattern;
 use parser_events::message::Message;
 use parser_events::parser::{Marker, Parser};

@@ -15,7 +15,7 @@ ghost use Rattle.rust_productions.specs.Looks.{tokens, spent};
 ghost use Rattle.rust_productions.specs.Reads.{looks, Gives, Reads, Saw};
 
 use crate::grammar::expressions::{Level, expect_expression};
-use crate::grammar::generics::bounds;
+use crate::grammar::generic_params::bounds;
 use crate::grammar::lists::{Element, rest_of_list};
 use crate::grammar::paths::{Mode, path_with_args};
 use parser_events::message::Message;

@@ -1,6 +1,6 @@
 -- Function by function.
 mod Adt
-mod Atoms
+mod Atom
 mod Attributes
 mod Blocks
 mod Consts
@@ -8,15 +8,15 @@ mod Control
 mod Expressions
 mod Fields
 mod Functions
-mod GenericArg
-mod Generics
+mod GenericArgs
+mod GenericParams
 mod Items
 mod Layers
 mod Lists
 mod MatchArm
 mod Members
-mod Operands
-mod Param
+mod Operand
+mod Params
 mod Paths
 mod Patterns
 mod Statements
@@ -25,7 +25,7 @@ mod Types
 use Rattle.std.proofs.Common.{◌-◌}
 use Rattle.grammar_reader.proofs.grammar.+grammar.Goals as goal
 use Rattle.grammar_reader.proofs.grammar.+grammar.Answers.Adt as adt
-use Rattle.grammar_reader.proofs.grammar.+grammar.Answers.Atoms as atoms
+use Rattle.grammar_reader.proofs.grammar.+grammar.Answers.Atom as atom
 use Rattle.grammar_reader.proofs.grammar.+grammar.Answers.Attributes as attributes
 use Rattle.grammar_reader.proofs.grammar.+grammar.Answers.Blocks as blocks
 use Rattle.grammar_reader.proofs.grammar.+grammar.Answers.Consts as consts
@@ -33,389 +33,389 @@ use Rattle.grammar_reader.proofs.grammar.+grammar.Answers.Control as control
 use Rattle.grammar_reader.proofs.grammar.+grammar.Answers.Expressions as expressions
 use Rattle.grammar_reader.proofs.grammar.+grammar.Answers.Fields as fields
 use Rattle.grammar_reader.proofs.grammar.+grammar.Answers.Functions as functions
-use Rattle.grammar_reader.proofs.grammar.+grammar.Answers.GenericArg as generic_arg
-use Rattle.grammar_reader.proofs.grammar.+grammar.Answers.Generics as generics
+use Rattle.grammar_reader.proofs.grammar.+grammar.Answers.GenericArgs as generic_args
+use Rattle.grammar_reader.proofs.grammar.+grammar.Answers.GenericParams as generic_params
 use Rattle.grammar_reader.proofs.grammar.+grammar.Answers.Items as items
 use Rattle.grammar_reader.proofs.grammar.+grammar.Answers.Layers as layers
 use Rattle.grammar_reader.proofs.grammar.+grammar.Answers.Lists as lists
 use Rattle.grammar_reader.proofs.grammar.+grammar.Answers.MatchArm as match_arm
 use Rattle.grammar_reader.proofs.grammar.+grammar.Answers.Members as members
-use Rattle.grammar_reader.proofs.grammar.+grammar.Answers.Operands as operands
-use Rattle.grammar_reader.proofs.grammar.+grammar.Answers.Param as param
+use Rattle.grammar_reader.proofs.grammar.+grammar.Answers.Operand as operand
+use Rattle.grammar_reader.proofs.grammar.+grammar.Answers.Params as params
 use Rattle.grammar_reader.proofs.grammar.+grammar.Answers.Paths as paths
 use Rattle.grammar_reader.proofs.grammar.+grammar.Answers.Patterns as patterns
 use Rattle.grammar_reader.proofs.grammar.+grammar.Answers.Statements as statements
 use Rattle.grammar_reader.proofs.grammar.+grammar.Answers.Traits as traits
 use Rattle.grammar_reader.proofs.grammar.+grammar.Answers.Types as types
 
-pub adt::struct_item-opt_generic_params-requires : goal.adt::struct_item-opt_generic_params-requires
-adt::struct_item-opt_generic_params-requires = adt.adt::struct_item-opt_generic_params-requires
+pub items::adt::struct_item-opt_generic_params-requires : goal.items::adt::struct_item-opt_generic_params-requires
+items::adt::struct_item-opt_generic_params-requires = adt.items::adt::struct_item-opt_generic_params-requires
 
-pub adt::struct_item-fields-requires : goal.adt::struct_item-fields-requires
-adt::struct_item-fields-requires = adt.adt::struct_item-fields-requires
+pub items::adt::struct_item-fields-requires : goal.items::adt::struct_item-fields-requires
+items::adt::struct_item-fields-requires = adt.items::adt::struct_item-fields-requires
 
-pub adt::struct_item-complete-requires : goal.adt::struct_item-complete-requires
-adt::struct_item-complete-requires = adt.adt::struct_item-complete-requires
+pub items::adt::struct_item-complete-requires : goal.items::adt::struct_item-complete-requires
+items::adt::struct_item-complete-requires = adt.items::adt::struct_item-complete-requires
 
-pub adt::struct_item-returns-clause-completes : goal.adt::struct_item-returns-clause-completes
-adt::struct_item-returns-clause-completes = adt.adt::struct_item-returns-clause-completes
+pub items::adt::struct_item-returns-clause-completes : goal.items::adt::struct_item-returns-clause-completes
+items::adt::struct_item-returns-clause-completes = adt.items::adt::struct_item-returns-clause-completes
 
-pub adt::fields-opt_where_clause-requires : goal.adt::fields-opt_where_clause-requires
-adt::fields-opt_where_clause-requires = adt.adt::fields-opt_where_clause-requires
+pub items::adt::fields-opt_where_clause-requires : goal.items::adt::fields-opt_where_clause-requires
+items::adt::fields-opt_where_clause-requires = adt.items::adt::fields-opt_where_clause-requires
 
-pub adt::fields-returns-then-at-clause-reads : goal.adt::fields-returns-then-at-clause-reads
-adt::fields-returns-then-at-clause-reads = adt.adt::fields-returns-then-at-clause-reads
+pub items::adt::fields-returns-then-at-clause-reads : goal.items::adt::fields-returns-then-at-clause-reads
+items::adt::fields-returns-then-at-clause-reads = adt.items::adt::fields-returns-then-at-clause-reads
 
-pub adt::fields-opt_where_clause-requires-2 : goal.adt::fields-opt_where_clause-requires-2
-adt::fields-opt_where_clause-requires-2 = adt.adt::fields-opt_where_clause-requires-2
+pub items::adt::fields-opt_where_clause-requires-2 : goal.items::adt::fields-opt_where_clause-requires-2
+items::adt::fields-opt_where_clause-requires-2 = adt.items::adt::fields-opt_where_clause-requires-2
 
-pub adt::fields-named_fields-requires : goal.adt::fields-named_fields-requires
-adt::fields-named_fields-requires = adt.adt::fields-named_fields-requires
+pub items::adt::fields-named_fields-requires : goal.items::adt::fields-named_fields-requires
+items::adt::fields-named_fields-requires = adt.items::adt::fields-named_fields-requires
 
-pub adt::fields-returns-clause-reads : goal.adt::fields-returns-clause-reads
-adt::fields-returns-clause-reads = adt.adt::fields-returns-clause-reads
+pub items::adt::fields-returns-clause-reads : goal.items::adt::fields-returns-clause-reads
+items::adt::fields-returns-clause-reads = adt.items::adt::fields-returns-clause-reads
 
-pub adt::enum_item-opt_generic_params-requires : goal.adt::enum_item-opt_generic_params-requires
-adt::enum_item-opt_generic_params-requires = adt.adt::enum_item-opt_generic_params-requires
+pub items::adt::enum_item-opt_generic_params-requires : goal.items::adt::enum_item-opt_generic_params-requires
+items::adt::enum_item-opt_generic_params-requires = adt.items::adt::enum_item-opt_generic_params-requires
 
-pub adt::enum_item-opt_where_clause-requires : goal.adt::enum_item-opt_where_clause-requires
-adt::enum_item-opt_where_clause-requires = adt.adt::enum_item-opt_where_clause-requires
+pub items::adt::enum_item-opt_where_clause-requires : goal.items::adt::enum_item-opt_where_clause-requires
+items::adt::enum_item-opt_where_clause-requires = adt.items::adt::enum_item-opt_where_clause-requires
 
-pub adt::enum_item-expect_variants-requires : goal.adt::enum_item-expect_variants-requires
-adt::enum_item-expect_variants-requires = adt.adt::enum_item-expect_variants-requires
+pub items::adt::enum_item-expect_variants-requires : goal.items::adt::enum_item-expect_variants-requires
+items::adt::enum_item-expect_variants-requires = adt.items::adt::enum_item-expect_variants-requires
 
-pub adt::enum_item-complete-requires : goal.adt::enum_item-complete-requires
-adt::enum_item-complete-requires = adt.adt::enum_item-complete-requires
+pub items::adt::enum_item-complete-requires : goal.items::adt::enum_item-complete-requires
+items::adt::enum_item-complete-requires = adt.items::adt::enum_item-complete-requires
 
-pub adt::enum_item-returns-clause-completes : goal.adt::enum_item-returns-clause-completes
-adt::enum_item-returns-clause-completes = adt.adt::enum_item-returns-clause-completes
+pub items::adt::enum_item-returns-clause-completes : goal.items::adt::enum_item-returns-clause-completes
+items::adt::enum_item-returns-clause-completes = adt.items::adt::enum_item-returns-clause-completes
 
-pub adt::named_fields-record_fields-requires : goal.adt::named_fields-record_fields-requires
-adt::named_fields-record_fields-requires = adt.adt::named_fields-record_fields-requires
+pub items::adt::named_fields-record_fields-requires : goal.items::adt::named_fields-record_fields-requires
+items::adt::named_fields-record_fields-requires = adt.items::adt::named_fields-record_fields-requires
 
-pub adt::named_fields-returns-then-at-clause-reads : goal.adt::named_fields-returns-then-at-clause-reads
-adt::named_fields-returns-then-at-clause-reads = adt.adt::named_fields-returns-then-at-clause-reads
+pub items::adt::named_fields-returns-then-at-clause-reads : goal.items::adt::named_fields-returns-then-at-clause-reads
+items::adt::named_fields-returns-then-at-clause-reads = adt.items::adt::named_fields-returns-then-at-clause-reads
 
-pub adt::named_fields-returns-clause-reads : goal.adt::named_fields-returns-clause-reads
-adt::named_fields-returns-clause-reads = adt.adt::named_fields-returns-clause-reads
+pub items::adt::named_fields-returns-clause-reads : goal.items::adt::named_fields-returns-clause-reads
+items::adt::named_fields-returns-clause-reads = adt.items::adt::named_fields-returns-clause-reads
 
-pub adt::expect_variants-variants-requires : goal.adt::expect_variants-variants-requires
-adt::expect_variants-variants-requires = adt.adt::expect_variants-variants-requires
+pub items::adt::expect_variants-variants-requires : goal.items::adt::expect_variants-variants-requires
+items::adt::expect_variants-variants-requires = adt.items::adt::expect_variants-variants-requires
 
-pub adt::expect_variants-returns-then-at-clause-reads : goal.adt::expect_variants-returns-then-at-clause-reads
-adt::expect_variants-returns-then-at-clause-reads = adt.adt::expect_variants-returns-then-at-clause-reads
+pub items::adt::expect_variants-returns-then-at-clause-reads : goal.items::adt::expect_variants-returns-then-at-clause-reads
+items::adt::expect_variants-returns-then-at-clause-reads = adt.items::adt::expect_variants-returns-then-at-clause-reads
 
-pub adt::expect_variants-returns-clause-reads : goal.adt::expect_variants-returns-clause-reads
-adt::expect_variants-returns-clause-reads = adt.adt::expect_variants-returns-clause-reads
+pub items::adt::expect_variants-returns-clause-reads : goal.items::adt::expect_variants-returns-clause-reads
+items::adt::expect_variants-returns-clause-reads = adt.items::adt::expect_variants-returns-clause-reads
 
-pub adt::fields-tuple_fields-requires : goal.adt::fields-tuple_fields-requires
-adt::fields-tuple_fields-requires = adt.adt::fields-tuple_fields-requires
+pub items::adt::fields-tuple_fields-requires : goal.items::adt::fields-tuple_fields-requires
+items::adt::fields-tuple_fields-requires = adt.items::adt::fields-tuple_fields-requires
 
-pub atoms::inside-paren_expr-requires : goal.atoms::inside-paren_expr-requires
-atoms::inside-paren_expr-requires = atoms.atoms::inside-paren_expr-requires
+pub expressions::atom::inside-paren_expr-requires : goal.expressions::atom::inside-paren_expr-requires
+expressions::atom::inside-paren_expr-requires = atom.expressions::atom::inside-paren_expr-requires
 
-pub atoms::inside-returns-in-L_PAREN-clause-reads : goal.atoms::inside-returns-in-L_PAREN-clause-reads
-atoms::inside-returns-in-L_PAREN-clause-reads = atoms.atoms::inside-returns-in-L_PAREN-clause-reads
+pub expressions::atom::inside-returns-in-L_PAREN-clause-reads : goal.expressions::atom::inside-returns-in-L_PAREN-clause-reads
+expressions::atom::inside-returns-in-L_PAREN-clause-reads = atom.expressions::atom::inside-returns-in-L_PAREN-clause-reads
 
-pub atoms::inside-array_expr-requires : goal.atoms::inside-array_expr-requires
-atoms::inside-array_expr-requires = atoms.atoms::inside-array_expr-requires
+pub expressions::atom::inside-array_expr-requires : goal.expressions::atom::inside-array_expr-requires
+expressions::atom::inside-array_expr-requires = atom.expressions::atom::inside-array_expr-requires
 
-pub atoms::inside-returns-in-L_BRACK-clause-reads : goal.atoms::inside-returns-in-L_BRACK-clause-reads
-atoms::inside-returns-in-L_BRACK-clause-reads = atoms.atoms::inside-returns-in-L_BRACK-clause-reads
+pub expressions::atom::inside-returns-in-L_BRACK-clause-reads : goal.expressions::atom::inside-returns-in-L_BRACK-clause-reads
+expressions::atom::inside-returns-in-L_BRACK-clause-reads = atom.expressions::atom::inside-returns-in-L_BRACK-clause-reads
 
-pub atoms::inside-returns-in-L_BRACK-clause-marker : goal.atoms::inside-returns-in-L_BRACK-clause-marker
-atoms::inside-returns-in-L_BRACK-clause-marker = atoms.atoms::inside-returns-in-L_BRACK-clause-marker
+pub expressions::atom::inside-returns-in-L_BRACK-clause-marker : goal.expressions::atom::inside-returns-in-L_BRACK-clause-marker
+expressions::atom::inside-returns-in-L_BRACK-clause-marker = atom.expressions::atom::inside-returns-in-L_BRACK-clause-marker
 
-pub atoms::inside-value_expr-requires : goal.atoms::inside-value_expr-requires
-atoms::inside-value_expr-requires = atoms.atoms::inside-value_expr-requires
+pub expressions::atom::inside-value_expr-requires : goal.expressions::atom::inside-value_expr-requires
+expressions::atom::inside-value_expr-requires = atom.expressions::atom::inside-value_expr-requires
 
-pub atoms::inside-returns-in-RETURN_KW-clause-reads : goal.atoms::inside-returns-in-RETURN_KW-clause-reads
-atoms::inside-returns-in-RETURN_KW-clause-reads = atoms.atoms::inside-returns-in-RETURN_KW-clause-reads
+pub expressions::atom::inside-returns-in-RETURN_KW-clause-reads : goal.expressions::atom::inside-returns-in-RETURN_KW-clause-reads
+expressions::atom::inside-returns-in-RETURN_KW-clause-reads = atom.expressions::atom::inside-returns-in-RETURN_KW-clause-reads
 
-pub atoms::inside-returns-in-RETURN_KW-clause-marker : goal.atoms::inside-returns-in-RETURN_KW-clause-marker
-atoms::inside-returns-in-RETURN_KW-clause-marker = atoms.atoms::inside-returns-in-RETURN_KW-clause-marker
+pub expressions::atom::inside-returns-in-RETURN_KW-clause-marker : goal.expressions::atom::inside-returns-in-RETURN_KW-clause-marker
+expressions::atom::inside-returns-in-RETURN_KW-clause-marker = atom.expressions::atom::inside-returns-in-RETURN_KW-clause-marker
 
-pub atoms::inside-value_expr-requires-in-BREAK_KW : goal.atoms::inside-value_expr-requires-in-BREAK_KW
-atoms::inside-value_expr-requires-in-BREAK_KW = atoms.atoms::inside-value_expr-requires-in-BREAK_KW
+pub expressions::atom::inside-value_expr-requires-in-BREAK_KW : goal.expressions::atom::inside-value_expr-requires-in-BREAK_KW
+expressions::atom::inside-value_expr-requires-in-BREAK_KW = atom.expressions::atom::inside-value_expr-requires-in-BREAK_KW
 
-pub atoms::inside-returns-in-BREAK_KW-clause-reads : goal.atoms::inside-returns-in-BREAK_KW-clause-reads
-atoms::inside-returns-in-BREAK_KW-clause-reads = atoms.atoms::inside-returns-in-BREAK_KW-clause-reads
+pub expressions::atom::inside-returns-in-BREAK_KW-clause-reads : goal.expressions::atom::inside-returns-in-BREAK_KW-clause-reads
+expressions::atom::inside-returns-in-BREAK_KW-clause-reads = atom.expressions::atom::inside-returns-in-BREAK_KW-clause-reads
 
-pub atoms::inside-returns-in-BREAK_KW-clause-marker : goal.atoms::inside-returns-in-BREAK_KW-clause-marker
-atoms::inside-returns-in-BREAK_KW-clause-marker = atoms.atoms::inside-returns-in-BREAK_KW-clause-marker
+pub expressions::atom::inside-returns-in-BREAK_KW-clause-marker : goal.expressions::atom::inside-returns-in-BREAK_KW-clause-marker
+expressions::atom::inside-returns-in-BREAK_KW-clause-marker = atom.expressions::atom::inside-returns-in-BREAK_KW-clause-marker
 
-pub atoms::inside-returns-in-CONTINUE_KW-clause-reads : goal.atoms::inside-returns-in-CONTINUE_KW-clause-reads
-atoms::inside-returns-in-CONTINUE_KW-clause-reads = atoms.atoms::inside-returns-in-CONTINUE_KW-clause-reads
+pub expressions::atom::inside-returns-in-CONTINUE_KW-clause-reads : goal.expressions::atom::inside-returns-in-CONTINUE_KW-clause-reads
+expressions::atom::inside-returns-in-CONTINUE_KW-clause-reads = atom.expressions::atom::inside-returns-in-CONTINUE_KW-clause-reads
 
-pub atoms::inside-returns-in-CONTINUE_KW-clause-marker : goal.atoms::inside-returns-in-CONTINUE_KW-clause-marker
-atoms::inside-returns-in-CONTINUE_KW-clause-marker = atoms.atoms::inside-returns-in-CONTINUE_KW-clause-marker
+pub expressions::atom::inside-returns-in-CONTINUE_KW-clause-marker : goal.expressions::atom::inside-returns-in-CONTINUE_KW-clause-marker
+expressions::atom::inside-returns-in-CONTINUE_KW-clause-marker = atom.expressions::atom::inside-returns-in-CONTINUE_KW-clause-marker
 
-pub atoms::inside-closure_expr-requires : goal.atoms::inside-closure_expr-requires
-atoms::inside-closure_expr-requires = atoms.atoms::inside-closure_expr-requires
+pub expressions::atom::inside-closure_expr-requires : goal.expressions::atom::inside-closure_expr-requires
+expressions::atom::inside-closure_expr-requires = atom.expressions::atom::inside-closure_expr-requires
 
-pub atoms::inside-returns-in-PIPE-clause-reads : goal.atoms::inside-returns-in-PIPE-clause-reads
-atoms::inside-returns-in-PIPE-clause-reads = atoms.atoms::inside-returns-in-PIPE-clause-reads
+pub expressions::atom::inside-returns-in-PIPE-clause-reads : goal.expressions::atom::inside-returns-in-PIPE-clause-reads
+expressions::atom::inside-returns-in-PIPE-clause-reads = atom.expressions::atom::inside-returns-in-PIPE-clause-reads
 
-pub atoms::inside-returns-in-PIPE-clause-marker : goal.atoms::inside-returns-in-PIPE-clause-marker
-atoms::inside-returns-in-PIPE-clause-marker = atoms.atoms::inside-returns-in-PIPE-clause-marker
+pub expressions::atom::inside-returns-in-PIPE-clause-marker : goal.expressions::atom::inside-returns-in-PIPE-clause-marker
+expressions::atom::inside-returns-in-PIPE-clause-marker = atom.expressions::atom::inside-returns-in-PIPE-clause-marker
 
-pub atoms::inside-move_closure-requires : goal.atoms::inside-move_closure-requires
-atoms::inside-move_closure-requires = atoms.atoms::inside-move_closure-requires
+pub expressions::atom::inside-move_closure-requires : goal.expressions::atom::inside-move_closure-requires
+expressions::atom::inside-move_closure-requires = atom.expressions::atom::inside-move_closure-requires
 
-pub atoms::inside-returns-in-MOVE_KW-clause-reads : goal.atoms::inside-returns-in-MOVE_KW-clause-reads
-atoms::inside-returns-in-MOVE_KW-clause-reads = atoms.atoms::inside-returns-in-MOVE_KW-clause-reads
+pub expressions::atom::inside-returns-in-MOVE_KW-clause-reads : goal.expressions::atom::inside-returns-in-MOVE_KW-clause-reads
+expressions::atom::inside-returns-in-MOVE_KW-clause-reads = atom.expressions::atom::inside-returns-in-MOVE_KW-clause-reads
 
-pub atoms::inside-returns-in-MOVE_KW-clause-marker : goal.atoms::inside-returns-in-MOVE_KW-clause-marker
-atoms::inside-returns-in-MOVE_KW-clause-marker = atoms.atoms::inside-returns-in-MOVE_KW-clause-marker
+pub expressions::atom::inside-returns-in-MOVE_KW-clause-marker : goal.expressions::atom::inside-returns-in-MOVE_KW-clause-marker
+expressions::atom::inside-returns-in-MOVE_KW-clause-marker = atom.expressions::atom::inside-returns-in-MOVE_KW-clause-marker
 
-pub atoms::inside-let_expr-requires : goal.atoms::inside-let_expr-requires
-atoms::inside-let_expr-requires = atoms.atoms::inside-let_expr-requires
+pub expressions::atom::inside-let_expr-requires : goal.expressions::atom::inside-let_expr-requires
+expressions::atom::inside-let_expr-requires = atom.expressions::atom::inside-let_expr-requires
 
-pub atoms::inside-returns-in-LET_KW-clause-reads : goal.atoms::inside-returns-in-LET_KW-clause-reads
-atoms::inside-returns-in-LET_KW-clause-reads = atoms.atoms::inside-returns-in-LET_KW-clause-reads
+pub expressions::atom::inside-returns-in-LET_KW-clause-reads : goal.expressions::atom::inside-returns-in-LET_KW-clause-reads
+expressions::atom::inside-returns-in-LET_KW-clause-reads = atom.expressions::atom::inside-returns-in-LET_KW-clause-reads
 
-pub atoms::inside-returns-in-LET_KW-clause-marker : goal.atoms::inside-returns-in-LET_KW-clause-marker
-atoms::inside-returns-in-LET_KW-clause-marker = atoms.atoms::inside-returns-in-LET_KW-clause-marker
+pub expressions::atom::inside-returns-in-LET_KW-clause-marker : goal.expressions::atom::inside-returns-in-LET_KW-clause-marker
+expressions::atom::inside-returns-in-LET_KW-clause-marker = atom.expressions::atom::inside-returns-in-LET_KW-clause-marker
 
-pub atoms::inside-returns-then-at_literal : goal.atoms::inside-returns-then-at_literal
-atoms::inside-returns-then-at_literal = atoms.atoms::inside-returns-then-at_literal
+pub expressions::atom::inside-returns-then-at_literal : goal.expressions::atom::inside-returns-then-at_literal
+expressions::atom::inside-returns-then-at_literal = atom.expressions::atom::inside-returns-then-at_literal
 
-pub atoms::inside-block_like-requires : goal.atoms::inside-block_like-requires
-atoms::inside-block_like-requires = atoms.atoms::inside-block_like-requires
+pub expressions::atom::inside-block_like-requires : goal.expressions::atom::inside-block_like-requires
+expressions::atom::inside-block_like-requires = atom.expressions::atom::inside-block_like-requires
 
-pub atoms::inside-returns-then-at_block_like : goal.atoms::inside-returns-then-at_block_like
-atoms::inside-returns-then-at_block_like = atoms.atoms::inside-returns-then-at_block_like
+pub expressions::atom::inside-returns-then-at_block_like : goal.expressions::atom::inside-returns-then-at_block_like
+expressions::atom::inside-returns-then-at_block_like = atom.expressions::atom::inside-returns-then-at_block_like
 
-pub atoms::inside-path_expr-requires : goal.atoms::inside-path_expr-requires
-atoms::inside-path_expr-requires = atoms.atoms::inside-path_expr-requires
+pub expressions::atom::inside-path_expr-requires : goal.expressions::atom::inside-path_expr-requires
+expressions::atom::inside-path_expr-requires = atom.expressions::atom::inside-path_expr-requires
 
-pub atoms::inside-returns-else-at_block_like : goal.atoms::inside-returns-else-at_block_like
-atoms::inside-returns-else-at_block_like = atoms.atoms::inside-returns-else-at_block_like
+pub expressions::atom::inside-returns-else-at_block_like : goal.expressions::atom::inside-returns-else-at_block_like
+expressions::atom::inside-returns-else-at_block_like = atom.expressions::atom::inside-returns-else-at_block_like
 
-pub atoms::path_expr-path_with_args-requires : goal.atoms::path_expr-path_with_args-requires
-atoms::path_expr-path_with_args-requires = atoms.atoms::path_expr-path_with_args-requires
+pub expressions::atom::path_expr-path_with_args-requires : goal.expressions::atom::path_expr-path_with_args-requires
+expressions::atom::path_expr-path_with_args-requires = atom.expressions::atom::path_expr-path_with_args-requires
 
-pub atoms::path_expr-after_path-requires : goal.atoms::path_expr-after_path-requires
-atoms::path_expr-after_path-requires = atoms.atoms::path_expr-after_path-requires
+pub expressions::atom::path_expr-after_path-requires : goal.expressions::atom::path_expr-after_path-requires
+expressions::atom::path_expr-after_path-requires = atom.expressions::atom::path_expr-after_path-requires
 
-pub atoms::path_expr-returns-clause-reads : goal.atoms::path_expr-returns-clause-reads
-atoms::path_expr-returns-clause-reads = atoms.atoms::path_expr-returns-clause-reads
+pub expressions::atom::path_expr-returns-clause-reads : goal.expressions::atom::path_expr-returns-clause-reads
+expressions::atom::path_expr-returns-clause-reads = atom.expressions::atom::path_expr-returns-clause-reads
 
-pub atoms::after_path-wrap-requires : goal.atoms::after_path-wrap-requires
-atoms::after_path-wrap-requires = atoms.atoms::after_path-wrap-requires
+pub expressions::atom::after_path-wrap-requires : goal.expressions::atom::after_path-wrap-requires
+expressions::atom::after_path-wrap-requires = atom.expressions::atom::after_path-wrap-requires
 
-pub atoms::after_path-wrap-frame-requires : goal.atoms::after_path-wrap-frame-requires
-atoms::after_path-wrap-frame-requires = atoms.atoms::after_path-wrap-frame-requires
+pub expressions::atom::after_path-wrap-frame-requires : goal.expressions::atom::after_path-wrap-frame-requires
+expressions::atom::after_path-wrap-frame-requires = atom.expressions::atom::after_path-wrap-frame-requires
 
-pub atoms::after_path-wrap-requires-then-condition : goal.atoms::after_path-wrap-requires-then-condition
-atoms::after_path-wrap-requires-then-condition = atoms.atoms::after_path-wrap-requires-then-condition
+pub expressions::atom::after_path-wrap-requires-then-condition : goal.expressions::atom::after_path-wrap-requires-then-condition
+expressions::atom::after_path-wrap-requires-then-condition = atom.expressions::atom::after_path-wrap-requires-then-condition
 
-pub atoms::after_path-field_values-requires : goal.atoms::after_path-field_values-requires
-atoms::after_path-field_values-requires = atoms.atoms::after_path-field_values-requires
+pub expressions::atom::after_path-field_values-requires : goal.expressions::atom::after_path-field_values-requires
+expressions::atom::after_path-field_values-requires = atom.expressions::atom::after_path-field_values-requires
 
-pub atoms::after_path-wrap-requires-then-at-2 : goal.atoms::after_path-wrap-requires-then-at-2
-atoms::after_path-wrap-requires-then-at-2 = atoms.atoms::after_path-wrap-requires-then-at-2
+pub expressions::atom::after_path-wrap-requires-then-at-2 : goal.expressions::atom::after_path-wrap-requires-then-at-2
+expressions::atom::after_path-wrap-requires-then-at-2 = atom.expressions::atom::after_path-wrap-requires-then-at-2
 
-pub atoms::after_path-wrap-requires-2 : goal.atoms::after_path-wrap-requires-2
-atoms::after_path-wrap-requires-2 = atoms.atoms::after_path-wrap-requires-2
+pub expressions::atom::after_path-wrap-requires-2 : goal.expressions::atom::after_path-wrap-requires-2
+expressions::atom::after_path-wrap-requires-2 = atom.expressions::atom::after_path-wrap-requires-2
 
-pub atoms::after_path-returns-then-at_pair-clause-reads : goal.atoms::after_path-returns-then-at_pair-clause-reads
-atoms::after_path-returns-then-at_pair-clause-reads = atoms.atoms::after_path-returns-then-at_pair-clause-reads
+pub expressions::atom::after_path-returns-then-at_pair-clause-reads : goal.expressions::atom::after_path-returns-then-at_pair-clause-reads
+expressions::atom::after_path-returns-then-at_pair-clause-reads = atom.expressions::atom::after_path-returns-then-at_pair-clause-reads
 
-pub atoms::after_path-returns-then-at-clause-reads : goal.atoms::after_path-returns-then-at-clause-reads
-atoms::after_path-returns-then-at-clause-reads = atoms.atoms::after_path-returns-then-at-clause-reads
+pub expressions::atom::after_path-returns-then-at-clause-reads : goal.expressions::atom::after_path-returns-then-at-clause-reads
+expressions::atom::after_path-returns-then-at-clause-reads = atom.expressions::atom::after_path-returns-then-at-clause-reads
 
-pub atoms::after_path-returns-then-condition-clause-reads : goal.atoms::after_path-returns-then-condition-clause-reads
-atoms::after_path-returns-then-condition-clause-reads = atoms.atoms::after_path-returns-then-condition-clause-reads
+pub expressions::atom::after_path-returns-then-condition-clause-reads : goal.expressions::atom::after_path-returns-then-condition-clause-reads
+expressions::atom::after_path-returns-then-condition-clause-reads = atom.expressions::atom::after_path-returns-then-condition-clause-reads
 
-pub atoms::after_path-returns-then-at-2-clause-reads : goal.atoms::after_path-returns-then-at-2-clause-reads
-atoms::after_path-returns-then-at-2-clause-reads = atoms.atoms::after_path-returns-then-at-2-clause-reads
+pub expressions::atom::after_path-returns-then-at-2-clause-reads : goal.expressions::atom::after_path-returns-then-at-2-clause-reads
+expressions::atom::after_path-returns-then-at-2-clause-reads = atom.expressions::atom::after_path-returns-then-at-2-clause-reads
 
-pub atoms::after_path-returns-clause-reads : goal.atoms::after_path-returns-clause-reads
-atoms::after_path-returns-clause-reads = atoms.atoms::after_path-returns-clause-reads
+pub expressions::atom::after_path-returns-clause-reads : goal.expressions::atom::after_path-returns-clause-reads
+expressions::atom::after_path-returns-clause-reads = atom.expressions::atom::after_path-returns-clause-reads
 
-pub atoms::paren_expr-after_paren-requires : goal.atoms::paren_expr-after_paren-requires
-atoms::paren_expr-after_paren-requires = atoms.atoms::paren_expr-after_paren-requires
+pub expressions::atom::paren_expr-after_paren-requires : goal.expressions::atom::paren_expr-after_paren-requires
+expressions::atom::paren_expr-after_paren-requires = atom.expressions::atom::paren_expr-after_paren-requires
 
-pub atoms::paren_expr-returns-clause-reads : goal.atoms::paren_expr-returns-clause-reads
-atoms::paren_expr-returns-clause-reads = atoms.atoms::paren_expr-returns-clause-reads
+pub expressions::atom::paren_expr-returns-clause-reads : goal.expressions::atom::paren_expr-returns-clause-reads
+expressions::atom::paren_expr-returns-clause-reads = atom.expressions::atom::paren_expr-returns-clause-reads
 
-pub atoms::after_paren-wrap-requires : goal.atoms::after_paren-wrap-requires
-atoms::after_paren-wrap-requires = atoms.atoms::after_paren-wrap-requires
+pub expressions::atom::after_paren-wrap-requires : goal.expressions::atom::after_paren-wrap-requires
+expressions::atom::after_paren-wrap-requires = atom.expressions::atom::after_paren-wrap-requires
 
-pub atoms::after_paren-expect_expression-requires : goal.atoms::after_paren-expect_expression-requires
-atoms::after_paren-expect_expression-requires = atoms.atoms::after_paren-expect_expression-requires
+pub expressions::atom::after_paren-expect_expression-requires : goal.expressions::atom::after_paren-expect_expression-requires
+expressions::atom::after_paren-expect_expression-requires = atom.expressions::atom::after_paren-expect_expression-requires
 
-pub atoms::after_paren-after_first-requires : goal.atoms::after_paren-after_first-requires
-atoms::after_paren-after_first-requires = atoms.atoms::after_paren-after_first-requires
+pub expressions::atom::after_paren-after_first-requires : goal.expressions::atom::after_paren-after_first-requires
+expressions::atom::after_paren-after_first-requires = atom.expressions::atom::after_paren-after_first-requires
 
-pub atoms::after_paren-returns-then-at-clause-reads : goal.atoms::after_paren-returns-then-at-clause-reads
-atoms::after_paren-returns-then-at-clause-reads = atoms.atoms::after_paren-returns-then-at-clause-reads
+pub expressions::atom::after_paren-returns-then-at-clause-reads : goal.expressions::atom::after_paren-returns-then-at-clause-reads
+expressions::atom::after_paren-returns-then-at-clause-reads = atom.expressions::atom::after_paren-returns-then-at-clause-reads
 
-pub atoms::after_paren-returns-clause-reads : goal.atoms::after_paren-returns-clause-reads
-atoms::after_paren-returns-clause-reads = atoms.atoms::after_paren-returns-clause-reads
+pub expressions::atom::after_paren-returns-clause-reads : goal.expressions::atom::after_paren-returns-clause-reads
+expressions::atom::after_paren-returns-clause-reads = atom.expressions::atom::after_paren-returns-clause-reads
 
-pub atoms::after_first-rest_of_list-requires : goal.atoms::after_first-rest_of_list-requires
-atoms::after_first-rest_of_list-requires = atoms.atoms::after_first-rest_of_list-requires
+pub expressions::atom::after_first-rest_of_list-requires : goal.expressions::atom::after_first-rest_of_list-requires
+expressions::atom::after_first-rest_of_list-requires = atom.expressions::atom::after_first-rest_of_list-requires
 
-pub atoms::after_first-wrap-requires : goal.atoms::after_first-wrap-requires
-atoms::after_first-wrap-requires = atoms.atoms::after_first-wrap-requires
+pub expressions::atom::after_first-wrap-requires : goal.expressions::atom::after_first-wrap-requires
+expressions::atom::after_first-wrap-requires = atom.expressions::atom::after_first-wrap-requires
 
-pub atoms::after_first-wrap-requires-2 : goal.atoms::after_first-wrap-requires-2
-atoms::after_first-wrap-requires-2 = atoms.atoms::after_first-wrap-requires-2
+pub expressions::atom::after_first-wrap-requires-2 : goal.expressions::atom::after_first-wrap-requires-2
+expressions::atom::after_first-wrap-requires-2 = atom.expressions::atom::after_first-wrap-requires-2
 
-pub atoms::after_first-returns-then-at-clause-reads : goal.atoms::after_first-returns-then-at-clause-reads
-atoms::after_first-returns-then-at-clause-reads = atoms.atoms::after_first-returns-then-at-clause-reads
+pub expressions::atom::after_first-returns-then-at-clause-reads : goal.expressions::atom::after_first-returns-then-at-clause-reads
+expressions::atom::after_first-returns-then-at-clause-reads = atom.expressions::atom::after_first-returns-then-at-clause-reads
 
-pub atoms::after_first-returns-clause-reads : goal.atoms::after_first-returns-clause-reads
-atoms::after_first-returns-clause-reads = atoms.atoms::after_first-returns-clause-reads
+pub expressions::atom::after_first-returns-clause-reads : goal.expressions::atom::after_first-returns-clause-reads
+expressions::atom::after_first-returns-clause-reads = atom.expressions::atom::after_first-returns-clause-reads
 
-pub atoms::array_expr-array_elements-requires : goal.atoms::array_expr-array_elements-requires
-atoms::array_expr-array_elements-requires = atoms.atoms::array_expr-array_elements-requires
+pub expressions::atom::array_expr-array_elements-requires : goal.expressions::atom::array_expr-array_elements-requires
+expressions::atom::array_expr-array_elements-requires = atom.expressions::atom::array_expr-array_elements-requires
 
-pub atoms::array_expr-complete-requires : goal.atoms::array_expr-complete-requires
-atoms::array_expr-complete-requires = atoms.atoms::array_expr-complete-requires
+pub expressions::atom::array_expr-complete-requires : goal.expressions::atom::array_expr-complete-requires
+expressions::atom::array_expr-complete-requires = atom.expressions::atom::array_expr-complete-requires
 
-pub atoms::array_expr-returns-clause-reads : goal.atoms::array_expr-returns-clause-reads
-atoms::array_expr-returns-clause-reads = atoms.atoms::array_expr-returns-clause-reads
+pub expressions::atom::array_expr-returns-clause-reads : goal.expressions::atom::array_expr-returns-clause-reads
+expressions::atom::array_expr-returns-clause-reads = atom.expressions::atom::array_expr-returns-clause-reads
 
-pub atoms::array_elements-expression-requires : goal.atoms::array_elements-expression-requires
-atoms::array_elements-expression-requires = atoms.atoms::array_elements-expression-requires
+pub expressions::atom::array_elements-expression-requires : goal.expressions::atom::array_elements-expression-requires
+expressions::atom::array_elements-expression-requires = atom.expressions::atom::array_elements-expression-requires
 
-pub atoms::array_elements-after_element-requires : goal.atoms::array_elements-after_element-requires
-atoms::array_elements-after_element-requires = atoms.atoms::array_elements-after_element-requires
+pub expressions::atom::array_elements-after_element-requires : goal.expressions::atom::array_elements-after_element-requires
+expressions::atom::array_elements-after_element-requires = atom.expressions::atom::array_elements-after_element-requires
 
-pub atoms::array_elements-returns-then-at_expression-clause-reads : goal.atoms::array_elements-returns-then-at_expression-clause-reads
-atoms::array_elements-returns-then-at_expression-clause-reads = atoms.atoms::array_elements-returns-then-at_expression-clause-reads
+pub expressions::atom::array_elements-returns-then-at_expression-clause-reads : goal.expressions::atom::array_elements-returns-then-at_expression-clause-reads
+expressions::atom::array_elements-returns-then-at_expression-clause-reads = atom.expressions::atom::array_elements-returns-then-at_expression-clause-reads
 
-pub atoms::array_elements-returns-clause-reads : goal.atoms::array_elements-returns-clause-reads
-atoms::array_elements-returns-clause-reads = atoms.atoms::array_elements-returns-clause-reads
+pub expressions::atom::array_elements-returns-clause-reads : goal.expressions::atom::array_elements-returns-clause-reads
+expressions::atom::array_elements-returns-clause-reads = atom.expressions::atom::array_elements-returns-clause-reads
 
-pub atoms::after_element-expect_expression-requires : goal.atoms::after_element-expect_expression-requires
-atoms::after_element-expect_expression-requires = atoms.atoms::after_element-expect_expression-requires
+pub expressions::atom::after_element-expect_expression-requires : goal.expressions::atom::after_element-expect_expression-requires
+expressions::atom::after_element-expect_expression-requires = atom.expressions::atom::after_element-expect_expression-requires
 
-pub atoms::after_element-rest_of_list-requires : goal.atoms::after_element-rest_of_list-requires
-atoms::after_element-rest_of_list-requires = atoms.atoms::after_element-rest_of_list-requires
+pub expressions::atom::after_element-rest_of_list-requires : goal.expressions::atom::after_element-rest_of_list-requires
+expressions::atom::after_element-rest_of_list-requires = atom.expressions::atom::after_element-rest_of_list-requires
 
-pub atoms::after_element-returns-then-at-clause-reads : goal.atoms::after_element-returns-then-at-clause-reads
-atoms::after_element-returns-then-at-clause-reads = atoms.atoms::after_element-returns-then-at-clause-reads
+pub expressions::atom::after_element-returns-then-at-clause-reads : goal.expressions::atom::after_element-returns-then-at-clause-reads
+expressions::atom::after_element-returns-then-at-clause-reads = atom.expressions::atom::after_element-returns-then-at-clause-reads
 
-pub atoms::after_element-returns-then-at-2-clause-reads : goal.atoms::after_element-returns-then-at-2-clause-reads
-atoms::after_element-returns-then-at-2-clause-reads = atoms.atoms::after_element-returns-then-at-2-clause-reads
+pub expressions::atom::after_element-returns-then-at-2-clause-reads : goal.expressions::atom::after_element-returns-then-at-2-clause-reads
+expressions::atom::after_element-returns-then-at-2-clause-reads = atom.expressions::atom::after_element-returns-then-at-2-clause-reads
 
-pub atoms::after_element-returns-clause-reads : goal.atoms::after_element-returns-clause-reads
-atoms::after_element-returns-clause-reads = atoms.atoms::after_element-returns-clause-reads
+pub expressions::atom::after_element-returns-clause-reads : goal.expressions::atom::after_element-returns-clause-reads
+expressions::atom::after_element-returns-clause-reads = atom.expressions::atom::after_element-returns-clause-reads
 
-pub atoms::value_expr-opt_value-requires : goal.atoms::value_expr-opt_value-requires
-atoms::value_expr-opt_value-requires = atoms.atoms::value_expr-opt_value-requires
+pub expressions::atom::value_expr-opt_value-requires : goal.expressions::atom::value_expr-opt_value-requires
+expressions::atom::value_expr-opt_value-requires = atom.expressions::atom::value_expr-opt_value-requires
 
-pub atoms::value_expr-complete-requires : goal.atoms::value_expr-complete-requires
-atoms::value_expr-complete-requires = atoms.atoms::value_expr-complete-requires
+pub expressions::atom::value_expr-complete-requires : goal.expressions::atom::value_expr-complete-requires
+expressions::atom::value_expr-complete-requires = atom.expressions::atom::value_expr-complete-requires
 
-pub atoms::value_expr-returns-clause-reads : goal.atoms::value_expr-returns-clause-reads
-atoms::value_expr-returns-clause-reads = atoms.atoms::value_expr-returns-clause-reads
+pub expressions::atom::value_expr-returns-clause-reads : goal.expressions::atom::value_expr-returns-clause-reads
+expressions::atom::value_expr-returns-clause-reads = atom.expressions::atom::value_expr-returns-clause-reads
 
-pub atoms::opt_value-operation-requires : goal.atoms::opt_value-operation-requires
-atoms::opt_value-operation-requires = atoms.atoms::opt_value-operation-requires
+pub expressions::atom::opt_value-operation-requires : goal.expressions::atom::opt_value-operation-requires
+expressions::atom::opt_value-operation-requires = atom.expressions::atom::opt_value-operation-requires
 
-pub atoms::opt_value-returns-then-at_body-clause-reads : goal.atoms::opt_value-returns-then-at_body-clause-reads
-atoms::opt_value-returns-then-at_body-clause-reads = atoms.atoms::opt_value-returns-then-at_body-clause-reads
+pub expressions::atom::opt_value-returns-then-at_body-clause-reads : goal.expressions::atom::opt_value-returns-then-at_body-clause-reads
+expressions::atom::opt_value-returns-then-at_body-clause-reads = atom.expressions::atom::opt_value-returns-then-at_body-clause-reads
 
-pub atoms::opt_value-returns-then-at_operation-clause-reads : goal.atoms::opt_value-returns-then-at_operation-clause-reads
-atoms::opt_value-returns-then-at_operation-clause-reads = atoms.atoms::opt_value-returns-then-at_operation-clause-reads
+pub expressions::atom::opt_value-returns-then-at_operation-clause-reads : goal.expressions::atom::opt_value-returns-then-at_operation-clause-reads
+expressions::atom::opt_value-returns-then-at_operation-clause-reads = atom.expressions::atom::opt_value-returns-then-at_operation-clause-reads
 
-pub atoms::opt_value-returns-else-at_operation-clause-reads : goal.atoms::opt_value-returns-else-at_operation-clause-reads
-atoms::opt_value-returns-else-at_operation-clause-reads = atoms.atoms::opt_value-returns-else-at_operation-clause-reads
+pub expressions::atom::opt_value-returns-else-at_operation-clause-reads : goal.expressions::atom::opt_value-returns-else-at_operation-clause-reads
+expressions::atom::opt_value-returns-else-at_operation-clause-reads = atom.expressions::atom::opt_value-returns-else-at_operation-clause-reads
 
-pub closures::closure_expr-closure_params-requires : goal.closures::closure_expr-closure_params-requires
-closures::closure_expr-closure_params-requires = atoms.closures::closure_expr-closure_params-requires
+pub expressions::closures::closure_expr-closure_params-requires : goal.expressions::closures::closure_expr-closure_params-requires
+expressions::closures::closure_expr-closure_params-requires = atom.expressions::closures::closure_expr-closure_params-requires
 
-pub closures::closure_expr-closure_body-requires : goal.closures::closure_expr-closure_body-requires
-closures::closure_expr-closure_body-requires = atoms.closures::closure_expr-closure_body-requires
+pub expressions::closures::closure_expr-closure_body-requires : goal.expressions::closures::closure_expr-closure_body-requires
+expressions::closures::closure_expr-closure_body-requires = atom.expressions::closures::closure_expr-closure_body-requires
 
-pub closures::closure_expr-complete-requires : goal.closures::closure_expr-complete-requires
-closures::closure_expr-complete-requires = atoms.closures::closure_expr-complete-requires
+pub expressions::closures::closure_expr-complete-requires : goal.expressions::closures::closure_expr-complete-requires
+expressions::closures::closure_expr-complete-requires = atom.expressions::closures::closure_expr-complete-requires
 
-pub closures::closure_expr-returns-clause-reads : goal.closures::closure_expr-returns-clause-reads
-closures::closure_expr-returns-clause-reads = atoms.closures::closure_expr-returns-clause-reads
+pub expressions::closures::closure_expr-returns-clause-reads : goal.expressions::closures::closure_expr-returns-clause-reads
+expressions::closures::closure_expr-returns-clause-reads = atom.expressions::closures::closure_expr-returns-clause-reads
 
-pub closures::move_closure-expect_closure_params-requires : goal.closures::move_closure-expect_closure_params-requires
-closures::move_closure-expect_closure_params-requires = atoms.closures::move_closure-expect_closure_params-requires
+pub expressions::closures::move_closure-expect_closure_params-requires : goal.expressions::closures::move_closure-expect_closure_params-requires
+expressions::closures::move_closure-expect_closure_params-requires = atom.expressions::closures::move_closure-expect_closure_params-requires
 
-pub closures::move_closure-closure_body-requires : goal.closures::move_closure-closure_body-requires
-closures::move_closure-closure_body-requires = atoms.closures::move_closure-closure_body-requires
+pub expressions::closures::move_closure-closure_body-requires : goal.expressions::closures::move_closure-closure_body-requires
+expressions::closures::move_closure-closure_body-requires = atom.expressions::closures::move_closure-closure_body-requires
 
-pub closures::move_closure-complete-requires : goal.closures::move_closure-complete-requires
-closures::move_closure-complete-requires = atoms.closures::move_closure-complete-requires
+pub expressions::closures::move_closure-complete-requires : goal.expressions::closures::move_closure-complete-requires
+expressions::closures::move_closure-complete-requires = atom.expressions::closures::move_closure-complete-requires
 
-pub closures::move_closure-returns-clause-reads : goal.closures::move_closure-returns-clause-reads
-closures::move_closure-returns-clause-reads = atoms.closures::move_closure-returns-clause-reads
+pub expressions::closures::move_closure-returns-clause-reads : goal.expressions::closures::move_closure-returns-clause-reads
+expressions::closures::move_closure-returns-clause-reads = atom.expressions::closures::move_closure-returns-clause-reads
 
-pub closures::expect_closure_params-closure_params-requires : goal.closures::expect_closure_params-closure_params-requires
-closures::expect_closure_params-closure_params-requires = atoms.closures::expect_closure_params-closure_params-requires
+pub expressions::closures::expect_closure_params-closure_params-requires : goal.expressions::closures::expect_closure_params-closure_params-requires
+expressions::closures::expect_closure_params-closure_params-requires = atom.expressions::closures::expect_closure_params-closure_params-requires
 
-pub closures::expect_closure_params-returns-then-at-clause-reads : goal.closures::expect_closure_params-returns-then-at-clause-reads
-closures::expect_closure_params-returns-then-at-clause-reads = atoms.closures::expect_closure_params-returns-then-at-clause-reads
+pub expressions::closures::expect_closure_params-returns-then-at-clause-reads : goal.expressions::closures::expect_closure_params-returns-then-at-clause-reads
+expressions::closures::expect_closure_params-returns-then-at-clause-reads = atom.expressions::closures::expect_closure_params-returns-then-at-clause-reads
 
-pub closures::expect_closure_params-returns-clause-reads : goal.closures::expect_closure_params-returns-clause-reads
-closures::expect_closure_params-returns-clause-reads = atoms.closures::expect_closure_params-returns-clause-reads
+pub expressions::closures::expect_closure_params-returns-clause-reads : goal.expressions::closures::expect_closure_params-returns-clause-reads
+expressions::closures::expect_closure_params-returns-clause-reads = atom.expressions::closures::expect_closure_params-returns-clause-reads
 
-pub closures::closure_params-rest_of_list-requires : goal.closures::closure_params-rest_of_list-requires
-closures::closure_params-rest_of_list-requires = atoms.closures::closure_params-rest_of_list-requires
+pub expressions::closures::closure_params-rest_of_list-requires : goal.expressions::closures::closure_params-rest_of_list-requires
+expressions::closures::closure_params-rest_of_list-requires = atom.expressions::closures::closure_params-rest_of_list-requires
 
-pub closures::closure_params-complete-requires : goal.closures::closure_params-complete-requires
-closures::closure_params-complete-requires = atoms.closures::closure_params-complete-requires
+pub expressions::closures::closure_params-complete-requires : goal.expressions::closures::closure_params-complete-requires
+expressions::closures::closure_params-complete-requires = atom.expressions::closures::closure_params-complete-requires
 
-pub closures::closure_params-returns-clause-reads : goal.closures::closure_params-returns-clause-reads
-closures::closure_params-returns-clause-reads = atoms.closures::closure_params-returns-clause-reads
+pub expressions::closures::closure_params-returns-clause-reads : goal.expressions::closures::closure_params-returns-clause-reads
+expressions::closures::closure_params-returns-clause-reads = atom.expressions::closures::closure_params-returns-clause-reads
 
-pub closures::closure_param-single_pattern-requires : goal.closures::closure_param-single_pattern-requires
-closures::closure_param-single_pattern-requires = atoms.closures::closure_param-single_pattern-requires
+pub expressions::closures::closure_param-single_pattern-requires : goal.expressions::closures::closure_param-single_pattern-requires
+expressions::closures::closure_param-single_pattern-requires = atom.expressions::closures::closure_param-single_pattern-requires
 
-pub closures::closure_param-opt_type-requires : goal.closures::closure_param-opt_type-requires
-closures::closure_param-opt_type-requires = atoms.closures::closure_param-opt_type-requires
+pub expressions::closures::closure_param-opt_type-requires : goal.expressions::closures::closure_param-opt_type-requires
+expressions::closures::closure_param-opt_type-requires = atom.expressions::closures::closure_param-opt_type-requires
 
-pub closures::closure_param-complete-requires : goal.closures::closure_param-complete-requires
-closures::closure_param-complete-requires = atoms.closures::closure_param-complete-requires
+pub expressions::closures::closure_param-complete-requires : goal.expressions::closures::closure_param-complete-requires
+expressions::closures::closure_param-complete-requires = atom.expressions::closures::closure_param-complete-requires
 
-pub closures::closure_param-returns-clause-reads : goal.closures::closure_param-returns-clause-reads
-closures::closure_param-returns-clause-reads = atoms.closures::closure_param-returns-clause-reads
+pub expressions::closures::closure_param-returns-clause-reads : goal.expressions::closures::closure_param-returns-clause-reads
+expressions::closures::closure_param-returns-clause-reads = atom.expressions::closures::closure_param-returns-clause-reads
 
-pub closures::opt_type-expect_type-requires : goal.closures::opt_type-expect_type-requires
-closures::opt_type-expect_type-requires = atoms.closures::opt_type-expect_type-requires
+pub expressions::closures::opt_type-expect_type-requires : goal.expressions::closures::opt_type-expect_type-requires
+expressions::closures::opt_type-expect_type-requires = atom.expressions::closures::opt_type-expect_type-requires
 
-pub closures::opt_type-returns-then-at-clause-reads : goal.closures::opt_type-returns-then-at-clause-reads
-closures::opt_type-returns-then-at-clause-reads = atoms.closures::opt_type-returns-then-at-clause-reads
+pub expressions::closures::opt_type-returns-then-at-clause-reads : goal.expressions::closures::opt_type-returns-then-at-clause-reads
+expressions::closures::opt_type-returns-then-at-clause-reads = atom.expressions::closures::opt_type-returns-then-at-clause-reads
 
-pub closures::opt_type-returns-else-at-clause-reads : goal.closures::opt_type-returns-else-at-clause-reads
-closures::opt_type-returns-else-at-clause-reads = atoms.closures::opt_type-returns-else-at-clause-reads
+pub expressions::closures::opt_type-returns-else-at-clause-reads : goal.expressions::closures::opt_type-returns-else-at-clause-reads
+expressions::closures::opt_type-returns-else-at-clause-reads = atom.expressions::closures::opt_type-returns-else-at-clause-reads
 
-pub closures::closure_body-ret_type-requires : goal.closures::closure_body-ret_type-requires
-closures::closure_body-ret_type-requires = atoms.closures::closure_body-ret_type-requires
+pub expressions::closures::closure_body-ret_type-requires : goal.expressions::closures::closure_body-ret_type-requires
+expressions::closures::closure_body-ret_type-requires = atom.expressions::closures::closure_body-ret_type-requires
 
-pub closures::closure_body-expect_block-requires : goal.closures::closure_body-expect_block-requires
-closures::closure_body-expect_block-requires = atoms.closures::closure_body-expect_block-requires
+pub expressions::closures::closure_body-expect_block-requires : goal.expressions::closures::closure_body-expect_block-requires
+expressions::closures::closure_body-expect_block-requires = atom.expressions::closures::closure_body-expect_block-requires
 
-pub closures::closure_body-expect_expression-requires : goal.closures::closure_body-expect_expression-requires
-closures::closure_body-expect_expression-requires = atoms.closures::closure_body-expect_expression-requires
+pub expressions::closures::closure_body-expect_expression-requires : goal.expressions::closures::closure_body-expect_expression-requires
+expressions::closures::closure_body-expect_expression-requires = atom.expressions::closures::closure_body-expect_expression-requires
 
-pub closures::closure_body-returns-then-at_pair-clause-reads : goal.closures::closure_body-returns-then-at_pair-clause-reads
-closures::closure_body-returns-then-at_pair-clause-reads = atoms.closures::closure_body-returns-then-at_pair-clause-reads
+pub expressions::closures::closure_body-returns-then-at_pair-clause-reads : goal.expressions::closures::closure_body-returns-then-at_pair-clause-reads
+expressions::closures::closure_body-returns-then-at_pair-clause-reads = atom.expressions::closures::closure_body-returns-then-at_pair-clause-reads
 
-pub closures::closure_body-returns-clause-reads : goal.closures::closure_body-returns-clause-reads
-closures::closure_body-returns-clause-reads = atoms.closures::closure_body-returns-clause-reads
+pub expressions::closures::closure_body-returns-clause-reads : goal.expressions::closures::closure_body-returns-clause-reads
+expressions::closures::closure_body-returns-clause-reads = atom.expressions::closures::closure_body-returns-clause-reads
 
-pub atoms::let_expr-expect_pattern-requires : goal.atoms::let_expr-expect_pattern-requires
-atoms::let_expr-expect_pattern-requires = atoms.atoms::let_expr-expect_pattern-requires
+pub expressions::atom::let_expr-expect_pattern-requires : goal.expressions::atom::let_expr-expect_pattern-requires
+expressions::atom::let_expr-expect_pattern-requires = atom.expressions::atom::let_expr-expect_pattern-requires
 
-pub atoms::let_expr-expect_expression-requires : goal.atoms::let_expr-expect_expression-requires
-atoms::let_expr-expect_expression-requires = atoms.atoms::let_expr-expect_expression-requires
+pub expressions::atom::let_expr-expect_expression-requires : goal.expressions::atom::let_expr-expect_expression-requires
+expressions::atom::let_expr-expect_expression-requires = atom.expressions::atom::let_expr-expect_expression-requires
 
-pub atoms::let_expr-complete-requires : goal.atoms::let_expr-complete-requires
-atoms::let_expr-complete-requires = atoms.atoms::let_expr-complete-requires
+pub expressions::atom::let_expr-complete-requires : goal.expressions::atom::let_expr-complete-requires
+expressions::atom::let_expr-complete-requires = atom.expressions::atom::let_expr-complete-requires
 
-pub atoms::let_expr-returns-clause-reads : goal.atoms::let_expr-returns-clause-reads
-atoms::let_expr-returns-clause-reads = atoms.atoms::let_expr-returns-clause-reads
+pub expressions::atom::let_expr-returns-clause-reads : goal.expressions::atom::let_expr-returns-clause-reads
+expressions::atom::let_expr-returns-clause-reads = atom.expressions::atom::let_expr-returns-clause-reads
 
 pub attributes::attribute-expect_meta-requires : goal.attributes::attribute-expect_meta-requires
 attributes::attribute-expect_meta-requires = attributes.attributes::attribute-expect_meta-requires
@@ -459,320 +459,320 @@ attributes::opt_value-returns-then-at_token_tree-clause-reads = attributes.attri
 pub attributes::opt_value-returns-else-at_token_tree-clause-reads : goal.attributes::opt_value-returns-else-at_token_tree-clause-reads
 attributes::opt_value-returns-else-at_token_tree-clause-reads = attributes.attributes::opt_value-returns-else-at_token_tree-clause-reads
 
-pub blocks::statement_turn-returns-then-at_end_of-clause-ends : goal.blocks::statement_turn-returns-then-at_end_of-clause-ends
-blocks::statement_turn-returns-then-at_end_of-clause-ends = blocks.blocks::statement_turn-returns-then-at_end_of-clause-ends
+pub expressions::blocks::statement_turn-returns-then-at_end_of-clause-ends : goal.expressions::blocks::statement_turn-returns-then-at_end_of-clause-ends
+expressions::blocks::statement_turn-returns-then-at_end_of-clause-ends = blocks.expressions::blocks::statement_turn-returns-then-at_end_of-clause-ends
 
-pub blocks::statement_turn-statement-requires : goal.blocks::statement_turn-statement-requires
-blocks::statement_turn-statement-requires = blocks.blocks::statement_turn-statement-requires
+pub expressions::blocks::statement_turn-statement-requires : goal.expressions::blocks::statement_turn-statement-requires
+expressions::blocks::statement_turn-statement-requires = blocks.expressions::blocks::statement_turn-statement-requires
 
-pub blocks::statement_turn-returns-clause-goes : goal.blocks::statement_turn-returns-clause-goes
-blocks::statement_turn-returns-clause-goes = blocks.blocks::statement_turn-returns-clause-goes
+pub expressions::blocks::statement_turn-returns-clause-goes : goal.expressions::blocks::statement_turn-returns-clause-goes
+expressions::blocks::statement_turn-returns-clause-goes = blocks.expressions::blocks::statement_turn-returns-clause-goes
 
-pub blocks::statement_turn-returns-clause-ends : goal.blocks::statement_turn-returns-clause-ends
-blocks::statement_turn-returns-clause-ends = blocks.blocks::statement_turn-returns-clause-ends
+pub expressions::blocks::statement_turn-returns-clause-ends : goal.expressions::blocks::statement_turn-returns-clause-ends
+expressions::blocks::statement_turn-returns-clause-ends = blocks.expressions::blocks::statement_turn-returns-clause-ends
 
-pub blocks::statement_turn-returns-clause-fewer : goal.blocks::statement_turn-returns-clause-fewer
-blocks::statement_turn-returns-clause-fewer = blocks.blocks::statement_turn-returns-clause-fewer
+pub expressions::blocks::statement_turn-returns-clause-fewer : goal.expressions::blocks::statement_turn-returns-clause-fewer
+expressions::blocks::statement_turn-returns-clause-fewer = blocks.expressions::blocks::statement_turn-returns-clause-fewer
 
-pub blocks::statement_turn-returns-clause-pays : goal.blocks::statement_turn-returns-clause-pays
-blocks::statement_turn-returns-clause-pays = blocks.blocks::statement_turn-returns-clause-pays
+pub expressions::blocks::statement_turn-returns-clause-pays : goal.expressions::blocks::statement_turn-returns-clause-pays
+expressions::blocks::statement_turn-returns-clause-pays = blocks.expressions::blocks::statement_turn-returns-clause-pays
 
-pub blocks::statements-turns-preserved : goal.blocks::statements-turns-preserved
-blocks::statements-turns-preserved = blocks.blocks::statements-turns-preserved
+pub expressions::blocks::statements-turns-preserved : goal.expressions::blocks::statements-turns-preserved
+expressions::blocks::statements-turns-preserved = blocks.expressions::blocks::statements-turns-preserved
 
-pub blocks::statements-returns-clause-reads : goal.blocks::statements-returns-clause-reads
-blocks::statements-returns-clause-reads = blocks.blocks::statements-returns-clause-reads
+pub expressions::blocks::statements-returns-clause-reads : goal.expressions::blocks::statements-returns-clause-reads
+expressions::blocks::statements-returns-clause-reads = blocks.expressions::blocks::statements-returns-clause-reads
 
-pub blocks::statement_list-statements-requires : goal.blocks::statement_list-statements-requires
-blocks::statement_list-statements-requires = blocks.blocks::statement_list-statements-requires
+pub expressions::blocks::statement_list-statements-requires : goal.expressions::blocks::statement_list-statements-requires
+expressions::blocks::statement_list-statements-requires = blocks.expressions::blocks::statement_list-statements-requires
 
-pub blocks::statement_list-complete-requires : goal.blocks::statement_list-complete-requires
-blocks::statement_list-complete-requires = blocks.blocks::statement_list-complete-requires
+pub expressions::blocks::statement_list-complete-requires : goal.expressions::blocks::statement_list-complete-requires
+expressions::blocks::statement_list-complete-requires = blocks.expressions::blocks::statement_list-complete-requires
 
-pub blocks::statement_list-returns-clause-gives : goal.blocks::statement_list-returns-clause-gives
-blocks::statement_list-returns-clause-gives = blocks.blocks::statement_list-returns-clause-gives
+pub expressions::blocks::statement_list-returns-clause-gives : goal.expressions::blocks::statement_list-returns-clause-gives
+expressions::blocks::statement_list-returns-clause-gives = blocks.expressions::blocks::statement_list-returns-clause-gives
 
-pub blocks::block-complete-requires : goal.blocks::block-complete-requires
-blocks::block-complete-requires = blocks.blocks::block-complete-requires
+pub expressions::blocks::block-complete-requires : goal.expressions::blocks::block-complete-requires
+expressions::blocks::block-complete-requires = blocks.expressions::blocks::block-complete-requires
 
-pub blocks::block-returns-clause-gives : goal.blocks::block-returns-clause-gives
-blocks::block-returns-clause-gives = blocks.blocks::block-returns-clause-gives
+pub expressions::blocks::block-returns-clause-gives : goal.expressions::blocks::block-returns-clause-gives
+expressions::blocks::block-returns-clause-gives = blocks.expressions::blocks::block-returns-clause-gives
 
-pub consts::const_item-typed_value-requires : goal.consts::const_item-typed_value-requires
-consts::const_item-typed_value-requires = consts.consts::const_item-typed_value-requires
+pub items::consts::const_item-typed_value-requires : goal.items::consts::const_item-typed_value-requires
+items::consts::const_item-typed_value-requires = consts.items::consts::const_item-typed_value-requires
 
-pub consts::const_item-complete-requires : goal.consts::const_item-complete-requires
-consts::const_item-complete-requires = consts.consts::const_item-complete-requires
+pub items::consts::const_item-complete-requires : goal.items::consts::const_item-complete-requires
+items::consts::const_item-complete-requires = consts.items::consts::const_item-complete-requires
 
-pub consts::const_item-returns-clause-completes : goal.consts::const_item-returns-clause-completes
-consts::const_item-returns-clause-completes = consts.consts::const_item-returns-clause-completes
+pub items::consts::const_item-returns-clause-completes : goal.items::consts::const_item-returns-clause-completes
+items::consts::const_item-returns-clause-completes = consts.items::consts::const_item-returns-clause-completes
 
-pub consts::static_item-typed_value-requires : goal.consts::static_item-typed_value-requires
-consts::static_item-typed_value-requires = consts.consts::static_item-typed_value-requires
+pub items::consts::static_item-typed_value-requires : goal.items::consts::static_item-typed_value-requires
+items::consts::static_item-typed_value-requires = consts.items::consts::static_item-typed_value-requires
 
-pub consts::static_item-complete-requires : goal.consts::static_item-complete-requires
-consts::static_item-complete-requires = consts.consts::static_item-complete-requires
+pub items::consts::static_item-complete-requires : goal.items::consts::static_item-complete-requires
+items::consts::static_item-complete-requires = consts.items::consts::static_item-complete-requires
 
-pub consts::static_item-returns-clause-completes : goal.consts::static_item-returns-clause-completes
-consts::static_item-returns-clause-completes = consts.consts::static_item-returns-clause-completes
+pub items::consts::static_item-returns-clause-completes : goal.items::consts::static_item-returns-clause-completes
+items::consts::static_item-returns-clause-completes = consts.items::consts::static_item-returns-clause-completes
 
-pub consts::typed_value-expect_type-requires : goal.consts::typed_value-expect_type-requires
-consts::typed_value-expect_type-requires = consts.consts::typed_value-expect_type-requires
+pub items::consts::typed_value-expect_type-requires : goal.items::consts::typed_value-expect_type-requires
+items::consts::typed_value-expect_type-requires = consts.items::consts::typed_value-expect_type-requires
 
-pub consts::typed_value-opt_value-requires : goal.consts::typed_value-opt_value-requires
-consts::typed_value-opt_value-requires = consts.consts::typed_value-opt_value-requires
+pub items::consts::typed_value-opt_value-requires : goal.items::consts::typed_value-opt_value-requires
+items::consts::typed_value-opt_value-requires = consts.items::consts::typed_value-opt_value-requires
 
-pub consts::typed_value-returns-clause-reads : goal.consts::typed_value-returns-clause-reads
-consts::typed_value-returns-clause-reads = consts.consts::typed_value-returns-clause-reads
+pub items::consts::typed_value-returns-clause-reads : goal.items::consts::typed_value-returns-clause-reads
+items::consts::typed_value-returns-clause-reads = consts.items::consts::typed_value-returns-clause-reads
 
-pub consts::opt_value-expect_expression-requires : goal.consts::opt_value-expect_expression-requires
-consts::opt_value-expect_expression-requires = consts.consts::opt_value-expect_expression-requires
+pub items::consts::opt_value-expect_expression-requires : goal.items::consts::opt_value-expect_expression-requires
+items::consts::opt_value-expect_expression-requires = consts.items::consts::opt_value-expect_expression-requires
 
-pub consts::opt_value-returns-then-at-clause-reads : goal.consts::opt_value-returns-then-at-clause-reads
-consts::opt_value-returns-then-at-clause-reads = consts.consts::opt_value-returns-then-at-clause-reads
+pub items::consts::opt_value-returns-then-at-clause-reads : goal.items::consts::opt_value-returns-then-at-clause-reads
+items::consts::opt_value-returns-then-at-clause-reads = consts.items::consts::opt_value-returns-then-at-clause-reads
 
-pub consts::opt_value-returns-else-at-clause-reads : goal.consts::opt_value-returns-else-at-clause-reads
-consts::opt_value-returns-else-at-clause-reads = consts.consts::opt_value-returns-else-at-clause-reads
+pub items::consts::opt_value-returns-else-at-clause-reads : goal.items::consts::opt_value-returns-else-at-clause-reads
+items::consts::opt_value-returns-else-at-clause-reads = consts.items::consts::opt_value-returns-else-at-clause-reads
 
-pub consts::type_alias-opt_generic_params-requires : goal.consts::type_alias-opt_generic_params-requires
-consts::type_alias-opt_generic_params-requires = consts.consts::type_alias-opt_generic_params-requires
+pub items::consts::type_alias-opt_generic_params-requires : goal.items::consts::type_alias-opt_generic_params-requires
+items::consts::type_alias-opt_generic_params-requires = consts.items::consts::type_alias-opt_generic_params-requires
 
-pub consts::type_alias-bounds_after_colon-requires : goal.consts::type_alias-bounds_after_colon-requires
-consts::type_alias-bounds_after_colon-requires = consts.consts::type_alias-bounds_after_colon-requires
+pub items::consts::type_alias-bounds_after_colon-requires : goal.items::consts::type_alias-bounds_after_colon-requires
+items::consts::type_alias-bounds_after_colon-requires = consts.items::consts::type_alias-bounds_after_colon-requires
 
-pub consts::type_alias-opt_where_clause-requires : goal.consts::type_alias-opt_where_clause-requires
-consts::type_alias-opt_where_clause-requires = consts.consts::type_alias-opt_where_clause-requires
+pub items::consts::type_alias-opt_where_clause-requires : goal.items::consts::type_alias-opt_where_clause-requires
+items::consts::type_alias-opt_where_clause-requires = consts.items::consts::type_alias-opt_where_clause-requires
 
-pub consts::type_alias-opt_type_after-requires : goal.consts::type_alias-opt_type_after-requires
-consts::type_alias-opt_type_after-requires = consts.consts::type_alias-opt_type_after-requires
+pub items::consts::type_alias-opt_type_after-requires : goal.items::consts::type_alias-opt_type_after-requires
+items::consts::type_alias-opt_type_after-requires = consts.items::consts::type_alias-opt_type_after-requires
 
-pub consts::type_alias-complete-requires : goal.consts::type_alias-complete-requires
-consts::type_alias-complete-requires = consts.consts::type_alias-complete-requires
+pub items::consts::type_alias-complete-requires : goal.items::consts::type_alias-complete-requires
+items::consts::type_alias-complete-requires = consts.items::consts::type_alias-complete-requires
 
-pub consts::type_alias-returns-clause-completes : goal.consts::type_alias-returns-clause-completes
-consts::type_alias-returns-clause-completes = consts.consts::type_alias-returns-clause-completes
+pub items::consts::type_alias-returns-clause-completes : goal.items::consts::type_alias-returns-clause-completes
+items::consts::type_alias-returns-clause-completes = consts.items::consts::type_alias-returns-clause-completes
 
-pub control::block_like-block-requires : goal.control::block_like-block-requires
-control::block_like-block-requires = control.control::block_like-block-requires
+pub expressions::control::block_like-block-requires : goal.expressions::control::block_like-block-requires
+expressions::control::block_like-block-requires = control.expressions::control::block_like-block-requires
 
-pub control::block_like-returns-in-L_CURLY-clause-gives : goal.control::block_like-returns-in-L_CURLY-clause-gives
-control::block_like-returns-in-L_CURLY-clause-gives = control.control::block_like-returns-in-L_CURLY-clause-gives
+pub expressions::control::block_like-returns-in-L_CURLY-clause-gives : goal.expressions::control::block_like-returns-in-L_CURLY-clause-gives
+expressions::control::block_like-returns-in-L_CURLY-clause-gives = control.expressions::control::block_like-returns-in-L_CURLY-clause-gives
 
-pub control::block_like-unsafe_block-requires : goal.control::block_like-unsafe_block-requires
-control::block_like-unsafe_block-requires = control.control::block_like-unsafe_block-requires
+pub expressions::control::block_like-unsafe_block-requires : goal.expressions::control::block_like-unsafe_block-requires
+expressions::control::block_like-unsafe_block-requires = control.expressions::control::block_like-unsafe_block-requires
 
-pub control::block_like-returns-in-UNSAFE_KW-clause-gives : goal.control::block_like-returns-in-UNSAFE_KW-clause-gives
-control::block_like-returns-in-UNSAFE_KW-clause-gives = control.control::block_like-returns-in-UNSAFE_KW-clause-gives
+pub expressions::control::block_like-returns-in-UNSAFE_KW-clause-gives : goal.expressions::control::block_like-returns-in-UNSAFE_KW-clause-gives
+expressions::control::block_like-returns-in-UNSAFE_KW-clause-gives = control.expressions::control::block_like-returns-in-UNSAFE_KW-clause-gives
 
-pub control::block_like-if_expr-requires : goal.control::block_like-if_expr-requires
-control::block_like-if_expr-requires = control.control::block_like-if_expr-requires
+pub expressions::control::block_like-if_expr-requires : goal.expressions::control::block_like-if_expr-requires
+expressions::control::block_like-if_expr-requires = control.expressions::control::block_like-if_expr-requires
 
-pub control::block_like-returns-in-IF_KW-clause-gives : goal.control::block_like-returns-in-IF_KW-clause-gives
-control::block_like-returns-in-IF_KW-clause-gives = control.control::block_like-returns-in-IF_KW-clause-gives
+pub expressions::control::block_like-returns-in-IF_KW-clause-gives : goal.expressions::control::block_like-returns-in-IF_KW-clause-gives
+expressions::control::block_like-returns-in-IF_KW-clause-gives = control.expressions::control::block_like-returns-in-IF_KW-clause-gives
 
-pub control::block_like-while_expr-requires : goal.control::block_like-while_expr-requires
-control::block_like-while_expr-requires = control.control::block_like-while_expr-requires
+pub expressions::control::block_like-while_expr-requires : goal.expressions::control::block_like-while_expr-requires
+expressions::control::block_like-while_expr-requires = control.expressions::control::block_like-while_expr-requires
 
-pub control::block_like-returns-in-WHILE_KW-clause-gives : goal.control::block_like-returns-in-WHILE_KW-clause-gives
-control::block_like-returns-in-WHILE_KW-clause-gives = control.control::block_like-returns-in-WHILE_KW-clause-gives
+pub expressions::control::block_like-returns-in-WHILE_KW-clause-gives : goal.expressions::control::block_like-returns-in-WHILE_KW-clause-gives
+expressions::control::block_like-returns-in-WHILE_KW-clause-gives = control.expressions::control::block_like-returns-in-WHILE_KW-clause-gives
 
-pub control::block_like-loop_expr-requires : goal.control::block_like-loop_expr-requires
-control::block_like-loop_expr-requires = control.control::block_like-loop_expr-requires
+pub expressions::control::block_like-loop_expr-requires : goal.expressions::control::block_like-loop_expr-requires
+expressions::control::block_like-loop_expr-requires = control.expressions::control::block_like-loop_expr-requires
 
-pub control::block_like-returns-in-LOOP_KW-clause-gives : goal.control::block_like-returns-in-LOOP_KW-clause-gives
-control::block_like-returns-in-LOOP_KW-clause-gives = control.control::block_like-returns-in-LOOP_KW-clause-gives
+pub expressions::control::block_like-returns-in-LOOP_KW-clause-gives : goal.expressions::control::block_like-returns-in-LOOP_KW-clause-gives
+expressions::control::block_like-returns-in-LOOP_KW-clause-gives = control.expressions::control::block_like-returns-in-LOOP_KW-clause-gives
 
-pub control::block_like-for_expr-requires : goal.control::block_like-for_expr-requires
-control::block_like-for_expr-requires = control.control::block_like-for_expr-requires
+pub expressions::control::block_like-for_expr-requires : goal.expressions::control::block_like-for_expr-requires
+expressions::control::block_like-for_expr-requires = control.expressions::control::block_like-for_expr-requires
 
-pub control::block_like-returns-in-FOR_KW-clause-gives : goal.control::block_like-returns-in-FOR_KW-clause-gives
-control::block_like-returns-in-FOR_KW-clause-gives = control.control::block_like-returns-in-FOR_KW-clause-gives
+pub expressions::control::block_like-returns-in-FOR_KW-clause-gives : goal.expressions::control::block_like-returns-in-FOR_KW-clause-gives
+expressions::control::block_like-returns-in-FOR_KW-clause-gives = control.expressions::control::block_like-returns-in-FOR_KW-clause-gives
 
-pub control::block_like-match_expr-requires : goal.control::block_like-match_expr-requires
-control::block_like-match_expr-requires = control.control::block_like-match_expr-requires
+pub expressions::control::block_like-match_expr-requires : goal.expressions::control::block_like-match_expr-requires
+expressions::control::block_like-match_expr-requires = control.expressions::control::block_like-match_expr-requires
 
-pub control::block_like-returns-in-MATCH_KW-clause-gives : goal.control::block_like-returns-in-MATCH_KW-clause-gives
-control::block_like-returns-in-MATCH_KW-clause-gives = control.control::block_like-returns-in-MATCH_KW-clause-gives
+pub expressions::control::block_like-returns-in-MATCH_KW-clause-gives : goal.expressions::control::block_like-returns-in-MATCH_KW-clause-gives
+expressions::control::block_like-returns-in-MATCH_KW-clause-gives = control.expressions::control::block_like-returns-in-MATCH_KW-clause-gives
 
-pub control::block_like-macro_block-requires : goal.control::block_like-macro_block-requires
-control::block_like-macro_block-requires = control.control::block_like-macro_block-requires
+pub expressions::control::block_like-macro_block-requires : goal.expressions::control::block_like-macro_block-requires
+expressions::control::block_like-macro_block-requires = control.expressions::control::block_like-macro_block-requires
 
-pub control::block_like-returns-in_default-clause-gives : goal.control::block_like-returns-in_default-clause-gives
-control::block_like-returns-in_default-clause-gives = control.control::block_like-returns-in_default-clause-gives
+pub expressions::control::block_like-returns-in_default-clause-gives : goal.expressions::control::block_like-returns-in_default-clause-gives
+expressions::control::block_like-returns-in_default-clause-gives = control.expressions::control::block_like-returns-in_default-clause-gives
 
-pub control::expect_statement_list-statement_list-requires : goal.control::expect_statement_list-statement_list-requires
-control::expect_statement_list-statement_list-requires = control.control::expect_statement_list-statement_list-requires
+pub expressions::control::expect_statement_list-statement_list-requires : goal.expressions::control::expect_statement_list-statement_list-requires
+expressions::control::expect_statement_list-statement_list-requires = control.expressions::control::expect_statement_list-statement_list-requires
 
-pub control::expect_statement_list-returns-then-at-clause-reads : goal.control::expect_statement_list-returns-then-at-clause-reads
-control::expect_statement_list-returns-then-at-clause-reads = control.control::expect_statement_list-returns-then-at-clause-reads
+pub expressions::control::expect_statement_list-returns-then-at-clause-reads : goal.expressions::control::expect_statement_list-returns-then-at-clause-reads
+expressions::control::expect_statement_list-returns-then-at-clause-reads = control.expressions::control::expect_statement_list-returns-then-at-clause-reads
 
-pub control::expect_statement_list-returns-clause-reads : goal.control::expect_statement_list-returns-clause-reads
-control::expect_statement_list-returns-clause-reads = control.control::expect_statement_list-returns-clause-reads
+pub expressions::control::expect_statement_list-returns-clause-reads : goal.expressions::control::expect_statement_list-returns-clause-reads
+expressions::control::expect_statement_list-returns-clause-reads = control.expressions::control::expect_statement_list-returns-clause-reads
 
-pub control::expect_block-block-requires : goal.control::expect_block-block-requires
-control::expect_block-block-requires = control.control::expect_block-block-requires
+pub expressions::control::expect_block-block-requires : goal.expressions::control::expect_block-block-requires
+expressions::control::expect_block-block-requires = control.expressions::control::expect_block-block-requires
 
-pub control::expect_block-returns-then-at-clause-reads : goal.control::expect_block-returns-then-at-clause-reads
-control::expect_block-returns-then-at-clause-reads = control.control::expect_block-returns-then-at-clause-reads
+pub expressions::control::expect_block-returns-then-at-clause-reads : goal.expressions::control::expect_block-returns-then-at-clause-reads
+expressions::control::expect_block-returns-then-at-clause-reads = control.expressions::control::expect_block-returns-then-at-clause-reads
 
-pub control::expect_block-returns-clause-reads : goal.control::expect_block-returns-clause-reads
-control::expect_block-returns-clause-reads = control.control::expect_block-returns-clause-reads
+pub expressions::control::expect_block-returns-clause-reads : goal.expressions::control::expect_block-returns-clause-reads
+expressions::control::expect_block-returns-clause-reads = control.expressions::control::expect_block-returns-clause-reads
 
-pub control::expect_match_arms-match_arms-requires : goal.control::expect_match_arms-match_arms-requires
-control::expect_match_arms-match_arms-requires = control.control::expect_match_arms-match_arms-requires
+pub expressions::control::expect_match_arms-match_arms-requires : goal.expressions::control::expect_match_arms-match_arms-requires
+expressions::control::expect_match_arms-match_arms-requires = control.expressions::control::expect_match_arms-match_arms-requires
 
-pub control::expect_match_arms-returns-then-at-clause-reads : goal.control::expect_match_arms-returns-then-at-clause-reads
-control::expect_match_arms-returns-then-at-clause-reads = control.control::expect_match_arms-returns-then-at-clause-reads
+pub expressions::control::expect_match_arms-returns-then-at-clause-reads : goal.expressions::control::expect_match_arms-returns-then-at-clause-reads
+expressions::control::expect_match_arms-returns-then-at-clause-reads = control.expressions::control::expect_match_arms-returns-then-at-clause-reads
 
-pub control::expect_match_arms-returns-clause-reads : goal.control::expect_match_arms-returns-clause-reads
-control::expect_match_arms-returns-clause-reads = control.control::expect_match_arms-returns-clause-reads
+pub expressions::control::expect_match_arms-returns-clause-reads : goal.expressions::control::expect_match_arms-returns-clause-reads
+expressions::control::expect_match_arms-returns-clause-reads = control.expressions::control::expect_match_arms-returns-clause-reads
 
-pub control::unsafe_block-expect_statement_list-requires : goal.control::unsafe_block-expect_statement_list-requires
-control::unsafe_block-expect_statement_list-requires = control.control::unsafe_block-expect_statement_list-requires
+pub expressions::control::unsafe_block-expect_statement_list-requires : goal.expressions::control::unsafe_block-expect_statement_list-requires
+expressions::control::unsafe_block-expect_statement_list-requires = control.expressions::control::unsafe_block-expect_statement_list-requires
 
-pub control::unsafe_block-complete-requires : goal.control::unsafe_block-complete-requires
-control::unsafe_block-complete-requires = control.control::unsafe_block-complete-requires
+pub expressions::control::unsafe_block-complete-requires : goal.expressions::control::unsafe_block-complete-requires
+expressions::control::unsafe_block-complete-requires = control.expressions::control::unsafe_block-complete-requires
 
-pub control::unsafe_block-returns-clause-reads : goal.control::unsafe_block-returns-clause-reads
-control::unsafe_block-returns-clause-reads = control.control::unsafe_block-returns-clause-reads
+pub expressions::control::unsafe_block-returns-clause-reads : goal.expressions::control::unsafe_block-returns-clause-reads
+expressions::control::unsafe_block-returns-clause-reads = control.expressions::control::unsafe_block-returns-clause-reads
 
-pub control::while_expr-expect_condition-requires : goal.control::while_expr-expect_condition-requires
-control::while_expr-expect_condition-requires = control.control::while_expr-expect_condition-requires
+pub expressions::control::while_expr-expect_condition-requires : goal.expressions::control::while_expr-expect_condition-requires
+expressions::control::while_expr-expect_condition-requires = control.expressions::control::while_expr-expect_condition-requires
 
-pub control::while_expr-expect_block-requires : goal.control::while_expr-expect_block-requires
-control::while_expr-expect_block-requires = control.control::while_expr-expect_block-requires
+pub expressions::control::while_expr-expect_block-requires : goal.expressions::control::while_expr-expect_block-requires
+expressions::control::while_expr-expect_block-requires = control.expressions::control::while_expr-expect_block-requires
 
-pub control::while_expr-complete-requires : goal.control::while_expr-complete-requires
-control::while_expr-complete-requires = control.control::while_expr-complete-requires
+pub expressions::control::while_expr-complete-requires : goal.expressions::control::while_expr-complete-requires
+expressions::control::while_expr-complete-requires = control.expressions::control::while_expr-complete-requires
 
-pub control::while_expr-returns-clause-reads : goal.control::while_expr-returns-clause-reads
-control::while_expr-returns-clause-reads = control.control::while_expr-returns-clause-reads
+pub expressions::control::while_expr-returns-clause-reads : goal.expressions::control::while_expr-returns-clause-reads
+expressions::control::while_expr-returns-clause-reads = control.expressions::control::while_expr-returns-clause-reads
 
-pub control::loop_expr-expect_block-requires : goal.control::loop_expr-expect_block-requires
-control::loop_expr-expect_block-requires = control.control::loop_expr-expect_block-requires
+pub expressions::control::loop_expr-expect_block-requires : goal.expressions::control::loop_expr-expect_block-requires
+expressions::control::loop_expr-expect_block-requires = control.expressions::control::loop_expr-expect_block-requires
 
-pub control::loop_expr-complete-requires : goal.control::loop_expr-complete-requires
-control::loop_expr-complete-requires = control.control::loop_expr-complete-requires
+pub expressions::control::loop_expr-complete-requires : goal.expressions::control::loop_expr-complete-requires
+expressions::control::loop_expr-complete-requires = control.expressions::control::loop_expr-complete-requires
 
-pub control::loop_expr-returns-clause-reads : goal.control::loop_expr-returns-clause-reads
-control::loop_expr-returns-clause-reads = control.control::loop_expr-returns-clause-reads
+pub expressions::control::loop_expr-returns-clause-reads : goal.expressions::control::loop_expr-returns-clause-reads
+expressions::control::loop_expr-returns-clause-reads = control.expressions::control::loop_expr-returns-clause-reads
 
-pub control::match_expr-expect_condition-requires : goal.control::match_expr-expect_condition-requires
-control::match_expr-expect_condition-requires = control.control::match_expr-expect_condition-requires
+pub expressions::control::match_expr-expect_condition-requires : goal.expressions::control::match_expr-expect_condition-requires
+expressions::control::match_expr-expect_condition-requires = control.expressions::control::match_expr-expect_condition-requires
 
-pub control::match_expr-expect_match_arms-requires : goal.control::match_expr-expect_match_arms-requires
-control::match_expr-expect_match_arms-requires = control.control::match_expr-expect_match_arms-requires
+pub expressions::control::match_expr-expect_match_arms-requires : goal.expressions::control::match_expr-expect_match_arms-requires
+expressions::control::match_expr-expect_match_arms-requires = control.expressions::control::match_expr-expect_match_arms-requires
 
-pub control::match_expr-complete-requires : goal.control::match_expr-complete-requires
-control::match_expr-complete-requires = control.control::match_expr-complete-requires
+pub expressions::control::match_expr-complete-requires : goal.expressions::control::match_expr-complete-requires
+expressions::control::match_expr-complete-requires = control.expressions::control::match_expr-complete-requires
 
-pub control::match_expr-returns-clause-reads : goal.control::match_expr-returns-clause-reads
-control::match_expr-returns-clause-reads = control.control::match_expr-returns-clause-reads
+pub expressions::control::match_expr-returns-clause-reads : goal.expressions::control::match_expr-returns-clause-reads
+expressions::control::match_expr-returns-clause-reads = control.expressions::control::match_expr-returns-clause-reads
 
-pub control::for_expr-expect_pattern-requires : goal.control::for_expr-expect_pattern-requires
-control::for_expr-expect_pattern-requires = control.control::for_expr-expect_pattern-requires
+pub expressions::control::for_expr-expect_pattern-requires : goal.expressions::control::for_expr-expect_pattern-requires
+expressions::control::for_expr-expect_pattern-requires = control.expressions::control::for_expr-expect_pattern-requires
 
-pub control::for_expr-expect_condition-requires : goal.control::for_expr-expect_condition-requires
-control::for_expr-expect_condition-requires = control.control::for_expr-expect_condition-requires
+pub expressions::control::for_expr-expect_condition-requires : goal.expressions::control::for_expr-expect_condition-requires
+expressions::control::for_expr-expect_condition-requires = control.expressions::control::for_expr-expect_condition-requires
 
-pub control::for_expr-expect_block-requires : goal.control::for_expr-expect_block-requires
-control::for_expr-expect_block-requires = control.control::for_expr-expect_block-requires
+pub expressions::control::for_expr-expect_block-requires : goal.expressions::control::for_expr-expect_block-requires
+expressions::control::for_expr-expect_block-requires = control.expressions::control::for_expr-expect_block-requires
 
-pub control::for_expr-complete-requires : goal.control::for_expr-complete-requires
-control::for_expr-complete-requires = control.control::for_expr-complete-requires
+pub expressions::control::for_expr-complete-requires : goal.expressions::control::for_expr-complete-requires
+expressions::control::for_expr-complete-requires = control.expressions::control::for_expr-complete-requires
 
-pub control::for_expr-returns-clause-reads : goal.control::for_expr-returns-clause-reads
-control::for_expr-returns-clause-reads = control.control::for_expr-returns-clause-reads
+pub expressions::control::for_expr-returns-clause-reads : goal.expressions::control::for_expr-returns-clause-reads
+expressions::control::for_expr-returns-clause-reads = control.expressions::control::for_expr-returns-clause-reads
 
-pub control::if_expr-expect_condition-requires : goal.control::if_expr-expect_condition-requires
-control::if_expr-expect_condition-requires = control.control::if_expr-expect_condition-requires
+pub expressions::control::if_expr-expect_condition-requires : goal.expressions::control::if_expr-expect_condition-requires
+expressions::control::if_expr-expect_condition-requires = control.expressions::control::if_expr-expect_condition-requires
 
-pub control::if_expr-expect_block-requires : goal.control::if_expr-expect_block-requires
-control::if_expr-expect_block-requires = control.control::if_expr-expect_block-requires
+pub expressions::control::if_expr-expect_block-requires : goal.expressions::control::if_expr-expect_block-requires
+expressions::control::if_expr-expect_block-requires = control.expressions::control::if_expr-expect_block-requires
 
-pub control::if_expr-opt_else-requires : goal.control::if_expr-opt_else-requires
-control::if_expr-opt_else-requires = control.control::if_expr-opt_else-requires
+pub expressions::control::if_expr-opt_else-requires : goal.expressions::control::if_expr-opt_else-requires
+expressions::control::if_expr-opt_else-requires = control.expressions::control::if_expr-opt_else-requires
 
-pub control::if_expr-complete-requires : goal.control::if_expr-complete-requires
-control::if_expr-complete-requires = control.control::if_expr-complete-requires
+pub expressions::control::if_expr-complete-requires : goal.expressions::control::if_expr-complete-requires
+expressions::control::if_expr-complete-requires = control.expressions::control::if_expr-complete-requires
 
-pub control::if_expr-returns-clause-gives : goal.control::if_expr-returns-clause-gives
-control::if_expr-returns-clause-gives = control.control::if_expr-returns-clause-gives
+pub expressions::control::if_expr-returns-clause-gives : goal.expressions::control::if_expr-returns-clause-gives
+expressions::control::if_expr-returns-clause-gives = control.expressions::control::if_expr-returns-clause-gives
 
-pub control::opt_else-after_else-requires : goal.control::opt_else-after_else-requires
-control::opt_else-after_else-requires = control.control::opt_else-after_else-requires
+pub expressions::control::opt_else-after_else-requires : goal.expressions::control::opt_else-after_else-requires
+expressions::control::opt_else-after_else-requires = control.expressions::control::opt_else-after_else-requires
 
-pub control::opt_else-returns-then-at-clause-reads : goal.control::opt_else-returns-then-at-clause-reads
-control::opt_else-returns-then-at-clause-reads = control.control::opt_else-returns-then-at-clause-reads
+pub expressions::control::opt_else-returns-then-at-clause-reads : goal.expressions::control::opt_else-returns-then-at-clause-reads
+expressions::control::opt_else-returns-then-at-clause-reads = control.expressions::control::opt_else-returns-then-at-clause-reads
 
-pub control::opt_else-returns-else-at-clause-reads : goal.control::opt_else-returns-else-at-clause-reads
-control::opt_else-returns-else-at-clause-reads = control.control::opt_else-returns-else-at-clause-reads
+pub expressions::control::opt_else-returns-else-at-clause-reads : goal.expressions::control::opt_else-returns-else-at-clause-reads
+expressions::control::opt_else-returns-else-at-clause-reads = control.expressions::control::opt_else-returns-else-at-clause-reads
 
-pub control::after_else-if_expr-requires : goal.control::after_else-if_expr-requires
-control::after_else-if_expr-requires = control.control::after_else-if_expr-requires
+pub expressions::control::after_else-if_expr-requires : goal.expressions::control::after_else-if_expr-requires
+expressions::control::after_else-if_expr-requires = control.expressions::control::after_else-if_expr-requires
 
-pub control::after_else-expect_block-requires : goal.control::after_else-expect_block-requires
-control::after_else-expect_block-requires = control.control::after_else-expect_block-requires
+pub expressions::control::after_else-expect_block-requires : goal.expressions::control::after_else-expect_block-requires
+expressions::control::after_else-expect_block-requires = control.expressions::control::after_else-expect_block-requires
 
-pub control::after_else-returns-then-at-clause-reads : goal.control::after_else-returns-then-at-clause-reads
-control::after_else-returns-then-at-clause-reads = control.control::after_else-returns-then-at-clause-reads
+pub expressions::control::after_else-returns-then-at-clause-reads : goal.expressions::control::after_else-returns-then-at-clause-reads
+expressions::control::after_else-returns-then-at-clause-reads = control.expressions::control::after_else-returns-then-at-clause-reads
 
-pub control::after_else-returns-clause-reads : goal.control::after_else-returns-clause-reads
-control::after_else-returns-clause-reads = control.control::after_else-returns-clause-reads
+pub expressions::control::after_else-returns-clause-reads : goal.expressions::control::after_else-returns-clause-reads
+expressions::control::after_else-returns-clause-reads = control.expressions::control::after_else-returns-clause-reads
 
-pub control::match_arms-arms-requires : goal.control::match_arms-arms-requires
-control::match_arms-arms-requires = control.control::match_arms-arms-requires
+pub expressions::control::match_arms-arms-requires : goal.expressions::control::match_arms-arms-requires
+expressions::control::match_arms-arms-requires = control.expressions::control::match_arms-arms-requires
 
-pub control::match_arms-complete-requires : goal.control::match_arms-complete-requires
-control::match_arms-complete-requires = control.control::match_arms-complete-requires
+pub expressions::control::match_arms-complete-requires : goal.expressions::control::match_arms-complete-requires
+expressions::control::match_arms-complete-requires = control.expressions::control::match_arms-complete-requires
 
-pub control::match_arms-returns-clause-gives : goal.control::match_arms-returns-clause-gives
-control::match_arms-returns-clause-gives = control.control::match_arms-returns-clause-gives
+pub expressions::control::match_arms-returns-clause-gives : goal.expressions::control::match_arms-returns-clause-gives
+expressions::control::match_arms-returns-clause-gives = control.expressions::control::match_arms-returns-clause-gives
 
-pub control::arms-turns-preserved : goal.control::arms-turns-preserved
-control::arms-turns-preserved = control.control::arms-turns-preserved
+pub expressions::control::arms-turns-preserved : goal.expressions::control::arms-turns-preserved
+expressions::control::arms-turns-preserved = control.expressions::control::arms-turns-preserved
 
-pub control::arms-returns-clause-reads : goal.control::arms-returns-clause-reads
-control::arms-returns-clause-reads = control.control::arms-returns-clause-reads
+pub expressions::control::arms-returns-clause-reads : goal.expressions::control::arms-returns-clause-reads
+expressions::control::arms-returns-clause-reads = control.expressions::control::arms-returns-clause-reads
 
-pub control::arm_turn-returns-then-at_list_end-clause-ends : goal.control::arm_turn-returns-then-at_list_end-clause-ends
-control::arm_turn-returns-then-at_list_end-clause-ends = control.control::arm_turn-returns-then-at_list_end-clause-ends
+pub expressions::control::arm_turn-returns-then-at_list_end-clause-ends : goal.expressions::control::arm_turn-returns-then-at_list_end-clause-ends
+expressions::control::arm_turn-returns-then-at_list_end-clause-ends = control.expressions::control::arm_turn-returns-then-at_list_end-clause-ends
 
-pub control::arm_turn-match_arm-requires : goal.control::arm_turn-match_arm-requires
-control::arm_turn-match_arm-requires = control.control::arm_turn-match_arm-requires
+pub expressions::control::arm_turn-match_arm-requires : goal.expressions::control::arm_turn-match_arm-requires
+expressions::control::arm_turn-match_arm-requires = control.expressions::control::arm_turn-match_arm-requires
 
-pub control::arm_turn-returns-then-at_pattern-clause-goes : goal.control::arm_turn-returns-then-at_pattern-clause-goes
-control::arm_turn-returns-then-at_pattern-clause-goes = control.control::arm_turn-returns-then-at_pattern-clause-goes
+pub expressions::control::arm_turn-returns-then-at_pattern-clause-goes : goal.expressions::control::arm_turn-returns-then-at_pattern-clause-goes
+expressions::control::arm_turn-returns-then-at_pattern-clause-goes = control.expressions::control::arm_turn-returns-then-at_pattern-clause-goes
 
-pub control::arm_turn-returns-then-at_pattern-clause-input : goal.control::arm_turn-returns-then-at_pattern-clause-input
-control::arm_turn-returns-then-at_pattern-clause-input = control.control::arm_turn-returns-then-at_pattern-clause-input
+pub expressions::control::arm_turn-returns-then-at_pattern-clause-input : goal.expressions::control::arm_turn-returns-then-at_pattern-clause-input
+expressions::control::arm_turn-returns-then-at_pattern-clause-input = control.expressions::control::arm_turn-returns-then-at_pattern-clause-input
 
-pub control::arm_turn-returns-then-at_pattern-clause-innermost : goal.control::arm_turn-returns-then-at_pattern-clause-innermost
-control::arm_turn-returns-then-at_pattern-clause-innermost = control.control::arm_turn-returns-then-at_pattern-clause-innermost
+pub expressions::control::arm_turn-returns-then-at_pattern-clause-innermost : goal.expressions::control::arm_turn-returns-then-at_pattern-clause-innermost
+expressions::control::arm_turn-returns-then-at_pattern-clause-innermost = control.expressions::control::arm_turn-returns-then-at_pattern-clause-innermost
 
-pub control::arm_turn-returns-then-at_pattern-clause-pays : goal.control::arm_turn-returns-then-at_pattern-clause-pays
-control::arm_turn-returns-then-at_pattern-clause-pays = control.control::arm_turn-returns-then-at_pattern-clause-pays
+pub expressions::control::arm_turn-returns-then-at_pattern-clause-pays : goal.expressions::control::arm_turn-returns-then-at_pattern-clause-pays
+expressions::control::arm_turn-returns-then-at_pattern-clause-pays = control.expressions::control::arm_turn-returns-then-at_pattern-clause-pays
 
-pub control::arm_turn-returns-then-at_pattern-clause-looks : goal.control::arm_turn-returns-then-at_pattern-clause-looks
-control::arm_turn-returns-then-at_pattern-clause-looks = control.control::arm_turn-returns-then-at_pattern-clause-looks
+pub expressions::control::arm_turn-returns-then-at_pattern-clause-looks : goal.expressions::control::arm_turn-returns-then-at_pattern-clause-looks
+expressions::control::arm_turn-returns-then-at_pattern-clause-looks = control.expressions::control::arm_turn-returns-then-at_pattern-clause-looks
 
-pub control::arm_turn-skip-requires : goal.control::arm_turn-skip-requires
-control::arm_turn-skip-requires = control.control::arm_turn-skip-requires
+pub expressions::control::arm_turn-skip-requires : goal.expressions::control::arm_turn-skip-requires
+expressions::control::arm_turn-skip-requires = control.expressions::control::arm_turn-skip-requires
 
-pub control::arm_turn-returns-clause-goes : goal.control::arm_turn-returns-clause-goes
-control::arm_turn-returns-clause-goes = control.control::arm_turn-returns-clause-goes
+pub expressions::control::arm_turn-returns-clause-goes : goal.expressions::control::arm_turn-returns-clause-goes
+expressions::control::arm_turn-returns-clause-goes = control.expressions::control::arm_turn-returns-clause-goes
 
-pub control::arm_turn-returns-clause-input : goal.control::arm_turn-returns-clause-input
-control::arm_turn-returns-clause-input = control.control::arm_turn-returns-clause-input
+pub expressions::control::arm_turn-returns-clause-input : goal.expressions::control::arm_turn-returns-clause-input
+expressions::control::arm_turn-returns-clause-input = control.expressions::control::arm_turn-returns-clause-input
 
-pub control::arm_turn-returns-clause-innermost : goal.control::arm_turn-returns-clause-innermost
-control::arm_turn-returns-clause-innermost = control.control::arm_turn-returns-clause-innermost
+pub expressions::control::arm_turn-returns-clause-innermost : goal.expressions::control::arm_turn-returns-clause-innermost
+expressions::control::arm_turn-returns-clause-innermost = control.expressions::control::arm_turn-returns-clause-innermost
 
-pub control::arm_turn-returns-clause-pays : goal.control::arm_turn-returns-clause-pays
-control::arm_turn-returns-clause-pays = control.control::arm_turn-returns-clause-pays
+pub expressions::control::arm_turn-returns-clause-pays : goal.expressions::control::arm_turn-returns-clause-pays
+expressions::control::arm_turn-returns-clause-pays = control.expressions::control::arm_turn-returns-clause-pays
 
-pub control::arm_turn-returns-clause-looks : goal.control::arm_turn-returns-clause-looks
-control::arm_turn-returns-clause-looks = control.control::arm_turn-returns-clause-looks
+pub expressions::control::arm_turn-returns-clause-looks : goal.expressions::control::arm_turn-returns-clause-looks
+expressions::control::arm_turn-returns-clause-looks = control.expressions::control::arm_turn-returns-clause-looks
 
 pub expressions::expect_expression-expect_layer-requires : goal.expressions::expect_expression-expect_layer-requires
 expressions::expect_expression-expect_layer-requires = expressions.expressions::expect_expression-expect_layer-requires
@@ -1002,293 +1002,293 @@ fields::named_pattern-complete-requires = fields.fields::named_pattern-complete-
 pub fields::named_pattern-returns-clause-reads : goal.fields::named_pattern-returns-clause-reads
 fields::named_pattern-returns-clause-reads = fields.fields::named_pattern-returns-clause-reads
 
-pub functions::fn_item-fn_words-requires : goal.functions::fn_item-fn_words-requires
-functions::fn_item-fn_words-requires = functions.functions::fn_item-fn_words-requires
+pub items::functions::fn_item-fn_words-requires : goal.items::functions::fn_item-fn_words-requires
+items::functions::fn_item-fn_words-requires = functions.items::functions::fn_item-fn_words-requires
 
-pub functions::fn_item-opt_generic_params-requires : goal.functions::fn_item-opt_generic_params-requires
-functions::fn_item-opt_generic_params-requires = functions.functions::fn_item-opt_generic_params-requires
+pub items::functions::fn_item-opt_generic_params-requires : goal.items::functions::fn_item-opt_generic_params-requires
+items::functions::fn_item-opt_generic_params-requires = functions.items::functions::fn_item-opt_generic_params-requires
 
-pub functions::fn_item-expect_params-requires : goal.functions::fn_item-expect_params-requires
-functions::fn_item-expect_params-requires = functions.functions::fn_item-expect_params-requires
+pub items::functions::fn_item-expect_params-requires : goal.items::functions::fn_item-expect_params-requires
+items::functions::fn_item-expect_params-requires = functions.items::functions::fn_item-expect_params-requires
 
-pub functions::fn_item-opt_ret_type-requires : goal.functions::fn_item-opt_ret_type-requires
-functions::fn_item-opt_ret_type-requires = functions.functions::fn_item-opt_ret_type-requires
+pub items::functions::fn_item-opt_ret_type-requires : goal.items::functions::fn_item-opt_ret_type-requires
+items::functions::fn_item-opt_ret_type-requires = functions.items::functions::fn_item-opt_ret_type-requires
 
-pub functions::fn_item-opt_where_clause-requires : goal.functions::fn_item-opt_where_clause-requires
-functions::fn_item-opt_where_clause-requires = functions.functions::fn_item-opt_where_clause-requires
+pub items::functions::fn_item-opt_where_clause-requires : goal.items::functions::fn_item-opt_where_clause-requires
+items::functions::fn_item-opt_where_clause-requires = functions.items::functions::fn_item-opt_where_clause-requires
 
-pub functions::fn_item-fn_body-requires : goal.functions::fn_item-fn_body-requires
-functions::fn_item-fn_body-requires = functions.functions::fn_item-fn_body-requires
+pub items::functions::fn_item-fn_body-requires : goal.items::functions::fn_item-fn_body-requires
+items::functions::fn_item-fn_body-requires = functions.items::functions::fn_item-fn_body-requires
 
-pub functions::fn_item-complete-requires : goal.functions::fn_item-complete-requires
-functions::fn_item-complete-requires = functions.functions::fn_item-complete-requires
+pub items::functions::fn_item-complete-requires : goal.items::functions::fn_item-complete-requires
+items::functions::fn_item-complete-requires = functions.items::functions::fn_item-complete-requires
 
-pub functions::fn_item-returns-clause-completes : goal.functions::fn_item-returns-clause-completes
-functions::fn_item-returns-clause-completes = functions.functions::fn_item-returns-clause-completes
+pub items::functions::fn_item-returns-clause-completes : goal.items::functions::fn_item-returns-clause-completes
+items::functions::fn_item-returns-clause-completes = functions.items::functions::fn_item-returns-clause-completes
 
-pub functions::expect_params-params-requires : goal.functions::expect_params-params-requires
-functions::expect_params-params-requires = functions.functions::expect_params-params-requires
+pub items::functions::expect_params-params-requires : goal.items::functions::expect_params-params-requires
+items::functions::expect_params-params-requires = functions.items::functions::expect_params-params-requires
 
-pub functions::expect_params-returns-then-at-clause-reads : goal.functions::expect_params-returns-then-at-clause-reads
-functions::expect_params-returns-then-at-clause-reads = functions.functions::expect_params-returns-then-at-clause-reads
+pub items::functions::expect_params-returns-then-at-clause-reads : goal.items::functions::expect_params-returns-then-at-clause-reads
+items::functions::expect_params-returns-then-at-clause-reads = functions.items::functions::expect_params-returns-then-at-clause-reads
 
-pub functions::expect_params-returns-clause-reads : goal.functions::expect_params-returns-clause-reads
-functions::expect_params-returns-clause-reads = functions.functions::expect_params-returns-clause-reads
+pub items::functions::expect_params-returns-clause-reads : goal.items::functions::expect_params-returns-clause-reads
+items::functions::expect_params-returns-clause-reads = functions.items::functions::expect_params-returns-clause-reads
 
-pub functions::opt_ret_type-ret_type-requires : goal.functions::opt_ret_type-ret_type-requires
-functions::opt_ret_type-ret_type-requires = functions.functions::opt_ret_type-ret_type-requires
+pub items::functions::opt_ret_type-ret_type-requires : goal.items::functions::opt_ret_type-ret_type-requires
+items::functions::opt_ret_type-ret_type-requires = functions.items::functions::opt_ret_type-ret_type-requires
 
-pub functions::opt_ret_type-returns-then-at_pair-clause-reads : goal.functions::opt_ret_type-returns-then-at_pair-clause-reads
-functions::opt_ret_type-returns-then-at_pair-clause-reads = functions.functions::opt_ret_type-returns-then-at_pair-clause-reads
+pub items::functions::opt_ret_type-returns-then-at_pair-clause-reads : goal.items::functions::opt_ret_type-returns-then-at_pair-clause-reads
+items::functions::opt_ret_type-returns-then-at_pair-clause-reads = functions.items::functions::opt_ret_type-returns-then-at_pair-clause-reads
 
-pub functions::opt_ret_type-returns-else-at_pair-clause-reads : goal.functions::opt_ret_type-returns-else-at_pair-clause-reads
-functions::opt_ret_type-returns-else-at_pair-clause-reads = functions.functions::opt_ret_type-returns-else-at_pair-clause-reads
+pub items::functions::opt_ret_type-returns-else-at_pair-clause-reads : goal.items::functions::opt_ret_type-returns-else-at_pair-clause-reads
+items::functions::opt_ret_type-returns-else-at_pair-clause-reads = functions.items::functions::opt_ret_type-returns-else-at_pair-clause-reads
 
-pub functions::fn_body-block-requires : goal.functions::fn_body-block-requires
-functions::fn_body-block-requires = functions.functions::fn_body-block-requires
+pub items::functions::fn_body-block-requires : goal.items::functions::fn_body-block-requires
+items::functions::fn_body-block-requires = functions.items::functions::fn_body-block-requires
 
-pub functions::fn_body-returns-then-at-clause-reads : goal.functions::fn_body-returns-then-at-clause-reads
-functions::fn_body-returns-then-at-clause-reads = functions.functions::fn_body-returns-then-at-clause-reads
+pub items::functions::fn_body-returns-then-at-clause-reads : goal.items::functions::fn_body-returns-then-at-clause-reads
+items::functions::fn_body-returns-then-at-clause-reads = functions.items::functions::fn_body-returns-then-at-clause-reads
 
-pub functions::fn_body-returns-clause-reads : goal.functions::fn_body-returns-clause-reads
-functions::fn_body-returns-clause-reads = functions.functions::fn_body-returns-clause-reads
+pub items::functions::fn_body-returns-clause-reads : goal.items::functions::fn_body-returns-clause-reads
+items::functions::fn_body-returns-clause-reads = functions.items::functions::fn_body-returns-clause-reads
 
-pub generic_arg::generic_arg-returns-in-LIFETIME_IDENT-clause-gives : goal.generic_arg::generic_arg-returns-in-LIFETIME_IDENT-clause-gives
-generic_arg::generic_arg-returns-in-LIFETIME_IDENT-clause-gives = generic_arg.generic_arg::generic_arg-returns-in-LIFETIME_IDENT-clause-gives
+pub generic_args::generic_arg-returns-in-LIFETIME_IDENT-clause-gives : goal.generic_args::generic_arg-returns-in-LIFETIME_IDENT-clause-gives
+generic_args::generic_arg-returns-in-LIFETIME_IDENT-clause-gives = generic_args.generic_args::generic_arg-returns-in-LIFETIME_IDENT-clause-gives
 
-pub generic_arg::generic_arg-returns-in-MINUS-clause-gives : goal.generic_arg::generic_arg-returns-in-MINUS-clause-gives
-generic_arg::generic_arg-returns-in-MINUS-clause-gives = generic_arg.generic_arg::generic_arg-returns-in-MINUS-clause-gives
+pub generic_args::generic_arg-returns-in-MINUS-clause-gives : goal.generic_args::generic_arg-returns-in-MINUS-clause-gives
+generic_args::generic_arg-returns-in-MINUS-clause-gives = generic_args.generic_args::generic_arg-returns-in-MINUS-clause-gives
 
-pub generic_arg::generic_arg-word_arg-requires : goal.generic_arg::generic_arg-word_arg-requires
-generic_arg::generic_arg-word_arg-requires = generic_arg.generic_arg::generic_arg-word_arg-requires
+pub generic_args::generic_arg-word_arg-requires : goal.generic_args::generic_arg-word_arg-requires
+generic_args::generic_arg-word_arg-requires = generic_args.generic_args::generic_arg-word_arg-requires
 
-pub generic_arg::generic_arg-returns-in-IDENT-clause-gives : goal.generic_arg::generic_arg-returns-in-IDENT-clause-gives
-generic_arg::generic_arg-returns-in-IDENT-clause-gives = generic_arg.generic_arg::generic_arg-returns-in-IDENT-clause-gives
+pub generic_args::generic_arg-returns-in-IDENT-clause-gives : goal.generic_args::generic_arg-returns-in-IDENT-clause-gives
+generic_args::generic_arg-returns-in-IDENT-clause-gives = generic_args.generic_args::generic_arg-returns-in-IDENT-clause-gives
 
-pub generic_arg::generic_arg-returns-then-at_literal-clause-gives : goal.generic_arg::generic_arg-returns-then-at_literal-clause-gives
-generic_arg::generic_arg-returns-then-at_literal-clause-gives = generic_arg.generic_arg::generic_arg-returns-then-at_literal-clause-gives
+pub generic_args::generic_arg-returns-then-at_literal-clause-gives : goal.generic_args::generic_arg-returns-then-at_literal-clause-gives
+generic_args::generic_arg-returns-then-at_literal-clause-gives = generic_args.generic_args::generic_arg-returns-then-at_literal-clause-gives
 
-pub generic_arg::generic_arg-type_arg-requires : goal.generic_arg::generic_arg-type_arg-requires
-generic_arg::generic_arg-type_arg-requires = generic_arg.generic_arg::generic_arg-type_arg-requires
+pub generic_args::generic_arg-type_arg-requires : goal.generic_args::generic_arg-type_arg-requires
+generic_args::generic_arg-type_arg-requires = generic_args.generic_args::generic_arg-type_arg-requires
 
-pub generic_arg::generic_arg-returns-else-at_literal-clause-gives : goal.generic_arg::generic_arg-returns-else-at_literal-clause-gives
-generic_arg::generic_arg-returns-else-at_literal-clause-gives = generic_arg.generic_arg::generic_arg-returns-else-at_literal-clause-gives
+pub generic_args::generic_arg-returns-else-at_literal-clause-gives : goal.generic_args::generic_arg-returns-else-at_literal-clause-gives
+generic_args::generic_arg-returns-else-at_literal-clause-gives = generic_args.generic_args::generic_arg-returns-else-at_literal-clause-gives
 
-pub generic_arg::word_arg-assoc_type_arg-requires : goal.generic_arg::word_arg-assoc_type_arg-requires
-generic_arg::word_arg-assoc_type_arg-requires = generic_arg.generic_arg::word_arg-assoc_type_arg-requires
+pub generic_args::word_arg-assoc_type_arg-requires : goal.generic_args::word_arg-assoc_type_arg-requires
+generic_args::word_arg-assoc_type_arg-requires = generic_args.generic_args::word_arg-assoc_type_arg-requires
 
-pub generic_arg::word_arg-returns-then-at_second-clause-reads : goal.generic_arg::word_arg-returns-then-at_second-clause-reads
-generic_arg::word_arg-returns-then-at_second-clause-reads = generic_arg.generic_arg::word_arg-returns-then-at_second-clause-reads
+pub generic_args::word_arg-returns-then-at_second-clause-reads : goal.generic_args::word_arg-returns-then-at_second-clause-reads
+generic_args::word_arg-returns-then-at_second-clause-reads = generic_args.generic_args::word_arg-returns-then-at_second-clause-reads
 
-pub generic_arg::word_arg-type_arg-requires : goal.generic_arg::word_arg-type_arg-requires
-generic_arg::word_arg-type_arg-requires = generic_arg.generic_arg::word_arg-type_arg-requires
+pub generic_args::word_arg-type_arg-requires : goal.generic_args::word_arg-type_arg-requires
+generic_args::word_arg-type_arg-requires = generic_args.generic_args::word_arg-type_arg-requires
 
-pub generic_arg::word_arg-returns-clause-reads : goal.generic_arg::word_arg-returns-clause-reads
-generic_arg::word_arg-returns-clause-reads = generic_arg.generic_arg::word_arg-returns-clause-reads
+pub generic_args::word_arg-returns-clause-reads : goal.generic_args::word_arg-returns-clause-reads
+generic_args::word_arg-returns-clause-reads = generic_args.generic_args::word_arg-returns-clause-reads
 
-pub generic_arg::assoc_type_arg-expect_type-requires : goal.generic_arg::assoc_type_arg-expect_type-requires
-generic_arg::assoc_type_arg-expect_type-requires = generic_arg.generic_arg::assoc_type_arg-expect_type-requires
+pub generic_args::assoc_type_arg-expect_type-requires : goal.generic_args::assoc_type_arg-expect_type-requires
+generic_args::assoc_type_arg-expect_type-requires = generic_args.generic_args::assoc_type_arg-expect_type-requires
 
-pub generic_arg::assoc_type_arg-complete-requires : goal.generic_arg::assoc_type_arg-complete-requires
-generic_arg::assoc_type_arg-complete-requires = generic_arg.generic_arg::assoc_type_arg-complete-requires
+pub generic_args::assoc_type_arg-complete-requires : goal.generic_args::assoc_type_arg-complete-requires
+generic_args::assoc_type_arg-complete-requires = generic_args.generic_args::assoc_type_arg-complete-requires
 
-pub generic_arg::assoc_type_arg-returns-clause-reads : goal.generic_arg::assoc_type_arg-returns-clause-reads
-generic_arg::assoc_type_arg-returns-clause-reads = generic_arg.generic_arg::assoc_type_arg-returns-clause-reads
+pub generic_args::assoc_type_arg-returns-clause-reads : goal.generic_args::assoc_type_arg-returns-clause-reads
+generic_args::assoc_type_arg-returns-clause-reads = generic_args.generic_args::assoc_type_arg-returns-clause-reads
 
-pub generic_arg::type_arg-any_type-requires : goal.generic_arg::type_arg-any_type-requires
-generic_arg::type_arg-any_type-requires = generic_arg.generic_arg::type_arg-any_type-requires
+pub generic_args::type_arg-any_type-requires : goal.generic_args::type_arg-any_type-requires
+generic_args::type_arg-any_type-requires = generic_args.generic_args::type_arg-any_type-requires
 
-pub generic_arg::type_arg-complete-requires : goal.generic_arg::type_arg-complete-requires
-generic_arg::type_arg-complete-requires = generic_arg.generic_arg::type_arg-complete-requires
+pub generic_args::type_arg-complete-requires : goal.generic_args::type_arg-complete-requires
+generic_args::type_arg-complete-requires = generic_args.generic_args::type_arg-complete-requires
 
-pub generic_arg::type_arg-returns-clause-reads : goal.generic_arg::type_arg-returns-clause-reads
-generic_arg::type_arg-returns-clause-reads = generic_arg.generic_arg::type_arg-returns-clause-reads
+pub generic_args::type_arg-returns-clause-reads : goal.generic_args::type_arg-returns-clause-reads
+generic_args::type_arg-returns-clause-reads = generic_args.generic_args::type_arg-returns-clause-reads
 
-pub generics::bound-lifetime_or_path-requires : goal.generics::bound-lifetime_or_path-requires
-generics::bound-lifetime_or_path-requires = generics.generics::bound-lifetime_or_path-requires
+pub generic_params::bound-lifetime_or_path-requires : goal.generic_params::bound-lifetime_or_path-requires
+generic_params::bound-lifetime_or_path-requires = generic_params.generic_params::bound-lifetime_or_path-requires
 
-pub generics::bound-complete-requires : goal.generics::bound-complete-requires
-generics::bound-complete-requires = generics.generics::bound-complete-requires
+pub generic_params::bound-complete-requires : goal.generic_params::bound-complete-requires
+generic_params::bound-complete-requires = generic_params.generic_params::bound-complete-requires
 
-pub generics::bound-returns-clause-gives : goal.generics::bound-returns-clause-gives
-generics::bound-returns-clause-gives = generics.generics::bound-returns-clause-gives
+pub generic_params::bound-returns-clause-gives : goal.generic_params::bound-returns-clause-gives
+generic_params::bound-returns-clause-gives = generic_params.generic_params::bound-returns-clause-gives
 
-pub generics::lifetime_or_path-returns-in-LIFETIME_IDENT-clause-reads : goal.generics::lifetime_or_path-returns-in-LIFETIME_IDENT-clause-reads
-generics::lifetime_or_path-returns-in-LIFETIME_IDENT-clause-reads = generics.generics::lifetime_or_path-returns-in-LIFETIME_IDENT-clause-reads
+pub generic_params::lifetime_or_path-returns-in-LIFETIME_IDENT-clause-reads : goal.generic_params::lifetime_or_path-returns-in-LIFETIME_IDENT-clause-reads
+generic_params::lifetime_or_path-returns-in-LIFETIME_IDENT-clause-reads = generic_params.generic_params::lifetime_or_path-returns-in-LIFETIME_IDENT-clause-reads
 
-pub generics::lifetime_or_path-path_after_question-requires : goal.generics::lifetime_or_path-path_after_question-requires
-generics::lifetime_or_path-path_after_question-requires = generics.generics::lifetime_or_path-path_after_question-requires
+pub generic_params::lifetime_or_path-path_after_question-requires : goal.generic_params::lifetime_or_path-path_after_question-requires
+generic_params::lifetime_or_path-path_after_question-requires = generic_params.generic_params::lifetime_or_path-path_after_question-requires
 
-pub generics::lifetime_or_path-returns-in-QUESTION-clause-reads : goal.generics::lifetime_or_path-returns-in-QUESTION-clause-reads
-generics::lifetime_or_path-returns-in-QUESTION-clause-reads = generics.generics::lifetime_or_path-returns-in-QUESTION-clause-reads
+pub generic_params::lifetime_or_path-returns-in-QUESTION-clause-reads : goal.generic_params::lifetime_or_path-returns-in-QUESTION-clause-reads
+generic_params::lifetime_or_path-returns-in-QUESTION-clause-reads = generic_params.generic_params::lifetime_or_path-returns-in-QUESTION-clause-reads
 
-pub generics::lifetime_or_path-path_type-requires : goal.generics::lifetime_or_path-path_type-requires
-generics::lifetime_or_path-path_type-requires = generics.generics::lifetime_or_path-path_type-requires
+pub generic_params::lifetime_or_path-path_type-requires : goal.generic_params::lifetime_or_path-path_type-requires
+generic_params::lifetime_or_path-path_type-requires = generic_params.generic_params::lifetime_or_path-path_type-requires
 
-pub generics::lifetime_or_path-returns-in_default-clause-reads : goal.generics::lifetime_or_path-returns-in_default-clause-reads
-generics::lifetime_or_path-returns-in_default-clause-reads = generics.generics::lifetime_or_path-returns-in_default-clause-reads
+pub generic_params::lifetime_or_path-returns-in_default-clause-reads : goal.generic_params::lifetime_or_path-returns-in_default-clause-reads
+generic_params::lifetime_or_path-returns-in_default-clause-reads = generic_params.generic_params::lifetime_or_path-returns-in_default-clause-reads
 
-pub generics::path_after_question-expect_path_type-requires : goal.generics::path_after_question-expect_path_type-requires
-generics::path_after_question-expect_path_type-requires = generics.generics::path_after_question-expect_path_type-requires
+pub generic_params::path_after_question-expect_path_type-requires : goal.generic_params::path_after_question-expect_path_type-requires
+generic_params::path_after_question-expect_path_type-requires = generic_params.generic_params::path_after_question-expect_path_type-requires
 
-pub generics::path_after_question-returns-clause-reads : goal.generics::path_after_question-returns-clause-reads
-generics::path_after_question-returns-clause-reads = generics.generics::path_after_question-returns-clause-reads
+pub generic_params::path_after_question-returns-clause-reads : goal.generic_params::path_after_question-returns-clause-reads
+generic_params::path_after_question-returns-clause-reads = generic_params.generic_params::path_after_question-returns-clause-reads
 
-pub generics::expect_path_type-path_type-requires : goal.generics::expect_path_type-path_type-requires
-generics::expect_path_type-path_type-requires = generics.generics::expect_path_type-path_type-requires
+pub generic_params::expect_path_type-path_type-requires : goal.generic_params::expect_path_type-path_type-requires
+generic_params::expect_path_type-path_type-requires = generic_params.generic_params::expect_path_type-path_type-requires
 
-pub generics::expect_path_type-returns-then-at_path-clause-reads : goal.generics::expect_path_type-returns-then-at_path-clause-reads
-generics::expect_path_type-returns-then-at_path-clause-reads = generics.generics::expect_path_type-returns-then-at_path-clause-reads
+pub generic_params::expect_path_type-returns-then-at_path-clause-reads : goal.generic_params::expect_path_type-returns-then-at_path-clause-reads
+generic_params::expect_path_type-returns-then-at_path-clause-reads = generic_params.generic_params::expect_path_type-returns-then-at_path-clause-reads
 
-pub generics::expect_path_type-returns-clause-reads : goal.generics::expect_path_type-returns-clause-reads
-generics::expect_path_type-returns-clause-reads = generics.generics::expect_path_type-returns-clause-reads
+pub generic_params::expect_path_type-returns-clause-reads : goal.generic_params::expect_path_type-returns-clause-reads
+generic_params::expect_path_type-returns-clause-reads = generic_params.generic_params::expect_path_type-returns-clause-reads
 
-pub generics::bounds-opt_bounds-requires : goal.generics::bounds-opt_bounds-requires
-generics::bounds-opt_bounds-requires = generics.generics::bounds-opt_bounds-requires
+pub generic_params::bounds-opt_bounds-requires : goal.generic_params::bounds-opt_bounds-requires
+generic_params::bounds-opt_bounds-requires = generic_params.generic_params::bounds-opt_bounds-requires
 
-pub generics::bounds-complete-requires : goal.generics::bounds-complete-requires
-generics::bounds-complete-requires = generics.generics::bounds-complete-requires
+pub generic_params::bounds-complete-requires : goal.generic_params::bounds-complete-requires
+generic_params::bounds-complete-requires = generic_params.generic_params::bounds-complete-requires
 
-pub generics::bounds-returns-clause-gives : goal.generics::bounds-returns-clause-gives
-generics::bounds-returns-clause-gives = generics.generics::bounds-returns-clause-gives
+pub generic_params::bounds-returns-clause-gives : goal.generic_params::bounds-returns-clause-gives
+generic_params::bounds-returns-clause-gives = generic_params.generic_params::bounds-returns-clause-gives
 
-pub generics::opt_bounds-bound-requires : goal.generics::opt_bounds-bound-requires
-generics::opt_bounds-bound-requires = generics.generics::opt_bounds-bound-requires
+pub generic_params::opt_bounds-bound-requires : goal.generic_params::opt_bounds-bound-requires
+generic_params::opt_bounds-bound-requires = generic_params.generic_params::opt_bounds-bound-requires
 
-pub generics::opt_bounds-further_bounds-requires : goal.generics::opt_bounds-further_bounds-requires
-generics::opt_bounds-further_bounds-requires = generics.generics::opt_bounds-further_bounds-requires
+pub generic_params::opt_bounds-further_bounds-requires : goal.generic_params::opt_bounds-further_bounds-requires
+generic_params::opt_bounds-further_bounds-requires = generic_params.generic_params::opt_bounds-further_bounds-requires
 
-pub generics::opt_bounds-returns-then-at_bound-clause-reads : goal.generics::opt_bounds-returns-then-at_bound-clause-reads
-generics::opt_bounds-returns-then-at_bound-clause-reads = generics.generics::opt_bounds-returns-then-at_bound-clause-reads
+pub generic_params::opt_bounds-returns-then-at_bound-clause-reads : goal.generic_params::opt_bounds-returns-then-at_bound-clause-reads
+generic_params::opt_bounds-returns-then-at_bound-clause-reads = generic_params.generic_params::opt_bounds-returns-then-at_bound-clause-reads
 
-pub generics::opt_bounds-returns-else-at_bound-clause-reads : goal.generics::opt_bounds-returns-else-at_bound-clause-reads
-generics::opt_bounds-returns-else-at_bound-clause-reads = generics.generics::opt_bounds-returns-else-at_bound-clause-reads
+pub generic_params::opt_bounds-returns-else-at_bound-clause-reads : goal.generic_params::opt_bounds-returns-else-at_bound-clause-reads
+generic_params::opt_bounds-returns-else-at_bound-clause-reads = generic_params.generic_params::opt_bounds-returns-else-at_bound-clause-reads
 
-pub generics::further_bounds-turns-preserved : goal.generics::further_bounds-turns-preserved
-generics::further_bounds-turns-preserved = generics.generics::further_bounds-turns-preserved
+pub generic_params::further_bounds-turns-preserved : goal.generic_params::further_bounds-turns-preserved
+generic_params::further_bounds-turns-preserved = generic_params.generic_params::further_bounds-turns-preserved
 
-pub generics::further_bounds-returns-clause-reads : goal.generics::further_bounds-returns-clause-reads
-generics::further_bounds-returns-clause-reads = generics.generics::further_bounds-returns-clause-reads
+pub generic_params::further_bounds-returns-clause-reads : goal.generic_params::further_bounds-returns-clause-reads
+generic_params::further_bounds-returns-clause-reads = generic_params.generic_params::further_bounds-returns-clause-reads
 
-pub generics::further_bound-opt_bound-requires : goal.generics::further_bound-opt_bound-requires
-generics::further_bound-opt_bound-requires = generics.generics::further_bound-opt_bound-requires
+pub generic_params::further_bound-opt_bound-requires : goal.generic_params::further_bound-opt_bound-requires
+generic_params::further_bound-opt_bound-requires = generic_params.generic_params::further_bound-opt_bound-requires
 
-pub generics::further_bound-returns-clause-reads : goal.generics::further_bound-returns-clause-reads
-generics::further_bound-returns-clause-reads = generics.generics::further_bound-returns-clause-reads
+pub generic_params::further_bound-returns-clause-reads : goal.generic_params::further_bound-returns-clause-reads
+generic_params::further_bound-returns-clause-reads = generic_params.generic_params::further_bound-returns-clause-reads
 
-pub generics::opt_bound-bound-requires : goal.generics::opt_bound-bound-requires
-generics::opt_bound-bound-requires = generics.generics::opt_bound-bound-requires
+pub generic_params::opt_bound-bound-requires : goal.generic_params::opt_bound-bound-requires
+generic_params::opt_bound-bound-requires = generic_params.generic_params::opt_bound-bound-requires
 
-pub generics::opt_bound-returns-then-at_bound-clause-reads : goal.generics::opt_bound-returns-then-at_bound-clause-reads
-generics::opt_bound-returns-then-at_bound-clause-reads = generics.generics::opt_bound-returns-then-at_bound-clause-reads
+pub generic_params::opt_bound-returns-then-at_bound-clause-reads : goal.generic_params::opt_bound-returns-then-at_bound-clause-reads
+generic_params::opt_bound-returns-then-at_bound-clause-reads = generic_params.generic_params::opt_bound-returns-then-at_bound-clause-reads
 
-pub generics::opt_bound-returns-else-at_bound-clause-reads : goal.generics::opt_bound-returns-else-at_bound-clause-reads
-generics::opt_bound-returns-else-at_bound-clause-reads = generics.generics::opt_bound-returns-else-at_bound-clause-reads
+pub generic_params::opt_bound-returns-else-at_bound-clause-reads : goal.generic_params::opt_bound-returns-else-at_bound-clause-reads
+generic_params::opt_bound-returns-else-at_bound-clause-reads = generic_params.generic_params::opt_bound-returns-else-at_bound-clause-reads
 
-pub generics::bounds_after_colon-bounds-requires : goal.generics::bounds_after_colon-bounds-requires
-generics::bounds_after_colon-bounds-requires = generics.generics::bounds_after_colon-bounds-requires
+pub generic_params::bounds_after_colon-bounds-requires : goal.generic_params::bounds_after_colon-bounds-requires
+generic_params::bounds_after_colon-bounds-requires = generic_params.generic_params::bounds_after_colon-bounds-requires
 
-pub generics::bounds_after_colon-returns-then-at-clause-reads : goal.generics::bounds_after_colon-returns-then-at-clause-reads
-generics::bounds_after_colon-returns-then-at-clause-reads = generics.generics::bounds_after_colon-returns-then-at-clause-reads
+pub generic_params::bounds_after_colon-returns-then-at-clause-reads : goal.generic_params::bounds_after_colon-returns-then-at-clause-reads
+generic_params::bounds_after_colon-returns-then-at-clause-reads = generic_params.generic_params::bounds_after_colon-returns-then-at-clause-reads
 
-pub generics::bounds_after_colon-returns-else-at-clause-reads : goal.generics::bounds_after_colon-returns-else-at-clause-reads
-generics::bounds_after_colon-returns-else-at-clause-reads = generics.generics::bounds_after_colon-returns-else-at-clause-reads
+pub generic_params::bounds_after_colon-returns-else-at-clause-reads : goal.generic_params::bounds_after_colon-returns-else-at-clause-reads
+generic_params::bounds_after_colon-returns-else-at-clause-reads = generic_params.generic_params::bounds_after_colon-returns-else-at-clause-reads
 
-pub generics::lifetime_param-bounds_after_colon-requires : goal.generics::lifetime_param-bounds_after_colon-requires
-generics::lifetime_param-bounds_after_colon-requires = generics.generics::lifetime_param-bounds_after_colon-requires
+pub generic_params::lifetime_param-bounds_after_colon-requires : goal.generic_params::lifetime_param-bounds_after_colon-requires
+generic_params::lifetime_param-bounds_after_colon-requires = generic_params.generic_params::lifetime_param-bounds_after_colon-requires
 
-pub generics::lifetime_param-complete-requires : goal.generics::lifetime_param-complete-requires
-generics::lifetime_param-complete-requires = generics.generics::lifetime_param-complete-requires
+pub generic_params::lifetime_param-complete-requires : goal.generic_params::lifetime_param-complete-requires
+generic_params::lifetime_param-complete-requires = generic_params.generic_params::lifetime_param-complete-requires
 
-pub generics::lifetime_param-returns-clause-reads : goal.generics::lifetime_param-returns-clause-reads
-generics::lifetime_param-returns-clause-reads = generics.generics::lifetime_param-returns-clause-reads
+pub generic_params::lifetime_param-returns-clause-reads : goal.generic_params::lifetime_param-returns-clause-reads
+generic_params::lifetime_param-returns-clause-reads = generic_params.generic_params::lifetime_param-returns-clause-reads
 
-pub generics::type_param-bounds_after_colon-requires : goal.generics::type_param-bounds_after_colon-requires
-generics::type_param-bounds_after_colon-requires = generics.generics::type_param-bounds_after_colon-requires
+pub generic_params::type_param-bounds_after_colon-requires : goal.generic_params::type_param-bounds_after_colon-requires
+generic_params::type_param-bounds_after_colon-requires = generic_params.generic_params::type_param-bounds_after_colon-requires
 
-pub generics::type_param-opt_type_after-requires : goal.generics::type_param-opt_type_after-requires
-generics::type_param-opt_type_after-requires = generics.generics::type_param-opt_type_after-requires
+pub generic_params::type_param-opt_type_after-requires : goal.generic_params::type_param-opt_type_after-requires
+generic_params::type_param-opt_type_after-requires = generic_params.generic_params::type_param-opt_type_after-requires
 
-pub generics::type_param-complete-requires : goal.generics::type_param-complete-requires
-generics::type_param-complete-requires = generics.generics::type_param-complete-requires
+pub generic_params::type_param-complete-requires : goal.generic_params::type_param-complete-requires
+generic_params::type_param-complete-requires = generic_params.generic_params::type_param-complete-requires
 
-pub generics::type_param-returns-clause-reads : goal.generics::type_param-returns-clause-reads
-generics::type_param-returns-clause-reads = generics.generics::type_param-returns-clause-reads
+pub generic_params::type_param-returns-clause-reads : goal.generic_params::type_param-returns-clause-reads
+generic_params::type_param-returns-clause-reads = generic_params.generic_params::type_param-returns-clause-reads
 
-pub generics::generic_param-lifetime_param-requires : goal.generics::generic_param-lifetime_param-requires
-generics::generic_param-lifetime_param-requires = generics.generics::generic_param-lifetime_param-requires
+pub generic_params::generic_param-lifetime_param-requires : goal.generic_params::generic_param-lifetime_param-requires
+generic_params::generic_param-lifetime_param-requires = generic_params.generic_params::generic_param-lifetime_param-requires
 
-pub generics::generic_param-type_param-requires : goal.generics::generic_param-type_param-requires
-generics::generic_param-type_param-requires = generics.generics::generic_param-type_param-requires
+pub generic_params::generic_param-type_param-requires : goal.generic_params::generic_param-type_param-requires
+generic_params::generic_param-type_param-requires = generic_params.generic_params::generic_param-type_param-requires
 
-pub generics::generic_param-returns-then-at-clause-gives : goal.generics::generic_param-returns-then-at-clause-gives
-generics::generic_param-returns-then-at-clause-gives = generics.generics::generic_param-returns-then-at-clause-gives
+pub generic_params::generic_param-returns-then-at-clause-gives : goal.generic_params::generic_param-returns-then-at-clause-gives
+generic_params::generic_param-returns-then-at-clause-gives = generic_params.generic_params::generic_param-returns-then-at-clause-gives
 
-pub generics::generic_param-returns-clause-gives : goal.generics::generic_param-returns-clause-gives
-generics::generic_param-returns-clause-gives = generics.generics::generic_param-returns-clause-gives
+pub generic_params::generic_param-returns-clause-gives : goal.generic_params::generic_param-returns-clause-gives
+generic_params::generic_param-returns-clause-gives = generic_params.generic_params::generic_param-returns-clause-gives
 
-pub generics::lifetime_or_type-any_type-requires : goal.generics::lifetime_or_type-any_type-requires
-generics::lifetime_or_type-any_type-requires = generics.generics::lifetime_or_type-any_type-requires
+pub generic_params::lifetime_or_type-any_type-requires : goal.generic_params::lifetime_or_type-any_type-requires
+generic_params::lifetime_or_type-any_type-requires = generic_params.generic_params::lifetime_or_type-any_type-requires
 
-pub generics::lifetime_or_type-returns-then-at-clause-reads : goal.generics::lifetime_or_type-returns-then-at-clause-reads
-generics::lifetime_or_type-returns-then-at-clause-reads = generics.generics::lifetime_or_type-returns-then-at-clause-reads
+pub generic_params::lifetime_or_type-returns-then-at-clause-reads : goal.generic_params::lifetime_or_type-returns-then-at-clause-reads
+generic_params::lifetime_or_type-returns-then-at-clause-reads = generic_params.generic_params::lifetime_or_type-returns-then-at-clause-reads
 
-pub generics::lifetime_or_type-returns-clause-reads : goal.generics::lifetime_or_type-returns-clause-reads
-generics::lifetime_or_type-returns-clause-reads = generics.generics::lifetime_or_type-returns-clause-reads
+pub generic_params::lifetime_or_type-returns-clause-reads : goal.generic_params::lifetime_or_type-returns-clause-reads
+generic_params::lifetime_or_type-returns-clause-reads = generic_params.generic_params::lifetime_or_type-returns-clause-reads
 
-pub generics::where_pred-lifetime_or_type-requires : goal.generics::where_pred-lifetime_or_type-requires
-generics::where_pred-lifetime_or_type-requires = generics.generics::where_pred-lifetime_or_type-requires
+pub generic_params::where_pred-lifetime_or_type-requires : goal.generic_params::where_pred-lifetime_or_type-requires
+generic_params::where_pred-lifetime_or_type-requires = generic_params.generic_params::where_pred-lifetime_or_type-requires
 
-pub generics::where_pred-bounds-requires : goal.generics::where_pred-bounds-requires
-generics::where_pred-bounds-requires = generics.generics::where_pred-bounds-requires
+pub generic_params::where_pred-bounds-requires : goal.generic_params::where_pred-bounds-requires
+generic_params::where_pred-bounds-requires = generic_params.generic_params::where_pred-bounds-requires
 
-pub generics::where_pred-complete-requires : goal.generics::where_pred-complete-requires
-generics::where_pred-complete-requires = generics.generics::where_pred-complete-requires
+pub generic_params::where_pred-complete-requires : goal.generic_params::where_pred-complete-requires
+generic_params::where_pred-complete-requires = generic_params.generic_params::where_pred-complete-requires
 
-pub generics::where_pred-returns-clause-gives : goal.generics::where_pred-returns-clause-gives
-generics::where_pred-returns-clause-gives = generics.generics::where_pred-returns-clause-gives
+pub generic_params::where_pred-returns-clause-gives : goal.generic_params::where_pred-returns-clause-gives
+generic_params::where_pred-returns-clause-gives = generic_params.generic_params::where_pred-returns-clause-gives
 
-pub generics::where_clause-opt_preds-requires : goal.generics::where_clause-opt_preds-requires
-generics::where_clause-opt_preds-requires = generics.generics::where_clause-opt_preds-requires
+pub generic_params::where_clause-opt_preds-requires : goal.generic_params::where_clause-opt_preds-requires
+generic_params::where_clause-opt_preds-requires = generic_params.generic_params::where_clause-opt_preds-requires
 
-pub generics::where_clause-complete-requires : goal.generics::where_clause-complete-requires
-generics::where_clause-complete-requires = generics.generics::where_clause-complete-requires
+pub generic_params::where_clause-complete-requires : goal.generic_params::where_clause-complete-requires
+generic_params::where_clause-complete-requires = generic_params.generic_params::where_clause-complete-requires
 
-pub generics::where_clause-returns-clause-gives : goal.generics::where_clause-returns-clause-gives
-generics::where_clause-returns-clause-gives = generics.generics::where_clause-returns-clause-gives
+pub generic_params::where_clause-returns-clause-gives : goal.generic_params::where_clause-returns-clause-gives
+generic_params::where_clause-returns-clause-gives = generic_params.generic_params::where_clause-returns-clause-gives
 
-pub generics::opt_preds-where_pred-requires : goal.generics::opt_preds-where_pred-requires
-generics::opt_preds-where_pred-requires = generics.generics::opt_preds-where_pred-requires
+pub generic_params::opt_preds-where_pred-requires : goal.generic_params::opt_preds-where_pred-requires
+generic_params::opt_preds-where_pred-requires = generic_params.generic_params::opt_preds-where_pred-requires
 
-pub generics::opt_preds-further_preds-requires : goal.generics::opt_preds-further_preds-requires
-generics::opt_preds-further_preds-requires = generics.generics::opt_preds-further_preds-requires
+pub generic_params::opt_preds-further_preds-requires : goal.generic_params::opt_preds-further_preds-requires
+generic_params::opt_preds-further_preds-requires = generic_params.generic_params::opt_preds-further_preds-requires
 
-pub generics::opt_preds-returns-then-at_where_pred-clause-reads : goal.generics::opt_preds-returns-then-at_where_pred-clause-reads
-generics::opt_preds-returns-then-at_where_pred-clause-reads = generics.generics::opt_preds-returns-then-at_where_pred-clause-reads
+pub generic_params::opt_preds-returns-then-at_where_pred-clause-reads : goal.generic_params::opt_preds-returns-then-at_where_pred-clause-reads
+generic_params::opt_preds-returns-then-at_where_pred-clause-reads = generic_params.generic_params::opt_preds-returns-then-at_where_pred-clause-reads
 
-pub generics::opt_preds-returns-else-at_where_pred-clause-reads : goal.generics::opt_preds-returns-else-at_where_pred-clause-reads
-generics::opt_preds-returns-else-at_where_pred-clause-reads = generics.generics::opt_preds-returns-else-at_where_pred-clause-reads
+pub generic_params::opt_preds-returns-else-at_where_pred-clause-reads : goal.generic_params::opt_preds-returns-else-at_where_pred-clause-reads
+generic_params::opt_preds-returns-else-at_where_pred-clause-reads = generic_params.generic_params::opt_preds-returns-else-at_where_pred-clause-reads
 
-pub generics::further_preds-turns-preserved : goal.generics::further_preds-turns-preserved
-generics::further_preds-turns-preserved = generics.generics::further_preds-turns-preserved
+pub generic_params::further_preds-turns-preserved : goal.generic_params::further_preds-turns-preserved
+generic_params::further_preds-turns-preserved = generic_params.generic_params::further_preds-turns-preserved
 
-pub generics::further_preds-returns-clause-reads : goal.generics::further_preds-returns-clause-reads
-generics::further_preds-returns-clause-reads = generics.generics::further_preds-returns-clause-reads
+pub generic_params::further_preds-returns-clause-reads : goal.generic_params::further_preds-returns-clause-reads
+generic_params::further_preds-returns-clause-reads = generic_params.generic_params::further_preds-returns-clause-reads
 
-pub generics::further_pred-opt_pred-requires : goal.generics::further_pred-opt_pred-requires
-generics::further_pred-opt_pred-requires = generics.generics::further_pred-opt_pred-requires
+pub generic_params::further_pred-opt_pred-requires : goal.generic_params::further_pred-opt_pred-requires
+generic_params::further_pred-opt_pred-requires = generic_params.generic_params::further_pred-opt_pred-requires
 
-pub generics::further_pred-returns-clause-reads : goal.generics::further_pred-returns-clause-reads
-generics::further_pred-returns-clause-reads = generics.generics::further_pred-returns-clause-reads
+pub generic_params::further_pred-returns-clause-reads : goal.generic_params::further_pred-returns-clause-reads
+generic_params::further_pred-returns-clause-reads = generic_params.generic_params::further_pred-returns-clause-reads
 
-pub generics::opt_pred-where_pred-requires : goal.generics::opt_pred-where_pred-requires
-generics::opt_pred-where_pred-requires = generics.generics::opt_pred-where_pred-requires
+pub generic_params::opt_pred-where_pred-requires : goal.generic_params::opt_pred-where_pred-requires
+generic_params::opt_pred-where_pred-requires = generic_params.generic_params::opt_pred-where_pred-requires
 
-pub generics::opt_pred-returns-then-at_where_pred-clause-reads : goal.generics::opt_pred-returns-then-at_where_pred-clause-reads
-generics::opt_pred-returns-then-at_where_pred-clause-reads = generics.generics::opt_pred-returns-then-at_where_pred-clause-reads
+pub generic_params::opt_pred-returns-then-at_where_pred-clause-reads : goal.generic_params::opt_pred-returns-then-at_where_pred-clause-reads
+generic_params::opt_pred-returns-then-at_where_pred-clause-reads = generic_params.generic_params::opt_pred-returns-then-at_where_pred-clause-reads
 
-pub generics::opt_pred-returns-else-at_where_pred-clause-reads : goal.generics::opt_pred-returns-else-at_where_pred-clause-reads
-generics::opt_pred-returns-else-at_where_pred-clause-reads = generics.generics::opt_pred-returns-else-at_where_pred-clause-reads
+pub generic_params::opt_pred-returns-else-at_where_pred-clause-reads : goal.generic_params::opt_pred-returns-else-at_where_pred-clause-reads
+generic_params::opt_pred-returns-else-at_where_pred-clause-reads = generic_params.generic_params::opt_pred-returns-else-at_where_pred-clause-reads
 
 pub items::item-attributed_item-requires : goal.items::item-attributed_item-requires
 items::item-attributed_item-requires = items.items::item-attributed_item-requires
@@ -1512,59 +1512,59 @@ items::items-turns-preserved = items.items::items-turns-preserved
 pub items::items-returns-clause-reads : goal.items::items-returns-clause-reads
 items::items-returns-clause-reads = items.items::items-returns-clause-reads
 
-pub layers::layers-prefixed-requires : goal.layers::layers-prefixed-requires
-layers::layers-prefixed-requires = layers.layers::layers-prefixed-requires
+pub expressions::layers::layers-prefixed-requires : goal.expressions::layers::layers-prefixed-requires
+expressions::layers::layers-prefixed-requires = layers.expressions::layers::layers-prefixed-requires
 
-pub layers::layers-climb-frame-requires : goal.layers::layers-climb-frame-requires
-layers::layers-climb-frame-requires = layers.layers::layers-climb-frame-requires
+pub expressions::layers::layers-climb-frame-requires : goal.expressions::layers::layers-climb-frame-requires
+expressions::layers::layers-climb-frame-requires = layers.expressions::layers::layers-climb-frame-requires
 
-pub layers::layers-returns-clause-gives : goal.layers::layers-returns-clause-gives
-layers::layers-returns-clause-gives = layers.layers::layers-returns-clause-gives
+pub expressions::layers::layers-returns-clause-gives : goal.expressions::layers::layers-returns-clause-gives
+expressions::layers::layers-returns-clause-gives = layers.expressions::layers::layers-returns-clause-gives
 
-pub layers::turn-expect_type-requires : goal.layers::turn-expect_type-requires
-layers::turn-expect_type-requires = layers.layers::turn-expect_type-requires
+pub expressions::layers::turn-expect_type-requires : goal.expressions::layers::turn-expect_type-requires
+expressions::layers::turn-expect_type-requires = layers.expressions::layers::turn-expect_type-requires
 
-pub layers::turn-expect_layer-requires : goal.layers::turn-expect_layer-requires
-layers::turn-expect_layer-requires = layers.layers::turn-expect_layer-requires
+pub expressions::layers::turn-expect_layer-requires : goal.expressions::layers::turn-expect_layer-requires
+expressions::layers::turn-expect_layer-requires = layers.expressions::layers::turn-expect_layer-requires
 
-pub layers::turn-wrap-requires : goal.layers::turn-wrap-requires
-layers::turn-wrap-requires = layers.layers::turn-wrap-requires
+pub expressions::layers::turn-wrap-requires : goal.expressions::layers::turn-wrap-requires
+expressions::layers::turn-wrap-requires = layers.expressions::layers::turn-wrap-requires
 
-pub layers::turn-wrap-requires-2 : goal.layers::turn-wrap-requires-2
-layers::turn-wrap-requires-2 = layers.layers::turn-wrap-requires-2
+pub expressions::layers::turn-wrap-requires-2 : goal.expressions::layers::turn-wrap-requires-2
+expressions::layers::turn-wrap-requires-2 = layers.expressions::layers::turn-wrap-requires-2
 
-pub layers::expect_layer-layers-requires : goal.layers::expect_layer-layers-requires
-layers::expect_layer-layers-requires = layers.layers::expect_layer-layers-requires
+pub expressions::layers::expect_layer-layers-requires : goal.expressions::layers::expect_layer-layers-requires
+expressions::layers::expect_layer-layers-requires = layers.expressions::layers::expect_layer-layers-requires
 
-pub layers::expect_layer-returns-then-at_operand-clause-reads : goal.layers::expect_layer-returns-then-at_operand-clause-reads
-layers::expect_layer-returns-then-at_operand-clause-reads = layers.layers::expect_layer-returns-then-at_operand-clause-reads
+pub expressions::layers::expect_layer-returns-then-at_operand-clause-reads : goal.expressions::layers::expect_layer-returns-then-at_operand-clause-reads
+expressions::layers::expect_layer-returns-then-at_operand-clause-reads = layers.expressions::layers::expect_layer-returns-then-at_operand-clause-reads
 
-pub layers::expect_layer-returns-clause-reads : goal.layers::expect_layer-returns-clause-reads
-layers::expect_layer-returns-clause-reads = layers.layers::expect_layer-returns-clause-reads
+pub expressions::layers::expect_layer-returns-clause-reads : goal.expressions::layers::expect_layer-returns-clause-reads
+expressions::layers::expect_layer-returns-clause-reads = layers.expressions::layers::expect_layer-returns-clause-reads
 
-pub layers::climb-turns-init : goal.layers::climb-turns-init
-layers::climb-turns-init = layers.layers::climb-turns-init
+pub expressions::layers::climb-turns-init : goal.expressions::layers::climb-turns-init
+expressions::layers::climb-turns-init = layers.expressions::layers::climb-turns-init
 
-pub layers::climb-turns-preserved : goal.layers::climb-turns-preserved
-layers::climb-turns-preserved = layers.layers::climb-turns-preserved
+pub expressions::layers::climb-turns-preserved : goal.expressions::layers::climb-turns-preserved
+expressions::layers::climb-turns-preserved = layers.expressions::layers::climb-turns-preserved
 
-pub layers::climb-returns-after-turns-clause-reads : goal.layers::climb-returns-after-turns-clause-reads
-layers::climb-returns-after-turns-clause-reads = layers.layers::climb-returns-after-turns-clause-reads
+pub expressions::layers::climb-returns-after-turns-clause-reads : goal.expressions::layers::climb-returns-after-turns-clause-reads
+expressions::layers::climb-returns-after-turns-clause-reads = layers.expressions::layers::climb-returns-after-turns-clause-reads
 
-pub layers::climb-returns-after-turns-clause-looks : goal.layers::climb-returns-after-turns-clause-looks
-layers::climb-returns-after-turns-clause-looks = layers.layers::climb-returns-after-turns-clause-looks
+pub expressions::layers::climb-returns-after-turns-clause-looks : goal.expressions::layers::climb-returns-after-turns-clause-looks
+expressions::layers::climb-returns-after-turns-clause-looks = layers.expressions::layers::climb-returns-after-turns-clause-looks
 
-pub layers::climb-returns-else-next-top-clause-reads : goal.layers::climb-returns-else-next-top-clause-reads
-layers::climb-returns-else-next-top-clause-reads = layers.layers::climb-returns-else-next-top-clause-reads
+pub expressions::layers::climb-returns-else-next-top-clause-reads : goal.expressions::layers::climb-returns-else-next-top-clause-reads
+expressions::layers::climb-returns-else-next-top-clause-reads = layers.expressions::layers::climb-returns-else-next-top-clause-reads
 
-pub layers::climb-returns-else-next-top-clause-looks : goal.layers::climb-returns-else-next-top-clause-looks
-layers::climb-returns-else-next-top-clause-looks = layers.layers::climb-returns-else-next-top-clause-looks
+pub expressions::layers::climb-returns-else-next-top-clause-looks : goal.expressions::layers::climb-returns-else-next-top-clause-looks
+expressions::layers::climb-returns-else-next-top-clause-looks = layers.expressions::layers::climb-returns-else-next-top-clause-looks
 
-pub layers::turn-returns-then-operator-eq1-clause-reads : goal.layers::turn-returns-then-operator-eq1-clause-reads
-layers::turn-returns-then-operator-eq1-clause-reads = layers.layers::turn-returns-then-operator-eq1-clause-reads
+pub expressions::layers::turn-returns-then-operator-eq1-clause-reads : goal.expressions::layers::turn-returns-then-operator-eq1-clause-reads
+expressions::layers::turn-returns-then-operator-eq1-clause-reads = layers.expressions::layers::turn-returns-then-operator-eq1-clause-reads
 
-pub layers::turn-returns-clause-reads : goal.layers::turn-returns-clause-reads
-layers::turn-returns-clause-reads = layers.layers::turn-returns-clause-reads
+pub expressions::layers::turn-returns-clause-reads : goal.expressions::layers::turn-returns-clause-reads
+expressions::layers::turn-returns-clause-reads = layers.expressions::layers::turn-returns-clause-reads
 
 pub lists::turn-returns-then-at_list_end-clause-ends : goal.lists::turn-returns-then-at_list_end-clause-ends
 lists::turn-returns-then-at_list_end-clause-ends = lists.lists::turn-returns-then-at_list_end-clause-ends
@@ -1764,356 +1764,356 @@ lists::tuple_fields-complete-requires = lists.lists::tuple_fields-complete-requi
 pub lists::tuple_fields-returns-clause-gives : goal.lists::tuple_fields-returns-clause-gives
 lists::tuple_fields-returns-clause-gives = lists.lists::tuple_fields-returns-clause-gives
 
-pub match_arm::match_arm-pattern-requires : goal.match_arm::match_arm-pattern-requires
-match_arm::match_arm-pattern-requires = match_arm.match_arm::match_arm-pattern-requires
+pub expressions::match_arm::match_arm-pattern-requires : goal.expressions::match_arm::match_arm-pattern-requires
+expressions::match_arm::match_arm-pattern-requires = match_arm.expressions::match_arm::match_arm-pattern-requires
 
-pub match_arm::match_arm-opt_guard-requires : goal.match_arm::match_arm-opt_guard-requires
-match_arm::match_arm-opt_guard-requires = match_arm.match_arm::match_arm-opt_guard-requires
+pub expressions::match_arm::match_arm-opt_guard-requires : goal.expressions::match_arm::match_arm-opt_guard-requires
+expressions::match_arm::match_arm-opt_guard-requires = match_arm.expressions::match_arm::match_arm-opt_guard-requires
 
-pub match_arm::match_arm-arm_value-requires : goal.match_arm::match_arm-arm_value-requires
-match_arm::match_arm-arm_value-requires = match_arm.match_arm::match_arm-arm_value-requires
+pub expressions::match_arm::match_arm-arm_value-requires : goal.expressions::match_arm::match_arm-arm_value-requires
+expressions::match_arm::match_arm-arm_value-requires = match_arm.expressions::match_arm::match_arm-arm_value-requires
 
-pub match_arm::match_arm-complete-requires : goal.match_arm::match_arm-complete-requires
-match_arm::match_arm-complete-requires = match_arm.match_arm::match_arm-complete-requires
+pub expressions::match_arm::match_arm-complete-requires : goal.expressions::match_arm::match_arm-complete-requires
+expressions::match_arm::match_arm-complete-requires = match_arm.expressions::match_arm::match_arm-complete-requires
 
-pub match_arm::match_arm-returns-clause-gives : goal.match_arm::match_arm-returns-clause-gives
-match_arm::match_arm-returns-clause-gives = match_arm.match_arm::match_arm-returns-clause-gives
+pub expressions::match_arm::match_arm-returns-clause-gives : goal.expressions::match_arm::match_arm-returns-clause-gives
+expressions::match_arm::match_arm-returns-clause-gives = match_arm.expressions::match_arm::match_arm-returns-clause-gives
 
-pub match_arm::opt_guard-expect_condition-requires : goal.match_arm::opt_guard-expect_condition-requires
-match_arm::opt_guard-expect_condition-requires = match_arm.match_arm::opt_guard-expect_condition-requires
+pub expressions::match_arm::opt_guard-expect_condition-requires : goal.expressions::match_arm::opt_guard-expect_condition-requires
+expressions::match_arm::opt_guard-expect_condition-requires = match_arm.expressions::match_arm::opt_guard-expect_condition-requires
 
-pub match_arm::opt_guard-complete-requires : goal.match_arm::opt_guard-complete-requires
-match_arm::opt_guard-complete-requires = match_arm.match_arm::opt_guard-complete-requires
+pub expressions::match_arm::opt_guard-complete-requires : goal.expressions::match_arm::opt_guard-complete-requires
+expressions::match_arm::opt_guard-complete-requires = match_arm.expressions::match_arm::opt_guard-complete-requires
 
-pub match_arm::opt_guard-returns-then-at-clause-reads : goal.match_arm::opt_guard-returns-then-at-clause-reads
-match_arm::opt_guard-returns-then-at-clause-reads = match_arm.match_arm::opt_guard-returns-then-at-clause-reads
+pub expressions::match_arm::opt_guard-returns-then-at-clause-reads : goal.expressions::match_arm::opt_guard-returns-then-at-clause-reads
+expressions::match_arm::opt_guard-returns-then-at-clause-reads = match_arm.expressions::match_arm::opt_guard-returns-then-at-clause-reads
 
-pub match_arm::opt_guard-returns-else-at-clause-reads : goal.match_arm::opt_guard-returns-else-at-clause-reads
-match_arm::opt_guard-returns-else-at-clause-reads = match_arm.match_arm::opt_guard-returns-else-at-clause-reads
+pub expressions::match_arm::opt_guard-returns-else-at-clause-reads : goal.expressions::match_arm::opt_guard-returns-else-at-clause-reads
+expressions::match_arm::opt_guard-returns-else-at-clause-reads = match_arm.expressions::match_arm::opt_guard-returns-else-at-clause-reads
 
-pub match_arm::arm_value-block_like-requires : goal.match_arm::arm_value-block_like-requires
-match_arm::arm_value-block_like-requires = match_arm.match_arm::arm_value-block_like-requires
+pub expressions::match_arm::arm_value-block_like-requires : goal.expressions::match_arm::arm_value-block_like-requires
+expressions::match_arm::arm_value-block_like-requires = match_arm.expressions::match_arm::arm_value-block_like-requires
 
-pub match_arm::arm_value-returns-then-at_block_like-clause-reads : goal.match_arm::arm_value-returns-then-at_block_like-clause-reads
-match_arm::arm_value-returns-then-at_block_like-clause-reads = match_arm.match_arm::arm_value-returns-then-at_block_like-clause-reads
+pub expressions::match_arm::arm_value-returns-then-at_block_like-clause-reads : goal.expressions::match_arm::arm_value-returns-then-at_block_like-clause-reads
+expressions::match_arm::arm_value-returns-then-at_block_like-clause-reads = match_arm.expressions::match_arm::arm_value-returns-then-at_block_like-clause-reads
 
-pub match_arm::arm_value-expect_expression-requires : goal.match_arm::arm_value-expect_expression-requires
-match_arm::arm_value-expect_expression-requires = match_arm.match_arm::arm_value-expect_expression-requires
+pub expressions::match_arm::arm_value-expect_expression-requires : goal.expressions::match_arm::arm_value-expect_expression-requires
+expressions::match_arm::arm_value-expect_expression-requires = match_arm.expressions::match_arm::arm_value-expect_expression-requires
 
-pub match_arm::arm_value-returns-clause-reads : goal.match_arm::arm_value-returns-clause-reads
-match_arm::arm_value-returns-clause-reads = match_arm.match_arm::arm_value-returns-clause-reads
+pub expressions::match_arm::arm_value-returns-clause-reads : goal.expressions::match_arm::arm_value-returns-clause-reads
+expressions::match_arm::arm_value-returns-clause-reads = match_arm.expressions::match_arm::arm_value-returns-clause-reads
 
-pub members::variant-named-requires : goal.members::variant-named-requires
-members::variant-named-requires = members.members::variant-named-requires
+pub items::members::variant-named-requires : goal.items::members::variant-named-requires
+items::members::variant-named-requires = members.items::members::variant-named-requires
 
-pub members::variant-opt_fields-requires : goal.members::variant-opt_fields-requires
-members::variant-opt_fields-requires = members.members::variant-opt_fields-requires
+pub items::members::variant-opt_fields-requires : goal.items::members::variant-opt_fields-requires
+items::members::variant-opt_fields-requires = members.items::members::variant-opt_fields-requires
 
-pub members::variant-complete-requires : goal.members::variant-complete-requires
-members::variant-complete-requires = members.members::variant-complete-requires
+pub items::members::variant-complete-requires : goal.items::members::variant-complete-requires
+items::members::variant-complete-requires = members.items::members::variant-complete-requires
 
-pub members::variant-returns-clause-reads : goal.members::variant-returns-clause-reads
-members::variant-returns-clause-reads = members.members::variant-returns-clause-reads
+pub items::members::variant-returns-clause-reads : goal.items::members::variant-returns-clause-reads
+items::members::variant-returns-clause-reads = members.items::members::variant-returns-clause-reads
 
-pub members::record_field-named-requires : goal.members::record_field-named-requires
-members::record_field-named-requires = members.members::record_field-named-requires
+pub items::members::record_field-named-requires : goal.items::members::record_field-named-requires
+items::members::record_field-named-requires = members.items::members::record_field-named-requires
 
-pub members::record_field-expect_type-requires : goal.members::record_field-expect_type-requires
-members::record_field-expect_type-requires = members.members::record_field-expect_type-requires
+pub items::members::record_field-expect_type-requires : goal.items::members::record_field-expect_type-requires
+items::members::record_field-expect_type-requires = members.items::members::record_field-expect_type-requires
 
-pub members::record_field-complete-requires : goal.members::record_field-complete-requires
-members::record_field-complete-requires = members.members::record_field-complete-requires
+pub items::members::record_field-complete-requires : goal.items::members::record_field-complete-requires
+items::members::record_field-complete-requires = members.items::members::record_field-complete-requires
 
-pub members::record_field-returns-clause-reads : goal.members::record_field-returns-clause-reads
-members::record_field-returns-clause-reads = members.members::record_field-returns-clause-reads
+pub items::members::record_field-returns-clause-reads : goal.items::members::record_field-returns-clause-reads
+items::members::record_field-returns-clause-reads = members.items::members::record_field-returns-clause-reads
 
-pub members::tuple_field-typed-requires : goal.members::tuple_field-typed-requires
-members::tuple_field-typed-requires = members.members::tuple_field-typed-requires
+pub items::members::tuple_field-typed-requires : goal.items::members::tuple_field-typed-requires
+items::members::tuple_field-typed-requires = members.items::members::tuple_field-typed-requires
 
-pub members::tuple_field-complete-requires : goal.members::tuple_field-complete-requires
-members::tuple_field-complete-requires = members.members::tuple_field-complete-requires
+pub items::members::tuple_field-complete-requires : goal.items::members::tuple_field-complete-requires
+items::members::tuple_field-complete-requires = members.items::members::tuple_field-complete-requires
 
-pub members::tuple_field-returns-clause-reads : goal.members::tuple_field-returns-clause-reads
-members::tuple_field-returns-clause-reads = members.members::tuple_field-returns-clause-reads
+pub items::members::tuple_field-returns-clause-reads : goal.items::members::tuple_field-returns-clause-reads
+items::members::tuple_field-returns-clause-reads = members.items::members::tuple_field-returns-clause-reads
 
-pub members::named-attributes_and_visibility-requires : goal.members::named-attributes_and_visibility-requires
-members::named-attributes_and_visibility-requires = members.members::named-attributes_and_visibility-requires
+pub items::members::named-attributes_and_visibility-requires : goal.items::members::named-attributes_and_visibility-requires
+items::members::named-attributes_and_visibility-requires = members.items::members::named-attributes_and_visibility-requires
 
-pub members::named-returns-in-POUND-clause-reads : goal.members::named-returns-in-POUND-clause-reads
-members::named-returns-in-POUND-clause-reads = members.members::named-returns-in-POUND-clause-reads
+pub items::members::named-returns-in-POUND-clause-reads : goal.items::members::named-returns-in-POUND-clause-reads
+items::members::named-returns-in-POUND-clause-reads = members.items::members::named-returns-in-POUND-clause-reads
 
-pub members::named-returns-in-PUB_KW-clause-reads : goal.members::named-returns-in-PUB_KW-clause-reads
-members::named-returns-in-PUB_KW-clause-reads = members.members::named-returns-in-PUB_KW-clause-reads
+pub items::members::named-returns-in-PUB_KW-clause-reads : goal.items::members::named-returns-in-PUB_KW-clause-reads
+items::members::named-returns-in-PUB_KW-clause-reads = members.items::members::named-returns-in-PUB_KW-clause-reads
 
-pub members::named-returns-in_default-clause-reads : goal.members::named-returns-in_default-clause-reads
-members::named-returns-in_default-clause-reads = members.members::named-returns-in_default-clause-reads
+pub items::members::named-returns-in_default-clause-reads : goal.items::members::named-returns-in_default-clause-reads
+items::members::named-returns-in_default-clause-reads = members.items::members::named-returns-in_default-clause-reads
 
-pub members::typed-attributes_and_visibility-requires : goal.members::typed-attributes_and_visibility-requires
-members::typed-attributes_and_visibility-requires = members.members::typed-attributes_and_visibility-requires
+pub items::members::typed-attributes_and_visibility-requires : goal.items::members::typed-attributes_and_visibility-requires
+items::members::typed-attributes_and_visibility-requires = members.items::members::typed-attributes_and_visibility-requires
 
-pub members::typed-expect_type-requires : goal.members::typed-expect_type-requires
-members::typed-expect_type-requires = members.members::typed-expect_type-requires
+pub items::members::typed-expect_type-requires : goal.items::members::typed-expect_type-requires
+items::members::typed-expect_type-requires = members.items::members::typed-expect_type-requires
 
-pub members::typed-expect_type-requires-in-PUB_KW : goal.members::typed-expect_type-requires-in-PUB_KW
-members::typed-expect_type-requires-in-PUB_KW = members.members::typed-expect_type-requires-in-PUB_KW
+pub items::members::typed-expect_type-requires-in-PUB_KW : goal.items::members::typed-expect_type-requires-in-PUB_KW
+items::members::typed-expect_type-requires-in-PUB_KW = members.items::members::typed-expect_type-requires-in-PUB_KW
 
-pub members::typed-returns-in-POUND-clause-reads : goal.members::typed-returns-in-POUND-clause-reads
-members::typed-returns-in-POUND-clause-reads = members.members::typed-returns-in-POUND-clause-reads
+pub items::members::typed-returns-in-POUND-clause-reads : goal.items::members::typed-returns-in-POUND-clause-reads
+items::members::typed-returns-in-POUND-clause-reads = members.items::members::typed-returns-in-POUND-clause-reads
 
-pub members::typed-returns-in-PUB_KW-clause-reads : goal.members::typed-returns-in-PUB_KW-clause-reads
-members::typed-returns-in-PUB_KW-clause-reads = members.members::typed-returns-in-PUB_KW-clause-reads
+pub items::members::typed-returns-in-PUB_KW-clause-reads : goal.items::members::typed-returns-in-PUB_KW-clause-reads
+items::members::typed-returns-in-PUB_KW-clause-reads = members.items::members::typed-returns-in-PUB_KW-clause-reads
 
-pub members::typed-any_type-requires : goal.members::typed-any_type-requires
-members::typed-any_type-requires = members.members::typed-any_type-requires
+pub items::members::typed-any_type-requires : goal.items::members::typed-any_type-requires
+items::members::typed-any_type-requires = members.items::members::typed-any_type-requires
 
-pub members::typed-returns-in_default-clause-reads : goal.members::typed-returns-in_default-clause-reads
-members::typed-returns-in_default-clause-reads = members.members::typed-returns-in_default-clause-reads
+pub items::members::typed-returns-in_default-clause-reads : goal.items::members::typed-returns-in_default-clause-reads
+items::members::typed-returns-in_default-clause-reads = members.items::members::typed-returns-in_default-clause-reads
 
-pub members::opt_fields-record_fields-requires : goal.members::opt_fields-record_fields-requires
-members::opt_fields-record_fields-requires = members.members::opt_fields-record_fields-requires
+pub items::members::opt_fields-record_fields-requires : goal.items::members::opt_fields-record_fields-requires
+items::members::opt_fields-record_fields-requires = members.items::members::opt_fields-record_fields-requires
 
-pub members::opt_fields-returns-in-L_CURLY-clause-reads : goal.members::opt_fields-returns-in-L_CURLY-clause-reads
-members::opt_fields-returns-in-L_CURLY-clause-reads = members.members::opt_fields-returns-in-L_CURLY-clause-reads
+pub items::members::opt_fields-returns-in-L_CURLY-clause-reads : goal.items::members::opt_fields-returns-in-L_CURLY-clause-reads
+items::members::opt_fields-returns-in-L_CURLY-clause-reads = members.items::members::opt_fields-returns-in-L_CURLY-clause-reads
 
-pub members::opt_fields-tuple_fields-requires : goal.members::opt_fields-tuple_fields-requires
-members::opt_fields-tuple_fields-requires = members.members::opt_fields-tuple_fields-requires
+pub items::members::opt_fields-tuple_fields-requires : goal.items::members::opt_fields-tuple_fields-requires
+items::members::opt_fields-tuple_fields-requires = members.items::members::opt_fields-tuple_fields-requires
 
-pub members::opt_fields-returns-in-L_PAREN-clause-reads : goal.members::opt_fields-returns-in-L_PAREN-clause-reads
-members::opt_fields-returns-in-L_PAREN-clause-reads = members.members::opt_fields-returns-in-L_PAREN-clause-reads
+pub items::members::opt_fields-returns-in-L_PAREN-clause-reads : goal.items::members::opt_fields-returns-in-L_PAREN-clause-reads
+items::members::opt_fields-returns-in-L_PAREN-clause-reads = members.items::members::opt_fields-returns-in-L_PAREN-clause-reads
 
-pub members::opt_fields-returns-in_default-clause-reads : goal.members::opt_fields-returns-in_default-clause-reads
-members::opt_fields-returns-in_default-clause-reads = members.members::opt_fields-returns-in_default-clause-reads
+pub items::members::opt_fields-returns-in_default-clause-reads : goal.items::members::opt_fields-returns-in_default-clause-reads
+items::members::opt_fields-returns-in_default-clause-reads = members.items::members::opt_fields-returns-in_default-clause-reads
 
-pub operands::prefixed-prefix_expr-requires : goal.operands::prefixed-prefix_expr-requires
-operands::prefixed-prefix_expr-requires = operands.operands::prefixed-prefix_expr-requires
+pub expressions::operand::prefixed-prefix_expr-requires : goal.expressions::operand::prefixed-prefix_expr-requires
+expressions::operand::prefixed-prefix_expr-requires = operand.expressions::operand::prefixed-prefix_expr-requires
 
-pub operands::prefixed-returns-in-MINUS-clause-gives : goal.operands::prefixed-returns-in-MINUS-clause-gives
-operands::prefixed-returns-in-MINUS-clause-gives = operands.operands::prefixed-returns-in-MINUS-clause-gives
+pub expressions::operand::prefixed-returns-in-MINUS-clause-gives : goal.expressions::operand::prefixed-returns-in-MINUS-clause-gives
+expressions::operand::prefixed-returns-in-MINUS-clause-gives = operand.expressions::operand::prefixed-returns-in-MINUS-clause-gives
 
-pub operands::prefixed-prefix_expr-requires-in-BANG : goal.operands::prefixed-prefix_expr-requires-in-BANG
-operands::prefixed-prefix_expr-requires-in-BANG = operands.operands::prefixed-prefix_expr-requires-in-BANG
+pub expressions::operand::prefixed-prefix_expr-requires-in-BANG : goal.expressions::operand::prefixed-prefix_expr-requires-in-BANG
+expressions::operand::prefixed-prefix_expr-requires-in-BANG = operand.expressions::operand::prefixed-prefix_expr-requires-in-BANG
 
-pub operands::prefixed-returns-in-BANG-clause-gives : goal.operands::prefixed-returns-in-BANG-clause-gives
-operands::prefixed-returns-in-BANG-clause-gives = operands.operands::prefixed-returns-in-BANG-clause-gives
+pub expressions::operand::prefixed-returns-in-BANG-clause-gives : goal.expressions::operand::prefixed-returns-in-BANG-clause-gives
+expressions::operand::prefixed-returns-in-BANG-clause-gives = operand.expressions::operand::prefixed-returns-in-BANG-clause-gives
 
-pub operands::prefixed-prefix_expr-requires-in-STAR : goal.operands::prefixed-prefix_expr-requires-in-STAR
-operands::prefixed-prefix_expr-requires-in-STAR = operands.operands::prefixed-prefix_expr-requires-in-STAR
+pub expressions::operand::prefixed-prefix_expr-requires-in-STAR : goal.expressions::operand::prefixed-prefix_expr-requires-in-STAR
+expressions::operand::prefixed-prefix_expr-requires-in-STAR = operand.expressions::operand::prefixed-prefix_expr-requires-in-STAR
 
-pub operands::prefixed-returns-in-STAR-clause-gives : goal.operands::prefixed-returns-in-STAR-clause-gives
-operands::prefixed-returns-in-STAR-clause-gives = operands.operands::prefixed-returns-in-STAR-clause-gives
+pub expressions::operand::prefixed-returns-in-STAR-clause-gives : goal.expressions::operand::prefixed-returns-in-STAR-clause-gives
+expressions::operand::prefixed-returns-in-STAR-clause-gives = operand.expressions::operand::prefixed-returns-in-STAR-clause-gives
 
-pub operands::prefixed-ref_expr-requires : goal.operands::prefixed-ref_expr-requires
-operands::prefixed-ref_expr-requires = operands.operands::prefixed-ref_expr-requires
+pub expressions::operand::prefixed-ref_expr-requires : goal.expressions::operand::prefixed-ref_expr-requires
+expressions::operand::prefixed-ref_expr-requires = operand.expressions::operand::prefixed-ref_expr-requires
 
-pub operands::prefixed-returns-in-AMP-clause-gives : goal.operands::prefixed-returns-in-AMP-clause-gives
-operands::prefixed-returns-in-AMP-clause-gives = operands.operands::prefixed-returns-in-AMP-clause-gives
+pub expressions::operand::prefixed-returns-in-AMP-clause-gives : goal.expressions::operand::prefixed-returns-in-AMP-clause-gives
+expressions::operand::prefixed-returns-in-AMP-clause-gives = operand.expressions::operand::prefixed-returns-in-AMP-clause-gives
 
-pub operands::prefixed-operand-requires : goal.operands::prefixed-operand-requires
-operands::prefixed-operand-requires = operands.operands::prefixed-operand-requires
+pub expressions::operand::prefixed-operand-requires : goal.expressions::operand::prefixed-operand-requires
+expressions::operand::prefixed-operand-requires = operand.expressions::operand::prefixed-operand-requires
 
-pub operands::prefixed-returns-in_default-clause-gives : goal.operands::prefixed-returns-in_default-clause-gives
-operands::prefixed-returns-in_default-clause-gives = operands.operands::prefixed-returns-in_default-clause-gives
+pub expressions::operand::prefixed-returns-in_default-clause-gives : goal.expressions::operand::prefixed-returns-in_default-clause-gives
+expressions::operand::prefixed-returns-in_default-clause-gives = operand.expressions::operand::prefixed-returns-in_default-clause-gives
 
-pub operands::prefix_expr-expect_expression-requires : goal.operands::prefix_expr-expect_expression-requires
-operands::prefix_expr-expect_expression-requires = operands.operands::prefix_expr-expect_expression-requires
+pub expressions::operand::prefix_expr-expect_expression-requires : goal.expressions::operand::prefix_expr-expect_expression-requires
+expressions::operand::prefix_expr-expect_expression-requires = operand.expressions::operand::prefix_expr-expect_expression-requires
 
-pub operands::prefix_expr-complete-requires : goal.operands::prefix_expr-complete-requires
-operands::prefix_expr-complete-requires = operands.operands::prefix_expr-complete-requires
+pub expressions::operand::prefix_expr-complete-requires : goal.expressions::operand::prefix_expr-complete-requires
+expressions::operand::prefix_expr-complete-requires = operand.expressions::operand::prefix_expr-complete-requires
 
-pub operands::prefix_expr-returns-clause-reads : goal.operands::prefix_expr-returns-clause-reads
-operands::prefix_expr-returns-clause-reads = operands.operands::prefix_expr-returns-clause-reads
+pub expressions::operand::prefix_expr-returns-clause-reads : goal.expressions::operand::prefix_expr-returns-clause-reads
+expressions::operand::prefix_expr-returns-clause-reads = operand.expressions::operand::prefix_expr-returns-clause-reads
 
-pub operands::ref_expr-expect_expression-requires : goal.operands::ref_expr-expect_expression-requires
-operands::ref_expr-expect_expression-requires = operands.operands::ref_expr-expect_expression-requires
+pub expressions::operand::ref_expr-expect_expression-requires : goal.expressions::operand::ref_expr-expect_expression-requires
+expressions::operand::ref_expr-expect_expression-requires = operand.expressions::operand::ref_expr-expect_expression-requires
 
-pub operands::ref_expr-complete-requires : goal.operands::ref_expr-complete-requires
-operands::ref_expr-complete-requires = operands.operands::ref_expr-complete-requires
+pub expressions::operand::ref_expr-complete-requires : goal.expressions::operand::ref_expr-complete-requires
+expressions::operand::ref_expr-complete-requires = operand.expressions::operand::ref_expr-complete-requires
 
-pub operands::ref_expr-returns-clause-reads : goal.operands::ref_expr-returns-clause-reads
-operands::ref_expr-returns-clause-reads = operands.operands::ref_expr-returns-clause-reads
+pub expressions::operand::ref_expr-returns-clause-reads : goal.expressions::operand::ref_expr-returns-clause-reads
+expressions::operand::ref_expr-returns-clause-reads = operand.expressions::operand::ref_expr-returns-clause-reads
 
-pub operands::operand-inside-frame-requires : goal.operands::operand-inside-frame-requires
-operands::operand-inside-frame-requires = operands.operands::operand-inside-frame-requires
+pub expressions::operand::operand-inside-frame-requires : goal.expressions::operand::operand-inside-frame-requires
+expressions::operand::operand-inside-frame-requires = operand.expressions::operand::operand-inside-frame-requires
 
-pub operands::operand-postfixes-frame-requires : goal.operands::operand-postfixes-frame-requires
-operands::operand-postfixes-frame-requires = operands.operands::operand-postfixes-frame-requires
+pub expressions::operand::operand-postfixes-frame-requires : goal.expressions::operand::operand-postfixes-frame-requires
+expressions::operand::operand-postfixes-frame-requires = operand.expressions::operand::operand-postfixes-frame-requires
 
-pub operands::operand-returns-clause-anew : goal.operands::operand-returns-clause-anew
-operands::operand-returns-clause-anew = operands.operands::operand-returns-clause-anew
+pub expressions::operand::operand-returns-clause-anew : goal.expressions::operand::operand-returns-clause-anew
+expressions::operand::operand-returns-clause-anew = operand.expressions::operand::operand-returns-clause-anew
 
-pub operands::postfixes-turns-preserved : goal.operands::postfixes-turns-preserved
-operands::postfixes-turns-preserved = operands.operands::postfixes-turns-preserved
+pub expressions::operand::postfixes-turns-preserved : goal.expressions::operand::postfixes-turns-preserved
+expressions::operand::postfixes-turns-preserved = operand.expressions::operand::postfixes-turns-preserved
 
-pub operands::postfixes-returns-clause-reads : goal.operands::postfixes-returns-clause-reads
-operands::postfixes-returns-clause-reads = operands.operands::postfixes-returns-clause-reads
+pub expressions::operand::postfixes-returns-clause-reads : goal.expressions::operand::postfixes-returns-clause-reads
+expressions::operand::postfixes-returns-clause-reads = operand.expressions::operand::postfixes-returns-clause-reads
 
-pub operands::postfix-arguments-requires : goal.operands::postfix-arguments-requires
-operands::postfix-arguments-requires = operands.operands::postfix-arguments-requires
+pub expressions::operand::postfix-arguments-requires : goal.expressions::operand::postfix-arguments-requires
+expressions::operand::postfix-arguments-requires = operand.expressions::operand::postfix-arguments-requires
 
-pub operands::postfix-wrap-requires : goal.operands::postfix-wrap-requires
-operands::postfix-wrap-requires = operands.operands::postfix-wrap-requires
+pub expressions::operand::postfix-wrap-requires : goal.expressions::operand::postfix-wrap-requires
+expressions::operand::postfix-wrap-requires = operand.expressions::operand::postfix-wrap-requires
 
-pub operands::postfix-returns-in-L_PAREN-clause-reads : goal.operands::postfix-returns-in-L_PAREN-clause-reads
-operands::postfix-returns-in-L_PAREN-clause-reads = operands.operands::postfix-returns-in-L_PAREN-clause-reads
+pub expressions::operand::postfix-returns-in-L_PAREN-clause-reads : goal.expressions::operand::postfix-returns-in-L_PAREN-clause-reads
+expressions::operand::postfix-returns-in-L_PAREN-clause-reads = operand.expressions::operand::postfix-returns-in-L_PAREN-clause-reads
 
-pub operands::postfix-index-requires : goal.operands::postfix-index-requires
-operands::postfix-index-requires = operands.operands::postfix-index-requires
+pub expressions::operand::postfix-index-requires : goal.expressions::operand::postfix-index-requires
+expressions::operand::postfix-index-requires = operand.expressions::operand::postfix-index-requires
 
-pub operands::postfix-wrap-requires-in-L_BRACK : goal.operands::postfix-wrap-requires-in-L_BRACK
-operands::postfix-wrap-requires-in-L_BRACK = operands.operands::postfix-wrap-requires-in-L_BRACK
+pub expressions::operand::postfix-wrap-requires-in-L_BRACK : goal.expressions::operand::postfix-wrap-requires-in-L_BRACK
+expressions::operand::postfix-wrap-requires-in-L_BRACK = operand.expressions::operand::postfix-wrap-requires-in-L_BRACK
 
-pub operands::postfix-returns-in-L_BRACK-clause-reads : goal.operands::postfix-returns-in-L_BRACK-clause-reads
-operands::postfix-returns-in-L_BRACK-clause-reads = operands.operands::postfix-returns-in-L_BRACK-clause-reads
+pub expressions::operand::postfix-returns-in-L_BRACK-clause-reads : goal.expressions::operand::postfix-returns-in-L_BRACK-clause-reads
+expressions::operand::postfix-returns-in-L_BRACK-clause-reads = operand.expressions::operand::postfix-returns-in-L_BRACK-clause-reads
 
-pub operands::postfix-wrap-requires-in-QUESTION : goal.operands::postfix-wrap-requires-in-QUESTION
-operands::postfix-wrap-requires-in-QUESTION = operands.operands::postfix-wrap-requires-in-QUESTION
+pub expressions::operand::postfix-wrap-requires-in-QUESTION : goal.expressions::operand::postfix-wrap-requires-in-QUESTION
+expressions::operand::postfix-wrap-requires-in-QUESTION = operand.expressions::operand::postfix-wrap-requires-in-QUESTION
 
-pub operands::postfix-returns-in-QUESTION-clause-reads : goal.operands::postfix-returns-in-QUESTION-clause-reads
-operands::postfix-returns-in-QUESTION-clause-reads = operands.operands::postfix-returns-in-QUESTION-clause-reads
+pub expressions::operand::postfix-returns-in-QUESTION-clause-reads : goal.expressions::operand::postfix-returns-in-QUESTION-clause-reads
+expressions::operand::postfix-returns-in-QUESTION-clause-reads = operand.expressions::operand::postfix-returns-in-QUESTION-clause-reads
 
-pub operands::postfix-after_dot-requires : goal.operands::postfix-after_dot-requires
-operands::postfix-after_dot-requires = operands.operands::postfix-after_dot-requires
+pub expressions::operand::postfix-after_dot-requires : goal.expressions::operand::postfix-after_dot-requires
+expressions::operand::postfix-after_dot-requires = operand.expressions::operand::postfix-after_dot-requires
 
-pub operands::postfix-returns-in_default-clause-reads : goal.operands::postfix-returns-in_default-clause-reads
-operands::postfix-returns-in_default-clause-reads = operands.operands::postfix-returns-in_default-clause-reads
+pub expressions::operand::postfix-returns-in_default-clause-reads : goal.expressions::operand::postfix-returns-in_default-clause-reads
+expressions::operand::postfix-returns-in_default-clause-reads = operand.expressions::operand::postfix-returns-in_default-clause-reads
 
-pub operands::index-expect_expression-requires : goal.operands::index-expect_expression-requires
-operands::index-expect_expression-requires = operands.operands::index-expect_expression-requires
+pub expressions::operand::index-expect_expression-requires : goal.expressions::operand::index-expect_expression-requires
+expressions::operand::index-expect_expression-requires = operand.expressions::operand::index-expect_expression-requires
 
-pub operands::index-returns-clause-reads : goal.operands::index-returns-clause-reads
-operands::index-returns-clause-reads = operands.operands::index-returns-clause-reads
+pub expressions::operand::index-returns-clause-reads : goal.expressions::operand::index-returns-clause-reads
+expressions::operand::index-returns-clause-reads = operand.expressions::operand::index-returns-clause-reads
 
-pub operands::after_dot-method_call-requires : goal.operands::after_dot-method_call-requires
-operands::after_dot-method_call-requires = operands.operands::after_dot-method_call-requires
+pub expressions::operand::after_dot-method_call-requires : goal.expressions::operand::after_dot-method_call-requires
+expressions::operand::after_dot-method_call-requires = operand.expressions::operand::after_dot-method_call-requires
 
-pub operands::after_dot-wrap-requires : goal.operands::after_dot-wrap-requires
-operands::after_dot-wrap-requires = operands.operands::after_dot-wrap-requires
+pub expressions::operand::after_dot-wrap-requires : goal.expressions::operand::after_dot-wrap-requires
+expressions::operand::after_dot-wrap-requires = operand.expressions::operand::after_dot-wrap-requires
 
-pub operands::after_dot-returns-then-at_method-clause-reads : goal.operands::after_dot-returns-then-at_method-clause-reads
-operands::after_dot-returns-then-at_method-clause-reads = operands.operands::after_dot-returns-then-at_method-clause-reads
+pub expressions::operand::after_dot-returns-then-at_method-clause-reads : goal.expressions::operand::after_dot-returns-then-at_method-clause-reads
+expressions::operand::after_dot-returns-then-at_method-clause-reads = operand.expressions::operand::after_dot-returns-then-at_method-clause-reads
 
-pub operands::after_dot-wrap-requires-in-IDENT : goal.operands::after_dot-wrap-requires-in-IDENT
-operands::after_dot-wrap-requires-in-IDENT = operands.operands::after_dot-wrap-requires-in-IDENT
+pub expressions::operand::after_dot-wrap-requires-in-IDENT : goal.expressions::operand::after_dot-wrap-requires-in-IDENT
+expressions::operand::after_dot-wrap-requires-in-IDENT = operand.expressions::operand::after_dot-wrap-requires-in-IDENT
 
-pub operands::after_dot-returns-in-IDENT-clause-reads : goal.operands::after_dot-returns-in-IDENT-clause-reads
-operands::after_dot-returns-in-IDENT-clause-reads = operands.operands::after_dot-returns-in-IDENT-clause-reads
+pub expressions::operand::after_dot-returns-in-IDENT-clause-reads : goal.expressions::operand::after_dot-returns-in-IDENT-clause-reads
+expressions::operand::after_dot-returns-in-IDENT-clause-reads = operand.expressions::operand::after_dot-returns-in-IDENT-clause-reads
 
-pub operands::after_dot-wrap-requires-in-INT_NUMBER : goal.operands::after_dot-wrap-requires-in-INT_NUMBER
-operands::after_dot-wrap-requires-in-INT_NUMBER = operands.operands::after_dot-wrap-requires-in-INT_NUMBER
+pub expressions::operand::after_dot-wrap-requires-in-INT_NUMBER : goal.expressions::operand::after_dot-wrap-requires-in-INT_NUMBER
+expressions::operand::after_dot-wrap-requires-in-INT_NUMBER = operand.expressions::operand::after_dot-wrap-requires-in-INT_NUMBER
 
-pub operands::after_dot-returns-in-INT_NUMBER-clause-reads : goal.operands::after_dot-returns-in-INT_NUMBER-clause-reads
-operands::after_dot-returns-in-INT_NUMBER-clause-reads = operands.operands::after_dot-returns-in-INT_NUMBER-clause-reads
+pub expressions::operand::after_dot-returns-in-INT_NUMBER-clause-reads : goal.expressions::operand::after_dot-returns-in-INT_NUMBER-clause-reads
+expressions::operand::after_dot-returns-in-INT_NUMBER-clause-reads = operand.expressions::operand::after_dot-returns-in-INT_NUMBER-clause-reads
 
-pub operands::after_dot-float-requires : goal.operands::after_dot-float-requires
-operands::after_dot-float-requires = operands.operands::after_dot-float-requires
+pub expressions::operand::after_dot-float-requires : goal.expressions::operand::after_dot-float-requires
+expressions::operand::after_dot-float-requires = operand.expressions::operand::after_dot-float-requires
 
-pub operands::after_dot-returns-in-FLOAT_NUMBER-clause-reads : goal.operands::after_dot-returns-in-FLOAT_NUMBER-clause-reads
-operands::after_dot-returns-in-FLOAT_NUMBER-clause-reads = operands.operands::after_dot-returns-in-FLOAT_NUMBER-clause-reads
+pub expressions::operand::after_dot-returns-in-FLOAT_NUMBER-clause-reads : goal.expressions::operand::after_dot-returns-in-FLOAT_NUMBER-clause-reads
+expressions::operand::after_dot-returns-in-FLOAT_NUMBER-clause-reads = operand.expressions::operand::after_dot-returns-in-FLOAT_NUMBER-clause-reads
 
-pub operands::after_dot-wrap-requires-in_default : goal.operands::after_dot-wrap-requires-in_default
-operands::after_dot-wrap-requires-in_default = operands.operands::after_dot-wrap-requires-in_default
+pub expressions::operand::after_dot-wrap-requires-in_default : goal.expressions::operand::after_dot-wrap-requires-in_default
+expressions::operand::after_dot-wrap-requires-in_default = operand.expressions::operand::after_dot-wrap-requires-in_default
 
-pub operands::after_dot-returns-in_default-clause-reads : goal.operands::after_dot-returns-in_default-clause-reads
-operands::after_dot-returns-in_default-clause-reads = operands.operands::after_dot-returns-in_default-clause-reads
+pub expressions::operand::after_dot-returns-in_default-clause-reads : goal.expressions::operand::after_dot-returns-in_default-clause-reads
+expressions::operand::after_dot-returns-in_default-clause-reads = operand.expressions::operand::after_dot-returns-in_default-clause-reads
 
-pub operands::method_call-opt_generic_args-requires : goal.operands::method_call-opt_generic_args-requires
-operands::method_call-opt_generic_args-requires = operands.operands::method_call-opt_generic_args-requires
+pub expressions::operand::method_call-opt_generic_args-requires : goal.expressions::operand::method_call-opt_generic_args-requires
+expressions::operand::method_call-opt_generic_args-requires = operand.expressions::operand::method_call-opt_generic_args-requires
 
-pub operands::method_call-expect_arguments-requires : goal.operands::method_call-expect_arguments-requires
-operands::method_call-expect_arguments-requires = operands.operands::method_call-expect_arguments-requires
+pub expressions::operand::method_call-expect_arguments-requires : goal.expressions::operand::method_call-expect_arguments-requires
+expressions::operand::method_call-expect_arguments-requires = operand.expressions::operand::method_call-expect_arguments-requires
 
-pub operands::method_call-returns-clause-reads : goal.operands::method_call-returns-clause-reads
-operands::method_call-returns-clause-reads = operands.operands::method_call-returns-clause-reads
+pub expressions::operand::method_call-returns-clause-reads : goal.expressions::operand::method_call-returns-clause-reads
+expressions::operand::method_call-returns-clause-reads = operand.expressions::operand::method_call-returns-clause-reads
 
-pub operands::expect_arguments-arguments-requires : goal.operands::expect_arguments-arguments-requires
-operands::expect_arguments-arguments-requires = operands.operands::expect_arguments-arguments-requires
+pub expressions::operand::expect_arguments-arguments-requires : goal.expressions::operand::expect_arguments-arguments-requires
+expressions::operand::expect_arguments-arguments-requires = operand.expressions::operand::expect_arguments-arguments-requires
 
-pub operands::expect_arguments-returns-then-at-clause-reads : goal.operands::expect_arguments-returns-then-at-clause-reads
-operands::expect_arguments-returns-then-at-clause-reads = operands.operands::expect_arguments-returns-then-at-clause-reads
+pub expressions::operand::expect_arguments-returns-then-at-clause-reads : goal.expressions::operand::expect_arguments-returns-then-at-clause-reads
+expressions::operand::expect_arguments-returns-then-at-clause-reads = operand.expressions::operand::expect_arguments-returns-then-at-clause-reads
 
-pub operands::expect_arguments-returns-clause-reads : goal.operands::expect_arguments-returns-clause-reads
-operands::expect_arguments-returns-clause-reads = operands.operands::expect_arguments-returns-clause-reads
+pub expressions::operand::expect_arguments-returns-clause-reads : goal.expressions::operand::expect_arguments-returns-clause-reads
+expressions::operand::expect_arguments-returns-clause-reads = operand.expressions::operand::expect_arguments-returns-clause-reads
 
-pub operands::float-split-frame-requires : goal.operands::float-split-frame-requires
-operands::float-split-frame-requires = operands.operands::float-split-frame-requires
+pub expressions::operand::float-split-frame-requires : goal.expressions::operand::float-split-frame-requires
+expressions::operand::float-split-frame-requires = operand.expressions::operand::float-split-frame-requires
 
-pub operands::float-after_dot-requires : goal.operands::float-after_dot-requires
-operands::float-after_dot-requires = operands.operands::float-after_dot-requires
+pub expressions::operand::float-after_dot-requires : goal.expressions::operand::float-after_dot-requires
+expressions::operand::float-after_dot-requires = operand.expressions::operand::float-after_dot-requires
 
-pub operands::float-returns-then-joint-clause-reads : goal.operands::float-returns-then-joint-clause-reads
-operands::float-returns-then-joint-clause-reads = operands.operands::float-returns-then-joint-clause-reads
+pub expressions::operand::float-returns-then-joint-clause-reads : goal.expressions::operand::float-returns-then-joint-clause-reads
+expressions::operand::float-returns-then-joint-clause-reads = operand.expressions::operand::float-returns-then-joint-clause-reads
 
-pub operands::float-returns-clause-reads : goal.operands::float-returns-clause-reads
-operands::float-returns-clause-reads = operands.operands::float-returns-clause-reads
+pub expressions::operand::float-returns-clause-reads : goal.expressions::operand::float-returns-clause-reads
+expressions::operand::float-returns-clause-reads = operand.expressions::operand::float-returns-clause-reads
 
-pub param::param-self_param-requires : goal.param::param-self_param-requires
-param::param-self_param-requires = param.param::param-self_param-requires
+pub params::param-self_param-requires : goal.params::param-self_param-requires
+params::param-self_param-requires = params.params::param-self_param-requires
 
-pub param::param-returns-then-at_self-clause-gives : goal.param::param-returns-then-at_self-clause-gives
-param::param-returns-then-at_self-clause-gives = param.param::param-returns-then-at_self-clause-gives
+pub params::param-returns-then-at_self-clause-gives : goal.params::param-returns-then-at_self-clause-gives
+params::param-returns-then-at_self-clause-gives = params.params::param-returns-then-at_self-clause-gives
 
-pub param::param-pattern_param-requires : goal.param::param-pattern_param-requires
-param::param-pattern_param-requires = param.param::param-pattern_param-requires
+pub params::param-pattern_param-requires : goal.params::param-pattern_param-requires
+params::param-pattern_param-requires = params.params::param-pattern_param-requires
 
-pub param::param-returns-clause-gives : goal.param::param-returns-clause-gives
-param::param-returns-clause-gives = param.param::param-returns-clause-gives
+pub params::param-returns-clause-gives : goal.params::param-returns-clause-gives
+params::param-returns-clause-gives = params.params::param-returns-clause-gives
 
-pub param::pattern_param-pattern-requires : goal.param::pattern_param-pattern-requires
-param::pattern_param-pattern-requires = param.param::pattern_param-pattern-requires
+pub params::pattern_param-pattern-requires : goal.params::pattern_param-pattern-requires
+params::pattern_param-pattern-requires = params.params::pattern_param-pattern-requires
 
-pub param::pattern_param-expect_type-requires : goal.param::pattern_param-expect_type-requires
-param::pattern_param-expect_type-requires = param.param::pattern_param-expect_type-requires
+pub params::pattern_param-expect_type-requires : goal.params::pattern_param-expect_type-requires
+params::pattern_param-expect_type-requires = params.params::pattern_param-expect_type-requires
 
-pub param::pattern_param-complete-requires : goal.param::pattern_param-complete-requires
-param::pattern_param-complete-requires = param.param::pattern_param-complete-requires
+pub params::pattern_param-complete-requires : goal.params::pattern_param-complete-requires
+params::pattern_param-complete-requires = params.params::pattern_param-complete-requires
 
-pub param::pattern_param-returns-clause-reads : goal.param::pattern_param-returns-clause-reads
-param::pattern_param-returns-clause-reads = param.param::pattern_param-returns-clause-reads
+pub params::pattern_param-returns-clause-reads : goal.params::pattern_param-returns-clause-reads
+params::pattern_param-returns-clause-reads = params.params::pattern_param-returns-clause-reads
 
-pub param::self_param-self_after_ref-requires : goal.param::self_param-self_after_ref-requires
-param::self_param-self_after_ref-requires = param.param::self_param-self_after_ref-requires
+pub params::self_param-self_after_ref-requires : goal.params::self_param-self_after_ref-requires
+params::self_param-self_after_ref-requires = params.params::self_param-self_after_ref-requires
 
-pub param::self_param-self_after_mut-requires : goal.param::self_param-self_after_mut-requires
-param::self_param-self_after_mut-requires = param.param::self_param-self_after_mut-requires
+pub params::self_param-self_after_mut-requires : goal.params::self_param-self_after_mut-requires
+params::self_param-self_after_mut-requires = params.params::self_param-self_after_mut-requires
 
-pub param::self_param-self_alone-requires : goal.param::self_param-self_alone-requires
-param::self_param-self_alone-requires = param.param::self_param-self_alone-requires
+pub params::self_param-self_alone-requires : goal.params::self_param-self_alone-requires
+params::self_param-self_alone-requires = params.params::self_param-self_alone-requires
 
-pub param::self_param-returns-in-AMP-clause-gives : goal.param::self_param-returns-in-AMP-clause-gives
-param::self_param-returns-in-AMP-clause-gives = param.param::self_param-returns-in-AMP-clause-gives
+pub params::self_param-returns-in-AMP-clause-gives : goal.params::self_param-returns-in-AMP-clause-gives
+params::self_param-returns-in-AMP-clause-gives = params.params::self_param-returns-in-AMP-clause-gives
 
-pub param::self_param-returns-in-MUT_KW-clause-gives : goal.param::self_param-returns-in-MUT_KW-clause-gives
-param::self_param-returns-in-MUT_KW-clause-gives = param.param::self_param-returns-in-MUT_KW-clause-gives
+pub params::self_param-returns-in-MUT_KW-clause-gives : goal.params::self_param-returns-in-MUT_KW-clause-gives
+params::self_param-returns-in-MUT_KW-clause-gives = params.params::self_param-returns-in-MUT_KW-clause-gives
 
-pub param::self_param-returns-in_default-clause-gives : goal.param::self_param-returns-in_default-clause-gives
-param::self_param-returns-in_default-clause-gives = param.param::self_param-returns-in_default-clause-gives
+pub params::self_param-returns-in_default-clause-gives : goal.params::self_param-returns-in_default-clause-gives
+params::self_param-returns-in_default-clause-gives = params.params::self_param-returns-in_default-clause-gives
 
-pub param::self_after_ref-opt_type-requires : goal.param::self_after_ref-opt_type-requires
-param::self_after_ref-opt_type-requires = param.param::self_after_ref-opt_type-requires
+pub params::self_after_ref-opt_type-requires : goal.params::self_after_ref-opt_type-requires
+params::self_after_ref-opt_type-requires = params.params::self_after_ref-opt_type-requires
 
-pub param::self_after_ref-complete-requires : goal.param::self_after_ref-complete-requires
-param::self_after_ref-complete-requires = param.param::self_after_ref-complete-requires
+pub params::self_after_ref-complete-requires : goal.params::self_after_ref-complete-requires
+params::self_after_ref-complete-requires = params.params::self_after_ref-complete-requires
 
-pub param::self_after_ref-returns-clause-reads : goal.param::self_after_ref-returns-clause-reads
-param::self_after_ref-returns-clause-reads = param.param::self_after_ref-returns-clause-reads
+pub params::self_after_ref-returns-clause-reads : goal.params::self_after_ref-returns-clause-reads
+params::self_after_ref-returns-clause-reads = params.params::self_after_ref-returns-clause-reads
 
-pub param::self_after_mut-opt_type-requires : goal.param::self_after_mut-opt_type-requires
-param::self_after_mut-opt_type-requires = param.param::self_after_mut-opt_type-requires
+pub params::self_after_mut-opt_type-requires : goal.params::self_after_mut-opt_type-requires
+params::self_after_mut-opt_type-requires = params.params::self_after_mut-opt_type-requires
 
-pub param::self_after_mut-complete-requires : goal.param::self_after_mut-complete-requires
-param::self_after_mut-complete-requires = param.param::self_after_mut-complete-requires
+pub params::self_after_mut-complete-requires : goal.params::self_after_mut-complete-requires
+params::self_after_mut-complete-requires = params.params::self_after_mut-complete-requires
 
-pub param::self_after_mut-returns-clause-reads : goal.param::self_after_mut-returns-clause-reads
-param::self_after_mut-returns-clause-reads = param.param::self_after_mut-returns-clause-reads
+pub params::self_after_mut-returns-clause-reads : goal.params::self_after_mut-returns-clause-reads
+params::self_after_mut-returns-clause-reads = params.params::self_after_mut-returns-clause-reads
 
-pub param::self_alone-opt_type-requires : goal.param::self_alone-opt_type-requires
-param::self_alone-opt_type-requires = param.param::self_alone-opt_type-requires
+pub params::self_alone-opt_type-requires : goal.params::self_alone-opt_type-requires
+params::self_alone-opt_type-requires = params.params::self_alone-opt_type-requires
 
-pub param::self_alone-complete-requires : goal.param::self_alone-complete-requires
-param::self_alone-complete-requires = param.param::self_alone-complete-requires
+pub params::self_alone-complete-requires : goal.params::self_alone-complete-requires
+params::self_alone-complete-requires = params.params::self_alone-complete-requires
 
-pub param::self_alone-returns-clause-reads : goal.param::self_alone-returns-clause-reads
-param::self_alone-returns-clause-reads = param.param::self_alone-returns-clause-reads
+pub params::self_alone-returns-clause-reads : goal.params::self_alone-returns-clause-reads
+params::self_alone-returns-clause-reads = params.params::self_alone-returns-clause-reads
 
 pub paths::generic_args-rest_of_list-requires : goal.paths::generic_args-rest_of_list-requires
 paths::generic_args-rest_of_list-requires = paths.paths::generic_args-rest_of_list-requires
@@ -2583,59 +2583,59 @@ statements::ended_expression-statement_end-frame-requires = statements.statement
 pub statements::ended_expression-returns-clause-anew : goal.statements::ended_expression-returns-clause-anew
 statements::ended_expression-returns-clause-anew = statements.statements::ended_expression-returns-clause-anew
 
-pub traits::impl_item-unsafe_word-requires : goal.traits::impl_item-unsafe_word-requires
-traits::impl_item-unsafe_word-requires = traits.traits::impl_item-unsafe_word-requires
+pub items::traits::impl_item-unsafe_word-requires : goal.items::traits::impl_item-unsafe_word-requires
+items::traits::impl_item-unsafe_word-requires = traits.items::traits::impl_item-unsafe_word-requires
 
-pub traits::impl_item-opt_generic_params-requires : goal.traits::impl_item-opt_generic_params-requires
-traits::impl_item-opt_generic_params-requires = traits.traits::impl_item-opt_generic_params-requires
+pub items::traits::impl_item-opt_generic_params-requires : goal.items::traits::impl_item-opt_generic_params-requires
+items::traits::impl_item-opt_generic_params-requires = traits.items::traits::impl_item-opt_generic_params-requires
 
-pub traits::impl_item-expect_type-requires : goal.traits::impl_item-expect_type-requires
-traits::impl_item-expect_type-requires = traits.traits::impl_item-expect_type-requires
+pub items::traits::impl_item-expect_type-requires : goal.items::traits::impl_item-expect_type-requires
+items::traits::impl_item-expect_type-requires = traits.items::traits::impl_item-expect_type-requires
 
-pub traits::impl_item-opt_type_after-requires : goal.traits::impl_item-opt_type_after-requires
-traits::impl_item-opt_type_after-requires = traits.traits::impl_item-opt_type_after-requires
+pub items::traits::impl_item-opt_type_after-requires : goal.items::traits::impl_item-opt_type_after-requires
+items::traits::impl_item-opt_type_after-requires = traits.items::traits::impl_item-opt_type_after-requires
 
-pub traits::impl_item-opt_where_clause-requires : goal.traits::impl_item-opt_where_clause-requires
-traits::impl_item-opt_where_clause-requires = traits.traits::impl_item-opt_where_clause-requires
+pub items::traits::impl_item-opt_where_clause-requires : goal.items::traits::impl_item-opt_where_clause-requires
+items::traits::impl_item-opt_where_clause-requires = traits.items::traits::impl_item-opt_where_clause-requires
 
-pub traits::impl_item-expect_assoc_items-requires : goal.traits::impl_item-expect_assoc_items-requires
-traits::impl_item-expect_assoc_items-requires = traits.traits::impl_item-expect_assoc_items-requires
+pub items::traits::impl_item-expect_assoc_items-requires : goal.items::traits::impl_item-expect_assoc_items-requires
+items::traits::impl_item-expect_assoc_items-requires = traits.items::traits::impl_item-expect_assoc_items-requires
 
-pub traits::impl_item-complete-requires : goal.traits::impl_item-complete-requires
-traits::impl_item-complete-requires = traits.traits::impl_item-complete-requires
+pub items::traits::impl_item-complete-requires : goal.items::traits::impl_item-complete-requires
+items::traits::impl_item-complete-requires = traits.items::traits::impl_item-complete-requires
 
-pub traits::impl_item-returns-clause-completes : goal.traits::impl_item-returns-clause-completes
-traits::impl_item-returns-clause-completes = traits.traits::impl_item-returns-clause-completes
+pub items::traits::impl_item-returns-clause-completes : goal.items::traits::impl_item-returns-clause-completes
+items::traits::impl_item-returns-clause-completes = traits.items::traits::impl_item-returns-clause-completes
 
-pub traits::trait_item-unsafe_word-requires : goal.traits::trait_item-unsafe_word-requires
-traits::trait_item-unsafe_word-requires = traits.traits::trait_item-unsafe_word-requires
+pub items::traits::trait_item-unsafe_word-requires : goal.items::traits::trait_item-unsafe_word-requires
+items::traits::trait_item-unsafe_word-requires = traits.items::traits::trait_item-unsafe_word-requires
 
-pub traits::trait_item-opt_generic_params-requires : goal.traits::trait_item-opt_generic_params-requires
-traits::trait_item-opt_generic_params-requires = traits.traits::trait_item-opt_generic_params-requires
+pub items::traits::trait_item-opt_generic_params-requires : goal.items::traits::trait_item-opt_generic_params-requires
+items::traits::trait_item-opt_generic_params-requires = traits.items::traits::trait_item-opt_generic_params-requires
 
-pub traits::trait_item-bounds_after_colon-requires : goal.traits::trait_item-bounds_after_colon-requires
-traits::trait_item-bounds_after_colon-requires = traits.traits::trait_item-bounds_after_colon-requires
+pub items::traits::trait_item-bounds_after_colon-requires : goal.items::traits::trait_item-bounds_after_colon-requires
+items::traits::trait_item-bounds_after_colon-requires = traits.items::traits::trait_item-bounds_after_colon-requires
 
-pub traits::trait_item-opt_where_clause-requires : goal.traits::trait_item-opt_where_clause-requires
-traits::trait_item-opt_where_clause-requires = traits.traits::trait_item-opt_where_clause-requires
+pub items::traits::trait_item-opt_where_clause-requires : goal.items::traits::trait_item-opt_where_clause-requires
+items::traits::trait_item-opt_where_clause-requires = traits.items::traits::trait_item-opt_where_clause-requires
 
-pub traits::trait_item-expect_assoc_items-requires : goal.traits::trait_item-expect_assoc_items-requires
-traits::trait_item-expect_assoc_items-requires = traits.traits::trait_item-expect_assoc_items-requires
+pub items::traits::trait_item-expect_assoc_items-requires : goal.items::traits::trait_item-expect_assoc_items-requires
+items::traits::trait_item-expect_assoc_items-requires = traits.items::traits::trait_item-expect_assoc_items-requires
 
-pub traits::trait_item-complete-requires : goal.traits::trait_item-complete-requires
-traits::trait_item-complete-requires = traits.traits::trait_item-complete-requires
+pub items::traits::trait_item-complete-requires : goal.items::traits::trait_item-complete-requires
+items::traits::trait_item-complete-requires = traits.items::traits::trait_item-complete-requires
 
-pub traits::trait_item-returns-clause-completes : goal.traits::trait_item-returns-clause-completes
-traits::trait_item-returns-clause-completes = traits.traits::trait_item-returns-clause-completes
+pub items::traits::trait_item-returns-clause-completes : goal.items::traits::trait_item-returns-clause-completes
+items::traits::trait_item-returns-clause-completes = traits.items::traits::trait_item-returns-clause-completes
 
-pub traits::expect_assoc_items-assoc_items-requires : goal.traits::expect_assoc_items-assoc_items-requires
-traits::expect_assoc_items-assoc_items-requires = traits.traits::expect_assoc_items-assoc_items-requires
+pub items::traits::expect_assoc_items-assoc_items-requires : goal.items::traits::expect_assoc_items-assoc_items-requires
+items::traits::expect_assoc_items-assoc_items-requires = traits.items::traits::expect_assoc_items-assoc_items-requires
 
-pub traits::expect_assoc_items-returns-then-at-clause-reads : goal.traits::expect_assoc_items-returns-then-at-clause-reads
-traits::expect_assoc_items-returns-then-at-clause-reads = traits.traits::expect_assoc_items-returns-then-at-clause-reads
+pub items::traits::expect_assoc_items-returns-then-at-clause-reads : goal.items::traits::expect_assoc_items-returns-then-at-clause-reads
+items::traits::expect_assoc_items-returns-then-at-clause-reads = traits.items::traits::expect_assoc_items-returns-then-at-clause-reads
 
-pub traits::expect_assoc_items-returns-clause-reads : goal.traits::expect_assoc_items-returns-clause-reads
-traits::expect_assoc_items-returns-clause-reads = traits.traits::expect_assoc_items-returns-clause-reads
+pub items::traits::expect_assoc_items-returns-clause-reads : goal.items::traits::expect_assoc_items-returns-clause-reads
+items::traits::expect_assoc_items-returns-clause-reads = traits.items::traits::expect_assoc_items-returns-clause-reads
 
 pub types::any_type-returns-clause-gives : goal.types::any_type-returns-clause-gives
 types::any_type-returns-clause-gives = types.types::any_type-returns-clause-gives

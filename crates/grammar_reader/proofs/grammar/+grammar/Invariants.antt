@@ -99,20 +99,20 @@ decreases-attributes::meta l = 512 * tokens l.p.now + 13
 abbrev pub decreases-attributes::opt_value : goal.decreases-attributes::opt_value
 decreases-attributes::opt_value l = 512 * tokens l.p.now + 12
 
-abbrev pub decreases-blocks::block : goal.decreases-blocks::block
-decreases-blocks::block l = 512 * tokens l.p.now + 1
+abbrev pub decreases-expressions::blocks::block : goal.decreases-expressions::blocks::block
+decreases-expressions::blocks::block l = 512 * tokens l.p.now + 1
 
-abbrev pub decreases-blocks::statement_list : goal.decreases-blocks::statement_list
-decreases-blocks::statement_list l = 512 * tokens l.p.now
+abbrev pub decreases-expressions::blocks::statement_list : goal.decreases-expressions::blocks::statement_list
+decreases-expressions::blocks::statement_list l = 512 * tokens l.p.now
 
-abbrev pub decreases-blocks::statements : goal.decreases-blocks::statements
-decreases-blocks::statements l = 512 * tokens l.p.now + 107
+abbrev pub decreases-expressions::blocks::statements : goal.decreases-expressions::blocks::statements
+decreases-expressions::blocks::statements l = 512 * tokens l.p.now + 107
 
-abbrev pub decreases-blocks::statement_turn : goal.decreases-blocks::statement_turn
-decreases-blocks::statement_turn l = 512 * tokens l.p.now + 106
+abbrev pub decreases-expressions::blocks::statement_turn : goal.decreases-expressions::blocks::statement_turn
+decreases-expressions::blocks::statement_turn l = 512 * tokens l.p.now + 106
 
-abbrev pub invariant-blocks::statements-turns : goal.invariant-blocks::statements-turns
-invariant-blocks::statements-turns l = record {
+abbrev pub invariant-expressions::blocks::statements-turns : goal.invariant-expressions::blocks::statements-turns
+invariant-expressions::blocks::statements-turns l = record {
   input : l.p.input ≡ l.initial.p.input;
   innermost : (n : ℕ) → IsInnermost n l.initial.p.nodes → IsInnermost n l.p.nodes;
   goes : TurnsFrom false (Unless (ends_of l.end) (Call (listing_of l.end).one)) l.initial.p l.p;
@@ -120,8 +120,8 @@ invariant-blocks::statements-turns l = record {
   looks : spent l.p ≤ spent l.initial.p;
 }
 
-abbrev pub decreases-blocks::statements-turns : goal.decreases-blocks::statements-turns
-decreases-blocks::statements-turns l = tokens l.p
+abbrev pub decreases-expressions::blocks::statements-turns : goal.decreases-expressions::blocks::statements-turns
+decreases-expressions::blocks::statements-turns l = tokens l.p
 
 abbrev pub decreases-types::any_type : goal.decreases-types::any_type
 decreases-types::any_type l = 512 * tokens l.p.now + 18
@@ -237,128 +237,128 @@ abbrev pub decreases-or_patterns::further-turns : goal.decreases-or_patterns::fu
 decreases-or_patterns::further-turns l = tokens l.p
 
 -- expressions by hand
-abbrev pub decreases-control::unsafe_block : goal.decreases-control::unsafe_block
-decreases-control::unsafe_block l = 512 * tokens l.p.now
+abbrev pub decreases-expressions::control::unsafe_block : goal.decreases-expressions::control::unsafe_block
+decreases-expressions::control::unsafe_block l = 512 * tokens l.p.now
 
-abbrev pub decreases-control::if_expr : goal.decreases-control::if_expr
-decreases-control::if_expr l = 512 * tokens l.p.now
+abbrev pub decreases-expressions::control::if_expr : goal.decreases-expressions::control::if_expr
+decreases-expressions::control::if_expr l = 512 * tokens l.p.now
 
-abbrev pub decreases-control::while_expr : goal.decreases-control::while_expr
-decreases-control::while_expr l = 512 * tokens l.p.now
+abbrev pub decreases-expressions::control::while_expr : goal.decreases-expressions::control::while_expr
+decreases-expressions::control::while_expr l = 512 * tokens l.p.now
 
-abbrev pub decreases-control::loop_expr : goal.decreases-control::loop_expr
-decreases-control::loop_expr l = 512 * tokens l.p.now
+abbrev pub decreases-expressions::control::loop_expr : goal.decreases-expressions::control::loop_expr
+decreases-expressions::control::loop_expr l = 512 * tokens l.p.now
 
-abbrev pub decreases-control::for_expr : goal.decreases-control::for_expr
-decreases-control::for_expr l = 512 * tokens l.p.now
+abbrev pub decreases-expressions::control::for_expr : goal.decreases-expressions::control::for_expr
+decreases-expressions::control::for_expr l = 512 * tokens l.p.now
 
-abbrev pub decreases-control::match_expr : goal.decreases-control::match_expr
-decreases-control::match_expr l = 512 * tokens l.p.now
+abbrev pub decreases-expressions::control::match_expr : goal.decreases-expressions::control::match_expr
+decreases-expressions::control::match_expr l = 512 * tokens l.p.now
 
-abbrev pub decreases-control::match_arms : goal.decreases-control::match_arms
-decreases-control::match_arms l = 512 * tokens l.p.now
+abbrev pub decreases-expressions::control::match_arms : goal.decreases-expressions::control::match_arms
+decreases-expressions::control::match_arms l = 512 * tokens l.p.now
 
-abbrev pub decreases-atoms::paren_expr : goal.decreases-atoms::paren_expr
-decreases-atoms::paren_expr l = 512 * tokens l.p.now
+abbrev pub decreases-expressions::atom::paren_expr : goal.decreases-expressions::atom::paren_expr
+decreases-expressions::atom::paren_expr l = 512 * tokens l.p.now
 
-abbrev pub decreases-atoms::array_expr : goal.decreases-atoms::array_expr
-decreases-atoms::array_expr l = 512 * tokens l.p.now
+abbrev pub decreases-expressions::atom::array_expr : goal.decreases-expressions::atom::array_expr
+decreases-expressions::atom::array_expr l = 512 * tokens l.p.now
 
-abbrev pub decreases-atoms::value_expr : goal.decreases-atoms::value_expr
-decreases-atoms::value_expr l = 512 * tokens l.p.now
+abbrev pub decreases-expressions::atom::value_expr : goal.decreases-expressions::atom::value_expr
+decreases-expressions::atom::value_expr l = 512 * tokens l.p.now
 
-abbrev pub decreases-closures::closure_params : goal.decreases-closures::closure_params
-decreases-closures::closure_params l = 512 * tokens l.p.now
+abbrev pub decreases-expressions::closures::closure_params : goal.decreases-expressions::closures::closure_params
+decreases-expressions::closures::closure_params l = 512 * tokens l.p.now
 
-abbrev pub decreases-atoms::let_expr : goal.decreases-atoms::let_expr
-decreases-atoms::let_expr l = 512 * tokens l.p.now
+abbrev pub decreases-expressions::atom::let_expr : goal.decreases-expressions::atom::let_expr
+decreases-expressions::atom::let_expr l = 512 * tokens l.p.now
 
-abbrev pub decreases-operands::prefix_expr : goal.decreases-operands::prefix_expr
-decreases-operands::prefix_expr l = 512 * tokens l.p.now
+abbrev pub decreases-expressions::operand::prefix_expr : goal.decreases-expressions::operand::prefix_expr
+decreases-expressions::operand::prefix_expr l = 512 * tokens l.p.now
 
-abbrev pub decreases-operands::ref_expr : goal.decreases-operands::ref_expr
-decreases-operands::ref_expr l = 512 * tokens l.p.now
+abbrev pub decreases-expressions::operand::ref_expr : goal.decreases-expressions::operand::ref_expr
+decreases-expressions::operand::ref_expr l = 512 * tokens l.p.now
 
-abbrev pub decreases-operands::index : goal.decreases-operands::index
-decreases-operands::index l = 512 * tokens l.p.now
+abbrev pub decreases-expressions::operand::index : goal.decreases-expressions::operand::index
+decreases-expressions::operand::index l = 512 * tokens l.p.now
 
-abbrev pub decreases-operands::method_call : goal.decreases-operands::method_call
-decreases-operands::method_call l = 512 * tokens l.p.now
+abbrev pub decreases-expressions::operand::method_call : goal.decreases-expressions::operand::method_call
+decreases-expressions::operand::method_call l = 512 * tokens l.p.now
 
-abbrev pub decreases-closures::opt_type : goal.decreases-closures::opt_type
-decreases-closures::opt_type l = 512 * tokens l.p.now
+abbrev pub decreases-expressions::closures::opt_type : goal.decreases-expressions::closures::opt_type
+decreases-expressions::closures::opt_type l = 512 * tokens l.p.now
 
 abbrev pub decreases-types::ret_type : goal.decreases-types::ret_type
 decreases-types::ret_type l = 512 * tokens l.p.now
 
-abbrev pub decreases-operands::float : goal.decreases-operands::float
-decreases-operands::float l = 512 * tokens l.p.now
+abbrev pub decreases-expressions::operand::float : goal.decreases-expressions::operand::float
+decreases-expressions::operand::float l = 512 * tokens l.p.now
 
-abbrev pub decreases-control::expect_statement_list : goal.decreases-control::expect_statement_list
-decreases-control::expect_statement_list l = 512 * tokens l.p.now + 1
+abbrev pub decreases-expressions::control::expect_statement_list : goal.decreases-expressions::control::expect_statement_list
+decreases-expressions::control::expect_statement_list l = 512 * tokens l.p.now + 1
 
-abbrev pub decreases-control::expect_block : goal.decreases-control::expect_block
-decreases-control::expect_block l = 512 * tokens l.p.now + 2
+abbrev pub decreases-expressions::control::expect_block : goal.decreases-expressions::control::expect_block
+decreases-expressions::control::expect_block l = 512 * tokens l.p.now + 2
 
-abbrev pub decreases-control::expect_match_arms : goal.decreases-control::expect_match_arms
-decreases-control::expect_match_arms l = 512 * tokens l.p.now + 1
+abbrev pub decreases-expressions::control::expect_match_arms : goal.decreases-expressions::control::expect_match_arms
+decreases-expressions::control::expect_match_arms l = 512 * tokens l.p.now + 1
 
-abbrev pub decreases-control::opt_else : goal.decreases-control::opt_else
-decreases-control::opt_else l = 512 * tokens l.p.now + 1
+abbrev pub decreases-expressions::control::opt_else : goal.decreases-expressions::control::opt_else
+decreases-expressions::control::opt_else l = 512 * tokens l.p.now + 1
 
-abbrev pub decreases-control::after_else : goal.decreases-control::after_else
-decreases-control::after_else l = 512 * tokens l.p.now + 3
+abbrev pub decreases-expressions::control::after_else : goal.decreases-expressions::control::after_else
+decreases-expressions::control::after_else l = 512 * tokens l.p.now + 3
 
-abbrev pub decreases-control::block_like : goal.decreases-control::block_like
-decreases-control::block_like l = 512 * tokens l.p.now + 5
+abbrev pub decreases-expressions::control::block_like : goal.decreases-expressions::control::block_like
+decreases-expressions::control::block_like l = 512 * tokens l.p.now + 5
 
-abbrev pub decreases-closures::expect_closure_params : goal.decreases-closures::expect_closure_params
-decreases-closures::expect_closure_params l = 512 * tokens l.p.now + 1
+abbrev pub decreases-expressions::closures::expect_closure_params : goal.decreases-expressions::closures::expect_closure_params
+decreases-expressions::closures::expect_closure_params l = 512 * tokens l.p.now + 1
 
-abbrev pub decreases-closures::move_closure : goal.decreases-closures::move_closure
-decreases-closures::move_closure l = 512 * tokens l.p.now + 3
+abbrev pub decreases-expressions::closures::move_closure : goal.decreases-expressions::closures::move_closure
+decreases-expressions::closures::move_closure l = 512 * tokens l.p.now + 3
 
-abbrev pub decreases-closures::closure_expr : goal.decreases-closures::closure_expr
-decreases-closures::closure_expr l = 512 * tokens l.p.now + 3
+abbrev pub decreases-expressions::closures::closure_expr : goal.decreases-expressions::closures::closure_expr
+decreases-expressions::closures::closure_expr l = 512 * tokens l.p.now + 3
 
-abbrev pub decreases-atoms::after_first : goal.decreases-atoms::after_first
-decreases-atoms::after_first l = 512 * tokens l.p.now + 1
+abbrev pub decreases-expressions::atom::after_first : goal.decreases-expressions::atom::after_first
+decreases-expressions::atom::after_first l = 512 * tokens l.p.now + 1
 
-abbrev pub decreases-atoms::after_element : goal.decreases-atoms::after_element
-decreases-atoms::after_element l = 512 * tokens l.p.now + 1
+abbrev pub decreases-expressions::atom::after_element : goal.decreases-expressions::atom::after_element
+decreases-expressions::atom::after_element l = 512 * tokens l.p.now + 1
 
-abbrev pub decreases-atoms::after_path : goal.decreases-atoms::after_path
-decreases-atoms::after_path l = 512 * tokens l.p.now + 2
+abbrev pub decreases-expressions::atom::after_path : goal.decreases-expressions::atom::after_path
+decreases-expressions::atom::after_path l = 512 * tokens l.p.now + 2
 
-abbrev pub decreases-atoms::path_expr : goal.decreases-atoms::path_expr
-decreases-atoms::path_expr l = 512 * tokens l.p.now + 12
+abbrev pub decreases-expressions::atom::path_expr : goal.decreases-expressions::atom::path_expr
+decreases-expressions::atom::path_expr l = 512 * tokens l.p.now + 12
 
-abbrev pub decreases-atoms::inside : goal.decreases-atoms::inside
-decreases-atoms::inside l = 512 * tokens l.p.now + 30
+abbrev pub decreases-expressions::atom::inside : goal.decreases-expressions::atom::inside
+decreases-expressions::atom::inside l = 512 * tokens l.p.now + 30
 
-abbrev pub decreases-operands::operand : goal.decreases-operands::operand
-decreases-operands::operand l = 512 * tokens l.p.now + 32
+abbrev pub decreases-expressions::operand::operand : goal.decreases-expressions::operand::operand
+decreases-expressions::operand::operand l = 512 * tokens l.p.now + 32
 
-abbrev pub decreases-operands::prefixed : goal.decreases-operands::prefixed
-decreases-operands::prefixed l = 512 * tokens l.p.now + 33
+abbrev pub decreases-expressions::operand::prefixed : goal.decreases-expressions::operand::prefixed
+decreases-expressions::operand::prefixed l = 512 * tokens l.p.now + 33
 
-abbrev pub decreases-operands::postfix : goal.decreases-operands::postfix
-decreases-operands::postfix l = 512 * tokens l.p.now + 1
+abbrev pub decreases-expressions::operand::postfix : goal.decreases-expressions::operand::postfix
+decreases-expressions::operand::postfix l = 512 * tokens l.p.now + 1
 
-abbrev pub decreases-operands::postfixes : goal.decreases-operands::postfixes
-decreases-operands::postfixes l = 512 * tokens l.p.now + 2
+abbrev pub decreases-expressions::operand::postfixes : goal.decreases-expressions::operand::postfixes
+decreases-expressions::operand::postfixes l = 512 * tokens l.p.now + 2
 
-abbrev pub decreases-operands::after_dot : goal.decreases-operands::after_dot
-decreases-operands::after_dot l = 512 * tokens l.p.now + 3
+abbrev pub decreases-expressions::operand::after_dot : goal.decreases-expressions::operand::after_dot
+decreases-expressions::operand::after_dot l = 512 * tokens l.p.now + 3
 
-abbrev pub decreases-operands::expect_arguments : goal.decreases-operands::expect_arguments
-decreases-operands::expect_arguments l = 512 * tokens l.p.now + 1
+abbrev pub decreases-expressions::operand::expect_arguments : goal.decreases-expressions::operand::expect_arguments
+decreases-expressions::operand::expect_arguments l = 512 * tokens l.p.now + 1
 
 abbrev pub decreases-paths::opt_generic_args : goal.decreases-paths::opt_generic_args
 decreases-paths::opt_generic_args l = 512 * tokens l.p.now + 4
 
-abbrev pub decreases-closures::closure_param : goal.decreases-closures::closure_param
-decreases-closures::closure_param l = 512 * tokens l.p.now + 40
+abbrev pub decreases-expressions::closures::closure_param : goal.decreases-expressions::closures::closure_param
+decreases-expressions::closures::closure_param l = 512 * tokens l.p.now + 40
 
 abbrev pub decreases-expressions::expect_expression : goal.decreases-expressions::expect_expression
 decreases-expressions::expect_expression l = 512 * tokens l.p.now + 40
@@ -366,23 +366,23 @@ decreases-expressions::expect_expression l = 512 * tokens l.p.now + 40
 abbrev pub decreases-expressions::expect_condition : goal.decreases-expressions::expect_condition
 decreases-expressions::expect_condition l = 512 * tokens l.p.now + 104
 
-abbrev pub decreases-control::arms : goal.decreases-control::arms
-decreases-control::arms l = 512 * tokens l.p.now + 105
+abbrev pub decreases-expressions::control::arms : goal.decreases-expressions::control::arms
+decreases-expressions::control::arms l = 512 * tokens l.p.now + 105
 
-abbrev pub decreases-control::arm_turn : goal.decreases-control::arm_turn
-decreases-control::arm_turn l = 512 * tokens l.p.now + 104
+abbrev pub decreases-expressions::control::arm_turn : goal.decreases-expressions::control::arm_turn
+decreases-expressions::control::arm_turn l = 512 * tokens l.p.now + 104
 
-abbrev pub decreases-atoms::after_paren : goal.decreases-atoms::after_paren
-decreases-atoms::after_paren l = 512 * tokens l.p.now + 105
+abbrev pub decreases-expressions::atom::after_paren : goal.decreases-expressions::atom::after_paren
+decreases-expressions::atom::after_paren l = 512 * tokens l.p.now + 105
 
-abbrev pub decreases-atoms::array_elements : goal.decreases-atoms::array_elements
-decreases-atoms::array_elements l = 512 * tokens l.p.now + 105
+abbrev pub decreases-expressions::atom::array_elements : goal.decreases-expressions::atom::array_elements
+decreases-expressions::atom::array_elements l = 512 * tokens l.p.now + 105
 
-abbrev pub decreases-atoms::opt_value : goal.decreases-atoms::opt_value
-decreases-atoms::opt_value l = 512 * tokens l.p.now + 105
+abbrev pub decreases-expressions::atom::opt_value : goal.decreases-expressions::atom::opt_value
+decreases-expressions::atom::opt_value l = 512 * tokens l.p.now + 105
 
-abbrev pub decreases-closures::closure_body : goal.decreases-closures::closure_body
-decreases-closures::closure_body l = 512 * tokens l.p.now + 105
+abbrev pub decreases-expressions::closures::closure_body : goal.decreases-expressions::closures::closure_body
+decreases-expressions::closures::closure_body l = 512 * tokens l.p.now + 105
 
 abbrev pub decreases-lists::read_element : goal.decreases-lists::read_element
 decreases-lists::read_element l = 512 * tokens l.p.now + 101
@@ -411,8 +411,8 @@ decreases-statements::expression_statement l = 512 * tokens l.p.now + 102
 abbrev pub decreases-statements::statement : goal.decreases-statements::statement
 decreases-statements::statement l = 512 * tokens l.p.now + 103
 
-abbrev pub invariant-control::arms-turns : goal.invariant-control::arms-turns
-invariant-control::arms-turns l = record {
+abbrev pub invariant-expressions::control::arms-turns : goal.invariant-expressions::control::arms-turns
+invariant-expressions::control::arms-turns l = record {
   input : l.p.input ≡ l.initial.p.input;
   innermost : (n : ℕ) → IsInnermost n l.initial.p.nodes → IsInnermost n l.p.nodes;
   goes : TurnsFrom false (Unless (until 'r_curly') (MatchArm or Skip ExpectedMatchArm)) l.initial.p l.p;
@@ -420,11 +420,11 @@ invariant-control::arms-turns l = record {
   looks : spent l.p ≤ spent l.initial.p;
 }
 
-abbrev pub decreases-control::arms-turns : goal.decreases-control::arms-turns
-decreases-control::arms-turns l = tokens l.p
+abbrev pub decreases-expressions::control::arms-turns : goal.decreases-expressions::control::arms-turns
+decreases-expressions::control::arms-turns l = tokens l.p
 
-abbrev pub invariant-operands::postfixes-turns : goal.invariant-operands::postfixes-turns
-invariant-operands::postfixes-turns l = record {
+abbrev pub invariant-expressions::operand::postfixes-turns : goal.invariant-expressions::operand::postfixes-turns
+invariant-expressions::operand::postfixes-turns l = record {
   input : l.p.input ≡ l.initial.p.input;
   marker : IsInnermost l.frame l.p.nodes;
   goes : (c : Bool) → TurnsFrom c (more rules.postfix) l.initial.p l.p;
@@ -432,8 +432,8 @@ invariant-operands::postfixes-turns l = record {
   looks : spent l.p ≤ spent l.initial.p;
 }
 
-abbrev pub decreases-operands::postfixes-turns : goal.decreases-operands::postfixes-turns
-decreases-operands::postfixes-turns l = tokens l.p
+abbrev pub decreases-expressions::operand::postfixes-turns : goal.decreases-expressions::operand::postfixes-turns
+decreases-expressions::operand::postfixes-turns l = tokens l.p
 
 -- items by hand
 abbrev pub decreases-items::item : goal.decreases-items::item
@@ -478,56 +478,56 @@ decreases-items::opt_generic_params l = 512 * tokens l.p.now + 1
 abbrev pub decreases-items::opt_where_clause : goal.decreases-items::opt_where_clause
 decreases-items::opt_where_clause l = 512 * tokens l.p.now + 1
 
-abbrev pub decreases-adt::struct_item : goal.decreases-adt::struct_item
-decreases-adt::struct_item l = 512 * tokens l.p.now
+abbrev pub decreases-items::adt::struct_item : goal.decreases-items::adt::struct_item
+decreases-items::adt::struct_item l = 512 * tokens l.p.now
 
-abbrev pub decreases-adt::fields : goal.decreases-adt::fields
-decreases-adt::fields l = 512 * tokens l.p.now + 2
+abbrev pub decreases-items::adt::fields : goal.decreases-items::adt::fields
+decreases-items::adt::fields l = 512 * tokens l.p.now + 2
 
-abbrev pub decreases-adt::named_fields : goal.decreases-adt::named_fields
-decreases-adt::named_fields l = 512 * tokens l.p.now + 1
+abbrev pub decreases-items::adt::named_fields : goal.decreases-items::adt::named_fields
+decreases-items::adt::named_fields l = 512 * tokens l.p.now + 1
 
-abbrev pub decreases-adt::enum_item : goal.decreases-adt::enum_item
-decreases-adt::enum_item l = 512 * tokens l.p.now
+abbrev pub decreases-items::adt::enum_item : goal.decreases-items::adt::enum_item
+decreases-items::adt::enum_item l = 512 * tokens l.p.now
 
-abbrev pub decreases-adt::expect_variants : goal.decreases-adt::expect_variants
-decreases-adt::expect_variants l = 512 * tokens l.p.now + 1
+abbrev pub decreases-items::adt::expect_variants : goal.decreases-items::adt::expect_variants
+decreases-items::adt::expect_variants l = 512 * tokens l.p.now + 1
 
-abbrev pub decreases-consts::const_item : goal.decreases-consts::const_item
-decreases-consts::const_item l = 512 * tokens l.p.now
+abbrev pub decreases-items::consts::const_item : goal.decreases-items::consts::const_item
+decreases-items::consts::const_item l = 512 * tokens l.p.now
 
-abbrev pub decreases-consts::static_item : goal.decreases-consts::static_item
-decreases-consts::static_item l = 512 * tokens l.p.now
+abbrev pub decreases-items::consts::static_item : goal.decreases-items::consts::static_item
+decreases-items::consts::static_item l = 512 * tokens l.p.now
 
-abbrev pub decreases-consts::typed_value : goal.decreases-consts::typed_value
-decreases-consts::typed_value l = 512 * tokens l.p.now + 20
+abbrev pub decreases-items::consts::typed_value : goal.decreases-items::consts::typed_value
+decreases-items::consts::typed_value l = 512 * tokens l.p.now + 20
 
-abbrev pub decreases-consts::opt_value : goal.decreases-consts::opt_value
-decreases-consts::opt_value l = 512 * tokens l.p.now
+abbrev pub decreases-items::consts::opt_value : goal.decreases-items::consts::opt_value
+decreases-items::consts::opt_value l = 512 * tokens l.p.now
 
-abbrev pub decreases-consts::type_alias : goal.decreases-consts::type_alias
-decreases-consts::type_alias l = 512 * tokens l.p.now
+abbrev pub decreases-items::consts::type_alias : goal.decreases-items::consts::type_alias
+decreases-items::consts::type_alias l = 512 * tokens l.p.now
 
-abbrev pub decreases-functions::fn_item : goal.decreases-functions::fn_item
-decreases-functions::fn_item l = 512 * tokens l.p.now
+abbrev pub decreases-items::functions::fn_item : goal.decreases-items::functions::fn_item
+decreases-items::functions::fn_item l = 512 * tokens l.p.now
 
-abbrev pub decreases-functions::expect_params : goal.decreases-functions::expect_params
-decreases-functions::expect_params l = 512 * tokens l.p.now + 1
+abbrev pub decreases-items::functions::expect_params : goal.decreases-items::functions::expect_params
+decreases-items::functions::expect_params l = 512 * tokens l.p.now + 1
 
-abbrev pub decreases-functions::opt_ret_type : goal.decreases-functions::opt_ret_type
-decreases-functions::opt_ret_type l = 512 * tokens l.p.now + 1
+abbrev pub decreases-items::functions::opt_ret_type : goal.decreases-items::functions::opt_ret_type
+decreases-items::functions::opt_ret_type l = 512 * tokens l.p.now + 1
 
-abbrev pub decreases-functions::fn_body : goal.decreases-functions::fn_body
-decreases-functions::fn_body l = 512 * tokens l.p.now + 2
+abbrev pub decreases-items::functions::fn_body : goal.decreases-items::functions::fn_body
+decreases-items::functions::fn_body l = 512 * tokens l.p.now + 2
 
-abbrev pub decreases-traits::impl_item : goal.decreases-traits::impl_item
-decreases-traits::impl_item l = 512 * tokens l.p.now
+abbrev pub decreases-items::traits::impl_item : goal.decreases-items::traits::impl_item
+decreases-items::traits::impl_item l = 512 * tokens l.p.now
 
-abbrev pub decreases-traits::trait_item : goal.decreases-traits::trait_item
-decreases-traits::trait_item l = 512 * tokens l.p.now
+abbrev pub decreases-items::traits::trait_item : goal.decreases-items::traits::trait_item
+decreases-items::traits::trait_item l = 512 * tokens l.p.now
 
-abbrev pub decreases-traits::expect_assoc_items : goal.decreases-traits::expect_assoc_items
-decreases-traits::expect_assoc_items l = 512 * tokens l.p.now + 2
+abbrev pub decreases-items::traits::expect_assoc_items : goal.decreases-items::traits::expect_assoc_items
+decreases-items::traits::expect_assoc_items l = 512 * tokens l.p.now + 2
 
 abbrev pub decreases-types::opt_type_after : goal.decreases-types::opt_type_after
 decreases-types::opt_type_after l = 512 * tokens l.p.now
@@ -557,77 +557,77 @@ abbrev pub decreases-items::items-turns : goal.decreases-items::items-turns
 decreases-items::items-turns l = tokens l.p
 
 -- generics, fields, arms and parameters by hand
-abbrev pub decreases-generics::bound : goal.decreases-generics::bound
-decreases-generics::bound l = 512 * tokens l.p.now + 18
+abbrev pub decreases-generic_params::bound : goal.decreases-generic_params::bound
+decreases-generic_params::bound l = 512 * tokens l.p.now + 18
 
-abbrev pub decreases-generics::lifetime_or_path : goal.decreases-generics::lifetime_or_path
-decreases-generics::lifetime_or_path l = 512 * tokens l.p.now + 17
+abbrev pub decreases-generic_params::lifetime_or_path : goal.decreases-generic_params::lifetime_or_path
+decreases-generic_params::lifetime_or_path l = 512 * tokens l.p.now + 17
 
-abbrev pub decreases-generics::path_after_question : goal.decreases-generics::path_after_question
-decreases-generics::path_after_question l = 512 * tokens l.p.now
+abbrev pub decreases-generic_params::path_after_question : goal.decreases-generic_params::path_after_question
+decreases-generic_params::path_after_question l = 512 * tokens l.p.now
 
-abbrev pub decreases-generics::expect_path_type : goal.decreases-generics::expect_path_type
-decreases-generics::expect_path_type l = 512 * tokens l.p.now + 17
+abbrev pub decreases-generic_params::expect_path_type : goal.decreases-generic_params::expect_path_type
+decreases-generic_params::expect_path_type l = 512 * tokens l.p.now + 17
 
-abbrev pub decreases-generics::bounds : goal.decreases-generics::bounds
-decreases-generics::bounds l = 512 * tokens l.p.now + 20
+abbrev pub decreases-generic_params::bounds : goal.decreases-generic_params::bounds
+decreases-generic_params::bounds l = 512 * tokens l.p.now + 20
 
-abbrev pub decreases-generics::opt_bounds : goal.decreases-generics::opt_bounds
-decreases-generics::opt_bounds l = 512 * tokens l.p.now + 19
+abbrev pub decreases-generic_params::opt_bounds : goal.decreases-generic_params::opt_bounds
+decreases-generic_params::opt_bounds l = 512 * tokens l.p.now + 19
 
-abbrev pub decreases-generics::further_bounds : goal.decreases-generics::further_bounds
-decreases-generics::further_bounds l = 512 * tokens l.p.now + 1
+abbrev pub decreases-generic_params::further_bounds : goal.decreases-generic_params::further_bounds
+decreases-generic_params::further_bounds l = 512 * tokens l.p.now + 1
 
-abbrev pub decreases-generics::further_bound : goal.decreases-generics::further_bound
-decreases-generics::further_bound l = 512 * tokens l.p.now
+abbrev pub decreases-generic_params::further_bound : goal.decreases-generic_params::further_bound
+decreases-generic_params::further_bound l = 512 * tokens l.p.now
 
-abbrev pub decreases-generics::opt_bound : goal.decreases-generics::opt_bound
-decreases-generics::opt_bound l = 512 * tokens l.p.now + 19
+abbrev pub decreases-generic_params::opt_bound : goal.decreases-generic_params::opt_bound
+decreases-generic_params::opt_bound l = 512 * tokens l.p.now + 19
 
-abbrev pub decreases-generics::bounds_after_colon : goal.decreases-generics::bounds_after_colon
-decreases-generics::bounds_after_colon l = 512 * tokens l.p.now
+abbrev pub decreases-generic_params::bounds_after_colon : goal.decreases-generic_params::bounds_after_colon
+decreases-generic_params::bounds_after_colon l = 512 * tokens l.p.now
 
-abbrev pub decreases-generics::lifetime_param : goal.decreases-generics::lifetime_param
-decreases-generics::lifetime_param l = 512 * tokens l.p.now
+abbrev pub decreases-generic_params::lifetime_param : goal.decreases-generic_params::lifetime_param
+decreases-generic_params::lifetime_param l = 512 * tokens l.p.now
 
-abbrev pub decreases-generics::type_param : goal.decreases-generics::type_param
-decreases-generics::type_param l = 512 * tokens l.p.now
+abbrev pub decreases-generic_params::type_param : goal.decreases-generic_params::type_param
+decreases-generic_params::type_param l = 512 * tokens l.p.now
 
-abbrev pub decreases-generics::generic_param : goal.decreases-generics::generic_param
-decreases-generics::generic_param l = 512 * tokens l.p.now + 1
+abbrev pub decreases-generic_params::generic_param : goal.decreases-generic_params::generic_param
+decreases-generic_params::generic_param l = 512 * tokens l.p.now + 1
 
-abbrev pub decreases-generics::lifetime_or_type : goal.decreases-generics::lifetime_or_type
-decreases-generics::lifetime_or_type l = 512 * tokens l.p.now + 19
+abbrev pub decreases-generic_params::lifetime_or_type : goal.decreases-generic_params::lifetime_or_type
+decreases-generic_params::lifetime_or_type l = 512 * tokens l.p.now + 19
 
-abbrev pub decreases-generics::where_pred : goal.decreases-generics::where_pred
-decreases-generics::where_pred l = 512 * tokens l.p.now + 20
+abbrev pub decreases-generic_params::where_pred : goal.decreases-generic_params::where_pred
+decreases-generic_params::where_pred l = 512 * tokens l.p.now + 20
 
-abbrev pub decreases-generics::where_clause : goal.decreases-generics::where_clause
-decreases-generics::where_clause l = 512 * tokens l.p.now
+abbrev pub decreases-generic_params::where_clause : goal.decreases-generic_params::where_clause
+decreases-generic_params::where_clause l = 512 * tokens l.p.now
 
-abbrev pub decreases-generics::opt_preds : goal.decreases-generics::opt_preds
-decreases-generics::opt_preds l = 512 * tokens l.p.now + 21
+abbrev pub decreases-generic_params::opt_preds : goal.decreases-generic_params::opt_preds
+decreases-generic_params::opt_preds l = 512 * tokens l.p.now + 21
 
-abbrev pub decreases-generics::further_preds : goal.decreases-generics::further_preds
-decreases-generics::further_preds l = 512 * tokens l.p.now + 1
+abbrev pub decreases-generic_params::further_preds : goal.decreases-generic_params::further_preds
+decreases-generic_params::further_preds l = 512 * tokens l.p.now + 1
 
-abbrev pub decreases-generics::further_pred : goal.decreases-generics::further_pred
-decreases-generics::further_pred l = 512 * tokens l.p.now
+abbrev pub decreases-generic_params::further_pred : goal.decreases-generic_params::further_pred
+decreases-generic_params::further_pred l = 512 * tokens l.p.now
 
-abbrev pub decreases-generics::opt_pred : goal.decreases-generics::opt_pred
-decreases-generics::opt_pred l = 512 * tokens l.p.now + 21
+abbrev pub decreases-generic_params::opt_pred : goal.decreases-generic_params::opt_pred
+decreases-generic_params::opt_pred l = 512 * tokens l.p.now + 21
 
-abbrev pub decreases-generic_arg::generic_arg : goal.decreases-generic_arg::generic_arg
-decreases-generic_arg::generic_arg l = 512 * tokens l.p.now + 21
+abbrev pub decreases-generic_args::generic_arg : goal.decreases-generic_args::generic_arg
+decreases-generic_args::generic_arg l = 512 * tokens l.p.now + 21
 
-abbrev pub decreases-generic_arg::word_arg : goal.decreases-generic_arg::word_arg
-decreases-generic_arg::word_arg l = 512 * tokens l.p.now + 20
+abbrev pub decreases-generic_args::word_arg : goal.decreases-generic_args::word_arg
+decreases-generic_args::word_arg l = 512 * tokens l.p.now + 20
 
-abbrev pub decreases-generic_arg::assoc_type_arg : goal.decreases-generic_arg::assoc_type_arg
-decreases-generic_arg::assoc_type_arg l = 512 * tokens l.p.now
+abbrev pub decreases-generic_args::assoc_type_arg : goal.decreases-generic_args::assoc_type_arg
+decreases-generic_args::assoc_type_arg l = 512 * tokens l.p.now
 
-abbrev pub decreases-generic_arg::type_arg : goal.decreases-generic_arg::type_arg
-decreases-generic_arg::type_arg l = 512 * tokens l.p.now + 19
+abbrev pub decreases-generic_args::type_arg : goal.decreases-generic_args::type_arg
+decreases-generic_args::type_arg l = 512 * tokens l.p.now + 19
 
 abbrev pub decreases-fields::field_value : goal.decreases-fields::field_value
 decreases-fields::field_value l = 512 * tokens l.p.now + 10
@@ -650,67 +650,67 @@ decreases-fields::pattern_field l = 512 * tokens l.p.now + 1
 abbrev pub decreases-fields::named_pattern : goal.decreases-fields::named_pattern
 decreases-fields::named_pattern l = 512 * tokens l.p.now
 
-abbrev pub decreases-match_arm::match_arm : goal.decreases-match_arm::match_arm
-decreases-match_arm::match_arm l = 512 * tokens l.p.now + 25
+abbrev pub decreases-expressions::match_arm::match_arm : goal.decreases-expressions::match_arm::match_arm
+decreases-expressions::match_arm::match_arm l = 512 * tokens l.p.now + 25
 
-abbrev pub decreases-match_arm::opt_guard : goal.decreases-match_arm::opt_guard
-decreases-match_arm::opt_guard l = 512 * tokens l.p.now
+abbrev pub decreases-expressions::match_arm::opt_guard : goal.decreases-expressions::match_arm::opt_guard
+decreases-expressions::match_arm::opt_guard l = 512 * tokens l.p.now
 
-abbrev pub decreases-match_arm::arm_value : goal.decreases-match_arm::arm_value
-decreases-match_arm::arm_value l = 512 * tokens l.p.now + 102
+abbrev pub decreases-expressions::match_arm::arm_value : goal.decreases-expressions::match_arm::arm_value
+decreases-expressions::match_arm::arm_value l = 512 * tokens l.p.now + 102
 
-abbrev pub decreases-param::param : goal.decreases-param::param
-decreases-param::param l = 512 * tokens l.p.now + 26
+abbrev pub decreases-params::param : goal.decreases-params::param
+decreases-params::param l = 512 * tokens l.p.now + 26
 
-abbrev pub decreases-param::pattern_param : goal.decreases-param::pattern_param
-decreases-param::pattern_param l = 512 * tokens l.p.now + 25
+abbrev pub decreases-params::pattern_param : goal.decreases-params::pattern_param
+decreases-params::pattern_param l = 512 * tokens l.p.now + 25
 
-abbrev pub decreases-param::self_param : goal.decreases-param::self_param
-decreases-param::self_param l = 512 * tokens l.p.now + 1
+abbrev pub decreases-params::self_param : goal.decreases-params::self_param
+decreases-params::self_param l = 512 * tokens l.p.now + 1
 
-abbrev pub decreases-param::self_after_ref : goal.decreases-param::self_after_ref
-decreases-param::self_after_ref l = 512 * tokens l.p.now
+abbrev pub decreases-params::self_after_ref : goal.decreases-params::self_after_ref
+decreases-params::self_after_ref l = 512 * tokens l.p.now
 
-abbrev pub decreases-param::self_after_mut : goal.decreases-param::self_after_mut
-decreases-param::self_after_mut l = 512 * tokens l.p.now
+abbrev pub decreases-params::self_after_mut : goal.decreases-params::self_after_mut
+decreases-params::self_after_mut l = 512 * tokens l.p.now
 
-abbrev pub decreases-param::self_alone : goal.decreases-param::self_alone
-decreases-param::self_alone l = 512 * tokens l.p.now
+abbrev pub decreases-params::self_alone : goal.decreases-params::self_alone
+decreases-params::self_alone l = 512 * tokens l.p.now
 
-abbrev pub invariant-generics::further_bounds-turns : goal.invariant-generics::further_bounds-turns
-invariant-generics::further_bounds-turns l = record {
+abbrev pub invariant-generic_params::further_bounds-turns : goal.invariant-generic_params::further_bounds-turns
+invariant-generic_params::further_bounds-turns l = record {
   input : l.p.input ≡ l.initial.p.input;
   goes : (c : Bool) → TurnsFrom c (One '+' ▸ ⁅ Bound ⁆) l.initial.p l.p;
   left : tokens l.p ≤ tokens l.initial.p;
   looks : spent l.p ≤ spent l.initial.p;
 }
 
-abbrev pub decreases-generics::further_bounds-turns : goal.decreases-generics::further_bounds-turns
-decreases-generics::further_bounds-turns l = tokens l.p
+abbrev pub decreases-generic_params::further_bounds-turns : goal.decreases-generic_params::further_bounds-turns
+decreases-generic_params::further_bounds-turns l = tokens l.p
 
-abbrev pub invariant-generics::further_preds-turns : goal.invariant-generics::further_preds-turns
-invariant-generics::further_preds-turns l = record {
+abbrev pub invariant-generic_params::further_preds-turns : goal.invariant-generic_params::further_preds-turns
+invariant-generic_params::further_preds-turns l = record {
   input : l.p.input ≡ l.initial.p.input;
   goes : TurnsFrom l.condition (One 'comma' ▸ ⁅ WherePred ⁆) l.initial.p l.p;
   left : tokens l.p ≤ tokens l.initial.p;
   looks : spent l.p ≤ spent l.initial.p;
 }
 
-abbrev pub decreases-generics::further_preds-turns : goal.decreases-generics::further_preds-turns
-decreases-generics::further_preds-turns l = tokens l.p
+abbrev pub decreases-generic_params::further_preds-turns : goal.decreases-generic_params::further_preds-turns
+decreases-generic_params::further_preds-turns l = tokens l.p
 
 -- operations by hand
-abbrev pub decreases-layers::layers : goal.decreases-layers::layers
-decreases-layers::layers l = 512 * tokens l.p.now + 34
+abbrev pub decreases-expressions::layers::layers : goal.decreases-expressions::layers::layers
+decreases-expressions::layers::layers l = 512 * tokens l.p.now + 34
 
-abbrev pub decreases-layers::expect_layer : goal.decreases-layers::expect_layer
-decreases-layers::expect_layer l = 512 * tokens l.p.now + 35
+abbrev pub decreases-expressions::layers::expect_layer : goal.decreases-expressions::layers::expect_layer
+decreases-expressions::layers::expect_layer l = 512 * tokens l.p.now + 35
 
-abbrev pub decreases-layers::climb : goal.decreases-layers::climb
-decreases-layers::climb l = 512 * tokens l.p.now + 1
+abbrev pub decreases-expressions::layers::climb : goal.decreases-expressions::layers::climb
+decreases-expressions::layers::climb l = 512 * tokens l.p.now + 1
 
-abbrev pub decreases-layers::turn : goal.decreases-layers::turn
-decreases-layers::turn l = 512 * tokens l.p.now
+abbrev pub decreases-expressions::layers::turn : goal.decreases-expressions::layers::turn
+decreases-expressions::layers::turn l = 512 * tokens l.p.now
 
 abbrev pub decreases-expressions::expect_any : goal.decreases-expressions::expect_any
 decreases-expressions::expect_any l = 512 * tokens l.p.now + 39
@@ -739,8 +739,8 @@ decreases-expressions::range_end l = 512 * tokens l.p.now
 abbrev pub decreases-expressions::assignment : goal.decreases-expressions::assignment
 decreases-expressions::assignment l = 512 * tokens l.p.now
 
-abbrev pub invariant-layers::climb-turns : goal.invariant-layers::climb-turns
-invariant-layers::climb-turns l = record {
+abbrev pub invariant-expressions::layers::climb-turns : goal.invariant-expressions::layers::climb-turns
+invariant-expressions::layers::climb-turns l = record {
   input : l.p.input ≡ l.initial.p.input;
   marker : IsInnermost l.frame l.p.nodes;
   next : IsNext l.next l.p;
@@ -751,8 +751,8 @@ invariant-layers::climb-turns l = record {
   looks : spent l.p ≤ spent l.initial.p;
 }
 
-abbrev pub decreases-layers::climb-turns : goal.decreases-layers::climb-turns
-decreases-layers::climb-turns l = tokens l.p
+abbrev pub decreases-expressions::layers::climb-turns : goal.decreases-expressions::layers::climb-turns
+decreases-expressions::layers::climb-turns l = tokens l.p
 
 abbrev pub invariant-expressions::operation_tail-ranges-2 : goal.invariant-expressions::operation_tail-ranges-2
 invariant-expressions::operation_tail-ranges-2 l = record {
@@ -780,20 +780,20 @@ decreases-lists::tuple_fields l = 512 * tokens l.p.now
 abbrev pub decreases-items::attributes_and_visibility : goal.decreases-items::attributes_and_visibility
 decreases-items::attributes_and_visibility l = 512 * tokens l.p.now + 1
 
-abbrev pub decreases-members::named : goal.decreases-members::named
-decreases-members::named l = 512 * tokens l.p.now + 2
+abbrev pub decreases-items::members::named : goal.decreases-items::members::named
+decreases-items::members::named l = 512 * tokens l.p.now + 2
 
-abbrev pub decreases-members::typed : goal.decreases-members::typed
-decreases-members::typed l = 512 * tokens l.p.now + 20
+abbrev pub decreases-items::members::typed : goal.decreases-items::members::typed
+decreases-items::members::typed l = 512 * tokens l.p.now + 20
 
-abbrev pub decreases-members::opt_fields : goal.decreases-members::opt_fields
-decreases-members::opt_fields l = 512 * tokens l.p.now + 1
+abbrev pub decreases-items::members::opt_fields : goal.decreases-items::members::opt_fields
+decreases-items::members::opt_fields l = 512 * tokens l.p.now + 1
 
-abbrev pub decreases-members::variant : goal.decreases-members::variant
-decreases-members::variant l = 512 * tokens l.p.now + 3
+abbrev pub decreases-items::members::variant : goal.decreases-items::members::variant
+decreases-items::members::variant l = 512 * tokens l.p.now + 3
 
-abbrev pub decreases-members::record_field : goal.decreases-members::record_field
-decreases-members::record_field l = 512 * tokens l.p.now + 3
+abbrev pub decreases-items::members::record_field : goal.decreases-items::members::record_field
+decreases-items::members::record_field l = 512 * tokens l.p.now + 3
 
-abbrev pub decreases-members::tuple_field : goal.decreases-members::tuple_field
-decreases-members::tuple_field l = 512 * tokens l.p.now + 21
+abbrev pub decreases-items::members::tuple_field : goal.decreases-items::members::tuple_field
+decreases-items::members::tuple_field l = 512 * tokens l.p.now + 21

@@ -16,71 +16,71 @@ use Rattle.rust_productions.proofs.Choices.{reads-here}
 use Rattle.rust_productions.proofs.Facts.{nothing, saw-so, ◌and◌}
 use Rattle.grammar_reader.proofs.grammar.+grammar.Goals as goal
 
-pub adt::struct_item-opt_generic_params-requires : goal.adt::struct_item-opt_generic_params-requires
-adt::struct_item-opt_generic_params-requires t c = (omega arith, short-still _ _ ((c.expect_name.ensures.reads true).does.input ∙ (c.take.ensures.reads true).does.input) c.requires.short)
+pub items::adt::struct_item-opt_generic_params-requires : goal.items::adt::struct_item-opt_generic_params-requires
+items::adt::struct_item-opt_generic_params-requires t c = (omega arith, short-still _ _ ((c.expect_name.ensures.reads true).does.input ∙ (c.take.ensures.reads true).does.input) c.requires.short)
 
-pub adt::struct_item-fields-requires : goal.adt::struct_item-fields-requires
-adt::struct_item-fields-requires t c = (omega arith, short-still _ _ ((c.opt_generic_params.ensures.reads true).does.input ∙ (c.expect_name.ensures.reads true).does.input ∙ (c.take.ensures.reads true).does.input) c.requires.short)
+pub items::adt::struct_item-fields-requires : goal.items::adt::struct_item-fields-requires
+items::adt::struct_item-fields-requires t c = (omega arith, short-still _ _ ((c.opt_generic_params.ensures.reads true).does.input ∙ (c.expect_name.ensures.reads true).does.input ∙ (c.take.ensures.reads true).does.input) c.requires.short)
 
-pub adt::struct_item-complete-requires : goal.adt::struct_item-complete-requires
-adt::struct_item-complete-requires t c = c.fields.ensures.reads.does.innermost _ ((c.opt_generic_params.ensures.reads true).does.innermost _ ((c.expect_name.ensures.reads true).does.innermost _ ((c.take.ensures.reads true).does.innermost _ c.requires.innermost)))
+pub items::adt::struct_item-complete-requires : goal.items::adt::struct_item-complete-requires
+items::adt::struct_item-complete-requires t c = c.fields.ensures.reads.does.innermost _ ((c.opt_generic_params.ensures.reads true).does.innermost _ ((c.expect_name.ensures.reads true).does.innermost _ ((c.take.ensures.reads true).does.innermost _ c.requires.innermost)))
 
-pub adt::struct_item-returns-clause-completes : goal.adt::struct_item-returns-clause-completes
-adt::struct_item-returns-clause-completes t c = completes-wrap (reads-then _ (c.take.ensures.reads c.args.condition) (reads-then _ (c.expect_name.ensures.reads c.args.condition) (reads-then _ (c.opt_generic_params.ensures.reads c.args.condition) c.fields.ensures.reads))) c.complete.ensures.closes
+pub items::adt::struct_item-returns-clause-completes : goal.items::adt::struct_item-returns-clause-completes
+items::adt::struct_item-returns-clause-completes t c = completes-wrap (reads-then _ (c.take.ensures.reads c.args.condition) (reads-then _ (c.expect_name.ensures.reads c.args.condition) (reads-then _ (c.opt_generic_params.ensures.reads c.args.condition) c.fields.ensures.reads))) c.complete.ensures.closes
 
-pub adt::fields-opt_where_clause-requires : goal.adt::fields-opt_where_clause-requires
-adt::fields-opt_where_clause-requires t c = (omega arith, short-still _ _ ((c.tuple_fields.ensures.gives true).does.input ∙ c.at.ensures.same.input) c.requires.short)
+pub items::adt::fields-opt_where_clause-requires : goal.items::adt::fields-opt_where_clause-requires
+items::adt::fields-opt_where_clause-requires t c = (omega arith, short-still _ _ ((c.tuple_fields.ensures.gives true).does.input ∙ c.at.ensures.same.input) c.requires.short)
 
-pub adt::fields-returns-then-at-clause-reads : goal.adt::fields-returns-then-at-clause-reads
+pub items::adt::fields-returns-then-at-clause-reads : goal.items::adt::fields-returns-then-at-clause-reads
 unfolding look_of begins_below whole rule items statements expressions patterns types paths there_at shift passes is_silent begins in_mode anew row one_of any_of no_longer longest is_longer
-adt::fields-returns-then-at-clause-reads t c = reads-here (saw-so (c.at.ensures.sees c.args.condition) c.if-at.true and nothing) (after-look _ c.at.ensures.same (reads-then _ (reads-call _ (c.tuple_fields.ensures.gives c.args.condition)) (reads-then _ c.opt_where_clause.ensures.reads (c.expect.ensures.reads c.args.condition))))
+items::adt::fields-returns-then-at-clause-reads t c = reads-here (saw-so (c.at.ensures.sees c.args.condition) c.if-at.true and nothing) (after-look _ c.at.ensures.same (reads-then _ (reads-call _ (c.tuple_fields.ensures.gives c.args.condition)) (reads-then _ c.opt_where_clause.ensures.reads (c.expect.ensures.reads c.args.condition))))
 
-pub adt::fields-opt_where_clause-requires-2 : goal.adt::fields-opt_where_clause-requires-2
-adt::fields-opt_where_clause-requires-2 t c = (omega arith, short-still _ _ c.at.ensures.same.input c.requires.short)
+pub items::adt::fields-opt_where_clause-requires-2 : goal.items::adt::fields-opt_where_clause-requires-2
+items::adt::fields-opt_where_clause-requires-2 t c = (omega arith, short-still _ _ c.at.ensures.same.input c.requires.short)
 
-pub adt::fields-named_fields-requires : goal.adt::fields-named_fields-requires
-adt::fields-named_fields-requires t c = (omega arith, short-still _ _ (c.opt_where_clause-2.ensures.reads.does.input ∙ c.at.ensures.same.input) c.requires.short)
+pub items::adt::fields-named_fields-requires : goal.items::adt::fields-named_fields-requires
+items::adt::fields-named_fields-requires t c = (omega arith, short-still _ _ (c.opt_where_clause-2.ensures.reads.does.input ∙ c.at.ensures.same.input) c.requires.short)
 
-pub adt::fields-returns-clause-reads : goal.adt::fields-returns-clause-reads
+pub items::adt::fields-returns-clause-reads : goal.items::adt::fields-returns-clause-reads
 unfolding look_of begins_below whole rule items statements expressions patterns types paths there_at shift passes is_silent begins in_mode anew row one_of any_of no_longer longest is_longer
-adt::fields-returns-clause-reads t c = reads-here (saw-so (c.at.ensures.sees c.args.condition) c.if-at.false and nothing) (after-look _ c.at.ensures.same (reads-then _ c.opt_where_clause-2.ensures.reads (c.named_fields.ensures.reads c.args.condition)))
+items::adt::fields-returns-clause-reads t c = reads-here (saw-so (c.at.ensures.sees c.args.condition) c.if-at.false and nothing) (after-look _ c.at.ensures.same (reads-then _ c.opt_where_clause-2.ensures.reads (c.named_fields.ensures.reads c.args.condition)))
 
-pub adt::enum_item-opt_generic_params-requires : goal.adt::enum_item-opt_generic_params-requires
-adt::enum_item-opt_generic_params-requires t c = (omega arith, short-still _ _ ((c.expect_name.ensures.reads true).does.input ∙ (c.take.ensures.reads true).does.input) c.requires.short)
+pub items::adt::enum_item-opt_generic_params-requires : goal.items::adt::enum_item-opt_generic_params-requires
+items::adt::enum_item-opt_generic_params-requires t c = (omega arith, short-still _ _ ((c.expect_name.ensures.reads true).does.input ∙ (c.take.ensures.reads true).does.input) c.requires.short)
 
-pub adt::enum_item-opt_where_clause-requires : goal.adt::enum_item-opt_where_clause-requires
-adt::enum_item-opt_where_clause-requires t c = (omega arith, short-still _ _ ((c.opt_generic_params.ensures.reads true).does.input ∙ (c.expect_name.ensures.reads true).does.input ∙ (c.take.ensures.reads true).does.input) c.requires.short)
+pub items::adt::enum_item-opt_where_clause-requires : goal.items::adt::enum_item-opt_where_clause-requires
+items::adt::enum_item-opt_where_clause-requires t c = (omega arith, short-still _ _ ((c.opt_generic_params.ensures.reads true).does.input ∙ (c.expect_name.ensures.reads true).does.input ∙ (c.take.ensures.reads true).does.input) c.requires.short)
 
-pub adt::enum_item-expect_variants-requires : goal.adt::enum_item-expect_variants-requires
-adt::enum_item-expect_variants-requires t c = (omega arith, short-still _ _ (c.opt_where_clause.ensures.reads.does.input ∙ (c.opt_generic_params.ensures.reads true).does.input ∙ (c.expect_name.ensures.reads true).does.input ∙ (c.take.ensures.reads true).does.input) c.requires.short)
+pub items::adt::enum_item-expect_variants-requires : goal.items::adt::enum_item-expect_variants-requires
+items::adt::enum_item-expect_variants-requires t c = (omega arith, short-still _ _ (c.opt_where_clause.ensures.reads.does.input ∙ (c.opt_generic_params.ensures.reads true).does.input ∙ (c.expect_name.ensures.reads true).does.input ∙ (c.take.ensures.reads true).does.input) c.requires.short)
 
-pub adt::enum_item-complete-requires : goal.adt::enum_item-complete-requires
-adt::enum_item-complete-requires t c = (c.expect_variants.ensures.reads true).does.innermost _ (c.opt_where_clause.ensures.reads.does.innermost _ ((c.opt_generic_params.ensures.reads true).does.innermost _ ((c.expect_name.ensures.reads true).does.innermost _ ((c.take.ensures.reads true).does.innermost _ c.requires.innermost))))
+pub items::adt::enum_item-complete-requires : goal.items::adt::enum_item-complete-requires
+items::adt::enum_item-complete-requires t c = (c.expect_variants.ensures.reads true).does.innermost _ (c.opt_where_clause.ensures.reads.does.innermost _ ((c.opt_generic_params.ensures.reads true).does.innermost _ ((c.expect_name.ensures.reads true).does.innermost _ ((c.take.ensures.reads true).does.innermost _ c.requires.innermost))))
 
-pub adt::enum_item-returns-clause-completes : goal.adt::enum_item-returns-clause-completes
-adt::enum_item-returns-clause-completes t c = completes-wrap (reads-then _ (c.take.ensures.reads c.args.condition) (reads-then _ (c.expect_name.ensures.reads c.args.condition) (reads-then _ (c.opt_generic_params.ensures.reads c.args.condition) (reads-then _ c.opt_where_clause.ensures.reads (c.expect_variants.ensures.reads c.args.condition))))) c.complete.ensures.closes
+pub items::adt::enum_item-returns-clause-completes : goal.items::adt::enum_item-returns-clause-completes
+items::adt::enum_item-returns-clause-completes t c = completes-wrap (reads-then _ (c.take.ensures.reads c.args.condition) (reads-then _ (c.expect_name.ensures.reads c.args.condition) (reads-then _ (c.opt_generic_params.ensures.reads c.args.condition) (reads-then _ c.opt_where_clause.ensures.reads (c.expect_variants.ensures.reads c.args.condition))))) c.complete.ensures.closes
 
-pub adt::named_fields-record_fields-requires : goal.adt::named_fields-record_fields-requires
-adt::named_fields-record_fields-requires t c = (omega arith, (short-still _ _ c.at.ensures.same.input c.requires.short, omega (arith, c.at.ensures.left, c.at.ensures.some c.if-at.true (λ e. absurd (omega (arith, e))))))
+pub items::adt::named_fields-record_fields-requires : goal.items::adt::named_fields-record_fields-requires
+items::adt::named_fields-record_fields-requires t c = (omega arith, (short-still _ _ c.at.ensures.same.input c.requires.short, omega (arith, c.at.ensures.left, c.at.ensures.some c.if-at.true (λ e. absurd (omega (arith, e))))))
 
-pub adt::named_fields-returns-then-at-clause-reads : goal.adt::named_fields-returns-then-at-clause-reads
+pub items::adt::named_fields-returns-then-at-clause-reads : goal.items::adt::named_fields-returns-then-at-clause-reads
 unfolding look_of begins_below whole rule items statements expressions patterns types paths there_at shift passes is_silent begins in_mode anew row one_of any_of no_longer longest is_longer
-adt::named_fields-returns-then-at-clause-reads t c = λ cond. reads-here (saw-so (c.at.ensures.sees cond) c.if-at.true and nothing) (after-look cond c.at.ensures.same (reads-call cond (c.record_fields.ensures.gives cond)))
+items::adt::named_fields-returns-then-at-clause-reads t c = λ cond. reads-here (saw-so (c.at.ensures.sees cond) c.if-at.true and nothing) (after-look cond c.at.ensures.same (reads-call cond (c.record_fields.ensures.gives cond)))
 
-pub adt::named_fields-returns-clause-reads : goal.adt::named_fields-returns-clause-reads
+pub items::adt::named_fields-returns-clause-reads : goal.items::adt::named_fields-returns-clause-reads
 unfolding look_of begins_below whole rule items statements expressions patterns types paths there_at shift passes is_silent begins in_mode anew row one_of any_of no_longer longest is_longer
-adt::named_fields-returns-clause-reads t c = λ cond. reads-here (saw-so (c.at.ensures.sees cond) c.if-at.false and nothing) (after-look cond c.at.ensures.same (c.expect.ensures.reads cond))
+items::adt::named_fields-returns-clause-reads t c = λ cond. reads-here (saw-so (c.at.ensures.sees cond) c.if-at.false and nothing) (after-look cond c.at.ensures.same (c.expect.ensures.reads cond))
 
-pub adt::expect_variants-variants-requires : goal.adt::expect_variants-variants-requires
-adt::expect_variants-variants-requires t c = (omega arith, (short-still _ _ c.at.ensures.same.input c.requires.short, omega (arith, c.at.ensures.left, c.at.ensures.some c.if-at.true (λ e. absurd (omega (arith, e))))))
+pub items::adt::expect_variants-variants-requires : goal.items::adt::expect_variants-variants-requires
+items::adt::expect_variants-variants-requires t c = (omega arith, (short-still _ _ c.at.ensures.same.input c.requires.short, omega (arith, c.at.ensures.left, c.at.ensures.some c.if-at.true (λ e. absurd (omega (arith, e))))))
 
-pub adt::expect_variants-returns-then-at-clause-reads : goal.adt::expect_variants-returns-then-at-clause-reads
+pub items::adt::expect_variants-returns-then-at-clause-reads : goal.items::adt::expect_variants-returns-then-at-clause-reads
 unfolding look_of begins_below whole rule items statements expressions patterns types paths there_at shift passes is_silent begins in_mode anew row one_of any_of no_longer longest is_longer
-adt::expect_variants-returns-then-at-clause-reads t c = λ cond. reads-here (saw-so (c.at.ensures.sees cond) c.if-at.true and nothing) (after-look cond c.at.ensures.same (reads-call cond (c.variants.ensures.gives cond)))
+items::adt::expect_variants-returns-then-at-clause-reads t c = λ cond. reads-here (saw-so (c.at.ensures.sees cond) c.if-at.true and nothing) (after-look cond c.at.ensures.same (reads-call cond (c.variants.ensures.gives cond)))
 
-pub adt::expect_variants-returns-clause-reads : goal.adt::expect_variants-returns-clause-reads
+pub items::adt::expect_variants-returns-clause-reads : goal.items::adt::expect_variants-returns-clause-reads
 unfolding look_of begins_below whole rule items statements expressions patterns types paths there_at shift passes is_silent begins in_mode anew row one_of any_of no_longer longest is_longer
-adt::expect_variants-returns-clause-reads t c = λ cond. reads-here (saw-so (c.at.ensures.sees cond) c.if-at.false and nothing) (after-look cond c.at.ensures.same (c.error.ensures.reads cond))
+items::adt::expect_variants-returns-clause-reads t c = λ cond. reads-here (saw-so (c.at.ensures.sees cond) c.if-at.false and nothing) (after-look cond c.at.ensures.same (c.error.ensures.reads cond))
 
-pub adt::fields-tuple_fields-requires : goal.adt::fields-tuple_fields-requires
-adt::fields-tuple_fields-requires t c = (omega arith, (short-still _ _ c.at.ensures.same.input c.requires.short, omega (arith, c.at.ensures.left, c.at.ensures.some c.if-at.true (λ e. absurd (omega (arith, e))))))
+pub items::adt::fields-tuple_fields-requires : goal.items::adt::fields-tuple_fields-requires
+items::adt::fields-tuple_fields-requires t c = (omega arith, (short-still _ _ c.at.ensures.same.input c.requires.short, omega (arith, c.at.ensures.left, c.at.ensures.some c.if-at.true (λ e. absurd (omega (arith, e))))))

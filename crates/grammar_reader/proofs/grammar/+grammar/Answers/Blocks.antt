@@ -22,38 +22,38 @@ use Rattle.rust_productions.proofs.Facts.{saw-so}
 use Rattle.rust_productions.proofs.Turns.{first-turn, idle-turn, last-turn, next-turn}
 use Rattle.grammar_reader.proofs.grammar.+grammar.Goals as goal
 
-pub blocks::statement_turn-returns-then-at_end_of-clause-ends : goal.blocks::statement_turn-returns-then-at_end_of-clause-ends
-blocks::statement_turn-returns-then-at_end_of-clause-ends t c = λ e. last-turn false _ (over-at-end c.args.end _) _ _ _ first-turn (over (Call (listing_of c.args.end).one) (saw-so (c.at_end_of.ensures.sees false) c.if-at_end_of.true)) c.at_end_of.ensures.same
+pub expressions::blocks::statement_turn-returns-then-at_end_of-clause-ends : goal.expressions::blocks::statement_turn-returns-then-at_end_of-clause-ends
+expressions::blocks::statement_turn-returns-then-at_end_of-clause-ends t c = λ e. last-turn false _ (over-at-end c.args.end _) _ _ _ first-turn (over (Call (listing_of c.args.end).one) (saw-so (c.at_end_of.ensures.sees false) c.if-at_end_of.true)) c.at_end_of.ensures.same
 
-pub blocks::statement_turn-statement-requires : goal.blocks::statement_turn-statement-requires
-blocks::statement_turn-statement-requires t c = (omega arith, (short-still _ _ c.at_end_of.ensures.same.input c.requires.short, omega (arith, some-within c.args.end (saw-so (c.at_end_of.ensures.sees false) c.if-at_end_of.false), c.at_end_of.ensures.left)))
+pub expressions::blocks::statement_turn-statement-requires : goal.expressions::blocks::statement_turn-statement-requires
+expressions::blocks::statement_turn-statement-requires t c = (omega arith, (short-still _ _ c.at_end_of.ensures.same.input c.requires.short, omega (arith, some-within c.args.end (saw-so (c.at_end_of.ensures.sees false) c.if-at_end_of.false), c.at_end_of.ensures.left)))
 
-pub blocks::statement_turn-returns-clause-goes : goal.blocks::statement_turn-returns-clause-goes
+pub expressions::blocks::statement_turn-returns-clause-goes : goal.expressions::blocks::statement_turn-returns-clause-goes
 unfolding tokens
-blocks::statement_turn-returns-clause-goes t c = λ e.
+expressions::blocks::statement_turn-returns-clause-goes t c = λ e.
     let more = saw-so (c.at_end_of.ensures.sees false) c.if-at_end_of.false in
     next-turn false _ (over-at-end c.args.end _) _ _ _ first-turn (within (Call (listing_of c.args.end).one) more (statement-begins c.args.end (left-within c.args.end more)))
     (after-look false c.at_end_of.ensures.same (reads-unless false (reads-call false c.statement.ensures.gives)))
     (omega (arith, (ltb-true c.tokens_left.result c.tokens_left-before.result e), c.tokens_left.ensures, c.tokens_left-before.ensures, c.at_end_of.ensures.left))
 
-pub blocks::statement_turn-returns-clause-ends : goal.blocks::statement_turn-returns-clause-ends
+pub expressions::blocks::statement_turn-returns-clause-ends : goal.expressions::blocks::statement_turn-returns-clause-ends
 unfolding tokens
-blocks::statement_turn-returns-clause-ends t c = λ e.
+expressions::blocks::statement_turn-returns-clause-ends t c = λ e.
     let more = saw-so (c.at_end_of.ensures.sees false) c.if-at_end_of.false in
     idle-turn false _ (over-at-end c.args.end _) _ _ _ first-turn (within (Call (listing_of c.args.end).one) more (statement-begins c.args.end (left-within c.args.end more)))
     (after-look false c.at_end_of.ensures.same (reads-unless false (reads-call false c.statement.ensures.gives)))
     (omega (arith, (ltb-false c.tokens_left.result c.tokens_left-before.result e), c.tokens_left.ensures, c.tokens_left-before.ensures, c.at_end_of.ensures.left, c.statement.ensures.left))
 
-pub blocks::statement_turn-returns-clause-fewer : goal.blocks::statement_turn-returns-clause-fewer
+pub expressions::blocks::statement_turn-returns-clause-fewer : goal.expressions::blocks::statement_turn-returns-clause-fewer
 unfolding tokens
-blocks::statement_turn-returns-clause-fewer t c = λ e. omega (arith, (ltb-true c.tokens_left.result c.tokens_left-before.result e), c.tokens_left.ensures, c.tokens_left-before.ensures, c.at_end_of.ensures.left)
+expressions::blocks::statement_turn-returns-clause-fewer t c = λ e. omega (arith, (ltb-true c.tokens_left.result c.tokens_left-before.result e), c.tokens_left.ensures, c.tokens_left-before.ensures, c.at_end_of.ensures.left)
 
-pub blocks::statement_turn-returns-clause-pays : goal.blocks::statement_turn-returns-clause-pays
+pub expressions::blocks::statement_turn-returns-clause-pays : goal.expressions::blocks::statement_turn-returns-clause-pays
 unfolding tokens
-blocks::statement_turn-returns-clause-pays t c = λ e. omega (arith, c.at_end_of.ensures.looks, c.statement.ensures.pays (omega (arith, (ltb-true c.tokens_left.result c.tokens_left-before.result e), c.tokens_left.ensures, c.tokens_left-before.ensures, c.at_end_of.ensures.left)))
+expressions::blocks::statement_turn-returns-clause-pays t c = λ e. omega (arith, c.at_end_of.ensures.looks, c.statement.ensures.pays (omega (arith, (ltb-true c.tokens_left.result c.tokens_left-before.result e), c.tokens_left.ensures, c.tokens_left-before.ensures, c.at_end_of.ensures.left)))
 
-pub blocks::statements-turns-preserved : goal.blocks::statements-turns-preserved
-blocks::statements-turns-preserved t c = record {
+pub expressions::blocks::statements-turns-preserved : goal.expressions::blocks::statements-turns-preserved
+expressions::blocks::statements-turns-preserved t c = record {
   input = c.statement_turn.ensures.input ∙ c.turns.invariant.input;
   innermost = λ n i. c.statement_turn.ensures.innermost n (c.turns.invariant.innermost n i);
   goes = record { rest = λ end p. c.turns.invariant.goes.rest end ((c.statement_turn.ensures.goes c.turns-test.true).rest end p) };
@@ -61,22 +61,22 @@ blocks::statements-turns-preserved t c = record {
   looks = omega (arith, c.turns.invariant.looks, c.statement_turn.ensures.pays c.turns-test.true);
 }
 
-pub blocks::statements-returns-clause-reads : goal.blocks::statements-returns-clause-reads
-blocks::statements-returns-clause-reads t c = c.turns.invariant.goes.rest _ (c.statement_turn.ensures.ends c.turns-test.false)
+pub expressions::blocks::statements-returns-clause-reads : goal.expressions::blocks::statements-returns-clause-reads
+expressions::blocks::statements-returns-clause-reads t c = c.turns.invariant.goes.rest _ (c.statement_turn.ensures.ends c.turns-test.false)
 
-pub blocks::statement_list-statements-requires : goal.blocks::statement_list-statements-requires
-blocks::statement_list-statements-requires t c = (omega arith, short-still _ _ ((c.take.ensures.reads true).does.input ∙ c.start-list.ensures.opens.input) c.requires.short)
+pub expressions::blocks::statement_list-statements-requires : goal.expressions::blocks::statement_list-statements-requires
+expressions::blocks::statement_list-statements-requires t c = (omega arith, short-still _ _ ((c.take.ensures.reads true).does.input ∙ c.start-list.ensures.opens.input) c.requires.short)
 
-pub blocks::statement_list-complete-requires : goal.blocks::statement_list-complete-requires
-blocks::statement_list-complete-requires t c = (c.expect.ensures.reads true).does.innermost _ (c.statements.ensures.reads.does.innermost _ ((c.take.ensures.reads true).does.innermost _ c.start-list.ensures.marker))
+pub expressions::blocks::statement_list-complete-requires : goal.expressions::blocks::statement_list-complete-requires
+expressions::blocks::statement_list-complete-requires t c = (c.expect.ensures.reads true).does.innermost _ (c.statements.ensures.reads.does.innermost _ ((c.take.ensures.reads true).does.innermost _ c.start-list.ensures.marker))
 
-pub blocks::statement_list-returns-clause-gives : goal.blocks::statement_list-returns-clause-gives
+pub expressions::blocks::statement_list-returns-clause-gives : goal.expressions::blocks::statement_list-returns-clause-gives
 unfolding look_of begins_below whole rule items statements expressions patterns types paths there_at shift passes is_silent begins in_mode anew row one_of any_of no_longer longest is_longer
-blocks::statement_list-returns-clause-gives t c = λ cond. gives-anew (anew-after refl (reads-node cond c.start-list.ensures.opens (reads-then cond (c.take.ensures.reads cond) (reads-then cond (reads-mode cond c.statements.ensures.reads) (c.expect.ensures.reads cond))) c.complete.ensures.closes))
+expressions::blocks::statement_list-returns-clause-gives t c = λ cond. gives-anew (anew-after refl (reads-node cond c.start-list.ensures.opens (reads-then cond (c.take.ensures.reads cond) (reads-then cond (reads-mode cond c.statements.ensures.reads) (c.expect.ensures.reads cond))) c.complete.ensures.closes))
 
-pub blocks::block-complete-requires : goal.blocks::block-complete-requires
-blocks::block-complete-requires t c = (c.statement_list.ensures.gives true).does.innermost _ c.start-block.ensures.marker
+pub expressions::blocks::block-complete-requires : goal.expressions::blocks::block-complete-requires
+expressions::blocks::block-complete-requires t c = (c.statement_list.ensures.gives true).does.innermost _ c.start-block.ensures.marker
 
-pub blocks::block-returns-clause-gives : goal.blocks::block-returns-clause-gives
+pub expressions::blocks::block-returns-clause-gives : goal.expressions::blocks::block-returns-clause-gives
 unfolding look_of begins_below whole rule items statements expressions patterns types paths there_at shift passes is_silent begins in_mode anew row one_of any_of no_longer longest is_longer
-blocks::block-returns-clause-gives t c = λ cond. gives-anew (anew-after refl (reads-node cond c.start-block.ensures.opens (reads-call cond (c.statement_list.ensures.gives cond)) c.complete.ensures.closes))
+expressions::blocks::block-returns-clause-gives t c = λ cond. gives-anew (anew-after refl (reads-node cond c.start-block.ensures.opens (reads-call cond (c.statement_list.ensures.gives cond)) c.complete.ensures.closes))

@@ -16,58 +16,58 @@ use Rattle.rust_productions.proofs.Choices.{reads-here}
 use Rattle.rust_productions.proofs.Facts.{nothing, saw-so, ◌and◌}
 use Rattle.grammar_reader.proofs.grammar.+grammar.Goals as goal
 
-pub consts::const_item-typed_value-requires : goal.consts::const_item-typed_value-requires
-consts::const_item-typed_value-requires t c = (omega arith, short-still _ _ ((c.underscore_or_name.ensures.reads true).does.input ∙ (c.take.ensures.reads true).does.input) c.requires.short)
+pub items::consts::const_item-typed_value-requires : goal.items::consts::const_item-typed_value-requires
+items::consts::const_item-typed_value-requires t c = (omega arith, short-still _ _ ((c.underscore_or_name.ensures.reads true).does.input ∙ (c.take.ensures.reads true).does.input) c.requires.short)
 
-pub consts::const_item-complete-requires : goal.consts::const_item-complete-requires
-consts::const_item-complete-requires t c = c.typed_value.ensures.reads.does.innermost _ ((c.underscore_or_name.ensures.reads true).does.innermost _ ((c.take.ensures.reads true).does.innermost _ c.requires.innermost))
+pub items::consts::const_item-complete-requires : goal.items::consts::const_item-complete-requires
+items::consts::const_item-complete-requires t c = c.typed_value.ensures.reads.does.innermost _ ((c.underscore_or_name.ensures.reads true).does.innermost _ ((c.take.ensures.reads true).does.innermost _ c.requires.innermost))
 
-pub consts::const_item-returns-clause-completes : goal.consts::const_item-returns-clause-completes
-consts::const_item-returns-clause-completes t c = completes-wrap (reads-then _ (c.take.ensures.reads c.args.condition) (reads-then _ (c.underscore_or_name.ensures.reads c.args.condition) c.typed_value.ensures.reads)) c.complete.ensures.closes
+pub items::consts::const_item-returns-clause-completes : goal.items::consts::const_item-returns-clause-completes
+items::consts::const_item-returns-clause-completes t c = completes-wrap (reads-then _ (c.take.ensures.reads c.args.condition) (reads-then _ (c.underscore_or_name.ensures.reads c.args.condition) c.typed_value.ensures.reads)) c.complete.ensures.closes
 
-pub consts::static_item-typed_value-requires : goal.consts::static_item-typed_value-requires
-consts::static_item-typed_value-requires t c = (omega arith, short-still _ _ ((c.expect_name.ensures.reads true).does.input ∙ (c.eat.ensures.reads true).does.input ∙ (c.take.ensures.reads true).does.input) c.requires.short)
+pub items::consts::static_item-typed_value-requires : goal.items::consts::static_item-typed_value-requires
+items::consts::static_item-typed_value-requires t c = (omega arith, short-still _ _ ((c.expect_name.ensures.reads true).does.input ∙ (c.eat.ensures.reads true).does.input ∙ (c.take.ensures.reads true).does.input) c.requires.short)
 
-pub consts::static_item-complete-requires : goal.consts::static_item-complete-requires
-consts::static_item-complete-requires t c = c.typed_value.ensures.reads.does.innermost _ ((c.expect_name.ensures.reads true).does.innermost _ ((c.eat.ensures.reads true).does.innermost _ ((c.take.ensures.reads true).does.innermost _ c.requires.innermost)))
+pub items::consts::static_item-complete-requires : goal.items::consts::static_item-complete-requires
+items::consts::static_item-complete-requires t c = c.typed_value.ensures.reads.does.innermost _ ((c.expect_name.ensures.reads true).does.innermost _ ((c.eat.ensures.reads true).does.innermost _ ((c.take.ensures.reads true).does.innermost _ c.requires.innermost)))
 
-pub consts::static_item-returns-clause-completes : goal.consts::static_item-returns-clause-completes
-consts::static_item-returns-clause-completes t c = completes-wrap (reads-then _ (c.take.ensures.reads c.args.condition) (reads-then _ (c.eat.ensures.reads c.args.condition) (reads-then _ (c.expect_name.ensures.reads c.args.condition) c.typed_value.ensures.reads))) c.complete.ensures.closes
+pub items::consts::static_item-returns-clause-completes : goal.items::consts::static_item-returns-clause-completes
+items::consts::static_item-returns-clause-completes t c = completes-wrap (reads-then _ (c.take.ensures.reads c.args.condition) (reads-then _ (c.eat.ensures.reads c.args.condition) (reads-then _ (c.expect_name.ensures.reads c.args.condition) c.typed_value.ensures.reads))) c.complete.ensures.closes
 
-pub consts::typed_value-expect_type-requires : goal.consts::typed_value-expect_type-requires
-consts::typed_value-expect_type-requires t c = (omega arith, short-still _ _ (c.expect.ensures.reads true).does.input c.requires.short)
+pub items::consts::typed_value-expect_type-requires : goal.items::consts::typed_value-expect_type-requires
+items::consts::typed_value-expect_type-requires t c = (omega arith, short-still _ _ (c.expect.ensures.reads true).does.input c.requires.short)
 
-pub consts::typed_value-opt_value-requires : goal.consts::typed_value-opt_value-requires
-consts::typed_value-opt_value-requires t c = (omega arith, short-still _ _ (c.expect_type.ensures.reads.does.input ∙ (c.expect.ensures.reads true).does.input) c.requires.short)
+pub items::consts::typed_value-opt_value-requires : goal.items::consts::typed_value-opt_value-requires
+items::consts::typed_value-opt_value-requires t c = (omega arith, short-still _ _ (c.expect_type.ensures.reads.does.input ∙ (c.expect.ensures.reads true).does.input) c.requires.short)
 
-pub consts::typed_value-returns-clause-reads : goal.consts::typed_value-returns-clause-reads
-consts::typed_value-returns-clause-reads t c = (reads-then _ (c.expect.ensures.reads c.args.condition) (reads-then _ c.expect_type.ensures.reads (reads-then _ c.opt_value.ensures.reads (c.expect-2.ensures.reads c.args.condition))))
+pub items::consts::typed_value-returns-clause-reads : goal.items::consts::typed_value-returns-clause-reads
+items::consts::typed_value-returns-clause-reads t c = (reads-then _ (c.expect.ensures.reads c.args.condition) (reads-then _ c.expect_type.ensures.reads (reads-then _ c.opt_value.ensures.reads (c.expect-2.ensures.reads c.args.condition))))
 
-pub consts::opt_value-expect_expression-requires : goal.consts::opt_value-expect_expression-requires
-consts::opt_value-expect_expression-requires t c = (omega arith, short-still _ _ ((c.take.ensures.reads true).does.input ∙ c.at.ensures.same.input) c.requires.short)
+pub items::consts::opt_value-expect_expression-requires : goal.items::consts::opt_value-expect_expression-requires
+items::consts::opt_value-expect_expression-requires t c = (omega arith, short-still _ _ ((c.take.ensures.reads true).does.input ∙ c.at.ensures.same.input) c.requires.short)
 
-pub consts::opt_value-returns-then-at-clause-reads : goal.consts::opt_value-returns-then-at-clause-reads
+pub items::consts::opt_value-returns-then-at-clause-reads : goal.items::consts::opt_value-returns-then-at-clause-reads
 unfolding look_of begins_below whole rule items statements expressions patterns types paths there_at shift passes is_silent begins in_mode anew row one_of any_of no_longer longest is_longer
-consts::opt_value-returns-then-at-clause-reads t c = reads-here (saw-so (c.at.ensures.sees c.args.condition) c.if-at.true and nothing) (after-look _ c.at.ensures.same (reads-then _ (c.take.ensures.reads c.args.condition) c.expect_expression.ensures.reads))
+items::consts::opt_value-returns-then-at-clause-reads t c = reads-here (saw-so (c.at.ensures.sees c.args.condition) c.if-at.true and nothing) (after-look _ c.at.ensures.same (reads-then _ (c.take.ensures.reads c.args.condition) c.expect_expression.ensures.reads))
 
-pub consts::opt_value-returns-else-at-clause-reads : goal.consts::opt_value-returns-else-at-clause-reads
+pub items::consts::opt_value-returns-else-at-clause-reads : goal.items::consts::opt_value-returns-else-at-clause-reads
 unfolding look_of begins_below whole rule items statements expressions patterns types paths there_at shift passes is_silent begins in_mode anew row one_of any_of no_longer longest is_longer
-consts::opt_value-returns-else-at-clause-reads t c = reads-here (saw-so (c.at.ensures.sees c.args.condition) c.if-at.false and nothing) (reads-nothing _ c.at.ensures.same)
+items::consts::opt_value-returns-else-at-clause-reads t c = reads-here (saw-so (c.at.ensures.sees c.args.condition) c.if-at.false and nothing) (reads-nothing _ c.at.ensures.same)
 
-pub consts::type_alias-opt_generic_params-requires : goal.consts::type_alias-opt_generic_params-requires
-consts::type_alias-opt_generic_params-requires t c = (omega arith, short-still _ _ ((c.expect_name.ensures.reads true).does.input ∙ (c.take.ensures.reads true).does.input) c.requires.short)
+pub items::consts::type_alias-opt_generic_params-requires : goal.items::consts::type_alias-opt_generic_params-requires
+items::consts::type_alias-opt_generic_params-requires t c = (omega arith, short-still _ _ ((c.expect_name.ensures.reads true).does.input ∙ (c.take.ensures.reads true).does.input) c.requires.short)
 
-pub consts::type_alias-bounds_after_colon-requires : goal.consts::type_alias-bounds_after_colon-requires
-consts::type_alias-bounds_after_colon-requires t c = (omega arith, short-still _ _ ((c.opt_generic_params.ensures.reads true).does.input ∙ (c.expect_name.ensures.reads true).does.input ∙ (c.take.ensures.reads true).does.input) c.requires.short)
+pub items::consts::type_alias-bounds_after_colon-requires : goal.items::consts::type_alias-bounds_after_colon-requires
+items::consts::type_alias-bounds_after_colon-requires t c = (omega arith, short-still _ _ ((c.opt_generic_params.ensures.reads true).does.input ∙ (c.expect_name.ensures.reads true).does.input ∙ (c.take.ensures.reads true).does.input) c.requires.short)
 
-pub consts::type_alias-opt_where_clause-requires : goal.consts::type_alias-opt_where_clause-requires
-consts::type_alias-opt_where_clause-requires t c = (omega arith, short-still _ _ ((c.bounds_after_colon.ensures.reads true).does.input ∙ (c.opt_generic_params.ensures.reads true).does.input ∙ (c.expect_name.ensures.reads true).does.input ∙ (c.take.ensures.reads true).does.input) c.requires.short)
+pub items::consts::type_alias-opt_where_clause-requires : goal.items::consts::type_alias-opt_where_clause-requires
+items::consts::type_alias-opt_where_clause-requires t c = (omega arith, short-still _ _ ((c.bounds_after_colon.ensures.reads true).does.input ∙ (c.opt_generic_params.ensures.reads true).does.input ∙ (c.expect_name.ensures.reads true).does.input ∙ (c.take.ensures.reads true).does.input) c.requires.short)
 
-pub consts::type_alias-opt_type_after-requires : goal.consts::type_alias-opt_type_after-requires
-consts::type_alias-opt_type_after-requires t c = (omega arith, (short-still _ _ (c.opt_where_clause.ensures.reads.does.input ∙ (c.bounds_after_colon.ensures.reads true).does.input ∙ (c.opt_generic_params.ensures.reads true).does.input ∙ (c.expect_name.ensures.reads true).does.input ∙ (c.take.ensures.reads true).does.input) c.requires.short, omega arith))
+pub items::consts::type_alias-opt_type_after-requires : goal.items::consts::type_alias-opt_type_after-requires
+items::consts::type_alias-opt_type_after-requires t c = (omega arith, (short-still _ _ (c.opt_where_clause.ensures.reads.does.input ∙ (c.bounds_after_colon.ensures.reads true).does.input ∙ (c.opt_generic_params.ensures.reads true).does.input ∙ (c.expect_name.ensures.reads true).does.input ∙ (c.take.ensures.reads true).does.input) c.requires.short, omega arith))
 
-pub consts::type_alias-complete-requires : goal.consts::type_alias-complete-requires
-consts::type_alias-complete-requires t c = (c.expect.ensures.reads true).does.innermost _ (c.opt_type_after.ensures.reads.does.innermost _ (c.opt_where_clause.ensures.reads.does.innermost _ ((c.bounds_after_colon.ensures.reads true).does.innermost _ ((c.opt_generic_params.ensures.reads true).does.innermost _ ((c.expect_name.ensures.reads true).does.innermost _ ((c.take.ensures.reads true).does.innermost _ c.requires.innermost))))))
+pub items::consts::type_alias-complete-requires : goal.items::consts::type_alias-complete-requires
+items::consts::type_alias-complete-requires t c = (c.expect.ensures.reads true).does.innermost _ (c.opt_type_after.ensures.reads.does.innermost _ (c.opt_where_clause.ensures.reads.does.innermost _ ((c.bounds_after_colon.ensures.reads true).does.innermost _ ((c.opt_generic_params.ensures.reads true).does.innermost _ ((c.expect_name.ensures.reads true).does.innermost _ ((c.take.ensures.reads true).does.innermost _ c.requires.innermost))))))
 
-pub consts::type_alias-returns-clause-completes : goal.consts::type_alias-returns-clause-completes
-consts::type_alias-returns-clause-completes t c = completes-wrap (reads-then _ (c.take.ensures.reads c.args.condition) (reads-then _ (c.expect_name.ensures.reads c.args.condition) (reads-then _ (c.opt_generic_params.ensures.reads c.args.condition) (reads-then _ (c.bounds_after_colon.ensures.reads c.args.condition) (reads-then _ c.opt_where_clause.ensures.reads (reads-then _ c.opt_type_after.ensures.reads (c.expect.ensures.reads c.args.condition))))))) c.complete.ensures.closes
+pub items::consts::type_alias-returns-clause-completes : goal.items::consts::type_alias-returns-clause-completes
+items::consts::type_alias-returns-clause-completes t c = completes-wrap (reads-then _ (c.take.ensures.reads c.args.condition) (reads-then _ (c.expect_name.ensures.reads c.args.condition) (reads-then _ (c.opt_generic_params.ensures.reads c.args.condition) (reads-then _ (c.bounds_after_colon.ensures.reads c.args.condition) (reads-then _ c.opt_where_clause.ensures.reads (reads-then _ c.opt_type_after.ensures.reads (c.expect.ensures.reads c.args.condition))))))) c.complete.ensures.closes

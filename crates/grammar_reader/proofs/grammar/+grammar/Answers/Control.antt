@@ -28,206 +28,206 @@ use Rattle.rust_productions.proofs.Seen.{ends-at-end, saw-after, saw-before, saw
 use Rattle.rust_productions.proofs.Turns.{first-turn, last-turn, next-turn}
 use Rattle.grammar_reader.proofs.grammar.+grammar.Goals as goal
 
-pub control::block_like-block-requires : goal.control::block_like-block-requires
-control::block_like-block-requires t c = (omega arith, (short-still _ _ c.current.ensures.same.input c.requires.short, omega arith))
+pub expressions::control::block_like-block-requires : goal.expressions::control::block_like-block-requires
+expressions::control::block_like-block-requires t c = (omega arith, (short-still _ _ c.current.ensures.same.input c.requires.short, omega arith))
 
-pub control::block_like-returns-in-L_CURLY-clause-gives : goal.control::block_like-returns-in-L_CURLY-clause-gives
+pub expressions::control::block_like-returns-in-L_CURLY-clause-gives : goal.expressions::control::block_like-returns-in-L_CURLY-clause-gives
 unfolding look_of begins_below whole rule items statements expressions patterns types paths there_at shift passes is_silent begins in_mode anew row one_of any_of no_longer longest is_longer
-control::block_like-returns-in-L_CURLY-clause-gives t c = λ cond. gives-anew (anew-after refl (reads-here (saw-arm c.in-L_CURLY.is (c.current.ensures.sees cond) and nothing) (after-look cond c.current.ensures.same (reads-call cond (c.block.ensures.gives cond)))))
+expressions::control::block_like-returns-in-L_CURLY-clause-gives t c = λ cond. gives-anew (anew-after refl (reads-here (saw-arm c.in-L_CURLY.is (c.current.ensures.sees cond) and nothing) (after-look cond c.current.ensures.same (reads-call cond (c.block.ensures.gives cond)))))
 
-pub control::block_like-unsafe_block-requires : goal.control::block_like-unsafe_block-requires
-control::block_like-unsafe_block-requires t c = (omega arith, (short-still _ _ c.current.ensures.same.input c.requires.short, omega arith))
+pub expressions::control::block_like-unsafe_block-requires : goal.expressions::control::block_like-unsafe_block-requires
+expressions::control::block_like-unsafe_block-requires t c = (omega arith, (short-still _ _ c.current.ensures.same.input c.requires.short, omega arith))
 
-pub control::block_like-returns-in-UNSAFE_KW-clause-gives : goal.control::block_like-returns-in-UNSAFE_KW-clause-gives
+pub expressions::control::block_like-returns-in-UNSAFE_KW-clause-gives : goal.expressions::control::block_like-returns-in-UNSAFE_KW-clause-gives
 unfolding look_of begins_below whole rule items statements expressions patterns types paths there_at shift passes is_silent begins in_mode anew row one_of any_of no_longer longest is_longer
-control::block_like-returns-in-UNSAFE_KW-clause-gives t c = λ cond. gives-anew (anew-after refl (reads-here (saw-arm c.in-UNSAFE_KW.is (c.current.ensures.sees cond) and nothing) (after-look cond c.current.ensures.same (c.unsafe_block.ensures.reads cond))))
+expressions::control::block_like-returns-in-UNSAFE_KW-clause-gives t c = λ cond. gives-anew (anew-after refl (reads-here (saw-arm c.in-UNSAFE_KW.is (c.current.ensures.sees cond) and nothing) (after-look cond c.current.ensures.same (c.unsafe_block.ensures.reads cond))))
 
-pub control::block_like-if_expr-requires : goal.control::block_like-if_expr-requires
-control::block_like-if_expr-requires t c = (omega arith, (short-still _ _ c.current.ensures.same.input c.requires.short, omega arith))
+pub expressions::control::block_like-if_expr-requires : goal.expressions::control::block_like-if_expr-requires
+expressions::control::block_like-if_expr-requires t c = (omega arith, (short-still _ _ c.current.ensures.same.input c.requires.short, omega arith))
 
-pub control::block_like-returns-in-IF_KW-clause-gives : goal.control::block_like-returns-in-IF_KW-clause-gives
+pub expressions::control::block_like-returns-in-IF_KW-clause-gives : goal.expressions::control::block_like-returns-in-IF_KW-clause-gives
 unfolding look_of begins_below whole rule items statements expressions patterns types paths there_at shift passes is_silent begins in_mode anew row one_of any_of no_longer longest is_longer
-control::block_like-returns-in-IF_KW-clause-gives t c = λ cond. gives-anew (anew-after refl (reads-here (saw-arm c.in-IF_KW.is (c.current.ensures.sees cond) and nothing) (after-look cond c.current.ensures.same (reads-call cond (c.if_expr.ensures.gives cond)))))
+expressions::control::block_like-returns-in-IF_KW-clause-gives t c = λ cond. gives-anew (anew-after refl (reads-here (saw-arm c.in-IF_KW.is (c.current.ensures.sees cond) and nothing) (after-look cond c.current.ensures.same (reads-call cond (c.if_expr.ensures.gives cond)))))
 
-pub control::block_like-while_expr-requires : goal.control::block_like-while_expr-requires
-control::block_like-while_expr-requires t c = (omega arith, (short-still _ _ c.current.ensures.same.input c.requires.short, omega arith))
+pub expressions::control::block_like-while_expr-requires : goal.expressions::control::block_like-while_expr-requires
+expressions::control::block_like-while_expr-requires t c = (omega arith, (short-still _ _ c.current.ensures.same.input c.requires.short, omega arith))
 
-pub control::block_like-returns-in-WHILE_KW-clause-gives : goal.control::block_like-returns-in-WHILE_KW-clause-gives
+pub expressions::control::block_like-returns-in-WHILE_KW-clause-gives : goal.expressions::control::block_like-returns-in-WHILE_KW-clause-gives
 unfolding look_of begins_below whole rule items statements expressions patterns types paths there_at shift passes is_silent begins in_mode anew row one_of any_of no_longer longest is_longer
-control::block_like-returns-in-WHILE_KW-clause-gives t c = λ cond. gives-anew (anew-after refl (reads-here (saw-arm c.in-WHILE_KW.is (c.current.ensures.sees cond) and nothing) (after-look cond c.current.ensures.same (c.while_expr.ensures.reads cond))))
+expressions::control::block_like-returns-in-WHILE_KW-clause-gives t c = λ cond. gives-anew (anew-after refl (reads-here (saw-arm c.in-WHILE_KW.is (c.current.ensures.sees cond) and nothing) (after-look cond c.current.ensures.same (c.while_expr.ensures.reads cond))))
 
-pub control::block_like-loop_expr-requires : goal.control::block_like-loop_expr-requires
-control::block_like-loop_expr-requires t c = (omega arith, (short-still _ _ c.current.ensures.same.input c.requires.short, omega arith))
+pub expressions::control::block_like-loop_expr-requires : goal.expressions::control::block_like-loop_expr-requires
+expressions::control::block_like-loop_expr-requires t c = (omega arith, (short-still _ _ c.current.ensures.same.input c.requires.short, omega arith))
 
-pub control::block_like-returns-in-LOOP_KW-clause-gives : goal.control::block_like-returns-in-LOOP_KW-clause-gives
+pub expressions::control::block_like-returns-in-LOOP_KW-clause-gives : goal.expressions::control::block_like-returns-in-LOOP_KW-clause-gives
 unfolding look_of begins_below whole rule items statements expressions patterns types paths there_at shift passes is_silent begins in_mode anew row one_of any_of no_longer longest is_longer
-control::block_like-returns-in-LOOP_KW-clause-gives t c = λ cond. gives-anew (anew-after refl (reads-here (saw-arm c.in-LOOP_KW.is (c.current.ensures.sees cond) and nothing) (after-look cond c.current.ensures.same (c.loop_expr.ensures.reads cond))))
+expressions::control::block_like-returns-in-LOOP_KW-clause-gives t c = λ cond. gives-anew (anew-after refl (reads-here (saw-arm c.in-LOOP_KW.is (c.current.ensures.sees cond) and nothing) (after-look cond c.current.ensures.same (c.loop_expr.ensures.reads cond))))
 
-pub control::block_like-for_expr-requires : goal.control::block_like-for_expr-requires
-control::block_like-for_expr-requires t c = (omega arith, (short-still _ _ c.current.ensures.same.input c.requires.short, omega arith))
+pub expressions::control::block_like-for_expr-requires : goal.expressions::control::block_like-for_expr-requires
+expressions::control::block_like-for_expr-requires t c = (omega arith, (short-still _ _ c.current.ensures.same.input c.requires.short, omega arith))
 
-pub control::block_like-returns-in-FOR_KW-clause-gives : goal.control::block_like-returns-in-FOR_KW-clause-gives
+pub expressions::control::block_like-returns-in-FOR_KW-clause-gives : goal.expressions::control::block_like-returns-in-FOR_KW-clause-gives
 unfolding look_of begins_below whole rule items statements expressions patterns types paths there_at shift passes is_silent begins in_mode anew row one_of any_of no_longer longest is_longer
-control::block_like-returns-in-FOR_KW-clause-gives t c = λ cond. gives-anew (anew-after refl (reads-here (saw-arm c.in-FOR_KW.is (c.current.ensures.sees cond) and nothing) (after-look cond c.current.ensures.same (c.for_expr.ensures.reads cond))))
+expressions::control::block_like-returns-in-FOR_KW-clause-gives t c = λ cond. gives-anew (anew-after refl (reads-here (saw-arm c.in-FOR_KW.is (c.current.ensures.sees cond) and nothing) (after-look cond c.current.ensures.same (c.for_expr.ensures.reads cond))))
 
-pub control::block_like-match_expr-requires : goal.control::block_like-match_expr-requires
-control::block_like-match_expr-requires t c = (omega arith, (short-still _ _ c.current.ensures.same.input c.requires.short, omega arith))
+pub expressions::control::block_like-match_expr-requires : goal.expressions::control::block_like-match_expr-requires
+expressions::control::block_like-match_expr-requires t c = (omega arith, (short-still _ _ c.current.ensures.same.input c.requires.short, omega arith))
 
-pub control::block_like-returns-in-MATCH_KW-clause-gives : goal.control::block_like-returns-in-MATCH_KW-clause-gives
+pub expressions::control::block_like-returns-in-MATCH_KW-clause-gives : goal.expressions::control::block_like-returns-in-MATCH_KW-clause-gives
 unfolding look_of begins_below whole rule items statements expressions patterns types paths there_at shift passes is_silent begins in_mode anew row one_of any_of no_longer longest is_longer
-control::block_like-returns-in-MATCH_KW-clause-gives t c = λ cond. gives-anew (anew-after refl (reads-here (saw-arm c.in-MATCH_KW.is (c.current.ensures.sees cond) and nothing) (after-look cond c.current.ensures.same (c.match_expr.ensures.reads cond))))
+expressions::control::block_like-returns-in-MATCH_KW-clause-gives t c = λ cond. gives-anew (anew-after refl (reads-here (saw-arm c.in-MATCH_KW.is (c.current.ensures.sees cond) and nothing) (after-look cond c.current.ensures.same (c.match_expr.ensures.reads cond))))
 
-pub control::block_like-macro_block-requires : goal.control::block_like-macro_block-requires
+pub expressions::control::block_like-macro_block-requires : goal.expressions::control::block_like-macro_block-requires
 unfolding look_of begins_below whole rule items statements expressions patterns types paths there_at shift passes is_silent begins in_mode anew row one_of any_of no_longer longest is_longer
-control::block_like-macro_block-requires t c = record { begins = λ cond. saw-after c.current.ensures.same (saw-else (row 0 ('ident' ∷ '!' ∷ 'l_curly' ∷ [])) (looks rules.block_like) (saw-not c.in_default.not-L_CURLY (c.current.ensures.sees cond) and saw-not c.in_default.not-UNSAFE_KW (c.current.ensures.sees cond) and saw-not c.in_default.not-IF_KW (c.current.ensures.sees cond) and saw-not c.in_default.not-WHILE_KW (c.current.ensures.sees cond) and saw-not c.in_default.not-LOOP_KW (c.current.ensures.sees cond) and saw-not c.in_default.not-FOR_KW (c.current.ensures.sees cond) and saw-not c.in_default.not-MATCH_KW (c.current.ensures.sees cond) and nothing) (c.requires.begins cond) refl); some = three-left (saw-after c.current.ensures.same (saw-else (row 0 ('ident' ∷ '!' ∷ 'l_curly' ∷ [])) (looks rules.block_like) (saw-not c.in_default.not-L_CURLY (c.current.ensures.sees true) and saw-not c.in_default.not-UNSAFE_KW (c.current.ensures.sees true) and saw-not c.in_default.not-IF_KW (c.current.ensures.sees true) and saw-not c.in_default.not-WHILE_KW (c.current.ensures.sees true) and saw-not c.in_default.not-LOOP_KW (c.current.ensures.sees true) and saw-not c.in_default.not-FOR_KW (c.current.ensures.sees true) and saw-not c.in_default.not-MATCH_KW (c.current.ensures.sees true) and nothing) (c.requires.begins true) refl)) }
+expressions::control::block_like-macro_block-requires t c = record { begins = λ cond. saw-after c.current.ensures.same (saw-else (row 0 ('ident' ∷ '!' ∷ 'l_curly' ∷ [])) (looks rules.block_like) (saw-not c.in_default.not-L_CURLY (c.current.ensures.sees cond) and saw-not c.in_default.not-UNSAFE_KW (c.current.ensures.sees cond) and saw-not c.in_default.not-IF_KW (c.current.ensures.sees cond) and saw-not c.in_default.not-WHILE_KW (c.current.ensures.sees cond) and saw-not c.in_default.not-LOOP_KW (c.current.ensures.sees cond) and saw-not c.in_default.not-FOR_KW (c.current.ensures.sees cond) and saw-not c.in_default.not-MATCH_KW (c.current.ensures.sees cond) and nothing) (c.requires.begins cond) refl); some = three-left (saw-after c.current.ensures.same (saw-else (row 0 ('ident' ∷ '!' ∷ 'l_curly' ∷ [])) (looks rules.block_like) (saw-not c.in_default.not-L_CURLY (c.current.ensures.sees true) and saw-not c.in_default.not-UNSAFE_KW (c.current.ensures.sees true) and saw-not c.in_default.not-IF_KW (c.current.ensures.sees true) and saw-not c.in_default.not-WHILE_KW (c.current.ensures.sees true) and saw-not c.in_default.not-LOOP_KW (c.current.ensures.sees true) and saw-not c.in_default.not-FOR_KW (c.current.ensures.sees true) and saw-not c.in_default.not-MATCH_KW (c.current.ensures.sees true) and nothing) (c.requires.begins true) refl)) }
 
-pub control::block_like-returns-in_default-clause-gives : goal.control::block_like-returns-in_default-clause-gives
+pub expressions::control::block_like-returns-in_default-clause-gives : goal.expressions::control::block_like-returns-in_default-clause-gives
 unfolding look_of begins_below whole rule items statements expressions patterns types paths there_at shift passes is_silent begins in_mode anew row one_of any_of no_longer longest is_longer
-control::block_like-returns-in_default-clause-gives t c = λ cond. gives-anew (anew-after refl (reads-here (saw-not c.in_default.not-L_CURLY (c.current.ensures.sees cond) and saw-not c.in_default.not-UNSAFE_KW (c.current.ensures.sees cond) and saw-not c.in_default.not-IF_KW (c.current.ensures.sees cond) and saw-not c.in_default.not-WHILE_KW (c.current.ensures.sees cond) and saw-not c.in_default.not-LOOP_KW (c.current.ensures.sees cond) and saw-not c.in_default.not-FOR_KW (c.current.ensures.sees cond) and saw-not c.in_default.not-MATCH_KW (c.current.ensures.sees cond) and nothing) (after-look cond c.current.ensures.same (c.macro_block.ensures.reads cond))))
+expressions::control::block_like-returns-in_default-clause-gives t c = λ cond. gives-anew (anew-after refl (reads-here (saw-not c.in_default.not-L_CURLY (c.current.ensures.sees cond) and saw-not c.in_default.not-UNSAFE_KW (c.current.ensures.sees cond) and saw-not c.in_default.not-IF_KW (c.current.ensures.sees cond) and saw-not c.in_default.not-WHILE_KW (c.current.ensures.sees cond) and saw-not c.in_default.not-LOOP_KW (c.current.ensures.sees cond) and saw-not c.in_default.not-FOR_KW (c.current.ensures.sees cond) and saw-not c.in_default.not-MATCH_KW (c.current.ensures.sees cond) and nothing) (after-look cond c.current.ensures.same (c.macro_block.ensures.reads cond))))
 
-pub control::expect_statement_list-statement_list-requires : goal.control::expect_statement_list-statement_list-requires
-control::expect_statement_list-statement_list-requires t c = (omega arith, (short-still _ _ c.at.ensures.same.input c.requires.short, omega arith))
+pub expressions::control::expect_statement_list-statement_list-requires : goal.expressions::control::expect_statement_list-statement_list-requires
+expressions::control::expect_statement_list-statement_list-requires t c = (omega arith, (short-still _ _ c.at.ensures.same.input c.requires.short, omega arith))
 
-pub control::expect_statement_list-returns-then-at-clause-reads : goal.control::expect_statement_list-returns-then-at-clause-reads
+pub expressions::control::expect_statement_list-returns-then-at-clause-reads : goal.expressions::control::expect_statement_list-returns-then-at-clause-reads
 unfolding look_of begins_below whole rule items statements expressions patterns types paths there_at shift passes is_silent begins in_mode anew row one_of any_of no_longer longest is_longer
-control::expect_statement_list-returns-then-at-clause-reads t c = λ cond. reads-here (saw-so (c.at.ensures.sees cond) c.if-at.true and nothing) (after-look cond c.at.ensures.same (reads-call cond (c.statement_list.ensures.gives cond)))
+expressions::control::expect_statement_list-returns-then-at-clause-reads t c = λ cond. reads-here (saw-so (c.at.ensures.sees cond) c.if-at.true and nothing) (after-look cond c.at.ensures.same (reads-call cond (c.statement_list.ensures.gives cond)))
 
-pub control::expect_statement_list-returns-clause-reads : goal.control::expect_statement_list-returns-clause-reads
+pub expressions::control::expect_statement_list-returns-clause-reads : goal.expressions::control::expect_statement_list-returns-clause-reads
 unfolding look_of begins_below whole rule items statements expressions patterns types paths there_at shift passes is_silent begins in_mode anew row one_of any_of no_longer longest is_longer
-control::expect_statement_list-returns-clause-reads t c = λ cond. reads-here (saw-so (c.at.ensures.sees cond) c.if-at.false and nothing) (after-look cond c.at.ensures.same (c.error.ensures.reads cond))
+expressions::control::expect_statement_list-returns-clause-reads t c = λ cond. reads-here (saw-so (c.at.ensures.sees cond) c.if-at.false and nothing) (after-look cond c.at.ensures.same (c.error.ensures.reads cond))
 
-pub control::expect_block-block-requires : goal.control::expect_block-block-requires
-control::expect_block-block-requires t c = (omega arith, (short-still _ _ c.at.ensures.same.input c.requires.short, omega arith))
+pub expressions::control::expect_block-block-requires : goal.expressions::control::expect_block-block-requires
+expressions::control::expect_block-block-requires t c = (omega arith, (short-still _ _ c.at.ensures.same.input c.requires.short, omega arith))
 
-pub control::expect_block-returns-then-at-clause-reads : goal.control::expect_block-returns-then-at-clause-reads
+pub expressions::control::expect_block-returns-then-at-clause-reads : goal.expressions::control::expect_block-returns-then-at-clause-reads
 unfolding look_of begins_below whole rule items statements expressions patterns types paths there_at shift passes is_silent begins in_mode anew row one_of any_of no_longer longest is_longer
-control::expect_block-returns-then-at-clause-reads t c = λ cond. reads-here (saw-so (c.at.ensures.sees cond) c.if-at.true and nothing) (after-look cond c.at.ensures.same (reads-call cond (c.block.ensures.gives cond)))
+expressions::control::expect_block-returns-then-at-clause-reads t c = λ cond. reads-here (saw-so (c.at.ensures.sees cond) c.if-at.true and nothing) (after-look cond c.at.ensures.same (reads-call cond (c.block.ensures.gives cond)))
 
-pub control::expect_block-returns-clause-reads : goal.control::expect_block-returns-clause-reads
+pub expressions::control::expect_block-returns-clause-reads : goal.expressions::control::expect_block-returns-clause-reads
 unfolding look_of begins_below whole rule items statements expressions patterns types paths there_at shift passes is_silent begins in_mode anew row one_of any_of no_longer longest is_longer
-control::expect_block-returns-clause-reads t c = λ cond. reads-here (saw-so (c.at.ensures.sees cond) c.if-at.false and nothing) (after-look cond c.at.ensures.same (c.error.ensures.reads cond))
+expressions::control::expect_block-returns-clause-reads t c = λ cond. reads-here (saw-so (c.at.ensures.sees cond) c.if-at.false and nothing) (after-look cond c.at.ensures.same (c.error.ensures.reads cond))
 
-pub control::expect_match_arms-match_arms-requires : goal.control::expect_match_arms-match_arms-requires
-control::expect_match_arms-match_arms-requires t c = (omega arith, (short-still _ _ c.at.ensures.same.input c.requires.short, omega arith))
+pub expressions::control::expect_match_arms-match_arms-requires : goal.expressions::control::expect_match_arms-match_arms-requires
+expressions::control::expect_match_arms-match_arms-requires t c = (omega arith, (short-still _ _ c.at.ensures.same.input c.requires.short, omega arith))
 
-pub control::expect_match_arms-returns-then-at-clause-reads : goal.control::expect_match_arms-returns-then-at-clause-reads
+pub expressions::control::expect_match_arms-returns-then-at-clause-reads : goal.expressions::control::expect_match_arms-returns-then-at-clause-reads
 unfolding look_of begins_below whole rule items statements expressions patterns types paths there_at shift passes is_silent begins in_mode anew row one_of any_of no_longer longest is_longer
-control::expect_match_arms-returns-then-at-clause-reads t c = λ cond. reads-here (saw-so (c.at.ensures.sees cond) c.if-at.true and nothing) (after-look cond c.at.ensures.same (reads-call cond (c.match_arms.ensures.gives cond)))
+expressions::control::expect_match_arms-returns-then-at-clause-reads t c = λ cond. reads-here (saw-so (c.at.ensures.sees cond) c.if-at.true and nothing) (after-look cond c.at.ensures.same (reads-call cond (c.match_arms.ensures.gives cond)))
 
-pub control::expect_match_arms-returns-clause-reads : goal.control::expect_match_arms-returns-clause-reads
+pub expressions::control::expect_match_arms-returns-clause-reads : goal.expressions::control::expect_match_arms-returns-clause-reads
 unfolding look_of begins_below whole rule items statements expressions patterns types paths there_at shift passes is_silent begins in_mode anew row one_of any_of no_longer longest is_longer
-control::expect_match_arms-returns-clause-reads t c = λ cond. reads-here (saw-so (c.at.ensures.sees cond) c.if-at.false and nothing) (after-look cond c.at.ensures.same (c.error.ensures.reads cond))
+expressions::control::expect_match_arms-returns-clause-reads t c = λ cond. reads-here (saw-so (c.at.ensures.sees cond) c.if-at.false and nothing) (after-look cond c.at.ensures.same (c.error.ensures.reads cond))
 
-pub control::unsafe_block-expect_statement_list-requires : goal.control::unsafe_block-expect_statement_list-requires
-control::unsafe_block-expect_statement_list-requires t c = (omega arith, short-still _ _ ((c.take.ensures.reads true).does.input ∙ c.start-node.ensures.opens.input) c.requires.short)
+pub expressions::control::unsafe_block-expect_statement_list-requires : goal.expressions::control::unsafe_block-expect_statement_list-requires
+expressions::control::unsafe_block-expect_statement_list-requires t c = (omega arith, short-still _ _ ((c.take.ensures.reads true).does.input ∙ c.start-node.ensures.opens.input) c.requires.short)
 
-pub control::unsafe_block-complete-requires : goal.control::unsafe_block-complete-requires
-control::unsafe_block-complete-requires t c = (c.expect_statement_list.ensures.reads true).does.innermost _ ((c.take.ensures.reads true).does.innermost _ c.start-node.ensures.marker)
+pub expressions::control::unsafe_block-complete-requires : goal.expressions::control::unsafe_block-complete-requires
+expressions::control::unsafe_block-complete-requires t c = (c.expect_statement_list.ensures.reads true).does.innermost _ ((c.take.ensures.reads true).does.innermost _ c.start-node.ensures.marker)
 
-pub control::unsafe_block-returns-clause-reads : goal.control::unsafe_block-returns-clause-reads
-control::unsafe_block-returns-clause-reads t c = λ cond. reads-node cond c.start-node.ensures.opens (reads-then cond (c.take.ensures.reads cond) (c.expect_statement_list.ensures.reads cond)) c.complete.ensures.closes
+pub expressions::control::unsafe_block-returns-clause-reads : goal.expressions::control::unsafe_block-returns-clause-reads
+expressions::control::unsafe_block-returns-clause-reads t c = λ cond. reads-node cond c.start-node.ensures.opens (reads-then cond (c.take.ensures.reads cond) (c.expect_statement_list.ensures.reads cond)) c.complete.ensures.closes
 
-pub control::while_expr-expect_condition-requires : goal.control::while_expr-expect_condition-requires
-control::while_expr-expect_condition-requires t c = (omega arith, short-still _ _ ((c.take.ensures.reads true).does.input ∙ c.start-node.ensures.opens.input) c.requires.short)
+pub expressions::control::while_expr-expect_condition-requires : goal.expressions::control::while_expr-expect_condition-requires
+expressions::control::while_expr-expect_condition-requires t c = (omega arith, short-still _ _ ((c.take.ensures.reads true).does.input ∙ c.start-node.ensures.opens.input) c.requires.short)
 
-pub control::while_expr-expect_block-requires : goal.control::while_expr-expect_block-requires
-control::while_expr-expect_block-requires t c = (omega arith, short-still _ _ ((c.expect_condition.ensures.reads true).does.input ∙ (c.take.ensures.reads true).does.input ∙ c.start-node.ensures.opens.input) c.requires.short)
+pub expressions::control::while_expr-expect_block-requires : goal.expressions::control::while_expr-expect_block-requires
+expressions::control::while_expr-expect_block-requires t c = (omega arith, short-still _ _ ((c.expect_condition.ensures.reads true).does.input ∙ (c.take.ensures.reads true).does.input ∙ c.start-node.ensures.opens.input) c.requires.short)
 
-pub control::while_expr-complete-requires : goal.control::while_expr-complete-requires
-control::while_expr-complete-requires t c = (c.expect_block.ensures.reads true).does.innermost _ ((c.expect_condition.ensures.reads true).does.innermost _ ((c.take.ensures.reads true).does.innermost _ c.start-node.ensures.marker))
+pub expressions::control::while_expr-complete-requires : goal.expressions::control::while_expr-complete-requires
+expressions::control::while_expr-complete-requires t c = (c.expect_block.ensures.reads true).does.innermost _ ((c.expect_condition.ensures.reads true).does.innermost _ ((c.take.ensures.reads true).does.innermost _ c.start-node.ensures.marker))
 
-pub control::while_expr-returns-clause-reads : goal.control::while_expr-returns-clause-reads
-control::while_expr-returns-clause-reads t c = λ cond. reads-node cond c.start-node.ensures.opens (reads-then cond (c.take.ensures.reads cond) (reads-then cond (c.expect_condition.ensures.reads cond) (c.expect_block.ensures.reads cond))) c.complete.ensures.closes
+pub expressions::control::while_expr-returns-clause-reads : goal.expressions::control::while_expr-returns-clause-reads
+expressions::control::while_expr-returns-clause-reads t c = λ cond. reads-node cond c.start-node.ensures.opens (reads-then cond (c.take.ensures.reads cond) (reads-then cond (c.expect_condition.ensures.reads cond) (c.expect_block.ensures.reads cond))) c.complete.ensures.closes
 
-pub control::loop_expr-expect_block-requires : goal.control::loop_expr-expect_block-requires
-control::loop_expr-expect_block-requires t c = (omega arith, short-still _ _ ((c.take.ensures.reads true).does.input ∙ c.start-node.ensures.opens.input) c.requires.short)
+pub expressions::control::loop_expr-expect_block-requires : goal.expressions::control::loop_expr-expect_block-requires
+expressions::control::loop_expr-expect_block-requires t c = (omega arith, short-still _ _ ((c.take.ensures.reads true).does.input ∙ c.start-node.ensures.opens.input) c.requires.short)
 
-pub control::loop_expr-complete-requires : goal.control::loop_expr-complete-requires
-control::loop_expr-complete-requires t c = (c.expect_block.ensures.reads true).does.innermost _ ((c.take.ensures.reads true).does.innermost _ c.start-node.ensures.marker)
+pub expressions::control::loop_expr-complete-requires : goal.expressions::control::loop_expr-complete-requires
+expressions::control::loop_expr-complete-requires t c = (c.expect_block.ensures.reads true).does.innermost _ ((c.take.ensures.reads true).does.innermost _ c.start-node.ensures.marker)
 
-pub control::loop_expr-returns-clause-reads : goal.control::loop_expr-returns-clause-reads
-control::loop_expr-returns-clause-reads t c = λ cond. reads-node cond c.start-node.ensures.opens (reads-then cond (c.take.ensures.reads cond) (c.expect_block.ensures.reads cond)) c.complete.ensures.closes
+pub expressions::control::loop_expr-returns-clause-reads : goal.expressions::control::loop_expr-returns-clause-reads
+expressions::control::loop_expr-returns-clause-reads t c = λ cond. reads-node cond c.start-node.ensures.opens (reads-then cond (c.take.ensures.reads cond) (c.expect_block.ensures.reads cond)) c.complete.ensures.closes
 
-pub control::match_expr-expect_condition-requires : goal.control::match_expr-expect_condition-requires
-control::match_expr-expect_condition-requires t c = (omega arith, short-still _ _ ((c.take.ensures.reads true).does.input ∙ c.start-node.ensures.opens.input) c.requires.short)
+pub expressions::control::match_expr-expect_condition-requires : goal.expressions::control::match_expr-expect_condition-requires
+expressions::control::match_expr-expect_condition-requires t c = (omega arith, short-still _ _ ((c.take.ensures.reads true).does.input ∙ c.start-node.ensures.opens.input) c.requires.short)
 
-pub control::match_expr-expect_match_arms-requires : goal.control::match_expr-expect_match_arms-requires
-control::match_expr-expect_match_arms-requires t c = (omega arith, short-still _ _ ((c.expect_condition.ensures.reads true).does.input ∙ (c.take.ensures.reads true).does.input ∙ c.start-node.ensures.opens.input) c.requires.short)
+pub expressions::control::match_expr-expect_match_arms-requires : goal.expressions::control::match_expr-expect_match_arms-requires
+expressions::control::match_expr-expect_match_arms-requires t c = (omega arith, short-still _ _ ((c.expect_condition.ensures.reads true).does.input ∙ (c.take.ensures.reads true).does.input ∙ c.start-node.ensures.opens.input) c.requires.short)
 
-pub control::match_expr-complete-requires : goal.control::match_expr-complete-requires
-control::match_expr-complete-requires t c = (c.expect_match_arms.ensures.reads true).does.innermost _ ((c.expect_condition.ensures.reads true).does.innermost _ ((c.take.ensures.reads true).does.innermost _ c.start-node.ensures.marker))
+pub expressions::control::match_expr-complete-requires : goal.expressions::control::match_expr-complete-requires
+expressions::control::match_expr-complete-requires t c = (c.expect_match_arms.ensures.reads true).does.innermost _ ((c.expect_condition.ensures.reads true).does.innermost _ ((c.take.ensures.reads true).does.innermost _ c.start-node.ensures.marker))
 
-pub control::match_expr-returns-clause-reads : goal.control::match_expr-returns-clause-reads
-control::match_expr-returns-clause-reads t c = λ cond. reads-node cond c.start-node.ensures.opens (reads-then cond (c.take.ensures.reads cond) (reads-then cond (c.expect_condition.ensures.reads cond) (c.expect_match_arms.ensures.reads cond))) c.complete.ensures.closes
+pub expressions::control::match_expr-returns-clause-reads : goal.expressions::control::match_expr-returns-clause-reads
+expressions::control::match_expr-returns-clause-reads t c = λ cond. reads-node cond c.start-node.ensures.opens (reads-then cond (c.take.ensures.reads cond) (reads-then cond (c.expect_condition.ensures.reads cond) (c.expect_match_arms.ensures.reads cond))) c.complete.ensures.closes
 
-pub control::for_expr-expect_pattern-requires : goal.control::for_expr-expect_pattern-requires
-control::for_expr-expect_pattern-requires t c = (omega arith, short-still _ _ ((c.take.ensures.reads true).does.input ∙ c.start-node.ensures.opens.input) c.requires.short)
+pub expressions::control::for_expr-expect_pattern-requires : goal.expressions::control::for_expr-expect_pattern-requires
+expressions::control::for_expr-expect_pattern-requires t c = (omega arith, short-still _ _ ((c.take.ensures.reads true).does.input ∙ c.start-node.ensures.opens.input) c.requires.short)
 
-pub control::for_expr-expect_condition-requires : goal.control::for_expr-expect_condition-requires
-control::for_expr-expect_condition-requires t c = (omega arith, short-still _ _ ((c.expect.ensures.reads true).does.input ∙ (c.expect_pattern.ensures.reads true).does.input ∙ (c.take.ensures.reads true).does.input ∙ c.start-node.ensures.opens.input) c.requires.short)
+pub expressions::control::for_expr-expect_condition-requires : goal.expressions::control::for_expr-expect_condition-requires
+expressions::control::for_expr-expect_condition-requires t c = (omega arith, short-still _ _ ((c.expect.ensures.reads true).does.input ∙ (c.expect_pattern.ensures.reads true).does.input ∙ (c.take.ensures.reads true).does.input ∙ c.start-node.ensures.opens.input) c.requires.short)
 
-pub control::for_expr-expect_block-requires : goal.control::for_expr-expect_block-requires
-control::for_expr-expect_block-requires t c = (omega arith, short-still _ _ ((c.expect_condition.ensures.reads true).does.input ∙ (c.expect.ensures.reads true).does.input ∙ (c.expect_pattern.ensures.reads true).does.input ∙ (c.take.ensures.reads true).does.input ∙ c.start-node.ensures.opens.input) c.requires.short)
+pub expressions::control::for_expr-expect_block-requires : goal.expressions::control::for_expr-expect_block-requires
+expressions::control::for_expr-expect_block-requires t c = (omega arith, short-still _ _ ((c.expect_condition.ensures.reads true).does.input ∙ (c.expect.ensures.reads true).does.input ∙ (c.expect_pattern.ensures.reads true).does.input ∙ (c.take.ensures.reads true).does.input ∙ c.start-node.ensures.opens.input) c.requires.short)
 
-pub control::for_expr-complete-requires : goal.control::for_expr-complete-requires
-control::for_expr-complete-requires t c = (c.expect_block.ensures.reads true).does.innermost _ ((c.expect_condition.ensures.reads true).does.innermost _ ((c.expect.ensures.reads true).does.innermost _ ((c.expect_pattern.ensures.reads true).does.innermost _ ((c.take.ensures.reads true).does.innermost _ c.start-node.ensures.marker))))
+pub expressions::control::for_expr-complete-requires : goal.expressions::control::for_expr-complete-requires
+expressions::control::for_expr-complete-requires t c = (c.expect_block.ensures.reads true).does.innermost _ ((c.expect_condition.ensures.reads true).does.innermost _ ((c.expect.ensures.reads true).does.innermost _ ((c.expect_pattern.ensures.reads true).does.innermost _ ((c.take.ensures.reads true).does.innermost _ c.start-node.ensures.marker))))
 
-pub control::for_expr-returns-clause-reads : goal.control::for_expr-returns-clause-reads
-control::for_expr-returns-clause-reads t c = λ cond. reads-node cond c.start-node.ensures.opens (reads-then cond (c.take.ensures.reads cond) (reads-then cond (c.expect_pattern.ensures.reads cond) (reads-then cond (c.expect.ensures.reads cond) (reads-then cond (c.expect_condition.ensures.reads cond) (c.expect_block.ensures.reads cond))))) c.complete.ensures.closes
+pub expressions::control::for_expr-returns-clause-reads : goal.expressions::control::for_expr-returns-clause-reads
+expressions::control::for_expr-returns-clause-reads t c = λ cond. reads-node cond c.start-node.ensures.opens (reads-then cond (c.take.ensures.reads cond) (reads-then cond (c.expect_pattern.ensures.reads cond) (reads-then cond (c.expect.ensures.reads cond) (reads-then cond (c.expect_condition.ensures.reads cond) (c.expect_block.ensures.reads cond))))) c.complete.ensures.closes
 
-pub control::if_expr-expect_condition-requires : goal.control::if_expr-expect_condition-requires
-control::if_expr-expect_condition-requires t c = (omega arith, short-still _ _ ((c.take.ensures.reads true).does.input ∙ c.start-node.ensures.opens.input) c.requires.short)
+pub expressions::control::if_expr-expect_condition-requires : goal.expressions::control::if_expr-expect_condition-requires
+expressions::control::if_expr-expect_condition-requires t c = (omega arith, short-still _ _ ((c.take.ensures.reads true).does.input ∙ c.start-node.ensures.opens.input) c.requires.short)
 
-pub control::if_expr-expect_block-requires : goal.control::if_expr-expect_block-requires
-control::if_expr-expect_block-requires t c = (omega arith, short-still _ _ ((c.expect_condition.ensures.reads true).does.input ∙ (c.take.ensures.reads true).does.input ∙ c.start-node.ensures.opens.input) c.requires.short)
+pub expressions::control::if_expr-expect_block-requires : goal.expressions::control::if_expr-expect_block-requires
+expressions::control::if_expr-expect_block-requires t c = (omega arith, short-still _ _ ((c.expect_condition.ensures.reads true).does.input ∙ (c.take.ensures.reads true).does.input ∙ c.start-node.ensures.opens.input) c.requires.short)
 
-pub control::if_expr-opt_else-requires : goal.control::if_expr-opt_else-requires
-control::if_expr-opt_else-requires t c = (omega arith, short-still _ _ ((c.expect_block.ensures.reads true).does.input ∙ (c.expect_condition.ensures.reads true).does.input ∙ (c.take.ensures.reads true).does.input ∙ c.start-node.ensures.opens.input) c.requires.short)
+pub expressions::control::if_expr-opt_else-requires : goal.expressions::control::if_expr-opt_else-requires
+expressions::control::if_expr-opt_else-requires t c = (omega arith, short-still _ _ ((c.expect_block.ensures.reads true).does.input ∙ (c.expect_condition.ensures.reads true).does.input ∙ (c.take.ensures.reads true).does.input ∙ c.start-node.ensures.opens.input) c.requires.short)
 
-pub control::if_expr-complete-requires : goal.control::if_expr-complete-requires
-control::if_expr-complete-requires t c = (c.opt_else.ensures.reads true).does.innermost _ ((c.expect_block.ensures.reads true).does.innermost _ ((c.expect_condition.ensures.reads true).does.innermost _ ((c.take.ensures.reads true).does.innermost _ c.start-node.ensures.marker)))
+pub expressions::control::if_expr-complete-requires : goal.expressions::control::if_expr-complete-requires
+expressions::control::if_expr-complete-requires t c = (c.opt_else.ensures.reads true).does.innermost _ ((c.expect_block.ensures.reads true).does.innermost _ ((c.expect_condition.ensures.reads true).does.innermost _ ((c.take.ensures.reads true).does.innermost _ c.start-node.ensures.marker)))
 
-pub control::if_expr-returns-clause-gives : goal.control::if_expr-returns-clause-gives
+pub expressions::control::if_expr-returns-clause-gives : goal.expressions::control::if_expr-returns-clause-gives
 unfolding look_of begins_below whole rule items statements expressions patterns types paths there_at shift passes is_silent begins in_mode anew row one_of any_of no_longer longest is_longer
-control::if_expr-returns-clause-gives t c = λ cond. gives-anew (anew-after refl (reads-node cond c.start-node.ensures.opens (reads-then cond (c.take.ensures.reads cond) (reads-then cond (c.expect_condition.ensures.reads cond) (reads-then cond (c.expect_block.ensures.reads cond) (c.opt_else.ensures.reads cond)))) c.complete.ensures.closes))
+expressions::control::if_expr-returns-clause-gives t c = λ cond. gives-anew (anew-after refl (reads-node cond c.start-node.ensures.opens (reads-then cond (c.take.ensures.reads cond) (reads-then cond (c.expect_condition.ensures.reads cond) (reads-then cond (c.expect_block.ensures.reads cond) (c.opt_else.ensures.reads cond)))) c.complete.ensures.closes))
 
-pub control::opt_else-after_else-requires : goal.control::opt_else-after_else-requires
-control::opt_else-after_else-requires t c = (omega arith, short-still _ _ ((c.take.ensures.reads true).does.input ∙ c.at.ensures.same.input) c.requires.short)
+pub expressions::control::opt_else-after_else-requires : goal.expressions::control::opt_else-after_else-requires
+expressions::control::opt_else-after_else-requires t c = (omega arith, short-still _ _ ((c.take.ensures.reads true).does.input ∙ c.at.ensures.same.input) c.requires.short)
 
-pub control::opt_else-returns-then-at-clause-reads : goal.control::opt_else-returns-then-at-clause-reads
+pub expressions::control::opt_else-returns-then-at-clause-reads : goal.expressions::control::opt_else-returns-then-at-clause-reads
 unfolding look_of begins_below whole rule items statements expressions patterns types paths there_at shift passes is_silent begins in_mode anew row one_of any_of no_longer longest is_longer
-control::opt_else-returns-then-at-clause-reads t c = λ cond. reads-here (saw-so (c.at.ensures.sees cond) c.if-at.true and nothing) (after-look cond c.at.ensures.same (reads-then cond (c.take.ensures.reads cond) (c.after_else.ensures.reads cond)))
+expressions::control::opt_else-returns-then-at-clause-reads t c = λ cond. reads-here (saw-so (c.at.ensures.sees cond) c.if-at.true and nothing) (after-look cond c.at.ensures.same (reads-then cond (c.take.ensures.reads cond) (c.after_else.ensures.reads cond)))
 
-pub control::opt_else-returns-else-at-clause-reads : goal.control::opt_else-returns-else-at-clause-reads
+pub expressions::control::opt_else-returns-else-at-clause-reads : goal.expressions::control::opt_else-returns-else-at-clause-reads
 unfolding look_of begins_below whole rule items statements expressions patterns types paths there_at shift passes is_silent begins in_mode anew row one_of any_of no_longer longest is_longer
-control::opt_else-returns-else-at-clause-reads t c = λ cond. reads-here (saw-so (c.at.ensures.sees cond) c.if-at.false and nothing) (reads-nothing cond c.at.ensures.same)
+expressions::control::opt_else-returns-else-at-clause-reads t c = λ cond. reads-here (saw-so (c.at.ensures.sees cond) c.if-at.false and nothing) (reads-nothing cond c.at.ensures.same)
 
-pub control::after_else-if_expr-requires : goal.control::after_else-if_expr-requires
-control::after_else-if_expr-requires t c = (omega arith, (short-still _ _ c.at.ensures.same.input c.requires.short, omega arith))
+pub expressions::control::after_else-if_expr-requires : goal.expressions::control::after_else-if_expr-requires
+expressions::control::after_else-if_expr-requires t c = (omega arith, (short-still _ _ c.at.ensures.same.input c.requires.short, omega arith))
 
-pub control::after_else-expect_block-requires : goal.control::after_else-expect_block-requires
-control::after_else-expect_block-requires t c = (omega arith, short-still _ _ c.at.ensures.same.input c.requires.short)
+pub expressions::control::after_else-expect_block-requires : goal.expressions::control::after_else-expect_block-requires
+expressions::control::after_else-expect_block-requires t c = (omega arith, short-still _ _ c.at.ensures.same.input c.requires.short)
 
-pub control::after_else-returns-then-at-clause-reads : goal.control::after_else-returns-then-at-clause-reads
+pub expressions::control::after_else-returns-then-at-clause-reads : goal.expressions::control::after_else-returns-then-at-clause-reads
 unfolding look_of begins_below whole rule items statements expressions patterns types paths there_at shift passes is_silent begins in_mode anew row one_of any_of no_longer longest is_longer
-control::after_else-returns-then-at-clause-reads t c = λ cond. reads-here (saw-so (c.at.ensures.sees cond) c.if-at.true and nothing) (after-look cond c.at.ensures.same (reads-call cond (c.if_expr.ensures.gives cond)))
+expressions::control::after_else-returns-then-at-clause-reads t c = λ cond. reads-here (saw-so (c.at.ensures.sees cond) c.if-at.true and nothing) (after-look cond c.at.ensures.same (reads-call cond (c.if_expr.ensures.gives cond)))
 
-pub control::after_else-returns-clause-reads : goal.control::after_else-returns-clause-reads
+pub expressions::control::after_else-returns-clause-reads : goal.expressions::control::after_else-returns-clause-reads
 unfolding look_of begins_below whole rule items statements expressions patterns types paths there_at shift passes is_silent begins in_mode anew row one_of any_of no_longer longest is_longer
-control::after_else-returns-clause-reads t c = λ cond. reads-here (saw-so (c.at.ensures.sees cond) c.if-at.false and nothing) (after-look cond c.at.ensures.same (c.expect_block.ensures.reads cond))
+expressions::control::after_else-returns-clause-reads t c = λ cond. reads-here (saw-so (c.at.ensures.sees cond) c.if-at.false and nothing) (after-look cond c.at.ensures.same (c.expect_block.ensures.reads cond))
 
-pub control::match_arms-arms-requires : goal.control::match_arms-arms-requires
-control::match_arms-arms-requires t c = (omega arith, short-still _ _ ((c.take.ensures.reads true).does.input ∙ c.start-list.ensures.opens.input) c.requires.short)
+pub expressions::control::match_arms-arms-requires : goal.expressions::control::match_arms-arms-requires
+expressions::control::match_arms-arms-requires t c = (omega arith, short-still _ _ ((c.take.ensures.reads true).does.input ∙ c.start-list.ensures.opens.input) c.requires.short)
 
-pub control::match_arms-complete-requires : goal.control::match_arms-complete-requires
-control::match_arms-complete-requires t c = (c.expect.ensures.reads true).does.innermost _ (c.arms.ensures.reads.does.innermost _ ((c.take.ensures.reads true).does.innermost _ c.start-list.ensures.marker))
+pub expressions::control::match_arms-complete-requires : goal.expressions::control::match_arms-complete-requires
+expressions::control::match_arms-complete-requires t c = (c.expect.ensures.reads true).does.innermost _ (c.arms.ensures.reads.does.innermost _ ((c.take.ensures.reads true).does.innermost _ c.start-list.ensures.marker))
 
-pub control::match_arms-returns-clause-gives : goal.control::match_arms-returns-clause-gives
+pub expressions::control::match_arms-returns-clause-gives : goal.expressions::control::match_arms-returns-clause-gives
 unfolding look_of begins_below whole rule items statements expressions patterns types paths there_at shift passes is_silent begins in_mode anew row one_of any_of no_longer longest is_longer
-control::match_arms-returns-clause-gives t c = λ cond. gives-anew (anew-after refl (reads-node cond c.start-list.ensures.opens (reads-then cond (c.take.ensures.reads cond) (reads-then cond (reads-mode cond c.arms.ensures.reads) (c.expect.ensures.reads cond))) c.complete.ensures.closes))
+expressions::control::match_arms-returns-clause-gives t c = λ cond. gives-anew (anew-after refl (reads-node cond c.start-list.ensures.opens (reads-then cond (c.take.ensures.reads cond) (reads-then cond (reads-mode cond c.arms.ensures.reads) (c.expect.ensures.reads cond))) c.complete.ensures.closes))
 
-pub control::arms-turns-preserved : goal.control::arms-turns-preserved
-control::arms-turns-preserved t c = record {
+pub expressions::control::arms-turns-preserved : goal.expressions::control::arms-turns-preserved
+expressions::control::arms-turns-preserved t c = record {
   input = c.arm_turn.ensures.input ∙ c.turns.invariant.input;
   innermost = λ n i. c.arm_turn.ensures.innermost n (c.turns.invariant.innermost n i);
   goes = record { rest = λ end p. c.turns.invariant.goes.rest end ((c.arm_turn.ensures.goes c.turns-test.true).rest end p) };
@@ -235,49 +235,49 @@ control::arms-turns-preserved t c = record {
   looks = omega (arith, c.turns.invariant.looks, c.arm_turn.ensures.pays c.turns-test.true);
 }
 
-pub control::arms-returns-clause-reads : goal.control::arms-returns-clause-reads
-control::arms-returns-clause-reads t c = c.turns.invariant.goes.rest _ (c.arm_turn.ensures.ends c.turns-test.false)
+pub expressions::control::arms-returns-clause-reads : goal.expressions::control::arms-returns-clause-reads
+expressions::control::arms-returns-clause-reads t c = c.turns.invariant.goes.rest _ (c.arm_turn.ensures.ends c.turns-test.false)
 
-pub control::arm_turn-returns-then-at_list_end-clause-ends : goal.control::arm_turn-returns-then-at_list_end-clause-ends
+pub expressions::control::arm_turn-returns-then-at_list_end-clause-ends : goal.expressions::control::arm_turn-returns-then-at_list_end-clause-ends
 unfolding look_of begins_below whole rule items statements expressions patterns types paths there_at shift passes is_silent begins in_mode anew row one_of any_of no_longer longest is_longer
-control::arm_turn-returns-then-at_list_end-clause-ends t c = λ e. last-turn false (Unless (until 'r_curly') (MatchArm or Skip ExpectedMatchArm)) (ends-at-end false (Unless (until 'r_curly') (MatchArm or Skip ExpectedMatchArm)) refl) _ _ _ first-turn (starts-here (Unless (until 'r_curly') (MatchArm or Skip ExpectedMatchArm)) (saw-so (c.at_list_end.ensures.sees false) c.if-at_list_end.true and nothing) refl) c.at_list_end.ensures.same
+expressions::control::arm_turn-returns-then-at_list_end-clause-ends t c = λ e. last-turn false (Unless (until 'r_curly') (MatchArm or Skip ExpectedMatchArm)) (ends-at-end false (Unless (until 'r_curly') (MatchArm or Skip ExpectedMatchArm)) refl) _ _ _ first-turn (starts-here (Unless (until 'r_curly') (MatchArm or Skip ExpectedMatchArm)) (saw-so (c.at_list_end.ensures.sees false) c.if-at_list_end.true and nothing) refl) c.at_list_end.ensures.same
 
-pub control::arm_turn-match_arm-requires : goal.control::arm_turn-match_arm-requires
+pub expressions::control::arm_turn-match_arm-requires : goal.expressions::control::arm_turn-match_arm-requires
 unfolding look_of begins_below whole rule items statements expressions patterns types paths there_at shift passes is_silent begins in_mode anew row one_of any_of no_longer longest is_longer
-control::arm_turn-match_arm-requires t c =
+expressions::control::arm_turn-match_arm-requires t c =
     (omega arith, (short-still _ _ (c.at_pattern.ensures.same.input ∙ c.at_list_end.ensures.same.input) c.requires.short, ((λ d. saw-after c.at_pattern.ensures.same (saw-so (c.at_pattern.ensures.sees d) c.if-at_pattern.true)), omega (arith, c.at_pattern.ensures.some c.if-at_pattern.true, c.at_pattern.ensures.left))))
 
-pub control::arm_turn-returns-then-at_pattern-clause-goes : goal.control::arm_turn-returns-then-at_pattern-clause-goes
+pub expressions::control::arm_turn-returns-then-at_pattern-clause-goes : goal.expressions::control::arm_turn-returns-then-at_pattern-clause-goes
 unfolding tokens look_of begins_below whole rule items statements expressions patterns types paths there_at shift passes is_silent begins in_mode anew row one_of any_of no_longer longest is_longer
-control::arm_turn-returns-then-at_pattern-clause-goes t c = λ e. next-turn false (Unless (until 'r_curly') (MatchArm or Skip ExpectedMatchArm)) (ends-at-end false (Unless (until 'r_curly') (MatchArm or Skip ExpectedMatchArm)) refl) _ _ _ first-turn (starts-here (Unless (until 'r_curly') (MatchArm or Skip ExpectedMatchArm)) (saw-so (c.at_list_end.ensures.sees false) c.if-at_list_end.false and begun-anew rules.match_arm (saw-before c.at_list_end.ensures.same (arm-there (saw-so (c.at_pattern.ensures.sees false) c.if-at_pattern.true))) nothing) refl) (reads-here (begun-anew rules.match_arm (saw-before c.at_list_end.ensures.same (arm-there (saw-so (c.at_pattern.ensures.sees false) c.if-at_pattern.true))) nothing) (after-look false c.at_list_end.ensures.same (after-look false c.at_pattern.ensures.same (reads-call false c.match_arm.ensures.gives)))) (omega (arith, c.match_arm.ensures.left, c.at_pattern.ensures.left, c.at_list_end.ensures.left))
+expressions::control::arm_turn-returns-then-at_pattern-clause-goes t c = λ e. next-turn false (Unless (until 'r_curly') (MatchArm or Skip ExpectedMatchArm)) (ends-at-end false (Unless (until 'r_curly') (MatchArm or Skip ExpectedMatchArm)) refl) _ _ _ first-turn (starts-here (Unless (until 'r_curly') (MatchArm or Skip ExpectedMatchArm)) (saw-so (c.at_list_end.ensures.sees false) c.if-at_list_end.false and begun-anew rules.match_arm (saw-before c.at_list_end.ensures.same (arm-there (saw-so (c.at_pattern.ensures.sees false) c.if-at_pattern.true))) nothing) refl) (reads-here (begun-anew rules.match_arm (saw-before c.at_list_end.ensures.same (arm-there (saw-so (c.at_pattern.ensures.sees false) c.if-at_pattern.true))) nothing) (after-look false c.at_list_end.ensures.same (after-look false c.at_pattern.ensures.same (reads-call false c.match_arm.ensures.gives)))) (omega (arith, c.match_arm.ensures.left, c.at_pattern.ensures.left, c.at_list_end.ensures.left))
 
-pub control::arm_turn-returns-then-at_pattern-clause-input : goal.control::arm_turn-returns-then-at_pattern-clause-input
-control::arm_turn-returns-then-at_pattern-clause-input t c = c.match_arm.ensures.gives.does.input ∙ c.at_pattern.ensures.same.input ∙ c.at_list_end.ensures.same.input
+pub expressions::control::arm_turn-returns-then-at_pattern-clause-input : goal.expressions::control::arm_turn-returns-then-at_pattern-clause-input
+expressions::control::arm_turn-returns-then-at_pattern-clause-input t c = c.match_arm.ensures.gives.does.input ∙ c.at_pattern.ensures.same.input ∙ c.at_list_end.ensures.same.input
 
-pub control::arm_turn-returns-then-at_pattern-clause-innermost : goal.control::arm_turn-returns-then-at_pattern-clause-innermost
-control::arm_turn-returns-then-at_pattern-clause-innermost t c = λ n i. c.match_arm.ensures.gives.does.innermost n (c.at_pattern.ensures.same.innermost n (c.at_list_end.ensures.same.innermost n i))
+pub expressions::control::arm_turn-returns-then-at_pattern-clause-innermost : goal.expressions::control::arm_turn-returns-then-at_pattern-clause-innermost
+expressions::control::arm_turn-returns-then-at_pattern-clause-innermost t c = λ n i. c.match_arm.ensures.gives.does.innermost n (c.at_pattern.ensures.same.innermost n (c.at_list_end.ensures.same.innermost n i))
 
-pub control::arm_turn-returns-then-at_pattern-clause-pays : goal.control::arm_turn-returns-then-at_pattern-clause-pays
-control::arm_turn-returns-then-at_pattern-clause-pays t c = λ e. omega (arith, c.at_pattern.ensures.looks, c.at_list_end.ensures.looks, c.match_arm.ensures.looks)
+pub expressions::control::arm_turn-returns-then-at_pattern-clause-pays : goal.expressions::control::arm_turn-returns-then-at_pattern-clause-pays
+expressions::control::arm_turn-returns-then-at_pattern-clause-pays t c = λ e. omega (arith, c.at_pattern.ensures.looks, c.at_list_end.ensures.looks, c.match_arm.ensures.looks)
 
-pub control::arm_turn-returns-then-at_pattern-clause-looks : goal.control::arm_turn-returns-then-at_pattern-clause-looks
-control::arm_turn-returns-then-at_pattern-clause-looks t c = omega (arith, c.at_pattern.ensures.looks, c.at_list_end.ensures.looks, c.match_arm.ensures.looks)
+pub expressions::control::arm_turn-returns-then-at_pattern-clause-looks : goal.expressions::control::arm_turn-returns-then-at_pattern-clause-looks
+expressions::control::arm_turn-returns-then-at_pattern-clause-looks t c = omega (arith, c.at_pattern.ensures.looks, c.at_list_end.ensures.looks, c.match_arm.ensures.looks)
 
-pub control::arm_turn-skip-requires : goal.control::arm_turn-skip-requires
-control::arm_turn-skip-requires t c = omega (arith, some-left 'r_curly' (saw-so (c.at_list_end.ensures.sees false) c.if-at_list_end.false), c.at_list_end.ensures.left, c.at_pattern.ensures.left)
+pub expressions::control::arm_turn-skip-requires : goal.expressions::control::arm_turn-skip-requires
+expressions::control::arm_turn-skip-requires t c = omega (arith, some-left 'r_curly' (saw-so (c.at_list_end.ensures.sees false) c.if-at_list_end.false), c.at_list_end.ensures.left, c.at_pattern.ensures.left)
 
-pub control::arm_turn-returns-clause-goes : goal.control::arm_turn-returns-clause-goes
+pub expressions::control::arm_turn-returns-clause-goes : goal.expressions::control::arm_turn-returns-clause-goes
 unfolding tokens look_of begins_below whole rule items statements expressions patterns types paths there_at shift passes is_silent begins in_mode anew row one_of any_of no_longer longest is_longer
-control::arm_turn-returns-clause-goes t c = λ e. next-turn false (Unless (until 'r_curly') (MatchArm or Skip ExpectedMatchArm)) (ends-at-end false (Unless (until 'r_curly') (MatchArm or Skip ExpectedMatchArm)) refl) _ _ _ first-turn (starts-here (Unless (until 'r_curly') (MatchArm or Skip ExpectedMatchArm)) (saw-so (c.at_list_end.ensures.sees false) c.if-at_list_end.false and left-there 'r_curly' (saw-so (c.at_list_end.ensures.sees false) c.if-at_list_end.false) and begun-anew rules.match_arm (saw-before c.at_list_end.ensures.same (arm-there (saw-so (c.at_pattern.ensures.sees false) c.if-at_pattern.false))) nothing) refl) (reads-here (begun-anew rules.match_arm (saw-before c.at_list_end.ensures.same (arm-there (saw-so (c.at_pattern.ensures.sees false) c.if-at_pattern.false))) nothing) (after-look false c.at_list_end.ensures.same (after-look false c.at_pattern.ensures.same (c.skip.ensures.reads false)))) (omega (arith, c.skip.ensures.left, c.at_pattern.ensures.left, c.at_list_end.ensures.left))
+expressions::control::arm_turn-returns-clause-goes t c = λ e. next-turn false (Unless (until 'r_curly') (MatchArm or Skip ExpectedMatchArm)) (ends-at-end false (Unless (until 'r_curly') (MatchArm or Skip ExpectedMatchArm)) refl) _ _ _ first-turn (starts-here (Unless (until 'r_curly') (MatchArm or Skip ExpectedMatchArm)) (saw-so (c.at_list_end.ensures.sees false) c.if-at_list_end.false and left-there 'r_curly' (saw-so (c.at_list_end.ensures.sees false) c.if-at_list_end.false) and begun-anew rules.match_arm (saw-before c.at_list_end.ensures.same (arm-there (saw-so (c.at_pattern.ensures.sees false) c.if-at_pattern.false))) nothing) refl) (reads-here (begun-anew rules.match_arm (saw-before c.at_list_end.ensures.same (arm-there (saw-so (c.at_pattern.ensures.sees false) c.if-at_pattern.false))) nothing) (after-look false c.at_list_end.ensures.same (after-look false c.at_pattern.ensures.same (c.skip.ensures.reads false)))) (omega (arith, c.skip.ensures.left, c.at_pattern.ensures.left, c.at_list_end.ensures.left))
 
-pub control::arm_turn-returns-clause-input : goal.control::arm_turn-returns-clause-input
-control::arm_turn-returns-clause-input t c = (c.skip.ensures.reads false).does.input ∙ c.at_pattern.ensures.same.input ∙ c.at_list_end.ensures.same.input
+pub expressions::control::arm_turn-returns-clause-input : goal.expressions::control::arm_turn-returns-clause-input
+expressions::control::arm_turn-returns-clause-input t c = (c.skip.ensures.reads false).does.input ∙ c.at_pattern.ensures.same.input ∙ c.at_list_end.ensures.same.input
 
-pub control::arm_turn-returns-clause-innermost : goal.control::arm_turn-returns-clause-innermost
-control::arm_turn-returns-clause-innermost t c = λ n i. (c.skip.ensures.reads false).does.innermost n (c.at_pattern.ensures.same.innermost n (c.at_list_end.ensures.same.innermost n i))
+pub expressions::control::arm_turn-returns-clause-innermost : goal.expressions::control::arm_turn-returns-clause-innermost
+expressions::control::arm_turn-returns-clause-innermost t c = λ n i. (c.skip.ensures.reads false).does.innermost n (c.at_pattern.ensures.same.innermost n (c.at_list_end.ensures.same.innermost n i))
 
-pub control::arm_turn-returns-clause-pays : goal.control::arm_turn-returns-clause-pays
-control::arm_turn-returns-clause-pays t c = λ e. omega (arith, c.at_pattern.ensures.looks, c.at_list_end.ensures.looks, c.skip.ensures.looks)
+pub expressions::control::arm_turn-returns-clause-pays : goal.expressions::control::arm_turn-returns-clause-pays
+expressions::control::arm_turn-returns-clause-pays t c = λ e. omega (arith, c.at_pattern.ensures.looks, c.at_list_end.ensures.looks, c.skip.ensures.looks)
 
-pub control::arm_turn-returns-clause-looks : goal.control::arm_turn-returns-clause-looks
-control::arm_turn-returns-clause-looks t c = omega (arith, c.at_pattern.ensures.looks, c.at_list_end.ensures.looks, c.skip.ensures.looks)
+pub expressions::control::arm_turn-returns-clause-looks : goal.expressions::control::arm_turn-returns-clause-looks
+expressions::control::arm_turn-returns-clause-looks t c = omega (arith, c.at_pattern.ensures.looks, c.at_list_end.ensures.looks, c.skip.ensures.looks)

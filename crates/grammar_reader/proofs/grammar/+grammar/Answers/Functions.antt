@@ -17,59 +17,59 @@ use Rattle.rust_productions.proofs.Facts.{nothing, saw-so, ◌and◌}
 use Rattle.rust_productions.proofs.Given.{reads-three}
 use Rattle.grammar_reader.proofs.grammar.+grammar.Goals as goal
 
-pub functions::fn_item-fn_words-requires : goal.functions::fn_item-fn_words-requires
-functions::fn_item-fn_words-requires t c = record { begins = c.requires.begins; some = c.requires.some }
+pub items::functions::fn_item-fn_words-requires : goal.items::functions::fn_item-fn_words-requires
+items::functions::fn_item-fn_words-requires t c = record { begins = c.requires.begins; some = c.requires.some }
 
-pub functions::fn_item-opt_generic_params-requires : goal.functions::fn_item-opt_generic_params-requires
-functions::fn_item-opt_generic_params-requires t c = (omega arith, short-still _ _ ((c.expect_name.ensures.reads true).does.input ∙ (c.fn_words.ensures.reads true).does.input) c.requires.short)
+pub items::functions::fn_item-opt_generic_params-requires : goal.items::functions::fn_item-opt_generic_params-requires
+items::functions::fn_item-opt_generic_params-requires t c = (omega arith, short-still _ _ ((c.expect_name.ensures.reads true).does.input ∙ (c.fn_words.ensures.reads true).does.input) c.requires.short)
 
-pub functions::fn_item-expect_params-requires : goal.functions::fn_item-expect_params-requires
-functions::fn_item-expect_params-requires t c = (omega arith, short-still _ _ ((c.opt_generic_params.ensures.reads true).does.input ∙ (c.expect_name.ensures.reads true).does.input ∙ (c.fn_words.ensures.reads true).does.input) c.requires.short)
+pub items::functions::fn_item-expect_params-requires : goal.items::functions::fn_item-expect_params-requires
+items::functions::fn_item-expect_params-requires t c = (omega arith, short-still _ _ ((c.opt_generic_params.ensures.reads true).does.input ∙ (c.expect_name.ensures.reads true).does.input ∙ (c.fn_words.ensures.reads true).does.input) c.requires.short)
 
-pub functions::fn_item-opt_ret_type-requires : goal.functions::fn_item-opt_ret_type-requires
-functions::fn_item-opt_ret_type-requires t c = (omega arith, short-still _ _ ((c.expect_params.ensures.reads true).does.input ∙ (c.opt_generic_params.ensures.reads true).does.input ∙ (c.expect_name.ensures.reads true).does.input ∙ (c.fn_words.ensures.reads true).does.input) c.requires.short)
+pub items::functions::fn_item-opt_ret_type-requires : goal.items::functions::fn_item-opt_ret_type-requires
+items::functions::fn_item-opt_ret_type-requires t c = (omega arith, short-still _ _ ((c.expect_params.ensures.reads true).does.input ∙ (c.opt_generic_params.ensures.reads true).does.input ∙ (c.expect_name.ensures.reads true).does.input ∙ (c.fn_words.ensures.reads true).does.input) c.requires.short)
 
-pub functions::fn_item-opt_where_clause-requires : goal.functions::fn_item-opt_where_clause-requires
-functions::fn_item-opt_where_clause-requires t c = (omega arith, short-still _ _ (c.opt_ret_type.ensures.reads.does.input ∙ (c.expect_params.ensures.reads true).does.input ∙ (c.opt_generic_params.ensures.reads true).does.input ∙ (c.expect_name.ensures.reads true).does.input ∙ (c.fn_words.ensures.reads true).does.input) c.requires.short)
+pub items::functions::fn_item-opt_where_clause-requires : goal.items::functions::fn_item-opt_where_clause-requires
+items::functions::fn_item-opt_where_clause-requires t c = (omega arith, short-still _ _ (c.opt_ret_type.ensures.reads.does.input ∙ (c.expect_params.ensures.reads true).does.input ∙ (c.opt_generic_params.ensures.reads true).does.input ∙ (c.expect_name.ensures.reads true).does.input ∙ (c.fn_words.ensures.reads true).does.input) c.requires.short)
 
-pub functions::fn_item-fn_body-requires : goal.functions::fn_item-fn_body-requires
-functions::fn_item-fn_body-requires t c = (omega arith, short-still _ _ (c.opt_where_clause.ensures.reads.does.input ∙ c.opt_ret_type.ensures.reads.does.input ∙ (c.expect_params.ensures.reads true).does.input ∙ (c.opt_generic_params.ensures.reads true).does.input ∙ (c.expect_name.ensures.reads true).does.input ∙ (c.fn_words.ensures.reads true).does.input) c.requires.short)
+pub items::functions::fn_item-fn_body-requires : goal.items::functions::fn_item-fn_body-requires
+items::functions::fn_item-fn_body-requires t c = (omega arith, short-still _ _ (c.opt_where_clause.ensures.reads.does.input ∙ c.opt_ret_type.ensures.reads.does.input ∙ (c.expect_params.ensures.reads true).does.input ∙ (c.opt_generic_params.ensures.reads true).does.input ∙ (c.expect_name.ensures.reads true).does.input ∙ (c.fn_words.ensures.reads true).does.input) c.requires.short)
 
-pub functions::fn_item-complete-requires : goal.functions::fn_item-complete-requires
-functions::fn_item-complete-requires t c = (c.fn_body.ensures.reads true).does.innermost _ (c.opt_where_clause.ensures.reads.does.innermost _ (c.opt_ret_type.ensures.reads.does.innermost _ ((c.expect_params.ensures.reads true).does.innermost _ ((c.opt_generic_params.ensures.reads true).does.innermost _ ((c.expect_name.ensures.reads true).does.innermost _ ((c.fn_words.ensures.reads true).does.innermost _ c.requires.innermost))))))
+pub items::functions::fn_item-complete-requires : goal.items::functions::fn_item-complete-requires
+items::functions::fn_item-complete-requires t c = (c.fn_body.ensures.reads true).does.innermost _ (c.opt_where_clause.ensures.reads.does.innermost _ (c.opt_ret_type.ensures.reads.does.innermost _ ((c.expect_params.ensures.reads true).does.innermost _ ((c.opt_generic_params.ensures.reads true).does.innermost _ ((c.expect_name.ensures.reads true).does.innermost _ ((c.fn_words.ensures.reads true).does.innermost _ c.requires.innermost))))))
 
-pub functions::fn_item-returns-clause-completes : goal.functions::fn_item-returns-clause-completes
-functions::fn_item-returns-clause-completes t c = completes-wrap (reads-three _ (c.fn_words.ensures.reads c.args.condition) (reads-then _ (c.expect_name.ensures.reads c.args.condition) (reads-then _ (c.opt_generic_params.ensures.reads c.args.condition) (reads-then _ (c.expect_params.ensures.reads c.args.condition) (reads-then _ c.opt_ret_type.ensures.reads (reads-then _ c.opt_where_clause.ensures.reads (c.fn_body.ensures.reads c.args.condition))))))) c.complete.ensures.closes
+pub items::functions::fn_item-returns-clause-completes : goal.items::functions::fn_item-returns-clause-completes
+items::functions::fn_item-returns-clause-completes t c = completes-wrap (reads-three _ (c.fn_words.ensures.reads c.args.condition) (reads-then _ (c.expect_name.ensures.reads c.args.condition) (reads-then _ (c.opt_generic_params.ensures.reads c.args.condition) (reads-then _ (c.expect_params.ensures.reads c.args.condition) (reads-then _ c.opt_ret_type.ensures.reads (reads-then _ c.opt_where_clause.ensures.reads (c.fn_body.ensures.reads c.args.condition))))))) c.complete.ensures.closes
 
-pub functions::expect_params-params-requires : goal.functions::expect_params-params-requires
-functions::expect_params-params-requires t c = (omega arith, (short-still _ _ c.at.ensures.same.input c.requires.short, omega arith))
+pub items::functions::expect_params-params-requires : goal.items::functions::expect_params-params-requires
+items::functions::expect_params-params-requires t c = (omega arith, (short-still _ _ c.at.ensures.same.input c.requires.short, omega arith))
 
-pub functions::expect_params-returns-then-at-clause-reads : goal.functions::expect_params-returns-then-at-clause-reads
+pub items::functions::expect_params-returns-then-at-clause-reads : goal.items::functions::expect_params-returns-then-at-clause-reads
 unfolding look_of begins_below whole rule items statements expressions patterns types paths there_at shift passes is_silent begins in_mode anew row one_of any_of no_longer longest is_longer
-functions::expect_params-returns-then-at-clause-reads t c = λ cond. reads-here (saw-so (c.at.ensures.sees cond) c.if-at.true and nothing) (after-look cond c.at.ensures.same (reads-call cond (c.params.ensures.gives cond)))
+items::functions::expect_params-returns-then-at-clause-reads t c = λ cond. reads-here (saw-so (c.at.ensures.sees cond) c.if-at.true and nothing) (after-look cond c.at.ensures.same (reads-call cond (c.params.ensures.gives cond)))
 
-pub functions::expect_params-returns-clause-reads : goal.functions::expect_params-returns-clause-reads
+pub items::functions::expect_params-returns-clause-reads : goal.items::functions::expect_params-returns-clause-reads
 unfolding look_of begins_below whole rule items statements expressions patterns types paths there_at shift passes is_silent begins in_mode anew row one_of any_of no_longer longest is_longer
-functions::expect_params-returns-clause-reads t c = λ cond. reads-here (saw-so (c.at.ensures.sees cond) c.if-at.false and nothing) (after-look cond c.at.ensures.same (c.error.ensures.reads cond))
+items::functions::expect_params-returns-clause-reads t c = λ cond. reads-here (saw-so (c.at.ensures.sees cond) c.if-at.false and nothing) (after-look cond c.at.ensures.same (c.error.ensures.reads cond))
 
-pub functions::opt_ret_type-ret_type-requires : goal.functions::opt_ret_type-ret_type-requires
-functions::opt_ret_type-ret_type-requires t c = (omega arith, (short-still _ _ c.at_pair.ensures.same.input c.requires.short, omega arith))
+pub items::functions::opt_ret_type-ret_type-requires : goal.items::functions::opt_ret_type-ret_type-requires
+items::functions::opt_ret_type-ret_type-requires t c = (omega arith, (short-still _ _ c.at_pair.ensures.same.input c.requires.short, omega arith))
 
-pub functions::opt_ret_type-returns-then-at_pair-clause-reads : goal.functions::opt_ret_type-returns-then-at_pair-clause-reads
+pub items::functions::opt_ret_type-returns-then-at_pair-clause-reads : goal.items::functions::opt_ret_type-returns-then-at_pair-clause-reads
 unfolding look_of begins_below whole rule items statements expressions patterns types paths there_at shift passes is_silent begins in_mode anew row one_of any_of no_longer longest is_longer
-functions::opt_ret_type-returns-then-at_pair-clause-reads t c = reads-here (saw-so (c.at_pair.ensures.sees c.args.condition) c.if-at_pair.true and nothing) (after-look _ c.at_pair.ensures.same (reads-call _ c.ret_type.ensures.gives))
+items::functions::opt_ret_type-returns-then-at_pair-clause-reads t c = reads-here (saw-so (c.at_pair.ensures.sees c.args.condition) c.if-at_pair.true and nothing) (after-look _ c.at_pair.ensures.same (reads-call _ c.ret_type.ensures.gives))
 
-pub functions::opt_ret_type-returns-else-at_pair-clause-reads : goal.functions::opt_ret_type-returns-else-at_pair-clause-reads
+pub items::functions::opt_ret_type-returns-else-at_pair-clause-reads : goal.items::functions::opt_ret_type-returns-else-at_pair-clause-reads
 unfolding look_of begins_below whole rule items statements expressions patterns types paths there_at shift passes is_silent begins in_mode anew row one_of any_of no_longer longest is_longer
-functions::opt_ret_type-returns-else-at_pair-clause-reads t c = reads-here (saw-so (c.at_pair.ensures.sees c.args.condition) c.if-at_pair.false and nothing) (reads-nothing _ c.at_pair.ensures.same)
+items::functions::opt_ret_type-returns-else-at_pair-clause-reads t c = reads-here (saw-so (c.at_pair.ensures.sees c.args.condition) c.if-at_pair.false and nothing) (reads-nothing _ c.at_pair.ensures.same)
 
-pub functions::fn_body-block-requires : goal.functions::fn_body-block-requires
-functions::fn_body-block-requires t c = (omega arith, (short-still _ _ c.at.ensures.same.input c.requires.short, omega arith))
+pub items::functions::fn_body-block-requires : goal.items::functions::fn_body-block-requires
+items::functions::fn_body-block-requires t c = (omega arith, (short-still _ _ c.at.ensures.same.input c.requires.short, omega arith))
 
-pub functions::fn_body-returns-then-at-clause-reads : goal.functions::fn_body-returns-then-at-clause-reads
+pub items::functions::fn_body-returns-then-at-clause-reads : goal.items::functions::fn_body-returns-then-at-clause-reads
 unfolding look_of begins_below whole rule items statements expressions patterns types paths there_at shift passes is_silent begins in_mode anew row one_of any_of no_longer longest is_longer
-functions::fn_body-returns-then-at-clause-reads t c = λ cond. reads-here (saw-so (c.at.ensures.sees cond) c.if-at.true and nothing) (after-look cond c.at.ensures.same (reads-call cond (c.block.ensures.gives cond)))
+items::functions::fn_body-returns-then-at-clause-reads t c = λ cond. reads-here (saw-so (c.at.ensures.sees cond) c.if-at.true and nothing) (after-look cond c.at.ensures.same (reads-call cond (c.block.ensures.gives cond)))
 
-pub functions::fn_body-returns-clause-reads : goal.functions::fn_body-returns-clause-reads
+pub items::functions::fn_body-returns-clause-reads : goal.items::functions::fn_body-returns-clause-reads
 unfolding look_of begins_below whole rule items statements expressions patterns types paths there_at shift passes is_silent begins in_mode anew row one_of any_of no_longer longest is_longer
-functions::fn_body-returns-clause-reads t c = λ cond. reads-here (saw-so (c.at.ensures.sees cond) c.if-at.false and nothing) (after-look cond c.at.ensures.same (c.expect.ensures.reads cond))
+items::functions::fn_body-returns-clause-reads t c = λ cond. reads-here (saw-so (c.at.ensures.sees cond) c.if-at.false and nothing) (after-look cond c.at.ensures.same (c.expect.ensures.reads cond))

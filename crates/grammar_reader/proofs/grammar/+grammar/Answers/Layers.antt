@@ -15,38 +15,38 @@ use Rattle.rust_productions.proofs.Ranges.{begins-call}
 use Rattle.rust_productions.proofs.Seen.{saw-after, saw-inside}
 use Rattle.grammar_reader.proofs.grammar.+grammar.Goals as goal
 
-pub layers::layers-prefixed-requires : goal.layers::layers-prefixed-requires
-layers::layers-prefixed-requires t c = (omega arith, (short-still _ _ c.start-frame.ensures.opens.input c.requires.short, (saw-inside c.start-frame.ensures.opens c.requires.begins, omega arith)))
+pub expressions::layers::layers-prefixed-requires : goal.expressions::layers::layers-prefixed-requires
+expressions::layers::layers-prefixed-requires t c = (omega arith, (short-still _ _ c.start-frame.ensures.opens.input c.requires.short, (saw-inside c.start-frame.ensures.opens c.requires.begins, omega arith)))
 
-pub layers::layers-climb-frame-requires : goal.layers::layers-climb-frame-requires
-layers::layers-climb-frame-requires t c = (omega arith, (short-still _ _ (c.prefixed.ensures.gives.does.input ∙ c.start-frame.ensures.opens.input) c.requires.short, (c.requires.high, c.prefixed.ensures.gives.does.innermost _ c.start-frame.ensures.marker)))
+pub expressions::layers::layers-climb-frame-requires : goal.expressions::layers::layers-climb-frame-requires
+expressions::layers::layers-climb-frame-requires t c = (omega arith, (short-still _ _ (c.prefixed.ensures.gives.does.input ∙ c.start-frame.ensures.opens.input) c.requires.short, (c.requires.high, c.prefixed.ensures.gives.does.innermost _ c.start-frame.ensures.marker)))
 
-pub layers::layers-returns-clause-gives : goal.layers::layers-returns-clause-gives
-layers::layers-returns-clause-gives t c = gives-layer c.args.condition c.args.height c.requires.high c.start-frame.ensures.opens (reads-then _ (reads-call _ c.prefixed.ensures.gives) c.climb-frame.ensures.reads) c.abandon.ensures.leaves
+pub expressions::layers::layers-returns-clause-gives : goal.expressions::layers::layers-returns-clause-gives
+expressions::layers::layers-returns-clause-gives t c = gives-layer c.args.condition c.args.height c.requires.high c.start-frame.ensures.opens (reads-then _ (reads-call _ c.prefixed.ensures.gives) c.climb-frame.ensures.reads) c.abandon.ensures.leaves
 
-pub layers::turn-expect_type-requires : goal.layers::turn-expect_type-requires
-layers::turn-expect_type-requires t c = (omega arith, short-still _ _ (c.take_operator.ensures.reads true).does.input c.requires.short)
+pub expressions::layers::turn-expect_type-requires : goal.expressions::layers::turn-expect_type-requires
+expressions::layers::turn-expect_type-requires t c = (omega arith, short-still _ _ (c.take_operator.ensures.reads true).does.input c.requires.short)
 
-pub layers::turn-expect_layer-requires : goal.layers::turn-expect_layer-requires
-layers::turn-expect_layer-requires t c = (omega arith, (short-still _ _ (c.take_operator.ensures.reads true).does.input c.requires.short, omega (arith, c.requires.high)))
+pub expressions::layers::turn-expect_layer-requires : goal.expressions::layers::turn-expect_layer-requires
+expressions::layers::turn-expect_layer-requires t c = (omega arith, (short-still _ _ (c.take_operator.ensures.reads true).does.input c.requires.short, omega (arith, c.requires.high)))
 
-pub layers::turn-wrap-requires : goal.layers::turn-wrap-requires
-layers::turn-wrap-requires t c = c.expect_type.ensures.reads.does.innermost _ ((c.take_operator.ensures.reads true).does.innermost _ c.requires.innermost)
+pub expressions::layers::turn-wrap-requires : goal.expressions::layers::turn-wrap-requires
+expressions::layers::turn-wrap-requires t c = c.expect_type.ensures.reads.does.innermost _ ((c.take_operator.ensures.reads true).does.innermost _ c.requires.innermost)
 
-pub layers::turn-wrap-requires-2 : goal.layers::turn-wrap-requires-2
-layers::turn-wrap-requires-2 t c = c.expect_layer.ensures.reads.does.innermost _ ((c.take_operator.ensures.reads true).does.innermost _ c.requires.innermost)
+pub expressions::layers::turn-wrap-requires-2 : goal.expressions::layers::turn-wrap-requires-2
+expressions::layers::turn-wrap-requires-2 t c = c.expect_layer.ensures.reads.does.innermost _ ((c.take_operator.ensures.reads true).does.innermost _ c.requires.innermost)
 
-pub layers::expect_layer-layers-requires : goal.layers::expect_layer-layers-requires
-layers::expect_layer-layers-requires t c = (omega arith, (short-still _ _ c.at_operand.ensures.same.input c.requires.short, (saw-after c.at_operand.ensures.same (saw-so c.at_operand.ensures.sees c.if-at_operand.true), (omega (arith, c.at_operand.ensures.some c.if-at_operand.true, c.at_operand.ensures.left), c.requires.high))))
+pub expressions::layers::expect_layer-layers-requires : goal.expressions::layers::expect_layer-layers-requires
+expressions::layers::expect_layer-layers-requires t c = (omega arith, (short-still _ _ c.at_operand.ensures.same.input c.requires.short, (saw-after c.at_operand.ensures.same (saw-so c.at_operand.ensures.sees c.if-at_operand.true), (omega (arith, c.at_operand.ensures.some c.if-at_operand.true, c.at_operand.ensures.left), c.requires.high))))
 
-pub layers::expect_layer-returns-then-at_operand-clause-reads : goal.layers::expect_layer-returns-then-at_operand-clause-reads
-layers::expect_layer-returns-then-at_operand-clause-reads t c = reads-want _ (begins-call (layer_at c.args.height) (saw-layer c.args.height c.requires.high (saw-so c.at_operand.ensures.sees c.if-at_operand.true))) (after-look _ c.at_operand.ensures.same (reads-call _ c.layers.ensures.gives))
+pub expressions::layers::expect_layer-returns-then-at_operand-clause-reads : goal.expressions::layers::expect_layer-returns-then-at_operand-clause-reads
+expressions::layers::expect_layer-returns-then-at_operand-clause-reads t c = reads-want _ (begins-call (layer_at c.args.height) (saw-layer c.args.height c.requires.high (saw-so c.at_operand.ensures.sees c.if-at_operand.true))) (after-look _ c.at_operand.ensures.same (reads-call _ c.layers.ensures.gives))
 
-pub layers::expect_layer-returns-clause-reads : goal.layers::expect_layer-returns-clause-reads
-layers::expect_layer-returns-clause-reads t c = reads-missing _ (begins-call (layer_at c.args.height) (saw-layer c.args.height c.requires.high (saw-so c.at_operand.ensures.sees c.if-at_operand.false))) (after-look _ c.at_operand.ensures.same (c.error.ensures.reads _))
+pub expressions::layers::expect_layer-returns-clause-reads : goal.expressions::layers::expect_layer-returns-clause-reads
+expressions::layers::expect_layer-returns-clause-reads t c = reads-missing _ (begins-call (layer_at c.args.height) (saw-layer c.args.height c.requires.high (saw-so c.at_operand.ensures.sees c.if-at_operand.false))) (after-look _ c.at_operand.ensures.same (c.error.ensures.reads _))
 
-pub layers::climb-turns-init : goal.layers::climb-turns-init
-layers::climb-turns-init t c = record {
+pub expressions::layers::climb-turns-init : goal.expressions::layers::climb-turns-init
+expressions::layers::climb-turns-init t c = record {
   input = refl;
   marker = c.current_op-next.ensures.same.innermost _ c.requires.innermost;
   next = next-after c.current_op-next.ensures.same c.current_op-next.ensures.next;
@@ -59,9 +59,9 @@ layers::climb-turns-init t c = record {
   looks = omega arith;
 }
 
-pub layers::climb-turns-preserved : goal.layers::climb-turns-preserved
+pub expressions::layers::climb-turns-preserved : goal.expressions::layers::climb-turns-preserved
 unfolding tokens
-layers::climb-turns-preserved t c =
+expressions::layers::climb-turns-preserved t c =
     let turned =
     next-turn-of c.args.condition c.turns.lowest c.args.top c.turns.invariant.some (omega arith) (omega arith) c.requires.high c.turns.invariant.goes c.turns.invariant.next c.turn-frame.ensures.reads
     (omega (arith, c.turn-frame.ensures.left)) in
@@ -76,17 +76,17 @@ layers::climb-turns-preserved t c =
       looks = omega (arith, c.turns.invariant.looks, c.turn-frame.ensures.looks, c.current_op-next-in-turns.ensures.looks);
     }
 
-pub layers::climb-returns-after-turns-clause-reads : goal.layers::climb-returns-after-turns-clause-reads
-layers::climb-returns-after-turns-clause-reads t c = after-look _ c.current_op-next.ensures.same (last-turn-of c.args.condition c.turns.lowest c.args.top c.turns.invariant.some c.turns.invariant.low c.requires.high (inl (omega arith)) c.turns.invariant.goes c.turns.invariant.next (does-nothing _))
+pub expressions::layers::climb-returns-after-turns-clause-reads : goal.expressions::layers::climb-returns-after-turns-clause-reads
+expressions::layers::climb-returns-after-turns-clause-reads t c = after-look _ c.current_op-next.ensures.same (last-turn-of c.args.condition c.turns.lowest c.args.top c.turns.invariant.some c.turns.invariant.low c.requires.high (inl (omega arith)) c.turns.invariant.goes c.turns.invariant.next (does-nothing _))
 
-pub layers::climb-returns-after-turns-clause-looks : goal.layers::climb-returns-after-turns-clause-looks
-layers::climb-returns-after-turns-clause-looks t c = omega (arith, c.turns.invariant.looks, c.current_op-next.ensures.looks)
+pub expressions::layers::climb-returns-after-turns-clause-looks : goal.expressions::layers::climb-returns-after-turns-clause-looks
+expressions::layers::climb-returns-after-turns-clause-looks t c = omega (arith, c.turns.invariant.looks, c.current_op-next.ensures.looks)
 
-pub layers::climb-returns-else-next-top-clause-reads : goal.layers::climb-returns-else-next-top-clause-reads
-layers::climb-returns-else-next-top-clause-reads t c = after-look _ c.current_op-next.ensures.same (last-turn-of c.args.condition c.turns.lowest c.args.top c.turns.invariant.some c.turns.invariant.low c.requires.high (inr (omega arith)) c.turns.invariant.goes c.turns.invariant.next (does-nothing _))
+pub expressions::layers::climb-returns-else-next-top-clause-reads : goal.expressions::layers::climb-returns-else-next-top-clause-reads
+expressions::layers::climb-returns-else-next-top-clause-reads t c = after-look _ c.current_op-next.ensures.same (last-turn-of c.args.condition c.turns.lowest c.args.top c.turns.invariant.some c.turns.invariant.low c.requires.high (inr (omega arith)) c.turns.invariant.goes c.turns.invariant.next (does-nothing _))
 
-pub layers::climb-returns-else-next-top-clause-looks : goal.layers::climb-returns-else-next-top-clause-looks
-layers::climb-returns-else-next-top-clause-looks t c = omega (arith, c.turns.invariant.looks, c.current_op-next.ensures.looks)
+pub expressions::layers::climb-returns-else-next-top-clause-looks : goal.expressions::layers::climb-returns-else-next-top-clause-looks
+expressions::layers::climb-returns-else-next-top-clause-looks t c = omega (arith, c.turns.invariant.looks, c.current_op-next.ensures.looks)
 
 not-one : (h : ℕ) → 2 ≤ h → nat_eq h 1 ≡ false
 not-one h more = which (nat_eq h 1) refl
@@ -95,14 +95,14 @@ not-one h more = which (nat_eq h 1) refl
     which true e = absurd (omega (arith, more, eqb-true h 1 e))
     which false e = e
 
-pub layers::turn-returns-then-operator-eq1-clause-reads : goal.layers::turn-returns-then-operator-eq1-clause-reads
+pub expressions::layers::turn-returns-then-operator-eq1-clause-reads : goal.expressions::layers::turn-returns-then-operator-eq1-clause-reads
 unfolding turn_at
-layers::turn-returns-then-operator-eq1-clause-reads t c =
+expressions::layers::turn-returns-then-operator-eq1-clause-reads t c =
     let is : c.args.operator.height ≡ 1 = omega arith in
     subst (λ (h : ℕ). Reads c.args.condition (turn_at h) c.args.p.now c.wrap.new.p) (sym is)
     (reads-wrap _ (reads-then _ (subst (λ (h : ℕ). Reads c.args.condition (operators_at h) c.args.p.now c.take_operator.new.p) is (c.take_operator.ensures.reads _)) c.expect_type.ensures.reads) c.wrap.ensures.wraps)
 
-pub layers::turn-returns-clause-reads : goal.layers::turn-returns-clause-reads
-layers::turn-returns-clause-reads t c =
+pub expressions::layers::turn-returns-clause-reads : goal.expressions::layers::turn-returns-clause-reads
+expressions::layers::turn-returns-clause-reads t c =
     subst (λ (r : Rule). Reads c.args.condition r c.args.p.now c.wrap-2.new.p) (sym (binary-turn c.args.operator.height c.requires.is (not-one c.args.operator.height (omega (arith, c.requires.is)))))
     (reads-wrap _ (reads-then _ (c.take_operator.ensures.reads _) c.expect_layer.ensures.reads) c.wrap-2.ensures.wraps)

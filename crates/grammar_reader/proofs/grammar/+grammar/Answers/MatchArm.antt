@@ -18,46 +18,46 @@ use Rattle.rust_productions.proofs.Facts.{begun, nothing, saw-so, ◌and◌}
 use Rattle.rust_productions.proofs.Seen.{saw-after, saw-inside}
 use Rattle.grammar_reader.proofs.grammar.+grammar.Goals as goal
 
-pub match_arm::match_arm-pattern-requires : goal.match_arm::match_arm-pattern-requires
-match_arm::match_arm-pattern-requires t c = (omega arith, (short-still _ _ c.start-node.ensures.opens.input c.requires.short, ((λ d. saw-inside c.start-node.ensures.opens (c.requires.begins d)), omega arith)))
+pub expressions::match_arm::match_arm-pattern-requires : goal.expressions::match_arm::match_arm-pattern-requires
+expressions::match_arm::match_arm-pattern-requires t c = (omega arith, (short-still _ _ c.start-node.ensures.opens.input c.requires.short, ((λ d. saw-inside c.start-node.ensures.opens (c.requires.begins d)), omega arith)))
 
-pub match_arm::match_arm-opt_guard-requires : goal.match_arm::match_arm-opt_guard-requires
-match_arm::match_arm-opt_guard-requires t c = (omega arith, short-still _ _ ((c.pattern.ensures.gives true).does.input ∙ c.start-node.ensures.opens.input) c.requires.short)
+pub expressions::match_arm::match_arm-opt_guard-requires : goal.expressions::match_arm::match_arm-opt_guard-requires
+expressions::match_arm::match_arm-opt_guard-requires t c = (omega arith, short-still _ _ ((c.pattern.ensures.gives true).does.input ∙ c.start-node.ensures.opens.input) c.requires.short)
 
-pub match_arm::match_arm-arm_value-requires : goal.match_arm::match_arm-arm_value-requires
-match_arm::match_arm-arm_value-requires t c = (omega arith, short-still _ _ ((c.expect_arrow.ensures.reads true).does.input ∙ (c.opt_guard.ensures.reads true).does.input ∙ (c.pattern.ensures.gives true).does.input ∙ c.start-node.ensures.opens.input) c.requires.short)
+pub expressions::match_arm::match_arm-arm_value-requires : goal.expressions::match_arm::match_arm-arm_value-requires
+expressions::match_arm::match_arm-arm_value-requires t c = (omega arith, short-still _ _ ((c.expect_arrow.ensures.reads true).does.input ∙ (c.opt_guard.ensures.reads true).does.input ∙ (c.pattern.ensures.gives true).does.input ∙ c.start-node.ensures.opens.input) c.requires.short)
 
-pub match_arm::match_arm-complete-requires : goal.match_arm::match_arm-complete-requires
-match_arm::match_arm-complete-requires t c = c.arm_value.ensures.reads.does.innermost _ ((c.expect_arrow.ensures.reads true).does.innermost _ ((c.opt_guard.ensures.reads true).does.innermost _ ((c.pattern.ensures.gives true).does.innermost _ c.start-node.ensures.marker)))
+pub expressions::match_arm::match_arm-complete-requires : goal.expressions::match_arm::match_arm-complete-requires
+expressions::match_arm::match_arm-complete-requires t c = c.arm_value.ensures.reads.does.innermost _ ((c.expect_arrow.ensures.reads true).does.innermost _ ((c.opt_guard.ensures.reads true).does.innermost _ ((c.pattern.ensures.gives true).does.innermost _ c.start-node.ensures.marker)))
 
-pub match_arm::match_arm-returns-clause-gives : goal.match_arm::match_arm-returns-clause-gives
+pub expressions::match_arm::match_arm-returns-clause-gives : goal.expressions::match_arm::match_arm-returns-clause-gives
 unfolding look_of begins_below whole rule items statements expressions patterns types paths there_at shift passes is_silent begins in_mode anew row one_of any_of no_longer longest is_longer
-match_arm::match_arm-returns-clause-gives t c = gives-anew (anew-after refl (reads-node _ c.start-node.ensures.opens (reads-then _ (reads-call _ (c.pattern.ensures.gives c.args.condition)) (reads-then _ (c.opt_guard.ensures.reads c.args.condition) (reads-then _ (c.expect_arrow.ensures.reads c.args.condition) c.arm_value.ensures.reads))) c.complete.ensures.closes))
+expressions::match_arm::match_arm-returns-clause-gives t c = gives-anew (anew-after refl (reads-node _ c.start-node.ensures.opens (reads-then _ (reads-call _ (c.pattern.ensures.gives c.args.condition)) (reads-then _ (c.opt_guard.ensures.reads c.args.condition) (reads-then _ (c.expect_arrow.ensures.reads c.args.condition) c.arm_value.ensures.reads))) c.complete.ensures.closes))
 
-pub match_arm::opt_guard-expect_condition-requires : goal.match_arm::opt_guard-expect_condition-requires
-match_arm::opt_guard-expect_condition-requires t c = (omega arith, short-still _ _ ((c.take.ensures.reads true).does.input ∙ c.start-guard.ensures.opens.input ∙ c.at.ensures.same.input) c.requires.short)
+pub expressions::match_arm::opt_guard-expect_condition-requires : goal.expressions::match_arm::opt_guard-expect_condition-requires
+expressions::match_arm::opt_guard-expect_condition-requires t c = (omega arith, short-still _ _ ((c.take.ensures.reads true).does.input ∙ c.start-guard.ensures.opens.input ∙ c.at.ensures.same.input) c.requires.short)
 
-pub match_arm::opt_guard-complete-requires : goal.match_arm::opt_guard-complete-requires
-match_arm::opt_guard-complete-requires t c = (c.expect_condition.ensures.reads true).does.innermost _ ((c.take.ensures.reads true).does.innermost _ c.start-guard.ensures.marker)
+pub expressions::match_arm::opt_guard-complete-requires : goal.expressions::match_arm::opt_guard-complete-requires
+expressions::match_arm::opt_guard-complete-requires t c = (c.expect_condition.ensures.reads true).does.innermost _ ((c.take.ensures.reads true).does.innermost _ c.start-guard.ensures.marker)
 
-pub match_arm::opt_guard-returns-then-at-clause-reads : goal.match_arm::opt_guard-returns-then-at-clause-reads
+pub expressions::match_arm::opt_guard-returns-then-at-clause-reads : goal.expressions::match_arm::opt_guard-returns-then-at-clause-reads
 unfolding look_of begins_below whole rule items statements expressions patterns types paths there_at shift passes is_silent begins in_mode anew row one_of any_of no_longer longest is_longer
-match_arm::opt_guard-returns-then-at-clause-reads t c = λ cond. reads-here (saw-so (c.at.ensures.sees cond) c.if-at.true and nothing) (after-look cond c.at.ensures.same (reads-node cond c.start-guard.ensures.opens (reads-then cond (c.take.ensures.reads cond) (c.expect_condition.ensures.reads cond)) c.complete.ensures.closes))
+expressions::match_arm::opt_guard-returns-then-at-clause-reads t c = λ cond. reads-here (saw-so (c.at.ensures.sees cond) c.if-at.true and nothing) (after-look cond c.at.ensures.same (reads-node cond c.start-guard.ensures.opens (reads-then cond (c.take.ensures.reads cond) (c.expect_condition.ensures.reads cond)) c.complete.ensures.closes))
 
-pub match_arm::opt_guard-returns-else-at-clause-reads : goal.match_arm::opt_guard-returns-else-at-clause-reads
+pub expressions::match_arm::opt_guard-returns-else-at-clause-reads : goal.expressions::match_arm::opt_guard-returns-else-at-clause-reads
 unfolding look_of begins_below whole rule items statements expressions patterns types paths there_at shift passes is_silent begins in_mode anew row one_of any_of no_longer longest is_longer
-match_arm::opt_guard-returns-else-at-clause-reads t c = λ cond. reads-here (saw-so (c.at.ensures.sees cond) c.if-at.false and nothing) (reads-nothing cond c.at.ensures.same)
+expressions::match_arm::opt_guard-returns-else-at-clause-reads t c = λ cond. reads-here (saw-so (c.at.ensures.sees cond) c.if-at.false and nothing) (reads-nothing cond c.at.ensures.same)
 
-pub match_arm::arm_value-block_like-requires : goal.match_arm::arm_value-block_like-requires
-match_arm::arm_value-block_like-requires t c = (omega arith, (short-still _ _ c.at_block_like.ensures.same.input c.requires.short, ((λ d. saw-after c.at_block_like.ensures.same (saw-so (c.at_block_like.ensures.sees d) c.if-at_block_like.true)), omega (arith, c.at_block_like.ensures.some c.if-at_block_like.true, c.at_block_like.ensures.left))))
+pub expressions::match_arm::arm_value-block_like-requires : goal.expressions::match_arm::arm_value-block_like-requires
+expressions::match_arm::arm_value-block_like-requires t c = (omega arith, (short-still _ _ c.at_block_like.ensures.same.input c.requires.short, ((λ d. saw-after c.at_block_like.ensures.same (saw-so (c.at_block_like.ensures.sees d) c.if-at_block_like.true)), omega (arith, c.at_block_like.ensures.some c.if-at_block_like.true, c.at_block_like.ensures.left))))
 
-pub match_arm::arm_value-returns-then-at_block_like-clause-reads : goal.match_arm::arm_value-returns-then-at_block_like-clause-reads
+pub expressions::match_arm::arm_value-returns-then-at_block_like-clause-reads : goal.expressions::match_arm::arm_value-returns-then-at_block_like-clause-reads
 unfolding look_of begins_below whole rule items statements expressions patterns types paths there_at shift passes is_silent begins in_mode anew row one_of any_of no_longer longest is_longer
-match_arm::arm_value-returns-then-at_block_like-clause-reads t c = reads-here (begun rules.block_like (saw-so (c.at_block_like.ensures.sees c.args.condition) c.if-at_block_like.true) nothing) (after-look _ c.at_block_like.ensures.same (reads-then _ (reads-call _ (c.block_like.ensures.gives c.args.condition)) (c.eat.ensures.reads c.args.condition)))
+expressions::match_arm::arm_value-returns-then-at_block_like-clause-reads t c = reads-here (begun rules.block_like (saw-so (c.at_block_like.ensures.sees c.args.condition) c.if-at_block_like.true) nothing) (after-look _ c.at_block_like.ensures.same (reads-then _ (reads-call _ (c.block_like.ensures.gives c.args.condition)) (c.eat.ensures.reads c.args.condition)))
 
-pub match_arm::arm_value-expect_expression-requires : goal.match_arm::arm_value-expect_expression-requires
-match_arm::arm_value-expect_expression-requires t c = (omega arith, short-still _ _ c.at_block_like.ensures.same.input c.requires.short)
+pub expressions::match_arm::arm_value-expect_expression-requires : goal.expressions::match_arm::arm_value-expect_expression-requires
+expressions::match_arm::arm_value-expect_expression-requires t c = (omega arith, short-still _ _ c.at_block_like.ensures.same.input c.requires.short)
 
-pub match_arm::arm_value-returns-clause-reads : goal.match_arm::arm_value-returns-clause-reads
+pub expressions::match_arm::arm_value-returns-clause-reads : goal.expressions::match_arm::arm_value-returns-clause-reads
 unfolding look_of begins_below whole rule items statements expressions patterns types paths there_at shift passes is_silent begins in_mode anew row one_of any_of no_longer longest is_longer
-match_arm::arm_value-returns-clause-reads t c = reads-here (begun rules.block_like (saw-so (c.at_block_like.ensures.sees c.args.condition) c.if-at_block_like.false) nothing) (after-look _ c.at_block_like.ensures.same (reads-then _ c.expect_expression.ensures.reads (c.comma.ensures.reads c.args.condition)))
+expressions::match_arm::arm_value-returns-clause-reads t c = reads-here (begun rules.block_like (saw-so (c.at_block_like.ensures.sees c.args.condition) c.if-at_block_like.false) nothing) (after-look _ c.at_block_like.ensures.same (reads-then _ c.expect_expression.ensures.reads (c.comma.ensures.reads c.args.condition)))

@@ -24,96 +24,96 @@ use Rattle.rust_productions.proofs.Looking.{saw-arm, saw-not}
 use Rattle.rust_productions.proofs.Seen.{saw-after, saw-else, saw-inside, saw-told}
 use Rattle.grammar_reader.proofs.grammar.+grammar.Goals as goal
 
-pub members::variant-named-requires : goal.members::variant-named-requires
+pub items::members::variant-named-requires : goal.items::members::variant-named-requires
 unfolding look_of begins_below whole rule items statements expressions patterns types paths there_at shift passes is_silent begins in_mode anew row one_of any_of no_longer longest is_longer
-members::variant-named-requires t c = (omega arith, (short-still _ _ c.start-variant.ensures.opens.input c.requires.short, (saw-inside c.start-variant.ensures.opens c.requires.begins, omega arith)))
+items::members::variant-named-requires t c = (omega arith, (short-still _ _ c.start-variant.ensures.opens.input c.requires.short, (saw-inside c.start-variant.ensures.opens c.requires.begins, omega arith)))
 
-pub members::variant-opt_fields-requires : goal.members::variant-opt_fields-requires
-members::variant-opt_fields-requires t c = (omega arith, short-still _ _ (c.named.ensures.reads.does.input ∙ c.start-variant.ensures.opens.input) c.requires.short)
+pub items::members::variant-opt_fields-requires : goal.items::members::variant-opt_fields-requires
+items::members::variant-opt_fields-requires t c = (omega arith, short-still _ _ (c.named.ensures.reads.does.input ∙ c.start-variant.ensures.opens.input) c.requires.short)
 
-pub members::variant-complete-requires : goal.members::variant-complete-requires
-members::variant-complete-requires t c = (c.opt_fields.ensures.reads true).does.innermost _ (c.named.ensures.reads.does.innermost _ c.start-variant.ensures.marker)
+pub items::members::variant-complete-requires : goal.items::members::variant-complete-requires
+items::members::variant-complete-requires t c = (c.opt_fields.ensures.reads true).does.innermost _ (c.named.ensures.reads.does.innermost _ c.start-variant.ensures.marker)
 
-pub members::variant-returns-clause-reads : goal.members::variant-returns-clause-reads
-members::variant-returns-clause-reads t c = reads-node false c.start-variant.ensures.opens (reads-three false c.named.ensures.reads (c.opt_fields.ensures.reads false)) c.complete.ensures.closes
+pub items::members::variant-returns-clause-reads : goal.items::members::variant-returns-clause-reads
+items::members::variant-returns-clause-reads t c = reads-node false c.start-variant.ensures.opens (reads-three false c.named.ensures.reads (c.opt_fields.ensures.reads false)) c.complete.ensures.closes
 
-pub members::record_field-named-requires : goal.members::record_field-named-requires
+pub items::members::record_field-named-requires : goal.items::members::record_field-named-requires
 unfolding look_of begins_below whole rule items statements expressions patterns types paths there_at shift passes is_silent begins in_mode anew row one_of any_of no_longer longest is_longer
-members::record_field-named-requires t c = (omega arith, (short-still _ _ c.start-field.ensures.opens.input c.requires.short, (saw-inside c.start-field.ensures.opens c.requires.begins, omega arith)))
+items::members::record_field-named-requires t c = (omega arith, (short-still _ _ c.start-field.ensures.opens.input c.requires.short, (saw-inside c.start-field.ensures.opens c.requires.begins, omega arith)))
 
-pub members::record_field-expect_type-requires : goal.members::record_field-expect_type-requires
-members::record_field-expect_type-requires t c = (omega arith, short-still _ _ ((c.expect.ensures.reads true).does.input ∙ c.named.ensures.reads.does.input ∙ c.start-field.ensures.opens.input) c.requires.short)
+pub items::members::record_field-expect_type-requires : goal.items::members::record_field-expect_type-requires
+items::members::record_field-expect_type-requires t c = (omega arith, short-still _ _ ((c.expect.ensures.reads true).does.input ∙ c.named.ensures.reads.does.input ∙ c.start-field.ensures.opens.input) c.requires.short)
 
-pub members::record_field-complete-requires : goal.members::record_field-complete-requires
-members::record_field-complete-requires t c = c.expect_type.ensures.reads.does.innermost _ ((c.expect.ensures.reads true).does.innermost _ (c.named.ensures.reads.does.innermost _ c.start-field.ensures.marker))
+pub items::members::record_field-complete-requires : goal.items::members::record_field-complete-requires
+items::members::record_field-complete-requires t c = c.expect_type.ensures.reads.does.innermost _ ((c.expect.ensures.reads true).does.innermost _ (c.named.ensures.reads.does.innermost _ c.start-field.ensures.marker))
 
-pub members::record_field-returns-clause-reads : goal.members::record_field-returns-clause-reads
-members::record_field-returns-clause-reads t c = reads-node false c.start-field.ensures.opens (reads-three false c.named.ensures.reads (reads-then false (c.expect.ensures.reads false) c.expect_type.ensures.reads)) c.complete.ensures.closes
+pub items::members::record_field-returns-clause-reads : goal.items::members::record_field-returns-clause-reads
+items::members::record_field-returns-clause-reads t c = reads-node false c.start-field.ensures.opens (reads-three false c.named.ensures.reads (reads-then false (c.expect.ensures.reads false) c.expect_type.ensures.reads)) c.complete.ensures.closes
 
-pub members::tuple_field-typed-requires : goal.members::tuple_field-typed-requires
+pub items::members::tuple_field-typed-requires : goal.items::members::tuple_field-typed-requires
 unfolding look_of begins_below whole rule items statements expressions patterns types paths there_at shift passes is_silent begins in_mode anew row one_of any_of no_longer longest is_longer
-members::tuple_field-typed-requires t c = (omega arith, (short-still _ _ c.start-field.ensures.opens.input c.requires.short, (saw-inside c.start-field.ensures.opens c.requires.begins, omega arith)))
+items::members::tuple_field-typed-requires t c = (omega arith, (short-still _ _ c.start-field.ensures.opens.input c.requires.short, (saw-inside c.start-field.ensures.opens c.requires.begins, omega arith)))
 
-pub members::tuple_field-complete-requires : goal.members::tuple_field-complete-requires
-members::tuple_field-complete-requires t c = c.typed.ensures.reads.does.innermost _ c.start-field.ensures.marker
+pub items::members::tuple_field-complete-requires : goal.items::members::tuple_field-complete-requires
+items::members::tuple_field-complete-requires t c = c.typed.ensures.reads.does.innermost _ c.start-field.ensures.marker
 
-pub members::tuple_field-returns-clause-reads : goal.members::tuple_field-returns-clause-reads
-members::tuple_field-returns-clause-reads t c = reads-node false c.start-field.ensures.opens c.typed.ensures.reads c.complete.ensures.closes
+pub items::members::tuple_field-returns-clause-reads : goal.items::members::tuple_field-returns-clause-reads
+items::members::tuple_field-returns-clause-reads t c = reads-node false c.start-field.ensures.opens c.typed.ensures.reads c.complete.ensures.closes
 
-pub members::named-attributes_and_visibility-requires : goal.members::named-attributes_and_visibility-requires
+pub items::members::named-attributes_and_visibility-requires : goal.items::members::named-attributes_and_visibility-requires
 unfolding look_of begins_below whole rule items statements expressions patterns types paths there_at shift passes is_silent begins in_mode anew row one_of any_of no_longer longest is_longer
-members::named-attributes_and_visibility-requires t c = (omega arith, (short-still _ _ c.current.ensures.same.input c.requires.short, ((λ d. saw-after c.current.ensures.same (saw-told (saw-arm c.in-POUND.is (c.current.ensures.sees d) and nothing) refl)), omega arith)))
+items::members::named-attributes_and_visibility-requires t c = (omega arith, (short-still _ _ c.current.ensures.same.input c.requires.short, ((λ d. saw-after c.current.ensures.same (saw-told (saw-arm c.in-POUND.is (c.current.ensures.sees d) and nothing) refl)), omega arith)))
 
-pub members::named-returns-in-POUND-clause-reads : goal.members::named-returns-in-POUND-clause-reads
-members::named-returns-in-POUND-clause-reads t c = after-look false c.current.ensures.same (reads-two false (c.attributes_and_visibility.ensures.reads false) (c.expect_name.ensures.reads false))
+pub items::members::named-returns-in-POUND-clause-reads : goal.items::members::named-returns-in-POUND-clause-reads
+items::members::named-returns-in-POUND-clause-reads t c = after-look false c.current.ensures.same (reads-two false (c.attributes_and_visibility.ensures.reads false) (c.expect_name.ensures.reads false))
 
-pub members::named-returns-in-PUB_KW-clause-reads : goal.members::named-returns-in-PUB_KW-clause-reads
+pub items::members::named-returns-in-PUB_KW-clause-reads : goal.items::members::named-returns-in-PUB_KW-clause-reads
 unfolding look_of begins_below whole rule items statements expressions patterns types paths there_at shift passes is_silent begins in_mode anew row one_of any_of no_longer longest is_longer
-members::named-returns-in-PUB_KW-clause-reads t c = reads-here (saw-arm c.in-PUB_KW.is (c.current.ensures.sees false) and nothing) (after-look false c.current.ensures.same (reads-then false (reads-call false (c.visibility.ensures.gives false)) (c.expect_name-in-PUB_KW.ensures.reads false)))
+items::members::named-returns-in-PUB_KW-clause-reads t c = reads-here (saw-arm c.in-PUB_KW.is (c.current.ensures.sees false) and nothing) (after-look false c.current.ensures.same (reads-then false (reads-call false (c.visibility.ensures.gives false)) (c.expect_name-in-PUB_KW.ensures.reads false)))
 
-pub members::named-returns-in_default-clause-reads : goal.members::named-returns-in_default-clause-reads
+pub items::members::named-returns-in_default-clause-reads : goal.items::members::named-returns-in_default-clause-reads
 unfolding look_of begins_below whole rule items statements expressions patterns types paths there_at shift passes is_silent begins in_mode anew row one_of any_of no_longer longest is_longer
-members::named-returns-in_default-clause-reads t c = reads-here (saw-not c.in_default.not-POUND (c.current.ensures.sees false) and saw-not c.in_default.not-PUB_KW (c.current.ensures.sees false) and saw-else (Kind 0 kinds.IDENT) (begins looks (Attribute * ▸ ⁅ Visibility ⁆ ▸ Name !)) (saw-not c.in_default.not-POUND (c.current.ensures.sees false) and saw-not c.in_default.not-PUB_KW (c.current.ensures.sees false) and nothing) c.requires.begins refl and nothing) (after-look false c.current.ensures.same (reads-call false (c.name.ensures.gives false)))
+items::members::named-returns-in_default-clause-reads t c = reads-here (saw-not c.in_default.not-POUND (c.current.ensures.sees false) and saw-not c.in_default.not-PUB_KW (c.current.ensures.sees false) and saw-else (Kind 0 kinds.IDENT) (begins looks (Attribute * ▸ ⁅ Visibility ⁆ ▸ Name !)) (saw-not c.in_default.not-POUND (c.current.ensures.sees false) and saw-not c.in_default.not-PUB_KW (c.current.ensures.sees false) and nothing) c.requires.begins refl and nothing) (after-look false c.current.ensures.same (reads-call false (c.name.ensures.gives false)))
 
-pub members::typed-attributes_and_visibility-requires : goal.members::typed-attributes_and_visibility-requires
+pub items::members::typed-attributes_and_visibility-requires : goal.items::members::typed-attributes_and_visibility-requires
 unfolding look_of begins_below whole rule items statements expressions patterns types paths there_at shift passes is_silent begins in_mode anew row one_of any_of no_longer longest is_longer
-members::typed-attributes_and_visibility-requires t c = (omega arith, (short-still _ _ c.current.ensures.same.input c.requires.short, ((λ d. saw-after c.current.ensures.same (saw-told (saw-arm c.in-POUND.is (c.current.ensures.sees d) and nothing) refl)), omega arith)))
+items::members::typed-attributes_and_visibility-requires t c = (omega arith, (short-still _ _ c.current.ensures.same.input c.requires.short, ((λ d. saw-after c.current.ensures.same (saw-told (saw-arm c.in-POUND.is (c.current.ensures.sees d) and nothing) refl)), omega arith)))
 
-pub members::typed-expect_type-requires : goal.members::typed-expect_type-requires
-members::typed-expect_type-requires t c = (omega arith, short-still _ _ ((c.attributes_and_visibility.ensures.reads true).does.input ∙ c.current.ensures.same.input) c.requires.short)
+pub items::members::typed-expect_type-requires : goal.items::members::typed-expect_type-requires
+items::members::typed-expect_type-requires t c = (omega arith, short-still _ _ ((c.attributes_and_visibility.ensures.reads true).does.input ∙ c.current.ensures.same.input) c.requires.short)
 
-pub members::typed-expect_type-requires-in-PUB_KW : goal.members::typed-expect_type-requires-in-PUB_KW
-members::typed-expect_type-requires-in-PUB_KW t c = (omega arith, short-still _ _ ((c.visibility.ensures.gives true).does.input ∙ c.current.ensures.same.input) c.requires.short)
+pub items::members::typed-expect_type-requires-in-PUB_KW : goal.items::members::typed-expect_type-requires-in-PUB_KW
+items::members::typed-expect_type-requires-in-PUB_KW t c = (omega arith, short-still _ _ ((c.visibility.ensures.gives true).does.input ∙ c.current.ensures.same.input) c.requires.short)
 
-pub members::typed-returns-in-POUND-clause-reads : goal.members::typed-returns-in-POUND-clause-reads
-members::typed-returns-in-POUND-clause-reads t c = after-look false c.current.ensures.same (reads-two false (c.attributes_and_visibility.ensures.reads false) c.expect_type.ensures.reads)
+pub items::members::typed-returns-in-POUND-clause-reads : goal.items::members::typed-returns-in-POUND-clause-reads
+items::members::typed-returns-in-POUND-clause-reads t c = after-look false c.current.ensures.same (reads-two false (c.attributes_and_visibility.ensures.reads false) c.expect_type.ensures.reads)
 
-pub members::typed-returns-in-PUB_KW-clause-reads : goal.members::typed-returns-in-PUB_KW-clause-reads
+pub items::members::typed-returns-in-PUB_KW-clause-reads : goal.items::members::typed-returns-in-PUB_KW-clause-reads
 unfolding look_of begins_below whole rule items statements expressions patterns types paths there_at shift passes is_silent begins in_mode anew row one_of any_of no_longer longest is_longer
-members::typed-returns-in-PUB_KW-clause-reads t c = reads-here (saw-arm c.in-PUB_KW.is (c.current.ensures.sees false) and nothing) (after-look false c.current.ensures.same (reads-then false (reads-call false (c.visibility.ensures.gives false)) c.expect_type-in-PUB_KW.ensures.reads))
+items::members::typed-returns-in-PUB_KW-clause-reads t c = reads-here (saw-arm c.in-PUB_KW.is (c.current.ensures.sees false) and nothing) (after-look false c.current.ensures.same (reads-then false (reads-call false (c.visibility.ensures.gives false)) c.expect_type-in-PUB_KW.ensures.reads))
 
-pub members::typed-any_type-requires : goal.members::typed-any_type-requires
+pub items::members::typed-any_type-requires : goal.items::members::typed-any_type-requires
 unfolding look_of begins_below whole rule items statements expressions patterns types paths there_at shift passes is_silent begins in_mode anew row one_of any_of no_longer longest is_longer
-members::typed-any_type-requires t c = (omega arith, (short-still _ _ c.current.ensures.same.input c.requires.short, (saw-after c.current.ensures.same (saw-else (looks rules.any_type) (begins looks (Attribute * ▸ ⁅ Visibility ⁆ ▸ AnyType !)) (saw-not c.in_default.not-POUND (c.current.ensures.sees false) and saw-not c.in_default.not-PUB_KW (c.current.ensures.sees false) and nothing) c.requires.begins refl), omega arith)))
+items::members::typed-any_type-requires t c = (omega arith, (short-still _ _ c.current.ensures.same.input c.requires.short, (saw-after c.current.ensures.same (saw-else (looks rules.any_type) (begins looks (Attribute * ▸ ⁅ Visibility ⁆ ▸ AnyType !)) (saw-not c.in_default.not-POUND (c.current.ensures.sees false) and saw-not c.in_default.not-PUB_KW (c.current.ensures.sees false) and nothing) c.requires.begins refl), omega arith)))
 
-pub members::typed-returns-in_default-clause-reads : goal.members::typed-returns-in_default-clause-reads
+pub items::members::typed-returns-in_default-clause-reads : goal.items::members::typed-returns-in_default-clause-reads
 unfolding look_of begins_below whole rule items statements expressions patterns types paths there_at shift passes is_silent begins in_mode anew row one_of any_of no_longer longest is_longer
-members::typed-returns-in_default-clause-reads t c = reads-here (saw-not c.in_default.not-POUND (c.current.ensures.sees false) and saw-not c.in_default.not-PUB_KW (c.current.ensures.sees false) and begun rules.any_type (saw-else (looks rules.any_type) (begins looks (Attribute * ▸ ⁅ Visibility ⁆ ▸ AnyType !)) (saw-not c.in_default.not-POUND (c.current.ensures.sees false) and saw-not c.in_default.not-PUB_KW (c.current.ensures.sees false) and nothing) c.requires.begins refl) nothing) (after-look false c.current.ensures.same (reads-call false c.any_type.ensures.gives))
+items::members::typed-returns-in_default-clause-reads t c = reads-here (saw-not c.in_default.not-POUND (c.current.ensures.sees false) and saw-not c.in_default.not-PUB_KW (c.current.ensures.sees false) and begun rules.any_type (saw-else (looks rules.any_type) (begins looks (Attribute * ▸ ⁅ Visibility ⁆ ▸ AnyType !)) (saw-not c.in_default.not-POUND (c.current.ensures.sees false) and saw-not c.in_default.not-PUB_KW (c.current.ensures.sees false) and nothing) c.requires.begins refl) nothing) (after-look false c.current.ensures.same (reads-call false c.any_type.ensures.gives))
 
-pub members::opt_fields-record_fields-requires : goal.members::opt_fields-record_fields-requires
-members::opt_fields-record_fields-requires t c = (omega arith, (short-still _ _ c.current.ensures.same.input c.requires.short, omega (arith, c.current.ensures.left, c.current.ensures.some (λ e. absurd (omega (arith, sym (ap raw_of c.in-L_CURLY.is) ∙ e))))))
+pub items::members::opt_fields-record_fields-requires : goal.items::members::opt_fields-record_fields-requires
+items::members::opt_fields-record_fields-requires t c = (omega arith, (short-still _ _ c.current.ensures.same.input c.requires.short, omega (arith, c.current.ensures.left, c.current.ensures.some (λ e. absurd (omega (arith, sym (ap raw_of c.in-L_CURLY.is) ∙ e))))))
 
-pub members::opt_fields-returns-in-L_CURLY-clause-reads : goal.members::opt_fields-returns-in-L_CURLY-clause-reads
+pub items::members::opt_fields-returns-in-L_CURLY-clause-reads : goal.items::members::opt_fields-returns-in-L_CURLY-clause-reads
 unfolding look_of begins_below whole rule items statements expressions patterns types paths there_at shift passes is_silent begins in_mode anew row one_of any_of no_longer longest is_longer
-members::opt_fields-returns-in-L_CURLY-clause-reads t c = λ cond. reads-here (saw-arm c.in-L_CURLY.is (c.current.ensures.sees cond) and nothing) (after-look cond c.current.ensures.same (reads-call cond (c.record_fields.ensures.gives cond)))
+items::members::opt_fields-returns-in-L_CURLY-clause-reads t c = λ cond. reads-here (saw-arm c.in-L_CURLY.is (c.current.ensures.sees cond) and nothing) (after-look cond c.current.ensures.same (reads-call cond (c.record_fields.ensures.gives cond)))
 
-pub members::opt_fields-tuple_fields-requires : goal.members::opt_fields-tuple_fields-requires
-members::opt_fields-tuple_fields-requires t c = (omega arith, (short-still _ _ c.current.ensures.same.input c.requires.short, omega (arith, c.current.ensures.left, c.current.ensures.some (λ e. absurd (omega (arith, sym (ap raw_of c.in-L_PAREN.is) ∙ e))))))
+pub items::members::opt_fields-tuple_fields-requires : goal.items::members::opt_fields-tuple_fields-requires
+items::members::opt_fields-tuple_fields-requires t c = (omega arith, (short-still _ _ c.current.ensures.same.input c.requires.short, omega (arith, c.current.ensures.left, c.current.ensures.some (λ e. absurd (omega (arith, sym (ap raw_of c.in-L_PAREN.is) ∙ e))))))
 
-pub members::opt_fields-returns-in-L_PAREN-clause-reads : goal.members::opt_fields-returns-in-L_PAREN-clause-reads
+pub items::members::opt_fields-returns-in-L_PAREN-clause-reads : goal.items::members::opt_fields-returns-in-L_PAREN-clause-reads
 unfolding look_of begins_below whole rule items statements expressions patterns types paths there_at shift passes is_silent begins in_mode anew row one_of any_of no_longer longest is_longer
-members::opt_fields-returns-in-L_PAREN-clause-reads t c = λ cond. reads-here (saw-arm c.in-L_PAREN.is (c.current.ensures.sees cond) and nothing) (after-look cond c.current.ensures.same (reads-call cond (c.tuple_fields.ensures.gives cond)))
+items::members::opt_fields-returns-in-L_PAREN-clause-reads t c = λ cond. reads-here (saw-arm c.in-L_PAREN.is (c.current.ensures.sees cond) and nothing) (after-look cond c.current.ensures.same (reads-call cond (c.tuple_fields.ensures.gives cond)))
 
-pub members::opt_fields-returns-in_default-clause-reads : goal.members::opt_fields-returns-in_default-clause-reads
+pub items::members::opt_fields-returns-in_default-clause-reads : goal.items::members::opt_fields-returns-in_default-clause-reads
 unfolding look_of begins_below whole rule items statements expressions patterns types paths there_at shift passes is_silent begins in_mode anew row one_of any_of no_longer longest is_longer
-members::opt_fields-returns-in_default-clause-reads t c = λ cond. reads-here (saw-not c.in_default.not-L_CURLY (c.current.ensures.sees cond) and saw-not c.in_default.not-L_PAREN (c.current.ensures.sees cond) and nothing) (reads-nothing cond c.current.ensures.same)
+items::members::opt_fields-returns-in_default-clause-reads t c = λ cond. reads-here (saw-not c.in_default.not-L_CURLY (c.current.ensures.sees cond) and saw-not c.in_default.not-L_PAREN (c.current.ensures.sees cond) and nothing) (reads-nothing cond c.current.ensures.same)

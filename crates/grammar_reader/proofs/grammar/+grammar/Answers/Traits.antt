@@ -17,58 +17,58 @@ use Rattle.rust_productions.proofs.Facts.{nothing, saw-so, ◌and◌}
 use Rattle.rust_productions.proofs.Given.{reads-two}
 use Rattle.grammar_reader.proofs.grammar.+grammar.Goals as goal
 
-pub traits::impl_item-unsafe_word-requires : goal.traits::impl_item-unsafe_word-requires
-traits::impl_item-unsafe_word-requires t c = record { begins = c.requires.begins; other = λ e. absurd (omega (arith, e)); inside = λ e. absurd (omega (arith, e)); some = c.requires.some }
+pub items::traits::impl_item-unsafe_word-requires : goal.items::traits::impl_item-unsafe_word-requires
+items::traits::impl_item-unsafe_word-requires t c = record { begins = c.requires.begins; other = λ e. absurd (omega (arith, e)); inside = λ e. absurd (omega (arith, e)); some = c.requires.some }
 
-pub traits::impl_item-opt_generic_params-requires : goal.traits::impl_item-opt_generic_params-requires
-traits::impl_item-opt_generic_params-requires t c = (omega arith, short-still _ _ (c.unsafe_word.ensures.reads true).does.input c.requires.short)
+pub items::traits::impl_item-opt_generic_params-requires : goal.items::traits::impl_item-opt_generic_params-requires
+items::traits::impl_item-opt_generic_params-requires t c = (omega arith, short-still _ _ (c.unsafe_word.ensures.reads true).does.input c.requires.short)
 
-pub traits::impl_item-expect_type-requires : goal.traits::impl_item-expect_type-requires
-traits::impl_item-expect_type-requires t c = (omega arith, short-still _ _ ((c.opt_generic_params.ensures.reads true).does.input ∙ (c.unsafe_word.ensures.reads true).does.input) c.requires.short)
+pub items::traits::impl_item-expect_type-requires : goal.items::traits::impl_item-expect_type-requires
+items::traits::impl_item-expect_type-requires t c = (omega arith, short-still _ _ ((c.opt_generic_params.ensures.reads true).does.input ∙ (c.unsafe_word.ensures.reads true).does.input) c.requires.short)
 
-pub traits::impl_item-opt_type_after-requires : goal.traits::impl_item-opt_type_after-requires
-traits::impl_item-opt_type_after-requires t c = (omega arith, (short-still _ _ (c.expect_type.ensures.reads.does.input ∙ (c.opt_generic_params.ensures.reads true).does.input ∙ (c.unsafe_word.ensures.reads true).does.input) c.requires.short, omega arith))
+pub items::traits::impl_item-opt_type_after-requires : goal.items::traits::impl_item-opt_type_after-requires
+items::traits::impl_item-opt_type_after-requires t c = (omega arith, (short-still _ _ (c.expect_type.ensures.reads.does.input ∙ (c.opt_generic_params.ensures.reads true).does.input ∙ (c.unsafe_word.ensures.reads true).does.input) c.requires.short, omega arith))
 
-pub traits::impl_item-opt_where_clause-requires : goal.traits::impl_item-opt_where_clause-requires
-traits::impl_item-opt_where_clause-requires t c = (omega arith, short-still _ _ (c.opt_type_after.ensures.reads.does.input ∙ c.expect_type.ensures.reads.does.input ∙ (c.opt_generic_params.ensures.reads true).does.input ∙ (c.unsafe_word.ensures.reads true).does.input) c.requires.short)
+pub items::traits::impl_item-opt_where_clause-requires : goal.items::traits::impl_item-opt_where_clause-requires
+items::traits::impl_item-opt_where_clause-requires t c = (omega arith, short-still _ _ (c.opt_type_after.ensures.reads.does.input ∙ c.expect_type.ensures.reads.does.input ∙ (c.opt_generic_params.ensures.reads true).does.input ∙ (c.unsafe_word.ensures.reads true).does.input) c.requires.short)
 
-pub traits::impl_item-expect_assoc_items-requires : goal.traits::impl_item-expect_assoc_items-requires
-traits::impl_item-expect_assoc_items-requires t c = (omega arith, short-still _ _ (c.opt_where_clause.ensures.reads.does.input ∙ c.opt_type_after.ensures.reads.does.input ∙ c.expect_type.ensures.reads.does.input ∙ (c.opt_generic_params.ensures.reads true).does.input ∙ (c.unsafe_word.ensures.reads true).does.input) c.requires.short)
+pub items::traits::impl_item-expect_assoc_items-requires : goal.items::traits::impl_item-expect_assoc_items-requires
+items::traits::impl_item-expect_assoc_items-requires t c = (omega arith, short-still _ _ (c.opt_where_clause.ensures.reads.does.input ∙ c.opt_type_after.ensures.reads.does.input ∙ c.expect_type.ensures.reads.does.input ∙ (c.opt_generic_params.ensures.reads true).does.input ∙ (c.unsafe_word.ensures.reads true).does.input) c.requires.short)
 
-pub traits::impl_item-complete-requires : goal.traits::impl_item-complete-requires
-traits::impl_item-complete-requires t c = (c.expect_assoc_items.ensures.reads true).does.innermost _ (c.opt_where_clause.ensures.reads.does.innermost _ (c.opt_type_after.ensures.reads.does.innermost _ (c.expect_type.ensures.reads.does.innermost _ ((c.opt_generic_params.ensures.reads true).does.innermost _ ((c.unsafe_word.ensures.reads true).does.innermost _ c.requires.innermost)))))
+pub items::traits::impl_item-complete-requires : goal.items::traits::impl_item-complete-requires
+items::traits::impl_item-complete-requires t c = (c.expect_assoc_items.ensures.reads true).does.innermost _ (c.opt_where_clause.ensures.reads.does.innermost _ (c.opt_type_after.ensures.reads.does.innermost _ (c.expect_type.ensures.reads.does.innermost _ ((c.opt_generic_params.ensures.reads true).does.innermost _ ((c.unsafe_word.ensures.reads true).does.innermost _ c.requires.innermost)))))
 
-pub traits::impl_item-returns-clause-completes : goal.traits::impl_item-returns-clause-completes
-traits::impl_item-returns-clause-completes t c = completes-wrap (reads-two _ (c.unsafe_word.ensures.reads c.args.condition) (reads-then _ (c.opt_generic_params.ensures.reads c.args.condition) (reads-then _ c.expect_type.ensures.reads (reads-then _ c.opt_type_after.ensures.reads (reads-then _ c.opt_where_clause.ensures.reads (c.expect_assoc_items.ensures.reads c.args.condition)))))) c.complete.ensures.closes
+pub items::traits::impl_item-returns-clause-completes : goal.items::traits::impl_item-returns-clause-completes
+items::traits::impl_item-returns-clause-completes t c = completes-wrap (reads-two _ (c.unsafe_word.ensures.reads c.args.condition) (reads-then _ (c.opt_generic_params.ensures.reads c.args.condition) (reads-then _ c.expect_type.ensures.reads (reads-then _ c.opt_type_after.ensures.reads (reads-then _ c.opt_where_clause.ensures.reads (c.expect_assoc_items.ensures.reads c.args.condition)))))) c.complete.ensures.closes
 
-pub traits::trait_item-unsafe_word-requires : goal.traits::trait_item-unsafe_word-requires
-traits::trait_item-unsafe_word-requires t c = record { begins = c.requires.begins; other = λ e. absurd (omega (arith, e)); inside = λ e. absurd (omega (arith, e)); some = c.requires.some }
+pub items::traits::trait_item-unsafe_word-requires : goal.items::traits::trait_item-unsafe_word-requires
+items::traits::trait_item-unsafe_word-requires t c = record { begins = c.requires.begins; other = λ e. absurd (omega (arith, e)); inside = λ e. absurd (omega (arith, e)); some = c.requires.some }
 
-pub traits::trait_item-opt_generic_params-requires : goal.traits::trait_item-opt_generic_params-requires
-traits::trait_item-opt_generic_params-requires t c = (omega arith, short-still _ _ ((c.expect_name.ensures.reads true).does.input ∙ (c.unsafe_word.ensures.reads true).does.input) c.requires.short)
+pub items::traits::trait_item-opt_generic_params-requires : goal.items::traits::trait_item-opt_generic_params-requires
+items::traits::trait_item-opt_generic_params-requires t c = (omega arith, short-still _ _ ((c.expect_name.ensures.reads true).does.input ∙ (c.unsafe_word.ensures.reads true).does.input) c.requires.short)
 
-pub traits::trait_item-bounds_after_colon-requires : goal.traits::trait_item-bounds_after_colon-requires
-traits::trait_item-bounds_after_colon-requires t c = (omega arith, short-still _ _ ((c.opt_generic_params.ensures.reads true).does.input ∙ (c.expect_name.ensures.reads true).does.input ∙ (c.unsafe_word.ensures.reads true).does.input) c.requires.short)
+pub items::traits::trait_item-bounds_after_colon-requires : goal.items::traits::trait_item-bounds_after_colon-requires
+items::traits::trait_item-bounds_after_colon-requires t c = (omega arith, short-still _ _ ((c.opt_generic_params.ensures.reads true).does.input ∙ (c.expect_name.ensures.reads true).does.input ∙ (c.unsafe_word.ensures.reads true).does.input) c.requires.short)
 
-pub traits::trait_item-opt_where_clause-requires : goal.traits::trait_item-opt_where_clause-requires
-traits::trait_item-opt_where_clause-requires t c = (omega arith, short-still _ _ ((c.bounds_after_colon.ensures.reads true).does.input ∙ (c.opt_generic_params.ensures.reads true).does.input ∙ (c.expect_name.ensures.reads true).does.input ∙ (c.unsafe_word.ensures.reads true).does.input) c.requires.short)
+pub items::traits::trait_item-opt_where_clause-requires : goal.items::traits::trait_item-opt_where_clause-requires
+items::traits::trait_item-opt_where_clause-requires t c = (omega arith, short-still _ _ ((c.bounds_after_colon.ensures.reads true).does.input ∙ (c.opt_generic_params.ensures.reads true).does.input ∙ (c.expect_name.ensures.reads true).does.input ∙ (c.unsafe_word.ensures.reads true).does.input) c.requires.short)
 
-pub traits::trait_item-expect_assoc_items-requires : goal.traits::trait_item-expect_assoc_items-requires
-traits::trait_item-expect_assoc_items-requires t c = (omega arith, short-still _ _ (c.opt_where_clause.ensures.reads.does.input ∙ (c.bounds_after_colon.ensures.reads true).does.input ∙ (c.opt_generic_params.ensures.reads true).does.input ∙ (c.expect_name.ensures.reads true).does.input ∙ (c.unsafe_word.ensures.reads true).does.input) c.requires.short)
+pub items::traits::trait_item-expect_assoc_items-requires : goal.items::traits::trait_item-expect_assoc_items-requires
+items::traits::trait_item-expect_assoc_items-requires t c = (omega arith, short-still _ _ (c.opt_where_clause.ensures.reads.does.input ∙ (c.bounds_after_colon.ensures.reads true).does.input ∙ (c.opt_generic_params.ensures.reads true).does.input ∙ (c.expect_name.ensures.reads true).does.input ∙ (c.unsafe_word.ensures.reads true).does.input) c.requires.short)
 
-pub traits::trait_item-complete-requires : goal.traits::trait_item-complete-requires
-traits::trait_item-complete-requires t c = (c.expect_assoc_items.ensures.reads true).does.innermost _ (c.opt_where_clause.ensures.reads.does.innermost _ ((c.bounds_after_colon.ensures.reads true).does.innermost _ ((c.opt_generic_params.ensures.reads true).does.innermost _ ((c.expect_name.ensures.reads true).does.innermost _ ((c.unsafe_word.ensures.reads true).does.innermost _ c.requires.innermost)))))
+pub items::traits::trait_item-complete-requires : goal.items::traits::trait_item-complete-requires
+items::traits::trait_item-complete-requires t c = (c.expect_assoc_items.ensures.reads true).does.innermost _ (c.opt_where_clause.ensures.reads.does.innermost _ ((c.bounds_after_colon.ensures.reads true).does.innermost _ ((c.opt_generic_params.ensures.reads true).does.innermost _ ((c.expect_name.ensures.reads true).does.innermost _ ((c.unsafe_word.ensures.reads true).does.innermost _ c.requires.innermost)))))
 
-pub traits::trait_item-returns-clause-completes : goal.traits::trait_item-returns-clause-completes
-traits::trait_item-returns-clause-completes t c = completes-wrap (reads-two _ (c.unsafe_word.ensures.reads c.args.condition) (reads-then _ (c.expect_name.ensures.reads c.args.condition) (reads-then _ (c.opt_generic_params.ensures.reads c.args.condition) (reads-then _ (c.bounds_after_colon.ensures.reads c.args.condition) (reads-then _ c.opt_where_clause.ensures.reads (c.expect_assoc_items.ensures.reads c.args.condition)))))) c.complete.ensures.closes
+pub items::traits::trait_item-returns-clause-completes : goal.items::traits::trait_item-returns-clause-completes
+items::traits::trait_item-returns-clause-completes t c = completes-wrap (reads-two _ (c.unsafe_word.ensures.reads c.args.condition) (reads-then _ (c.expect_name.ensures.reads c.args.condition) (reads-then _ (c.opt_generic_params.ensures.reads c.args.condition) (reads-then _ (c.bounds_after_colon.ensures.reads c.args.condition) (reads-then _ c.opt_where_clause.ensures.reads (c.expect_assoc_items.ensures.reads c.args.condition)))))) c.complete.ensures.closes
 
-pub traits::expect_assoc_items-assoc_items-requires : goal.traits::expect_assoc_items-assoc_items-requires
-traits::expect_assoc_items-assoc_items-requires t c = (omega arith, (short-still _ _ c.at.ensures.same.input c.requires.short, omega arith))
+pub items::traits::expect_assoc_items-assoc_items-requires : goal.items::traits::expect_assoc_items-assoc_items-requires
+items::traits::expect_assoc_items-assoc_items-requires t c = (omega arith, (short-still _ _ c.at.ensures.same.input c.requires.short, omega arith))
 
-pub traits::expect_assoc_items-returns-then-at-clause-reads : goal.traits::expect_assoc_items-returns-then-at-clause-reads
+pub items::traits::expect_assoc_items-returns-then-at-clause-reads : goal.items::traits::expect_assoc_items-returns-then-at-clause-reads
 unfolding look_of begins_below whole rule items statements expressions patterns types paths there_at shift passes is_silent begins in_mode anew row one_of any_of no_longer longest is_longer
-traits::expect_assoc_items-returns-then-at-clause-reads t c = λ cond. reads-here (saw-so (c.at.ensures.sees cond) c.if-at.true and nothing) (after-look cond c.at.ensures.same (reads-call cond (c.assoc_items.ensures.gives cond)))
+items::traits::expect_assoc_items-returns-then-at-clause-reads t c = λ cond. reads-here (saw-so (c.at.ensures.sees cond) c.if-at.true and nothing) (after-look cond c.at.ensures.same (reads-call cond (c.assoc_items.ensures.gives cond)))
 
-pub traits::expect_assoc_items-returns-clause-reads : goal.traits::expect_assoc_items-returns-clause-reads
+pub items::traits::expect_assoc_items-returns-clause-reads : goal.items::traits::expect_assoc_items-returns-clause-reads
 unfolding look_of begins_below whole rule items statements expressions patterns types paths there_at shift passes is_silent begins in_mode anew row one_of any_of no_longer longest is_longer
-traits::expect_assoc_items-returns-clause-reads t c = λ cond. reads-here (saw-so (c.at.ensures.sees cond) c.if-at.false and nothing) (after-look cond c.at.ensures.same (c.error.ensures.reads cond))
+items::traits::expect_assoc_items-returns-clause-reads t c = λ cond. reads-here (saw-so (c.at.ensures.sees cond) c.if-at.false and nothing) (after-look cond c.at.ensures.same (c.error.ensures.reads cond))

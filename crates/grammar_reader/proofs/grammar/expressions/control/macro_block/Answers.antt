@@ -1,0 +1,17 @@
+-- What is read in the nodes.
+use Rattle.std.proofs.Common.{true}
+use Rattle.rust_productions.proofs.ByHand.{reads-call, reads-node, reads-then}
+use Rattle.rust_productions.proofs.Seen.{saw-inside}
+use Rattle.grammar_reader.proofs.grammar.expressions.control.macro_block.Goals as goal
+
+pub word_path-requires-clause-begins : goal.word_path-requires-clause-begins
+word_path-requires-clause-begins c = λ cond. saw-inside c.start-call.ensures.opens (saw-inside c.start-node.ensures.opens (c.requires.begins cond))
+
+pub complete-requires : goal.complete-requires
+complete-requires c = (c.token_tree.ensures.gives true).does.innermost _ ((c.take.ensures.reads true).does.innermost _ ((c.word_path.ensures.gives true).does.innermost _ c.start-call.ensures.marker))
+
+pub complete-requires-2 : goal.complete-requires-2
+complete-requires-2 c = c.complete.ensures.closes.innermost _ ((c.token_tree.ensures.gives true).does.innermost _ ((c.take.ensures.reads true).does.innermost _ ((c.word_path.ensures.gives true).does.innermost _ (c.start-call.ensures.opens.innermost _ c.start-node.ensures.marker))))
+
+pub returns-clause-reads : goal.returns-clause-reads
+returns-clause-reads c cond = reads-node cond c.start-node.ensures.opens (reads-node cond c.start-call.ensures.opens (reads-then cond (reads-call cond (c.word_path.ensures.gives cond)) (reads-then cond (c.take.ensures.reads cond) (reads-call cond (c.token_tree.ensures.gives cond)))) c.complete.ensures.closes) c.complete-2.ensures.closes

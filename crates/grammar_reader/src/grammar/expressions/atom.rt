@@ -1,0 +1,329 @@
+//! Expressions without an operator.
+
+ghost use Rattle.std.specs.Prelude.{◌≡◌, ◌≤◌, ◌<◌, ◌+◌, ◌*◌, ◌^◌, Bool, true, false, length};
+ghost use Rattle.parser_input.specs.Kind.{raw_of};
+ghost use Rattle.parser_input.specs.Kinds.{ARRAY_EXPR, LET_EXPR, MACRO_CALL, MACRO_EXPR, PAREN_EXPR, PATH_EXPR, RECORD_EXPR, TUPLE_EXPR};
+ghost use Rattle.parser_events.specs.Stack.{IsInnermost};
+ghost use Rattle.rust_grammar.specs.Calls.{Comparison, ExprPath, Expression, FieldValues, Operation, Pattern, TokenTree};
+ghost use Rattle.rust_grammar.specs.Notation.{◌or◌, ◌▸◌, ⁅◌⁆, ◌!, ◌⟨◌⟩, ◌<⟨◌⟩, next, off, rest_listed};
+ghost use Rattle.rust_grammar.specs.Rule as rules;
+ghost use Rattle.rust_grammar.specs.Rule.{Both, InCondition, Nothing, One, Unless};
+ghost use Rattle.rust_grammar.specs.Whole.{rule};
+ghost use Rattle.rust_grammar.specs.Words.{one, '!=', 'comma', 'semi', 'l_curly', 'l_paren', 'r_paren', '[', ']', '=', '!', 'let'};
+ghost use Rattle.rust_productions.specs.Looks.{tokens, spent};
+ghost use Rattle.rust_productions.specs.Reads.{looks, Does, Gives, Reads, Saw};
+
+use crate::grammar::expressions::closures::{closure_expr, move_closure};
+use crate::grammar::expressions::control::block_like;
+use crate::grammar::expressions::{Level, expect_expression, expression, operation};
+use crate::grammar::lists::{Element, field_values, rest_of_list};
+use crate::grammar::or_patterns::expect_pattern;
+use crate::grammar::paths::{Mode, path_with_args};
+use crate::grammar::types::word_type;
+use parser_events::message::Message;
+use parser_events::parser::{Marker, Parser};
+use parser_input::syntax_kind::SyntaxKind;
+use rust_productions::grammar::expressions::{at_block_like, at_body, at_expression, at_operation};
+use rust_productions::grammar::names::{at_literal, literal};
+use rust_productions::grammar::token_trees::expect_token_tree;
+use rust_productions::grammar::{
+    abandon, at, at_pair, complete, current, error, expect, start, take, wrap,
+};
+
+/// An expression without an operator, inside the node that is left out around it.
+#[cycle(grammar)]
+pub(crate) fn inside(p: &mut Parser<'_>, frame: Marker, condition: bool) -> Marker
+    requires short { length p.old.input < 2 ^ 64 }
+    requires begins { Saw condition (looks rules.atom) p.old true }
+    requires some { 1 ≤ tokens p.old }
+    requires innermost { IsInnermost frame p.old.nodes }
+    ensures reads { Reads condition (rule rules.atom) p.old p.new }
+    ensures marker { IsInnermost result p.new.nodes }
+    ensures left { tokens p.new + 1 ≤ tokens p.old }
+    ensures looks { spent p.new + 2890 ≤ spent p.old }
+{
+    match current(p) {
+        SyntaxKind::L_PAREN => paren_expr(p, frame),
+        SyntaxKind::L_BRACK => {
+            array_expr(p);
+            frame
+        }
+        SyntaxKind::RETURN_KW => {
+            value_expr(p, SyntaxKind::RETURN_KW, SyntaxKind::RETURN_EXPR, condition);
+            frame
+        }
+        SyntaxKind::BREAK_KW => {
+            value_expr(p, SyntaxKind::BREAK_KW, SyntaxKind::BREAK_EXPR, condition);
+            frame
+        }
+        SyntaxKind::CONTINUE_KW => {
+            word_type(p, SyntaxKind::CONTINUE_KW, SyntaxKind::CONTINUE_EXPR);
+            frame
+        }
+        SyntaxKind::PIPE => {
+            closure_expr(p, condition);
+            frame
+        }
+        SyntaxKind::MOVE_KW => {
+            move_closure(p, condition);
+            frame
+        }
+        SyntaxKind::LET_KW => {
+            let_expr(p, condition);
+            frame
+        }
+        _ => {
+            if at_literal(p) {
+                literal(p);
+                return frame;
+            }
+            if at_block_like(p) {
+                block_like(p);
+                return frame;
+            }
+            path_expr(p, frame, condition)
+        }
+    }
+}
+
+/// A path, with what stands after it: the rest of a macro call, or the fields of a record.
+#[cycle(grammar)]
+fn path_expr(p: &mut Parser<'_>, frame: Marker, condition: bool) -> Marker
+    requires short { length p.old.input < 2 ^ 64 }
+    requires begins { (c : Bool) → Saw c (looks rules.path) p.old true }
+    requires some { 1 ≤ tokens p.old }
+    requires innermost { IsInnermost frame p.old.nodes }
+    ensures reads { Reads condition (ExprPath
+        ▸ (Unless (next '!=') (MACRO_CALL <⟨ One '!' ▸ TokenTree ! ⟩ ▸ MACRO_EXPR <⟨ Nothing ⟩)
+        or Unless InCondition (RECORD_EXPR <⟨ FieldValues ⟩)
+        or PATH_EXPR <⟨ Nothing ⟩)) p.old p.new }
+    ensures marker { IsInnermost result p.new.nodes }
+    ensures left { tokens p.new + 1 ≤ tokens p.old }
+    ensures looks { spent p.new + 3990 ≤ spent p.old }
+{
+    path_with_args(p, Mode::Expr);
+    after_path(p, frame, condition)
+}
+
+/// What stands after a path.
+#[cycle(grammar)]
+fn after_path(p: &mut Parser<'_>, frame: Marker, condition: bool) -> Marker
+    requires short { length p.old.input < 2 ^ 64 }
+    requires innermost { IsInnermost frame p.old.nodes }
+    ensures reads { Reads condition
+        (Unless (next '!=') (MACRO_CALL <⟨ One '!' ▸ TokenTree ! ⟩ ▸ MACRO_EXPR <⟨ Nothing ⟩)
+        or Unless InCondition (RECORD_EXPR <⟨ FieldValues ⟩)
+        or PATH_EXPR <⟨ Nothing ⟩) p.old p.new }
+    ensures marker { IsInnermost result p.new.nodes }
+    ensures left { tokens p.new ≤ tokens p.old }
+    ensures looks { spent p.new ≤ spent p.old + 4 }
+{
+    if at_pair(p, SyntaxKind::BANG, SyntaxKind::EQ) {
+        return wrap(p, frame, SyntaxKind::PATH_EXPR);
+    }
+    if at(p, SyntaxKind::BANG) {
+        macro_call(p);
+        let frame = wrap(p, frame, SyntaxKind::MACRO_CALL);
+        return wrap(p, frame, SyntaxKind::MACRO_EXPR);
+    }
+    if condition {
+        return wrap(p, frame, SyntaxKind::PATH_EXPR);
+    }
+    if at(p, SyntaxKind::L_CURLY) {
+        field_values(p);
+        return wrap(p, frame, SyntaxKind::RECORD_EXPR);
+    }
+    wrap(p, frame, SyntaxKind::PATH_EXPR)
+}
+
+/// The rest of a macro call.
+fn macro_call(p: &mut Parser<'_>)
+    requires { 1 ≤ tokens p.old }
+    ensures reads { (c : Bool) → Reads c (One '!' ▸ TokenTree !) p.old p.new }
+    ensures left { tokens p.new + 1 ≤ tokens p.old }
+    ensures looks { spent p.new + 4090 ≤ spent p.old }
+{
+    take(p, SyntaxKind::BANG);
+    expect_token_tree(p);
+}
+
+/// An expression that begins with `(`: a tuple, or one in parentheses.
+#[cycle(grammar)]
+fn paren_expr(p: &mut Parser<'_>, frame: Marker) -> Marker
+    requires short { length p.old.input < 2 ^ 64 }
+    requires some { 1 ≤ tokens p.old }
+    requires innermost { IsInnermost frame p.old.nodes }
+    ensures reads { (c : Bool) → Reads c (One 'l_paren' ▸ (TUPLE_EXPR <⟨ One 'r_paren' ⟩
+        or off (Expression !) ▸ (TUPLE_EXPR <⟨ One 'comma' ▸ rest_listed TUPLE_EXPR Expression 'r_paren' ⟩
+        or PAREN_EXPR <⟨ One 'r_paren' ! ⟩))) p.old p.new }
+    ensures marker { IsInnermost result p.new.nodes }
+    ensures left { tokens p.new + 1 ≤ tokens p.old }
+    ensures looks { spent p.new + 3300 ≤ spent p.old }
+{
+    take(p, SyntaxKind::L_PAREN);
+    after_paren(p, frame)
+}
+
+/// What stands after the `(`.
+#[cycle(grammar)]
+fn after_paren(p: &mut Parser<'_>, frame: Marker) -> Marker
+    requires short { length p.old.input < 2 ^ 64 }
+    requires innermost { IsInnermost frame p.old.nodes }
+    ensures reads { (c : Bool) → Reads c (TUPLE_EXPR <⟨ One 'r_paren' ⟩
+        or off (Expression !) ▸ (TUPLE_EXPR <⟨ One 'comma' ▸ rest_listed TUPLE_EXPR Expression 'r_paren' ⟩
+        or PAREN_EXPR <⟨ One 'r_paren' ! ⟩)) p.old p.new }
+    ensures marker { IsInnermost result p.new.nodes }
+    ensures left { tokens p.new ≤ tokens p.old }
+    ensures looks { spent p.new ≤ spent p.old + 780 }
+{
+    if at(p, SyntaxKind::R_PAREN) {
+        take(p, SyntaxKind::R_PAREN);
+        return wrap(p, frame, SyntaxKind::TUPLE_EXPR);
+    }
+    expect_expression(p, Level::Expression, false);
+    after_first(p, frame)
+}
+
+/// What stands after the first expression in parentheses.
+#[cycle(grammar)]
+fn after_first(p: &mut Parser<'_>, frame: Marker) -> Marker
+    requires short { length p.old.input < 2 ^ 64 }
+    requires innermost { IsInnermost frame p.old.nodes }
+    ensures reads { (c : Bool) → Reads c
+        (TUPLE_EXPR <⟨ One 'comma' ▸ rest_listed TUPLE_EXPR Expression 'r_paren' ⟩
+        or PAREN_EXPR <⟨ One 'r_paren' ! ⟩) p.old p.new }
+    ensures marker { IsInnermost result p.new.nodes }
+    ensures left { tokens p.new ≤ tokens p.old }
+    ensures looks { spent p.new ≤ spent p.old + 2 }
+{
+    if at(p, SyntaxKind::COMMA) {
+        take(p, SyntaxKind::COMMA);
+        rest_of_list(
+            p,
+            SyntaxKind::TUPLE_EXPR,
+            Element::Expression,
+            SyntaxKind::R_PAREN,
+        );
+        return wrap(p, frame, SyntaxKind::TUPLE_EXPR);
+    }
+    expect(p, SyntaxKind::R_PAREN);
+    wrap(p, frame, SyntaxKind::PAREN_EXPR)
+}
+
+/// An array.
+#[cycle(grammar)]
+fn array_expr(p: &mut Parser<'_>)
+    requires short { length p.old.input < 2 ^ 64 }
+    requires some { 1 ≤ tokens p.old }
+    ensures reads { (c : Bool) → Reads c (ARRAY_EXPR ⟨ One '['
+        ▸ (off Expression ▸ (One 'semi' ▸ off (Expression !) ▸ One ']' !
+        or One 'comma' ▸ rest_listed ARRAY_EXPR Expression ']'
+        or One ']' !)
+        or One ']' !) ⟩) p.old p.new }
+    ensures left { tokens p.new + 1 ≤ tokens p.old }
+    ensures looks { spent p.new + 3200 ≤ spent p.old }
+{
+    let node = start(p);
+    take(p, SyntaxKind::L_BRACK);
+    array_elements(p);
+    complete(p, node, SyntaxKind::ARRAY_EXPR);
+}
+
+/// What stands after the `[` of an array.
+#[cycle(grammar)]
+fn array_elements(p: &mut Parser<'_>)
+    requires short { length p.old.input < 2 ^ 64 }
+    ensures reads { (c : Bool) → Reads c
+        (off Expression ▸ (One 'semi' ▸ off (Expression !) ▸ One ']' !
+        or One 'comma' ▸ rest_listed ARRAY_EXPR Expression ']'
+        or One ']' !)
+        or One ']' !) p.old p.new }
+    ensures left { tokens p.new ≤ tokens p.old }
+    ensures looks { spent p.new ≤ spent p.old + 780 }
+{
+    if at_expression(p, false) {
+        expression(p, false);
+        after_element(p);
+        return;
+    }
+    expect(p, SyntaxKind::R_BRACK);
+}
+
+/// What stands after the first element of an array.
+#[cycle(grammar)]
+fn after_element(p: &mut Parser<'_>)
+    requires short { length p.old.input < 2 ^ 64 }
+    ensures reads { (c : Bool) → Reads c (One 'semi' ▸ off (Expression !) ▸ One ']' !
+        or One 'comma' ▸ rest_listed ARRAY_EXPR Expression ']'
+        or One ']' !) p.old p.new }
+    ensures left { tokens p.new ≤ tokens p.old }
+    ensures looks { spent p.new ≤ spent p.old + 3 }
+{
+    if at(p, SyntaxKind::SEMICOLON) {
+        take(p, SyntaxKind::SEMICOLON);
+        expect_expression(p, Level::Expression, false);
+        expect(p, SyntaxKind::R_BRACK);
+        return;
+    }
+    if at(p, SyntaxKind::COMMA) {
+        take(p, SyntaxKind::COMMA);
+        rest_of_list(
+            p,
+            SyntaxKind::ARRAY_EXPR,
+            Element::Expression,
+            SyntaxKind::R_BRACK,
+        );
+        return;
+    }
+    expect(p, SyntaxKind::R_BRACK);
+}
+
+/// A word and the value after it, in a node of this kind.
+#[cycle(grammar)]
+fn value_expr(p: &mut Parser<'_>, token: SyntaxKind, kind: SyntaxKind, condition: bool)
+    requires short { length p.old.input < 2 ^ 64 }
+    requires some { 1 ≤ tokens p.old }
+    ensures reads { Reads condition (raw_of kind ⟨ One (one (raw_of token))
+        ▸ ⁅ Unless (Both InCondition (next 'l_curly')) Operation ⁆ ⟩) p.old p.new }
+    ensures left { tokens p.new + 1 ≤ tokens p.old }
+    ensures looks { spent p.new + 3300 ≤ spent p.old }
+{
+    let node = start(p);
+    take(p, token);
+    opt_value(p, condition);
+    complete(p, node, kind);
+}
+
+/// The value of a `return` or a `break`, where there is one.
+#[cycle(grammar)]
+fn opt_value(p: &mut Parser<'_>, condition: bool)
+    requires short { length p.old.input < 2 ^ 64 }
+    ensures reads { Reads condition ⁅ Unless (Both InCondition (next 'l_curly')) Operation ⁆ p.old p.new }
+    ensures left { tokens p.new ≤ tokens p.old }
+    ensures looks { spent p.new ≤ spent p.old + 780 }
+{
+    if at_body(p, condition) {
+        return;
+    }
+    if at_operation(p, condition) {
+        operation(p, condition);
+    }
+}
+
+/// A `let` in a condition.
+#[cycle(grammar)]
+fn let_expr(p: &mut Parser<'_>, condition: bool)
+    requires short { length p.old.input < 2 ^ 64 }
+    requires some { 1 ≤ tokens p.old }
+    ensures reads { Reads condition
+        (LET_EXPR ⟨ One 'let' ▸ Pattern ! ▸ One '=' ! ▸ Comparison ! ⟩) p.old p.new }
+    ensures left { tokens p.new + 1 ≤ tokens p.old }
+    ensures looks { spent p.new + 3300 ≤ spent p.old }
+{
+    let node = start(p);
+    take(p, SyntaxKind::LET_KW);
+    expect_pattern(p);
+    expect(p, SyntaxKind::EQ);
+    expect_expression(p, Level::Comparison, condition);
+    complete(p, node, SyntaxKind::LET_EXPR);
+}

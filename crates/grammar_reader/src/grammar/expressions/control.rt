@@ -1,0 +1,315 @@
+//! Expressions that end in a block.
+
+ghost use Rattle.std.specs.Prelude.{◌≡◌, ◌≤◌, ◌<◌, ◌+◌, ◌*◌, ◌^◌, Bool, ℕ, IsTrue, true, false, [], ◌∷◌, length};
+ghost use Rattle.parser_input.specs.Kinds.{BLOCK_EXPR, FOR_EXPR, LOOP_EXPR, MACRO_CALL, MACRO_EXPR, MATCH_EXPR, WHILE_EXPR};
+ghost use Rattle.parser_events.specs.Forest.{ExpectedMatchArm};
+ghost use Rattle.parser_events.specs.Stack.{IsInnermost};
+ghost use Rattle.rust_grammar.specs.Calls.{Block, ExprPath, IfExpr, MatchArm, MatchArms, Operation, Pattern, StatementList, TokenTree};
+ghost use Rattle.rust_grammar.specs.Notation.{◌or◌, ◌▸◌, ⁅◌⁆, ◌*, ◌!, ◌⟨◌⟩, on, row, until};
+ghost use Rattle.rust_grammar.specs.Rule as rules;
+ghost use Rattle.rust_grammar.specs.Rule.{One, Skip, Unless};
+ghost use Rattle.rust_grammar.specs.Whole.{rule};
+ghost use Rattle.rust_grammar.specs.Words.{'ident', 'l_curly', 'r_curly', '!', 'else', 'for', 'in', 'loop', 'match', 'unsafe', 'while'};
+ghost use Rattle.rust_productions.specs.Looks.{tokens, spent};
+ghost use Rattle.rust_productions.specs.Reads.{looks, Gives, Reads, Saw};
+ghost use Rattle.rust_productions.specs.Turns.{TurnsFrom};
+
+use crate::grammar::expressions::blocks::{block, statement_list};
+use crate::grammar::expressions::expect_condition;
+use crate::grammar::expressions::match_arm::match_arm;
+use crate::grammar::or_patterns::expect_pattern;
+use parser_events::message::Message;
+use parser_events::parser::Parser;
+use parser_input::syntax_kind::SyntaxKind;
+use rust_productions::grammar::lists::at_list_end;
+use rust_productions::grammar::patterns::at_pattern;
+use rust_productions::grammar::token_trees::token_tree;
+use rust_productions::grammar::{abandon, at, complete, current, error, expect, skip, start, take};
+
+/// An expression that ends in a block.
+#[cycle(grammar)]
+pub(crate) fn block_like(p: &mut Parser<'_>)
+    requires short { length p.old.input < 2 ^ 64 }
+    requires begins { (c : Bool) → Saw c (looks rules.block_like) p.old true }
+    requires some { 1 ≤ tokens p.old }
+    ensures gives { (c : Bool) → Gives rules.block_like c p.old p.new }
+    ensures left { tokens p.new + 1 ≤ tokens p.old }
+    ensures looks { spent p.new + 2910 ≤ spent p.old }
+{
+    match current(p) {
+        SyntaxKind::L_CURLY => block(p),
+        SyntaxKind::UNSAFE_KW => unsafe_block(p),
+        SyntaxKind::IF_KW => if_expr(p),
+        SyntaxKind::WHILE_KW => while_expr(p),
+        SyntaxKind::LOOP_KW => loop_expr(p),
+        SyntaxKind::FOR_KW => for_expr(p),
+        SyntaxKind::MATCH_KW => match_expr(p),
+        _ => macro_block(p),
+    }
+}
+
+/// Statements, or the message that they are missing.
+#[cycle(grammar)]
+fn expect_statement_list(p: &mut Parser<'_>)
+    requires short { length p.old.input < 2 ^ 64 }
+    ensures reads { (c : Bool) → Reads c (StatementList !) p.old p.new }
+    ensures left { tokens p.new ≤ tokens p.old }
+    ensures looks { spent p.new ≤ spent p.old + 1 }
+{
+    if at(p, SyntaxKind::L_CURLY) {
+        statement_list(p);
+        return;
+    }
+    error(p, Message::Expected(SyntaxKind::STMT_LIST));
+}
+
+/// A block, or the message that it is missing.
+#[cycle(grammar)]
+pub(crate) fn expect_block(p: &mut Parser<'_>)
+    requires short { length p.old.input < 2 ^ 64 }
+    ensures reads { (c : Bool) → Reads c (Block !) p.old p.new }
+    ensures left { tokens p.new ≤ tokens p.old }
+    ensures looks { spent p.new ≤ spent p.old + 1 }
+{
+    if at(p, SyntaxKind::L_CURLY) {
+        block(p);
+        return;
+    }
+    error(p, Message::Expected(SyntaxKind::BLOCK_EXPR));
+}
+
+/// A block after `unsafe`.
+#[cycle(grammar)]
+fn unsafe_block(p: &mut Parser<'_>)
+    requires short { length p.old.input < 2 ^ 64 }
+    requires some { 1 ≤ tokens p.old }
+    ensures reads { (c : Bool) → Reads c
+        (BLOCK_EXPR ⟨ One 'unsafe' ▸ StatementList ! ⟩) p.old p.new }
+    ensures left { tokens p.new + 1 ≤ tokens p.old }
+    ensures looks { spent p.new + 4090 ≤ spent p.old }
+{
+    let node = start(p);
+    take(p, SyntaxKind::UNSAFE_KW);
+    expect_statement_list(p);
+    complete(p, node, SyntaxKind::BLOCK_EXPR);
+}
+
+/// An `if`.
+#[cycle(grammar)]
+pub(crate) fn if_expr(p: &mut Parser<'_>)
+    requires short { length p.old.input < 2 ^ 64 }
+    requires some { 1 ≤ tokens p.old }
+    ensures gives { (c : Bool) → Gives rules.if_expr c p.old p.new }
+    ensures left { tokens p.new + 1 ≤ tokens p.old }
+    ensures looks { spent p.new + 3300 ≤ spent p.old }
+{
+    let node = start(p);
+    take(p, SyntaxKind::IF_KW);
+    expect_condition(p);
+    expect_block(p);
+    opt_else(p);
+    complete(p, node, SyntaxKind::IF_EXPR);
+}
+
+/// What is done where the condition does not hold, if that is said.
+#[cycle(grammar)]
+fn opt_else(p: &mut Parser<'_>)
+    requires short { length p.old.input < 2 ^ 64 }
+    ensures reads { (c : Bool) → Reads c ⁅ One 'else' ▸ (IfExpr or Block !) ⁆ p.old p.new }
+    ensures left { tokens p.new ≤ tokens p.old }
+    ensures looks { spent p.new ≤ spent p.old + 1 }
+{
+    if at(p, SyntaxKind::ELSE_KW) {
+        take(p, SyntaxKind::ELSE_KW);
+        after_else(p);
+    }
+}
+
+/// What stands after `else`: another `if`, or a block.
+#[cycle(grammar)]
+fn after_else(p: &mut Parser<'_>)
+    requires short { length p.old.input < 2 ^ 64 }
+    ensures reads { (c : Bool) → Reads c (IfExpr or Block !) p.old p.new }
+    ensures left { tokens p.new ≤ tokens p.old }
+    ensures looks { spent p.new ≤ spent p.old + 2 }
+{
+    if at(p, SyntaxKind::IF_KW) {
+        if_expr(p);
+        return;
+    }
+    expect_block(p);
+}
+
+/// A `while`.
+#[cycle(grammar)]
+fn while_expr(p: &mut Parser<'_>)
+    requires short { length p.old.input < 2 ^ 64 }
+    requires some { 1 ≤ tokens p.old }
+    ensures reads { (c : Bool) → Reads c
+        (WHILE_EXPR ⟨ One 'while' ▸ on Operation ! ▸ Block ! ⟩) p.old p.new }
+    ensures left { tokens p.new + 1 ≤ tokens p.old }
+    ensures looks { spent p.new + 3300 ≤ spent p.old }
+{
+    let node = start(p);
+    take(p, SyntaxKind::WHILE_KW);
+    expect_condition(p);
+    expect_block(p);
+    complete(p, node, SyntaxKind::WHILE_EXPR);
+}
+
+/// A `loop`.
+#[cycle(grammar)]
+fn loop_expr(p: &mut Parser<'_>)
+    requires short { length p.old.input < 2 ^ 64 }
+    requires some { 1 ≤ tokens p.old }
+    ensures reads { (c : Bool) → Reads c (LOOP_EXPR ⟨ One 'loop' ▸ Block ! ⟩) p.old p.new }
+    ensures left { tokens p.new + 1 ≤ tokens p.old }
+    ensures looks { spent p.new + 4090 ≤ spent p.old }
+{
+    let node = start(p);
+    take(p, SyntaxKind::LOOP_KW);
+    expect_block(p);
+    complete(p, node, SyntaxKind::LOOP_EXPR);
+}
+
+/// A `for`.
+#[cycle(grammar)]
+fn for_expr(p: &mut Parser<'_>)
+    requires short { length p.old.input < 2 ^ 64 }
+    requires some { 1 ≤ tokens p.old }
+    ensures reads { (c : Bool) → Reads c
+        (FOR_EXPR ⟨ One 'for' ▸ Pattern ! ▸ One 'in' ! ▸ on Operation ! ▸ Block ! ⟩) p.old p.new }
+    ensures left { tokens p.new + 1 ≤ tokens p.old }
+    ensures looks { spent p.new + 3300 ≤ spent p.old }
+{
+    let node = start(p);
+    take(p, SyntaxKind::FOR_KW);
+    expect_pattern(p);
+    expect(p, SyntaxKind::IN_KW);
+    expect_condition(p);
+    expect_block(p);
+    complete(p, node, SyntaxKind::FOR_EXPR);
+}
+
+/// A `match`.
+#[cycle(grammar)]
+fn match_expr(p: &mut Parser<'_>)
+    requires short { length p.old.input < 2 ^ 64 }
+    requires some { 1 ≤ tokens p.old }
+    ensures reads { (c : Bool) → Reads c
+        (MATCH_EXPR ⟨ One 'match' ▸ on Operation ! ▸ MatchArms ! ⟩) p.old p.new }
+    ensures left { tokens p.new + 1 ≤ tokens p.old }
+    ensures looks { spent p.new + 3300 ≤ spent p.old }
+{
+    let node = start(p);
+    take(p, SyntaxKind::MATCH_KW);
+    expect_condition(p);
+    expect_match_arms(p);
+    complete(p, node, SyntaxKind::MATCH_EXPR);
+}
+
+/// The arms of a `match`, or the message that they are missing.
+#[cycle(grammar)]
+fn expect_match_arms(p: &mut Parser<'_>)
+    requires short { length p.old.input < 2 ^ 64 }
+    ensures reads { (c : Bool) → Reads c (MatchArms !) p.old p.new }
+    ensures left { tokens p.new ≤ tokens p.old }
+    ensures looks { spent p.new ≤ spent p.old + 1 }
+{
+    if at(p, SyntaxKind::L_CURLY) {
+        match_arms(p);
+        return;
+    }
+    error(p, Message::Expected(SyntaxKind::MATCH_ARM_LIST));
+}
+
+/// The arms of a `match`.
+#[cycle(grammar)]
+pub(crate) fn match_arms(p: &mut Parser<'_>)
+    requires short { length p.old.input < 2 ^ 64 }
+    requires some { 1 ≤ tokens p.old }
+    ensures gives { (c : Bool) → Gives rules.match_arms c p.old p.new }
+    ensures left { tokens p.new + 1 ≤ tokens p.old }
+    ensures looks { spent p.new + 3000 ≤ spent p.old }
+{
+    let list = start(p);
+    take(p, SyntaxKind::L_CURLY);
+    arms(p);
+    expect(p, SyntaxKind::R_CURLY);
+    complete(p, list, SyntaxKind::MATCH_ARM_LIST);
+}
+
+/// Reads the arms of a `match`.
+#[cycle(grammar)]
+fn arms(p: &mut Parser<'_>)
+    requires short { length p.old.input < 2 ^ 64 }
+    ensures reads { Reads false
+        ((Unless (until 'r_curly') (MatchArm or Skip ExpectedMatchArm)) *) p.old p.new }
+    ensures left { tokens p.new ≤ tokens p.old }
+    ensures looks { spent p.new ≤ spent p.old + 1080 }
+{
+    'turns: while arm_turn(p) {}
+}
+
+/// Reads an arm, or a token that begins none. Whether more may follow is the answer.
+#[cycle(grammar)]
+fn arm_turn(p: &mut Parser<'_>) -> bool
+    requires short { length p.old.input < 2 ^ 64 }
+    ensures goes { IsTrue result → TurnsFrom false
+        (Unless (until 'r_curly') (MatchArm or Skip ExpectedMatchArm)) p.old p.new }
+    ensures ends { result ≡ false → Reads false
+        ((Unless (until 'r_curly') (MatchArm or Skip ExpectedMatchArm)) *) p.old p.new }
+    ensures input { p.new.input ≡ p.old.input }
+    ensures innermost { (n : ℕ) → IsInnermost n p.old.nodes → IsInnermost n p.new.nodes }
+    ensures fewer { IsTrue result → tokens p.new < tokens p.old }
+    ensures left { tokens p.new ≤ tokens p.old }
+    ensures pays { IsTrue result → spent p.new ≤ spent p.old }
+    ensures looks { spent p.new ≤ spent p.old + 1080 }
+{
+    if at_list_end(p, SyntaxKind::R_CURLY) {
+        return false;
+    }
+    if at_pattern(p) {
+        match_arm(p, false);
+        return true;
+    }
+    skip(p, Message::ExpectedMatchArm);
+    true
+}
+
+/// A path of one word, before the `!` of a macro call with braces.
+fn word_path(p: &mut Parser<'_>)
+    requires begins { (c : Bool) → Saw c (row 0 ('ident' ∷ '!' ∷ 'l_curly' ∷ [])) p.old true }
+    requires some { 1 ≤ tokens p.old }
+    ensures gives { (c : Bool) → Gives rules.expr_path c p.old p.new }
+    ensures left { tokens p.new + 1 ≡ tokens p.old }
+    ensures looks { spent p.new + 4096 ≡ spent p.old }
+{
+    let frame = start(p);
+    let path = start(p);
+    let segment = start(p);
+    let name = start(p);
+    take(p, SyntaxKind::IDENT);
+    complete(p, name, SyntaxKind::NAME_REF);
+    complete(p, segment, SyntaxKind::PATH_SEGMENT);
+    complete(p, path, SyntaxKind::PATH);
+    abandon(p, frame);
+}
+
+/// A macro call with braces, by one word.
+fn macro_block(p: &mut Parser<'_>)
+    requires begins { (c : Bool) → Saw c (row 0 ('ident' ∷ '!' ∷ 'l_curly' ∷ [])) p.old true }
+    requires some { 3 ≤ tokens p.old }
+    ensures reads { (c : Bool) → Reads c
+        (MACRO_EXPR ⟨ MACRO_CALL ⟨ ExprPath ▸ One '!' ▸ TokenTree ⟩ ⟩) p.old p.new }
+    ensures left { tokens p.new + 1 ≤ tokens p.old }
+    ensures looks { spent p.new + 4080 ≤ spent p.old }
+{
+    let node = start(p);
+    let call = start(p);
+    word_path(p);
+    take(p, SyntaxKind::BANG);
+    token_tree(p);
+    complete(p, call, SyntaxKind::MACRO_CALL);
+    complete(p, node, SyntaxKind::MACRO_EXPR);
+}

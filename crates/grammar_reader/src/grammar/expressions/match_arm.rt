@@ -1,0 +1,89 @@
+//! Arms of a `match`.
+
+ghost use Rattle.std.specs.Prelude.{◌≡◌, ◌≤◌, ◌<◌, ◌+◌, ◌*◌, ◌^◌, Bool, true, length};
+ghost use Rattle.parser_input.specs.Kinds.{COMMA, MATCH_GUARD};
+ghost use Rattle.parser_events.specs.Forest.{Expected};
+ghost use Rattle.rust_grammar.specs.Calls.{BlockLike, Expression, Operation};
+ghost use Rattle.rust_grammar.specs.Notation.{◌or◌, ◌▸◌, ⁅◌⁆, ◌!, ◌⟨◌⟩, next, on};
+ghost use Rattle.rust_grammar.specs.Rule as rules;
+ghost use Rattle.rust_grammar.specs.Rule.{Nothing, One, Say, When};
+ghost use Rattle.rust_grammar.specs.Words.{'=>', 'comma', 'r_curly', 'if'};
+ghost use Rattle.rust_productions.specs.Looks.{tokens, spent};
+ghost use Rattle.rust_productions.specs.Reads.{looks, Gives, Reads, Saw};
+
+use crate::grammar::expressions::control::block_like;
+use crate::grammar::expressions::{Level, expect_condition, expect_expression};
+use crate::grammar::or_patterns::pattern;
+use parser_events::message::Message;
+use parser_events::parser::Parser;
+use parser_input::syntax_kind::SyntaxKind;
+use rust_productions::grammar::expressions::at_block_like;
+use rust_productions::grammar::lists::comma;
+use rust_productions::grammar::{at, at_pair, complete, eat, error, start, take, take_pair};
+
+/// An arm of a `match`.
+#[cycle(grammar)]
+pub(crate) fn match_arm(p: &mut Parser<'_>, condition: bool)
+    requires short { length p.old.input < 2 ^ 64 }
+    requires begins { (c : Bool) → Saw c (looks rules.pattern) p.old true }
+    requires some { 1 ≤ tokens p.old }
+    ensures gives { Gives rules.match_arm condition p.old p.new }
+    ensures left { tokens p.new + 1 ≤ tokens p.old }
+    ensures looks { spent p.new + 2100 ≤ spent p.old }
+{
+    let node = start(p);
+    pattern(p);
+    opt_guard(p);
+    expect_arrow(p);
+    arm_value(p, condition);
+    complete(p, node, SyntaxKind::MATCH_ARM);
+}
+
+/// The condition of an arm, where there is one.
+#[cycle(grammar)]
+fn opt_guard(p: &mut Parser<'_>)
+    requires short { length p.old.input < 2 ^ 64 }
+    ensures reads { (c : Bool) → Reads c
+        ⁅ MATCH_GUARD ⟨ One 'if' ▸ on Operation ! ⟩ ⁆ p.old p.new }
+    ensures left { tokens p.new ≤ tokens p.old }
+    ensures looks { spent p.new ≤ spent p.old + 1 }
+{
+    if at(p, SyntaxKind::IF_KW) {
+        let guard = start(p);
+        take(p, SyntaxKind::IF_KW);
+        expect_condition(p);
+        complete(p, guard, SyntaxKind::MATCH_GUARD);
+    }
+}
+
+/// The arrow of an arm, or the message that it is missing.
+fn expect_arrow(p: &mut Parser<'_>)
+    ensures reads { (c : Bool) → Reads c (One '=>' !) p.old p.new }
+    ensures left { tokens p.new ≤ tokens p.old }
+    ensures looks { spent p.new ≤ spent p.old + 2 }
+{
+    if at_pair(p, SyntaxKind::EQ, SyntaxKind::R_ANGLE) {
+        take_pair(p, SyntaxKind::FAT_ARROW);
+        return;
+    }
+    error(p, Message::Expected(SyntaxKind::FAT_ARROW));
+}
+
+/// What an arm does: what ends in a block needs no comma after it.
+#[cycle(grammar)]
+fn arm_value(p: &mut Parser<'_>, condition: bool)
+    requires short { length p.old.input < 2 ^ 64 }
+    ensures reads { Reads condition (BlockLike ▸ ⁅ One 'comma' ⁆
+        or Expression ! ▸ (One 'comma' or When (next 'r_curly') Nothing or Say (Expected COMMA)))
+        p.old p.new }
+    ensures left { tokens p.new ≤ tokens p.old }
+    ensures looks { spent p.new ≤ spent p.old + 780 }
+{
+    if at_block_like(p) {
+        block_like(p);
+        eat(p, SyntaxKind::COMMA);
+        return;
+    }
+    expect_expression(p, Level::Expression, condition);
+    comma(p, SyntaxKind::R_CURLY);
+}

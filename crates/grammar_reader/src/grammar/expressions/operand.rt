@@ -1,0 +1,304 @@
+//! Operands, and what stands before and after them.
+
+ghost use Rattle.std.specs.Prelude.{◌≡◌, ◌≤◌, ◌<◌, ◌+◌, ◌*◌, ◌^◌, Bool, IsTrue, true, length};
+ghost use Rattle.parser_input.specs.Kind.{raw_of};
+ghost use Rattle.parser_input.specs.Kinds.{CALL_EXPR, FIELD_EXPR, FLOAT_NUMBER, INDEX_EXPR, METHOD_CALL_EXPR, NAME_REF, PREFIX_EXPR, REF_EXPR, TRY_EXPR};
+ghost use Rattle.parser_events.specs.Forest.{ExpectedField};
+ghost use Rattle.parser_events.specs.Stack.{IsInnermost};
+ghost use Rattle.rust_grammar.specs.Calls.{Arguments, Atom, Expression, GenericArgs, Prefixed};
+ghost use Rattle.rust_grammar.specs.Notation.{◌or◌, ◌▸◌, ⁅◌⁆, ◌*, ◌!, ◌⟨◌⟩, ◌<⟨◌⟩, ◌before◌, more, next, off};
+ghost use Rattle.rust_grammar.specs.Rule as rules;
+ghost use Rattle.rust_grammar.specs.Rule.{Both, Either, Joint, Kind, One, Say, Split, When};
+ghost use Rattle.rust_grammar.specs.Words.{one, '::', 'dot', 'ident', 'float', 'l_paren', '[', ']', '?', '&', 'mut'};
+ghost use Rattle.rust_productions.specs.Looks.{tokens, spent};
+ghost use Rattle.rust_productions.specs.Reads.{looks, Anew, Does, Gives, Reads, Saw};
+
+use crate::grammar::expressions::atom::inside;
+use crate::grammar::expressions::{Level, expect_expression};
+use crate::grammar::lists::arguments;
+use crate::grammar::paths::opt_generic_args;
+use crate::grammar::types::word_type;
+use parser_events::message::Message;
+use parser_events::parser::{Marker, Parser};
+use parser_input::syntax_kind::SyntaxKind;
+use rust_productions::grammar::operators::at_joint;
+use rust_productions::grammar::{
+    abandon, at, at_pair, at_pair_after, at_second, complete, current, eat, error, expect, start,
+    take, wrap,
+};
+
+/// An operand of operators, with the operators before it.
+#[cycle(grammar)]
+pub(crate) fn prefixed(p: &mut Parser<'_>, condition: bool)
+    requires short { length p.old.input < 2 ^ 64 }
+    requires begins { Saw condition (looks rules.prefixed) p.old true }
+    requires some { 1 ≤ tokens p.old }
+    ensures gives { Gives rules.prefixed condition p.old p.new }
+    ensures left { tokens p.new + 1 ≤ tokens p.old }
+    ensures looks { spent p.new + 2870 ≤ spent p.old }
+{
+    match current(p) {
+        SyntaxKind::MINUS => prefix_expr(p, SyntaxKind::MINUS, condition),
+        SyntaxKind::BANG => prefix_expr(p, SyntaxKind::BANG, condition),
+        SyntaxKind::STAR => prefix_expr(p, SyntaxKind::STAR, condition),
+        SyntaxKind::AMP => ref_expr(p, condition),
+        _ => operand(p, condition),
+    }
+}
+
+/// An operator and the operand after it.
+#[cycle(grammar)]
+fn prefix_expr(p: &mut Parser<'_>, operator: SyntaxKind, condition: bool)
+    requires short { length p.old.input < 2 ^ 64 }
+    requires some { 1 ≤ tokens p.old }
+    ensures reads { Reads condition
+        (PREFIX_EXPR ⟨ One (one (raw_of operator)) ▸ Prefixed ! ⟩) p.old p.new }
+    ensures left { tokens p.new + 1 ≤ tokens p.old }
+    ensures looks { spent p.new + 3300 ≤ spent p.old }
+{
+    let node = start(p);
+    take(p, operator);
+    expect_expression(p, Level::Prefixed, condition);
+    complete(p, node, SyntaxKind::PREFIX_EXPR);
+}
+
+/// A reference.
+#[cycle(grammar)]
+fn ref_expr(p: &mut Parser<'_>, condition: bool)
+    requires short { length p.old.input < 2 ^ 64 }
+    requires some { 1 ≤ tokens p.old }
+    ensures reads { Reads condition
+        (REF_EXPR ⟨ One '&' ▸ ⁅ One 'mut' ⁆ ▸ Prefixed ! ⟩) p.old p.new }
+    ensures left { tokens p.new + 1 ≤ tokens p.old }
+    ensures looks { spent p.new + 3300 ≤ spent p.old }
+{
+    let node = start(p);
+    take(p, SyntaxKind::AMP);
+    eat(p, SyntaxKind::MUT_KW);
+    expect_expression(p, Level::Prefixed, condition);
+    complete(p, node, SyntaxKind::REF_EXPR);
+}
+
+/// An expression without an operator, with what stands after it.
+#[cycle(grammar)]
+fn operand(p: &mut Parser<'_>, condition: bool)
+    requires short { length p.old.input < 2 ^ 64 }
+    requires begins { Saw condition (looks rules.atom) p.old true }
+    requires some { 1 ≤ tokens p.old }
+    ensures anew { Anew condition (Atom ▸ (more rules.postfix) *) p.old p.new }
+    ensures left { tokens p.new + 1 ≤ tokens p.old }
+    ensures looks { spent p.new + 2880 ≤ spent p.old }
+{
+    let frame = start(p);
+    let frame = inside(p, frame, condition);
+    let frame = postfixes(p, frame);
+    abandon(p, frame);
+}
+
+/// Whether an expression goes on here: by a call, an index, a `?` or a dot.
+fn at_postfix(p: &mut Parser<'_>) -> bool
+    ensures sees { (c : Bool) → Saw c (looks rules.postfix) p.old result }
+    ensures some { IsTrue result → 1 ≤ tokens p.old }
+    ensures same { Does (λ s. s) p.old p.new }
+    ensures left { tokens p.new ≡ tokens p.old }
+    ensures looks { spent p.new ≤ spent p.old + 3 }
+{
+    match current(p) {
+        SyntaxKind::L_PAREN => true,
+        SyntaxKind::L_BRACK => true,
+        SyntaxKind::QUESTION => true,
+        SyntaxKind::DOT => {
+            if at_pair(p, SyntaxKind::DOT, SyntaxKind::DOT) {
+                return false;
+            }
+            true
+        }
+        _ => false,
+    }
+}
+
+/// All that stands after an expression.
+#[cycle(grammar)]
+pub(crate) fn postfixes(p: &mut Parser<'_>, frame: Marker) -> Marker
+    requires short { length p.old.input < 2 ^ 64 }
+    requires innermost { IsInnermost frame p.old.nodes }
+    ensures reads { (c : Bool) → Reads c ((more rules.postfix) *) p.old p.new }
+    ensures marker { IsInnermost result p.new.nodes }
+    ensures left { tokens p.new ≤ tokens p.old }
+    ensures looks { spent p.new ≤ spent p.old + 3 }
+{
+    let mut frame = frame;
+    'turns: while at_postfix(p) {
+        frame = postfix(p, frame);
+    }
+    frame
+}
+
+/// What stands after an expression.
+#[cycle(grammar)]
+pub(crate) fn postfix(p: &mut Parser<'_>, frame: Marker) -> Marker
+    requires short { length p.old.input < 2 ^ 64 }
+    requires some { 1 ≤ tokens p.old }
+    requires innermost { IsInnermost frame p.old.nodes }
+    ensures reads { (c : Bool) → Reads c (more rules.postfix) p.old p.new }
+    ensures marker { IsInnermost result p.new.nodes }
+    ensures left { tokens p.new + 1 ≤ tokens p.old }
+    ensures looks { spent p.new + 3290 ≤ spent p.old }
+{
+    match current(p) {
+        SyntaxKind::L_PAREN => {
+            arguments(p);
+            wrap(p, frame, SyntaxKind::CALL_EXPR)
+        }
+        SyntaxKind::L_BRACK => {
+            index(p);
+            wrap(p, frame, SyntaxKind::INDEX_EXPR)
+        }
+        SyntaxKind::QUESTION => {
+            take(p, SyntaxKind::QUESTION);
+            wrap(p, frame, SyntaxKind::TRY_EXPR)
+        }
+        _ => {
+            take(p, SyntaxKind::DOT);
+            after_dot(p, frame)
+        }
+    }
+}
+
+/// An index in its brackets.
+#[cycle(grammar)]
+fn index(p: &mut Parser<'_>)
+    requires short { length p.old.input < 2 ^ 64 }
+    requires some { 1 ≤ tokens p.old }
+    ensures reads { (c : Bool) → Reads c (One '[' ▸ off (Expression !) ▸ One ']' !) p.old p.new }
+    ensures left { tokens p.new + 1 ≤ tokens p.old }
+    ensures looks { spent p.new + 3300 ≤ spent p.old }
+{
+    take(p, SyntaxKind::L_BRACK);
+    expect_expression(p, Level::Expression, false);
+    expect(p, SyntaxKind::R_BRACK);
+}
+
+/// Whether a method's name is next: a word before `(` or `::`.
+fn at_method(p: &mut Parser<'_>) -> bool
+    ensures sees { (c : Bool) → Saw c
+        (Either ('ident' before 'l_paren') ('ident' before '::')) p.old result }
+    ensures some { IsTrue result → 1 ≤ tokens p.old }
+    ensures same { Does (λ s. s) p.old p.new }
+    ensures left { tokens p.new ≡ tokens p.old }
+    ensures looks { spent p.new ≤ spent p.old + 4 }
+{
+    if !at(p, SyntaxKind::IDENT) {
+        return false;
+    }
+    if at_second(p, SyntaxKind::L_PAREN) {
+        return true;
+    }
+    if at_pair_after(p, SyntaxKind::COLON, SyntaxKind::COLON) {
+        return true;
+    }
+    false
+}
+
+/// What stands after the dot after an expression.
+#[cycle(grammar)]
+fn after_dot(p: &mut Parser<'_>, frame: Marker) -> Marker
+    requires short { length p.old.input < 2 ^ 64 }
+    requires innermost { IsInnermost frame p.old.nodes }
+    ensures reads { (c : Bool) → Reads c (more rules.after_dot) p.old p.new }
+    ensures marker { IsInnermost result p.new.nodes }
+    ensures left { tokens p.new ≤ tokens p.old }
+    ensures looks { spent p.new ≤ spent p.old + 5 }
+{
+    if at_method(p) {
+        method_call(p);
+        return wrap(p, frame, SyntaxKind::METHOD_CALL_EXPR);
+    }
+    match current(p) {
+        SyntaxKind::IDENT => {
+            word_type(p, SyntaxKind::IDENT, SyntaxKind::NAME_REF);
+            wrap(p, frame, SyntaxKind::FIELD_EXPR)
+        }
+        SyntaxKind::INT_NUMBER => {
+            word_type(p, SyntaxKind::INT_NUMBER, SyntaxKind::NAME_REF);
+            wrap(p, frame, SyntaxKind::FIELD_EXPR)
+        }
+        SyntaxKind::FLOAT_NUMBER => float(p, frame),
+        _ => {
+            error(p, Message::ExpectedField);
+            wrap(p, frame, SyntaxKind::FIELD_EXPR)
+        }
+    }
+}
+
+/// A method's name, its generic arguments, and its arguments.
+#[cycle(grammar)]
+fn method_call(p: &mut Parser<'_>)
+    requires short { length p.old.input < 2 ^ 64 }
+    requires some { 1 ≤ tokens p.old }
+    ensures reads { (c : Bool) → Reads c
+        (NAME_REF ⟨ One 'ident' ⟩ ▸ ⁅ GenericArgs ⁆ ▸ Arguments !) p.old p.new }
+    ensures left { tokens p.new + 1 ≤ tokens p.old }
+    ensures looks { spent p.new + 4080 ≤ spent p.old }
+{
+    word_type(p, SyntaxKind::IDENT, SyntaxKind::NAME_REF);
+    opt_generic_args(p);
+    expect_arguments(p);
+}
+
+/// Arguments, or the message that they are missing.
+#[cycle(grammar)]
+fn expect_arguments(p: &mut Parser<'_>)
+    requires short { length p.old.input < 2 ^ 64 }
+    ensures reads { (c : Bool) → Reads c (Arguments !) p.old p.new }
+    ensures left { tokens p.new ≤ tokens p.old }
+    ensures looks { spent p.new ≤ spent p.old + 1 }
+{
+    if at(p, SyntaxKind::L_PAREN) {
+        arguments(p);
+        return;
+    }
+    error(p, Message::Expected(SyntaxKind::ARG_LIST));
+}
+
+/// A float after a dot, which holds a field or two: what stands after its own dot is read on, if it
+/// ends in that.
+#[cycle(grammar)]
+fn float(p: &mut Parser<'_>, frame: Marker) -> Marker
+    requires short { length p.old.input < 2 ^ 64 }
+    requires float { (c : Bool) → Saw c (Kind 0 FLOAT_NUMBER) p.old true }
+    requires some { 1 ≤ tokens p.old }
+    requires innermost { IsInnermost frame p.old.nodes }
+    ensures reads { (c : Bool) → Reads c (When (Both (next 'float') (Joint 0)) Split
+        or When (next 'float') (Split ▸ more rules.after_dot)
+        or FIELD_EXPR <⟨ Say ExpectedField ⟩) p.old p.new }
+    ensures marker { IsInnermost result p.new.nodes }
+    ensures left { tokens p.new + 1 ≤ tokens p.old }
+    ensures looks { spent p.new + 4090 ≤ spent p.old }
+{
+    let joint = at_joint(p);
+    let frame = split(p, frame, joint);
+    if joint {
+        return frame;
+    }
+    after_dot(p, frame)
+}
+
+/// Closes the node as a field access by the float that is next, and opens one around it.
+fn split(p: &mut Parser<'_>, frame: Marker, joint: bool) -> Marker
+    requires float { (c : Bool) → Saw c (Kind 0 FLOAT_NUMBER) p.old true }
+    requires joint { (c : Bool) → Saw c (Joint 0) p.old joint }
+    requires some { 1 ≤ tokens p.old }
+    requires innermost { IsInnermost frame p.old.nodes }
+    ensures reads { (c : Bool) → Reads c Split p.old p.new }
+    ensures marker { IsInnermost result p.new.nodes }
+    ensures left { tokens p.new + 1 ≡ tokens p.old }
+    ensures looks { spent p.new + 4096 ≡ spent p.old }
+{
+    let frame = p.split_float(frame, !joint);
+    if !joint {
+        return frame;
+    }
+    let closed = frame.complete(p, SyntaxKind::FIELD_EXPR);
+    closed.precede(p)
+}

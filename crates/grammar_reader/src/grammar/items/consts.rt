@@ -1,0 +1,106 @@
+//! Constants, statics and names of types.
+
+ghost use Rattle.std.specs.Prelude.{◌≡◌, ◌≤◌, ◌<◌, ◌+◌, ◌*◌, ◌^◌, Bool, length};
+ghost use Rattle.parser_input.specs.Kinds.{CONST, STATIC, TYPE_ALIAS};
+ghost use Rattle.parser_events.specs.Stack.{IsInnermost};
+ghost use Rattle.rust_grammar.specs.Calls.{AnyType, Bounds, Expression, GenericParams, Name, WhereClause};
+ghost use Rattle.rust_grammar.specs.Notation.{◌or◌, ◌▸◌, ⁅◌⁆, ◌!, ◌<⟨◌⟩};
+ghost use Rattle.rust_grammar.specs.Rule.{One};
+ghost use Rattle.rust_grammar.specs.Words.{'semi', ':', '=', 'const', 'mut', 'static', 'type', '_'};
+ghost use Rattle.rust_productions.specs.Looks.{tokens, spent};
+ghost use Rattle.rust_productions.specs.Reads.{Completes, Reads};
+
+use crate::grammar::expressions::{Level, expect_expression};
+use crate::grammar::generic_params::bounds_after_colon;
+use crate::grammar::items::{opt_generic_params, opt_where_clause};
+use crate::grammar::types::{expect_type, opt_type_after};
+use parser_events::parser::{Marker, Parser};
+use parser_input::syntax_kind::SyntaxKind;
+use rust_productions::grammar::names::expect_name;
+use rust_productions::grammar::use_trees::underscore_or_name;
+use rust_productions::grammar::{at, complete, eat, expect, take};
+
+/// A constant.
+#[cycle(grammar)]
+pub(crate) fn const_item(p: &mut Parser<'_>, item: Marker, condition: bool)
+    requires short { length p.old.input < 2 ^ 64 }
+    requires some { 1 ≤ tokens p.old }
+    requires innermost { IsInnermost item p.old.nodes }
+    ensures completes { Completes condition (CONST <⟨ One 'const' ▸ (One '_' or Name !) ▸ One ':' !
+        ▸ AnyType ! ▸ ⁅ One '=' ▸ Expression ! ⁆ ▸ One 'semi' ! ⟩) p.old p.new }
+    ensures left { tokens p.new + 1 ≤ tokens p.old }
+    ensures looks { spent p.new + 4080 ≤ spent p.old }
+{
+    take(p, SyntaxKind::CONST_KW);
+    underscore_or_name(p);
+    typed_value(p, condition);
+    complete(p, item, SyntaxKind::CONST);
+}
+
+/// A static.
+#[cycle(grammar)]
+pub(crate) fn static_item(p: &mut Parser<'_>, item: Marker, condition: bool)
+    requires short { length p.old.input < 2 ^ 64 }
+    requires some { 1 ≤ tokens p.old }
+    requires innermost { IsInnermost item p.old.nodes }
+    ensures completes { Completes condition (STATIC <⟨ One 'static' ▸ ⁅ One 'mut' ⁆ ▸ Name !
+        ▸ One ':' ! ▸ AnyType ! ▸ ⁅ One '=' ▸ Expression ! ⁆ ▸ One 'semi' ! ⟩) p.old p.new }
+    ensures left { tokens p.new + 1 ≤ tokens p.old }
+    ensures looks { spent p.new + 4080 ≤ spent p.old }
+{
+    take(p, SyntaxKind::STATIC_KW);
+    eat(p, SyntaxKind::MUT_KW);
+    expect_name(p);
+    typed_value(p, condition);
+    complete(p, item, SyntaxKind::STATIC);
+}
+
+/// The type and the value of a constant or of a static, up to its `;`.
+#[cycle(grammar)]
+fn typed_value(p: &mut Parser<'_>, condition: bool)
+    requires short { length p.old.input < 2 ^ 64 }
+    ensures reads { Reads condition
+        (One ':' ! ▸ AnyType ! ▸ ⁅ One '=' ▸ Expression ! ⁆ ▸ One 'semi' !) p.old p.new }
+    ensures left { tokens p.new ≤ tokens p.old }
+    ensures looks { spent p.new ≤ spent p.old + 8 }
+{
+    expect(p, SyntaxKind::COLON);
+    expect_type(p, condition);
+    opt_value(p, condition);
+    expect(p, SyntaxKind::SEMICOLON);
+}
+
+/// The value after a `=`, where there is one.
+#[cycle(grammar)]
+pub(crate) fn opt_value(p: &mut Parser<'_>, condition: bool)
+    requires short { length p.old.input < 2 ^ 64 }
+    ensures reads { Reads condition ⁅ One '=' ▸ Expression ! ⁆ p.old p.new }
+    ensures left { tokens p.new ≤ tokens p.old }
+    ensures looks { spent p.new ≤ spent p.old + 1 }
+{
+    if at(p, SyntaxKind::EQ) {
+        take(p, SyntaxKind::EQ);
+        expect_expression(p, Level::Expression, condition);
+    }
+}
+
+/// A name for a type.
+#[cycle(grammar)]
+pub(crate) fn type_alias(p: &mut Parser<'_>, item: Marker, condition: bool)
+    requires short { length p.old.input < 2 ^ 64 }
+    requires some { 1 ≤ tokens p.old }
+    requires innermost { IsInnermost item p.old.nodes }
+    ensures completes { Completes condition (TYPE_ALIAS <⟨ One 'type' ▸ Name ! ▸ ⁅ GenericParams ⁆
+        ▸ ⁅ One ':' ▸ Bounds ⁆ ▸ ⁅ WhereClause ⁆ ▸ ⁅ One '=' ▸ AnyType ! ⁆ ▸ One 'semi' ! ⟩) p.old p.new }
+    ensures left { tokens p.new + 1 ≤ tokens p.old }
+    ensures looks { spent p.new + 4080 ≤ spent p.old }
+{
+    take(p, SyntaxKind::TYPE_KW);
+    expect_name(p);
+    opt_generic_params(p);
+    bounds_after_colon(p);
+    opt_where_clause(p, condition);
+    opt_type_after(p, SyntaxKind::EQ, condition);
+    expect(p, SyntaxKind::SEMICOLON);
+    complete(p, item, SyntaxKind::TYPE_ALIAS);
+}

@@ -1,0 +1,89 @@
+//! Functions.
+
+ghost use Rattle.std.specs.Prelude.{◌≡◌, ◌≤◌, ◌<◌, ◌+◌, ◌*◌, ◌^◌, Bool, true, length};
+ghost use Rattle.parser_input.specs.Kinds.{FN};
+ghost use Rattle.parser_events.specs.Stack.{IsInnermost};
+ghost use Rattle.rust_grammar.specs.Calls.{Block, GenericParams, Name, Params, RetType, WhereClause};
+ghost use Rattle.rust_grammar.specs.Items.{fn_begins};
+ghost use Rattle.rust_grammar.specs.Notation.{◌or◌, ◌▸◌, ⁅◌⁆, ◌!, ◌<⟨◌⟩};
+ghost use Rattle.rust_grammar.specs.Rule.{One};
+ghost use Rattle.rust_grammar.specs.Words.{'const', 'fn', 'semi', 'unsafe'};
+ghost use Rattle.rust_productions.specs.Looks.{tokens, spent};
+ghost use Rattle.rust_productions.specs.Reads.{Completes, Reads, Saw};
+
+use crate::grammar::expressions::blocks::block;
+use crate::grammar::items::{opt_generic_params, opt_where_clause};
+use crate::grammar::lists::params;
+use crate::grammar::types::ret_type;
+use parser_events::message::Message;
+use parser_events::parser::{Marker, Parser};
+use parser_input::syntax_kind::SyntaxKind;
+use rust_productions::grammar::items::fn_words;
+use rust_productions::grammar::names::expect_name;
+use rust_productions::grammar::{at, at_pair, complete, error, expect};
+
+/// A function.
+#[cycle(grammar)]
+pub(crate) fn fn_item(p: &mut Parser<'_>, item: Marker, condition: bool)
+    requires short { length p.old.input < 2 ^ 64 }
+    requires begins { (c : Bool) → Saw c fn_begins p.old true }
+    requires some { 1 ≤ tokens p.old }
+    requires innermost { IsInnermost item p.old.nodes }
+    ensures completes { Completes condition (FN <⟨ ⁅ One 'const' ⁆ ▸ ⁅ One 'unsafe' ⁆ ▸ One 'fn' !
+        ▸ Name ! ▸ ⁅ GenericParams ⁆ ▸ Params ! ▸ ⁅ RetType ⁆ ▸ ⁅ WhereClause ⁆
+        ▸ (Block or One 'semi' !) ⟩) p.old p.new }
+    ensures left { tokens p.new + 1 ≤ tokens p.old }
+    ensures looks { spent p.new + 4080 ≤ spent p.old }
+{
+    fn_words(p);
+    expect_name(p);
+    opt_generic_params(p);
+    expect_params(p);
+    opt_ret_type(p, condition);
+    opt_where_clause(p, condition);
+    fn_body(p);
+    complete(p, item, SyntaxKind::FN);
+}
+
+/// The parameters of a function, or the message that they are missing.
+#[cycle(grammar)]
+fn expect_params(p: &mut Parser<'_>)
+    requires short { length p.old.input < 2 ^ 64 }
+    ensures reads { (c : Bool) → Reads c (Params !) p.old p.new }
+    ensures left { tokens p.new ≤ tokens p.old }
+    ensures looks { spent p.new ≤ spent p.old + 1 }
+{
+    if at(p, SyntaxKind::L_PAREN) {
+        params(p);
+        return;
+    }
+    error(p, Message::Expected(SyntaxKind::PARAM_LIST));
+}
+
+/// The type that a function gives, where it is said.
+#[cycle(grammar)]
+fn opt_ret_type(p: &mut Parser<'_>, condition: bool)
+    requires short { length p.old.input < 2 ^ 64 }
+    ensures reads { Reads condition ⁅ RetType ⁆ p.old p.new }
+    ensures left { tokens p.new ≤ tokens p.old }
+    ensures looks { spent p.new ≤ spent p.old + 2 }
+{
+    if at_pair(p, SyntaxKind::MINUS, SyntaxKind::R_ANGLE) {
+        ret_type(p, condition);
+    }
+}
+
+/// What a function does, or the `;` of one that does not say it.
+#[cycle(grammar)]
+fn fn_body(p: &mut Parser<'_>)
+    requires short { length p.old.input < 2 ^ 64 }
+    ensures reads { (c : Bool) → Reads c (Block or One 'semi' !) p.old p.new }
+    ensures left { tokens p.new ≤ tokens p.old }
+    ensures looks { spent p.new ≤ spent p.old + 2 }
+{
+    if at(p, SyntaxKind::L_CURLY) {
+        block(p);
+        return;
+    }
+    expect(p, SyntaxKind::SEMICOLON);
+}

@@ -1,0 +1,79 @@
+//! Traits and implementations.
+
+ghost use Rattle.std.specs.Prelude.{◌≡◌, ◌≤◌, ◌<◌, ◌+◌, ◌*◌, ◌^◌, Bool, true, length};
+ghost use Rattle.parser_input.specs.Kinds.{IMPL, TRAIT};
+ghost use Rattle.parser_events.specs.Stack.{IsInnermost};
+ghost use Rattle.rust_grammar.specs.Calls.{AnyType, AssocItems, Bounds, GenericParams, Name, WhereClause};
+ghost use Rattle.rust_grammar.specs.Notation.{◌▸◌, ⁅◌⁆, ◌!, ◌<⟨◌⟩, ◌before◌, next};
+ghost use Rattle.rust_grammar.specs.Rule.{Either, One};
+ghost use Rattle.rust_grammar.specs.Words.{':', 'for', 'impl', 'trait', 'unsafe'};
+ghost use Rattle.rust_productions.specs.Looks.{tokens, spent};
+ghost use Rattle.rust_productions.specs.Reads.{Completes, Reads, Saw};
+
+use crate::grammar::generic_params::bounds_after_colon;
+use crate::grammar::items::{assoc_items, opt_generic_params, opt_where_clause};
+use crate::grammar::types::{expect_type, opt_type_after};
+use parser_events::message::Message;
+use parser_events::parser::{Marker, Parser};
+use parser_input::syntax_kind::SyntaxKind;
+use rust_productions::grammar::items::unsafe_word;
+use rust_productions::grammar::names::expect_name;
+use rust_productions::grammar::{at, complete, error};
+
+/// An implementation.
+#[cycle(grammar)]
+pub(crate) fn impl_item(p: &mut Parser<'_>, item: Marker, condition: bool)
+    requires short { length p.old.input < 2 ^ 64 }
+    requires begins { (c : Bool) → Saw c (Either (next 'impl') ('unsafe' before 'impl')) p.old true }
+    requires some { 1 ≤ tokens p.old }
+    requires innermost { IsInnermost item p.old.nodes }
+    ensures completes { Completes condition (IMPL <⟨ ⁅ One 'unsafe' ⁆ ▸ One 'impl'
+        ▸ ⁅ GenericParams ⁆ ▸ AnyType ! ▸ ⁅ One 'for' ▸ AnyType ! ⁆ ▸ ⁅ WhereClause ⁆
+        ▸ AssocItems ! ⟩) p.old p.new }
+    ensures left { tokens p.new + 1 ≤ tokens p.old }
+    ensures looks { spent p.new + 4080 ≤ spent p.old }
+{
+    unsafe_word(p, SyntaxKind::IMPL_KW);
+    opt_generic_params(p);
+    expect_type(p, condition);
+    opt_type_after(p, SyntaxKind::FOR_KW, condition);
+    opt_where_clause(p, condition);
+    expect_assoc_items(p);
+    complete(p, item, SyntaxKind::IMPL);
+}
+
+/// A trait.
+#[cycle(grammar)]
+pub(crate) fn trait_item(p: &mut Parser<'_>, item: Marker, condition: bool)
+    requires short { length p.old.input < 2 ^ 64 }
+    requires begins { (c : Bool) → Saw c (Either (next 'trait') ('unsafe' before 'trait')) p.old true }
+    requires some { 1 ≤ tokens p.old }
+    requires innermost { IsInnermost item p.old.nodes }
+    ensures completes { Completes condition (TRAIT <⟨ ⁅ One 'unsafe' ⁆ ▸ One 'trait' ▸ Name !
+        ▸ ⁅ GenericParams ⁆ ▸ ⁅ One ':' ▸ Bounds ⁆ ▸ ⁅ WhereClause ⁆ ▸ AssocItems ! ⟩) p.old p.new }
+    ensures left { tokens p.new + 1 ≤ tokens p.old }
+    ensures looks { spent p.new + 4080 ≤ spent p.old }
+{
+    unsafe_word(p, SyntaxKind::TRAIT_KW);
+    expect_name(p);
+    opt_generic_params(p);
+    bounds_after_colon(p);
+    opt_where_clause(p, condition);
+    expect_assoc_items(p);
+    complete(p, item, SyntaxKind::TRAIT);
+}
+
+/// The items of a trait or of an `impl`, or the message that they are missing.
+#[cycle(grammar)]
+fn expect_assoc_items(p: &mut Parser<'_>)
+    requires short { length p.old.input < 2 ^ 64 }
+    ensures reads { (c : Bool) → Reads c (AssocItems !) p.old p.new }
+    ensures left { tokens p.new ≤ tokens p.old }
+    ensures looks { spent p.new ≤ spent p.old + 1 }
+{
+    if at(p, SyntaxKind::L_CURLY) {
+        assoc_items(p);
+        return;
+    }
+    error(p, Message::Expected(SyntaxKind::ASSOC_ITEM_LIST));
+}

@@ -1,0 +1,167 @@
+//! Parameters of functions.
+
+ghost use Rattle.std.specs.Prelude.{◌≡◌, ◌≤◌, ◌<◌, ◌+◌, ◌*◌, ◌^◌, Bool, true, false, IsTrue, length};
+ghost use Rattle.parser_input.specs.Kinds as kinds;
+ghost use Rattle.parser_input.specs.Kinds.{NAME, PARAM, SELF_PARAM};
+ghost use Rattle.rust_grammar.specs.Calls.{AnyType, Lifetime, Pattern};
+ghost use Rattle.rust_grammar.specs.Items.{self_begins};
+ghost use Rattle.rust_grammar.specs.Notation.{◌▸◌, ⁅◌⁆, ◌!, ◌⟨◌⟩};
+ghost use Rattle.rust_grammar.specs.Rule as rules;
+ghost use Rattle.rust_grammar.specs.Rule.{Kind, One};
+ghost use Rattle.rust_grammar.specs.Words.{':', '&', 'mut', 'self'};
+ghost use Rattle.rust_productions.specs.Looks.{tokens, spent};
+ghost use Rattle.rust_productions.specs.Reads.{looks, Does, Gives, Reads, Saw};
+
+use crate::grammar::expressions::closures::opt_type;
+use crate::grammar::or_patterns::pattern;
+use crate::grammar::types::{expect_type, word_type};
+use parser_events::parser::Parser;
+use parser_input::syntax_kind::SyntaxKind;
+use rust_productions::grammar::names::opt_lifetime;
+use rust_productions::grammar::{
+    at_second, at_third, complete, current, eat, expect, nth, start, take,
+};
+
+/// Whether a `self` is next behind the `&` that stands here, or a lifetime.
+fn at_self_after_ref(p: &mut Parser<'_>) -> bool
+    requires { (c : Bool) → Saw c (Kind 0 kinds.AMP) p.old true }
+    ensures sees { (c : Bool) → Saw c self_begins p.old result }
+    ensures same { Does (λ s. s) p.old p.new }
+    ensures left { tokens p.new ≡ tokens p.old }
+    ensures looks { spent p.new ≤ spent p.old + 2 }
+{
+    match nth(p, 1) {
+        SyntaxKind::SELF_KW | SyntaxKind::LIFETIME_IDENT => true,
+        SyntaxKind::MUT_KW => at_third(p, SyntaxKind::SELF_KW),
+        _ => false,
+    }
+}
+
+/// Whether a parameter `self` is next.
+fn at_self(p: &mut Parser<'_>) -> bool
+    ensures sees { (c : Bool) → Saw c self_begins p.old result }
+    ensures same { Does (λ s. s) p.old p.new }
+    ensures left { tokens p.new ≡ tokens p.old }
+    ensures looks { spent p.new ≤ spent p.old + 3 }
+{
+    match current(p) {
+        SyntaxKind::SELF_KW => true,
+        SyntaxKind::MUT_KW => at_second(p, SyntaxKind::SELF_KW),
+        SyntaxKind::AMP => at_self_after_ref(p),
+        _ => false,
+    }
+}
+
+/// A parameter.
+#[cycle(grammar)]
+pub(crate) fn param(p: &mut Parser<'_>, condition: bool)
+    requires short { length p.old.input < 2 ^ 64 }
+    requires begins { (c : Bool) → Saw c (looks rules.param) p.old true }
+    requires some { 1 ≤ tokens p.old }
+    ensures gives { Gives rules.param condition p.old p.new }
+    ensures left { tokens p.new + 1 ≤ tokens p.old }
+    ensures looks { spent p.new + 2880 ≤ spent p.old }
+{
+    if at_self(p) {
+        self_param(p, condition);
+        return;
+    }
+    pattern_param(p, condition);
+}
+
+/// A parameter with a pattern.
+#[cycle(grammar)]
+fn pattern_param(p: &mut Parser<'_>, condition: bool)
+    requires short { length p.old.input < 2 ^ 64 }
+    requires begins { (c : Bool) → Saw c (looks rules.pattern) p.old true }
+    requires some { 1 ≤ tokens p.old }
+    ensures reads { Reads condition (PARAM ⟨ Pattern ▸ One ':' ! ▸ AnyType ! ⟩) p.old p.new }
+    ensures left { tokens p.new + 1 ≤ tokens p.old }
+    ensures looks { spent p.new + 2890 ≤ spent p.old }
+{
+    let node = start(p);
+    pattern(p);
+    expect(p, SyntaxKind::COLON);
+    expect_type(p, condition);
+    complete(p, node, SyntaxKind::PARAM);
+}
+
+/// The parameter `self`.
+#[cycle(grammar)]
+fn self_param(p: &mut Parser<'_>, condition: bool)
+    requires short { length p.old.input < 2 ^ 64 }
+    requires begins { (c : Bool) → Saw c self_begins p.old true }
+    requires some { 1 ≤ tokens p.old }
+    ensures gives { Gives rules.param condition p.old p.new }
+    ensures left { tokens p.new + 1 ≤ tokens p.old }
+    ensures looks { spent p.new + 4080 ≤ spent p.old }
+{
+    match current(p) {
+        SyntaxKind::AMP => self_after_ref(p, condition),
+        SyntaxKind::MUT_KW => self_after_mut(p, condition),
+        _ => self_alone(p, condition),
+    }
+}
+
+/// The name `self`, or the message that it is missing.
+fn expect_self(p: &mut Parser<'_>)
+    ensures reads { (c : Bool) → Reads c (NAME ⟨ One 'self' ! ⟩) p.old p.new }
+    ensures left { tokens p.new ≤ tokens p.old }
+    ensures looks { spent p.new ≤ spent p.old + 1 }
+{
+    let name = start(p);
+    expect(p, SyntaxKind::SELF_KW);
+    complete(p, name, SyntaxKind::NAME);
+}
+
+/// A `self` behind a reference.
+#[cycle(grammar)]
+fn self_after_ref(p: &mut Parser<'_>, condition: bool)
+    requires short { length p.old.input < 2 ^ 64 }
+    requires some { 1 ≤ tokens p.old }
+    ensures reads { Reads condition (SELF_PARAM ⟨ One '&' ▸ ⁅ Lifetime ⁆ ▸ ⁅ One 'mut' ⁆
+        ▸ NAME ⟨ One 'self' ! ⟩ ▸ ⁅ One ':' ▸ AnyType ! ⁆ ⟩) p.old p.new }
+    ensures left { tokens p.new + 1 ≤ tokens p.old }
+    ensures looks { spent p.new + 4090 ≤ spent p.old }
+{
+    let node = start(p);
+    take(p, SyntaxKind::AMP);
+    opt_lifetime(p);
+    eat(p, SyntaxKind::MUT_KW);
+    expect_self(p);
+    opt_type(p, condition);
+    complete(p, node, SyntaxKind::SELF_PARAM);
+}
+
+/// A `self` that may be changed.
+#[cycle(grammar)]
+fn self_after_mut(p: &mut Parser<'_>, condition: bool)
+    requires short { length p.old.input < 2 ^ 64 }
+    requires some { 1 ≤ tokens p.old }
+    ensures reads { Reads condition (SELF_PARAM ⟨ One 'mut'
+        ▸ NAME ⟨ One 'self' ! ⟩ ▸ ⁅ One ':' ▸ AnyType ! ⁆ ⟩) p.old p.new }
+    ensures left { tokens p.new + 1 ≤ tokens p.old }
+    ensures looks { spent p.new + 4090 ≤ spent p.old }
+{
+    let node = start(p);
+    take(p, SyntaxKind::MUT_KW);
+    expect_self(p);
+    opt_type(p, condition);
+    complete(p, node, SyntaxKind::SELF_PARAM);
+}
+
+/// A `self` by itself.
+#[cycle(grammar)]
+fn self_alone(p: &mut Parser<'_>, condition: bool)
+    requires short { length p.old.input < 2 ^ 64 }
+    requires some { 1 ≤ tokens p.old }
+    ensures reads { Reads condition (SELF_PARAM
+        ⟨ NAME ⟨ One 'self' ⟩ ▸ ⁅ One ':' ▸ AnyType ! ⁆ ⟩) p.old p.new }
+    ensures left { tokens p.new + 1 ≤ tokens p.old }
+    ensures looks { spent p.new + 4090 ≤ spent p.old }
+{
+    let node = start(p);
+    word_type(p, SyntaxKind::SELF_KW, SyntaxKind::NAME);
+    opt_type(p, condition);
+    complete(p, node, SyntaxKind::SELF_PARAM);
+}
