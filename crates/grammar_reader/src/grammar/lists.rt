@@ -56,7 +56,6 @@ pub(crate) enum Element {
 
 /// Whether an element begins here.
 fn at_element(p: &mut Parser<'_>, element: Element) -> bool
-    requires short { length p.old.input < 2 ^ 64 }
     ensures sees { Saw false (begins looks (element_of element)) p.old result }
     ensures same { Does (λ s. s) p.old p.new }
     ensures left { tokens p.new ≡ tokens p.old }
