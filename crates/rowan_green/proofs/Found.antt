@@ -1,5 +1,5 @@
 -- What a cache finds.
-use Rattle.std.proofs.Common.{◌≡◌, ℕ, List, [], ◌∷◌, Bool, true, ap, sym, ◌∙◌}
+use Rattle.std.proofs.Common.{◌≡◌, ℕ, List, Bool, true, ap, sym, ◌∙◌}
 use Rattle.std.proofs.lemmas.Bool.{false≢true}
 use Rattle.rowan_green.specs.Forest.{Tree, same_forest}
 use Rattle.rowan_green.specs.Same.{forests_equal, same_leaf-Decides, same_tree-Decides}

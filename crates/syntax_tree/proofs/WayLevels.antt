@@ -5,7 +5,7 @@ use Rattle.std.proofs.lemmas.Option.{slice_get_past, same_Some, none-some}
 use Rattle.rowan_green.specs.Forest.{Tree}
 use Rattle.rowan_green.specs.Term.{Term}
 use Rattle.rowan_green.specs.declared.utility_types.NodeOrToken.TheVariants.{Node, Token}
-use Rattle.rowan.specs.Place.{Place, below, term_by, children_in}
+use Rattle.rowan.specs.Place.{Place, term_by, children_in}
 use Rattle.rowan.specs.Around.{cursor_of, cursor_in}
 use Rattle.syntax_tree.specs.Element.{Way, Element, element_at}
 use Rattle.syntax_tree.specs.Handle.{element_of, with_number, with_cursor, standing_at}

@@ -1,7 +1,7 @@
 -- Which nodes of a list may have their children, as a test and as a fact.
 use Rattle.std.proofs.Common.{◌≡◌, ℕ, ◌<◌, ◌^◌, List, length, Option, Some, None, Bool, true, false, ◌&&◌, ◌||◌, nat_lt, refl, ap, sym, ◌∙◌, subst}
 use Rattle.std.proofs.lemmas.Bool.{ltb-true, lt-ltb, and_parts, false≢true}
-use Rattle.rowan_green.specs.Forest.{Forest, Tree, tree_text, forest_text, same_tree}
+use Rattle.rowan_green.specs.Forest.{Forest, Tree, tree_text, forest_text}
 use Rattle.rowan_green.specs.Same.{same_tree-Decides}
 use Rattle.rowan_green.specs.Term.{Term, terms, texts_of, children_of, forest_of-terms, FitsNode}
 use Rattle.rowan_green.specs.declared.utility_types.NodeOrToken.TheVariants.{Node, Token}

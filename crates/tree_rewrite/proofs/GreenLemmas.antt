@@ -13,14 +13,14 @@ use Rattle.tree_rewrite.specs.Marked.{Marked, nothing, inner, token, join, fores
 use Rattle.tree_rewrite.specs.Pieces.{Around, outside, in_node, in_group, Stand, closed, after_piece, after}
 use Rattle.tree_rewrite.specs.declared.piece.Piece.{Piece}
 use Rattle.tree_rewrite.specs.declared.piece.Piece.TheVariants.{Whole, Open, Group, Close}
-use Rattle.tree_rewrite.specs.Fits.{new_fits, IsNode, RefusesRewrite}
+use Rattle.tree_rewrite.specs.Fits.{IsNode, RefusesRewrite}
 use Rattle.tree_rewrite.specs.Growing.{OwnFit, IsAround, IsMade, NewFit, NewFitAround, NewFitIn, RefusesUnless}
 use Rattle.tree_rewrite.specs.declared.green.Begun.{Begun}
 use Rattle.tree_rewrite.specs.declared.error.ExecuteError.{ExecuteError}
 use Rattle.tree_rewrite.specs.declared.error.ExecuteError.TheVariants.{TooLong, NoMemory}
 use Rattle.tree_rewrite.proofs.MarkedLemmas.{forest_in-blank}
 use Rattle.tree_rewrite.proofs.FillLemmas.{drop_first}
-use Rattle.tree_rewrite.proofs.FitLemmas.{new-from, new-fails, fits-anyway}
+use Rattle.tree_rewrite.proofs.FitLemmas.{new-fails, fits-anyway}
 
 -- ---- terms of lists
 pub terms-join : (m n : Marked) → terms (forest_in (join m n)) ≡ terms (forest_in m) ++ terms (forest_in n)

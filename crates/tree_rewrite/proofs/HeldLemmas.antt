@@ -1,12 +1,12 @@
 -- Which change replaces an element.
-use Rattle.std.proofs.Common.{◌≡◌, ℕ, zero, suc, ◌+◌, ◌<◌, ◌≤◌, List, [], ◌∷◌, ◌++◌, length, Bool, true, false, ◌&&◌, ◌||◌, cond, refl, ap, sym, ◌∙◌, arith, Option, Some, None, option_map, option_and_then, slice_get, is_some, Vec, Bor, IfSome, map, get_or, subst, leb, ltb}
+use Rattle.std.proofs.Common.{◌≡◌, ℕ, suc, ◌+◌, ◌≤◌, List, [], ◌∷◌, ◌++◌, length, Bool, true, false, ◌&&◌, ◌||◌, cond, refl, ap, sym, ◌∙◌, arith, Option, Some, None, option_map, option_and_then, slice_get, is_some, Vec, Bor, IfSome, map, get_or, subst, leb, ltb}
 use Rattle.std.specs.HashMap.{HashMap}
 use Rattle.std.specs.List.{list_any}
 use Rattle.std.specs.Option.{option_copied}
 use Rattle.std.proofs.lemmas.Option.{slice_get-get_or, slice_get_past}
-use Rattle.std.proofs.lemmas.Bool.{leb-true, leb-false, le-leb, ltb-true, ltb-false, and_parts, and_from, or_parts, or_left, or_right, or_from, false≢true, false_from_ne_true}
+use Rattle.std.proofs.lemmas.Bool.{leb-true, leb-false, le-leb, ltb-true, ltb-false, and_parts, and_from, or_parts, or_left, or_right, false≢true, false_from_ne_true}
 use Rattle.syntax_tree.specs.Element.{Way, same_way, Element}
-use Rattle.tree_rewrite.specs.Change.{Change, insert, replace, covers, replaces, meets, has_collision, rows_meet, is_within, is_between, is_nested}
+use Rattle.tree_rewrite.specs.Change.{Change, insert, replace, covers, replaces, meets, has_collision, rows_meet, is_nested}
 use Rattle.tree_rewrite.specs.Rewrite.{payload_of, payload_at}
 use Rattle.tree_rewrite.specs.Held.{first_of, replacing, Holds, IsPut, IsTaken, leads_through, splits}
 use Rattle.tree_rewrite.specs.WayMap.{number_at}

@@ -9,7 +9,7 @@ use Rattle.rowan.specs.Place.{Place, term_at, term_by}
 use Rattle.syntax_tree.specs.Element.{Way, Element, term_of, is_node}
 use Rattle.syntax_tree.specs.Mapping.{Mapping}
 use Rattle.tree_rewrite.specs.Change.{Change, insert, replace, covers, is_within, replaces, is_nested, is_dropped, is_node_by_node, holder_of, owner_of}
-use Rattle.tree_rewrite.specs.Rewrite.{Job, payload_of, payload_at, job_of, jobs_from, kept_of}
+use Rattle.tree_rewrite.specs.Rewrite.{Job, payload_at, job_of, jobs_from, kept_of}
 use Rattle.tree_rewrite.proofs.JobLemmas.{some_same, held_above}
 
 -- ---- a kept change that has an owner lies in the payload of a node by a node

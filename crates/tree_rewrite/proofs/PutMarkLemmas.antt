@@ -1,20 +1,20 @@
 -- What the code that finds which elements were put in goes by.
-use Rattle.std.proofs.Common.{◌≡◌, ℕ, ◌+◌, List, [], ◌∷◌, ◌++◌, map, reverse, Option, Some, None, Bool, true, false, refl, ap, sym, ◌∙◌, arith, subst, append_assoc, length, drop, take, ◌-◌}
+use Rattle.std.proofs.Common.{◌≡◌, ℕ, ◌+◌, List, [], ◌∷◌, ◌++◌, map, reverse, Option, Some, None, Bool, false, refl, ap, sym, ◌∙◌, arith, subst, append_assoc, length, drop, take, ◌-◌}
 use Rattle.std.proofs.lemmas.List.{append-nil, reverse-append, map-append, drop-map, length-drop, length-map, take_all}
 use Rattle.std.proofs.Math.Seq.{drop-append_seam}
-use Rattle.rowan_green.specs.Forest.{Forest, empty, node, leaf, Tree}
+use Rattle.rowan_green.specs.Forest.{Forest, empty, node, leaf}
 use Rattle.rowan_green.specs.Term.{Term}
 use Rattle.rowan_green.specs.declared.utility_types.NodeOrToken.TheVariants.{Node, Token}
 use Rattle.rowan.specs.Place.{kind_at}
 use Rattle.syntax_tree.specs.Element.{Way, Element, term_of}
 use Rattle.syntax_tree.specs.Handle.{element_of}
 use Rattle.syntax_tree.specs.declared.element.SyntaxElement.{SyntaxElement}
-use Rattle.tree_rewrite.specs.Marked.{Marked, nothing, inner, token, join, origins, put_marks, with_put, origin_at, filled, blank, read_from, reading_of}
+use Rattle.tree_rewrite.specs.Marked.{Marked, nothing, inner, token, join, origins, put_marks, with_put, filled, blank, read_from, reading_of}
 use Rattle.tree_rewrite.specs.Pieces.{Around, outside, in_node, in_group, Stand, start, closed, after_piece, after, Say}
 use Rattle.tree_rewrite.specs.Puts.{none_put, first_put, marks_of, marks_before, told_around, MarksPuts}
 use Rattle.tree_rewrite.specs.Tracking.{is_put, or_told, told_in, as_told}
 use Rattle.tree_rewrite.specs.declared.piece.Piece.{Piece}
-use Rattle.tree_rewrite.specs.declared.piece.Piece.TheVariants.{Whole, Open, Group, Close}
+use Rattle.tree_rewrite.specs.declared.piece.Piece.TheVariants.{Whole, Open, Group}
 use Rattle.tree_rewrite.specs.declared.put.Puts.{Puts}
 use Rattle.tree_rewrite.proofs.ChangedLemmas.{told-join, told-put}
 

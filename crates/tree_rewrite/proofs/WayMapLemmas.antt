@@ -1,5 +1,5 @@
 -- A map after one way has got a number.
-use Rattle.std.proofs.Common.{◌≡◌, ℕ, nat_eq, List, Option, Some, Bool, true, false, cond, Vec, sym, ap, ◌∙◌, subst, refl}
+use Rattle.std.proofs.Common.{◌≡◌, ℕ, nat_eq, List, Some, Bool, true, false, cond, Vec, sym, ◌∙◌, subst, refl}
 use Rattle.std.specs.Cmp.Lexicographic.{pointwise, bytes_decides, nat_list_eq_equiv}
 use Rattle.std.specs.HashMap.{HashMap, Updates}
 use Rattle.std.specs.Map.{lookup, IsKeyTest, AreApart, KeepsOthers}

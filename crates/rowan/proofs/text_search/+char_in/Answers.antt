@@ -1,9 +1,8 @@
-use Rattle.std.proofs.Common.{◌≡◌, ◌-◌, ◌<◌, take, length, arith, sym, ap, ◌∙◌, subst}
-use Rattle.rowan_green.specs.Forest.{tree_text}
-use Rattle.rowan_green.specs.Term.{text_of, texts_of, children_of, term_count}
+use Rattle.std.proofs.Common.{◌≡◌, ◌-◌, ◌<◌, take, arith, sym, ap, ◌∙◌, subst}
+use Rattle.rowan_green.specs.Term.{text_of, children_of, term_count}
 use Rattle.rowan.specs.Text.{IsCut, IsCharAt}
 use Rattle.rowan.proofs.Parts.{whole_text, whole_count, child_count}
-use Rattle.rowan.proofs.Characters.{child_cut, child_char, before_within, boundary_of_cut}
+use Rattle.rowan.proofs.Characters.{child_cut, child_char, before_within}
 use Rattle.rowan.proofs.text_search.+char_in.Goals as goal
 
 pub char_in-requires : goal.char_in-requires

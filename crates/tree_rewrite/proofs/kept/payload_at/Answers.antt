@@ -1,4 +1,4 @@
-use Rattle.std.proofs.Common.{◌≡◌, Option, option_map, option_and_then, sym, ◌∙◌, ap}
+use Rattle.std.proofs.Common.{Option, option_map, option_and_then, sym, ◌∙◌, ap}
 use Rattle.std.specs.Option.{option_copied}
 use Rattle.syntax_tree.specs.Element.{Element}
 use Rattle.syntax_tree.specs.Handle.{element_of}

@@ -1,4 +1,4 @@
-use Rattle.std.proofs.Common.{◌≡◌, sym, ◌∙◌, ap, slice_get, option_and_then}
+use Rattle.std.proofs.Common.{◌∙◌, ap, slice_get, option_and_then}
 use Rattle.std.specs.Option.{option_copied}
 use Rattle.tree_rewrite.proofs.HeldLemmas.{held-change, item-at}
 use Rattle.tree_rewrite.proofs.nesting.change_at.Goals as goal

@@ -1,4 +1,4 @@
-use Rattle.std.proofs.Common.{◌≡◌, Bool, not, sym, ◌∙◌, ap}
+use Rattle.std.proofs.Common.{Bool, not, sym, ◌∙◌, ap}
 use Rattle.std.specs.Option.{option_copied}
 use Rattle.tree_rewrite.specs.Change.{Change, is_node_by_node}
 use Rattle.tree_rewrite.proofs.HeldLemmas.{any-held, passes}

@@ -1,4 +1,4 @@
-use Rattle.std.proofs.Common.{◌≡◌, Bool, not, sym, ◌∙◌}
+use Rattle.std.proofs.Common.{Bool, not, sym, ◌∙◌}
 use Rattle.tree_rewrite.specs.Change.{Change, is_node_by_node}
 use Rattle.tree_rewrite.proofs.HeldLemmas.{lost-here, lost-above, lost-root}
 use Rattle.tree_rewrite.proofs.nesting.is_lost.Goals as goal

@@ -2,7 +2,7 @@ use Rattle.std.proofs.Common.{◌≡◌, ◌++◌, arith, length, map, sym, ap, 
 use Rattle.std.proofs.lemmas.List.{append-nil, drop_all}
 use Rattle.syntax_tree.specs.Handle.{element_of}
 use Rattle.tree_rewrite.specs.Came.{all_origins}
-use Rattle.tree_rewrite.specs.Pieces.{start, after}
+use Rattle.tree_rewrite.specs.Pieces.{after}
 use Rattle.tree_rewrite.specs.Puts.{MarksPuts}
 use Rattle.tree_rewrite.proofs.CameLemmas.{origins-said}
 use Rattle.tree_rewrite.proofs.PutMarkLemmas.{marked, brought-after}

@@ -1,4 +1,4 @@
-use Rattle.std.proofs.Common.{◌≡◌, ◌-◌, ◌<◌, ◌≤◌, length, refl, arith, sym, ap, ◌∙◌, inl, inr}
+use Rattle.std.proofs.Common.{◌-◌, ◌≤◌, length, refl, arith, sym, ap, ◌∙◌, inl, inr}
 use Rattle.std.proofs.lemmas.Bool.{false≢true}
 use Rattle.rowan_green.specs.Forest.{tree_text}
 use Rattle.rowan.specs.Place.{below, start_of, end_of, text_in}

@@ -1,4 +1,4 @@
-use Rattle.std.proofs.Common.{◌≡◌, length, take, arith, ap}
+use Rattle.std.proofs.Common.{length, take, arith, ap}
 use Rattle.rowan_green.specs.Term.{texts_of}
 use Rattle.rowan.specs.Place.{children_in}
 use Rattle.rowan.proofs.Places.{start_within}

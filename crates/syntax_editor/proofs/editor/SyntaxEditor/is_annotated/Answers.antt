@@ -1,7 +1,7 @@
 -- The annotated elements are seen one by one.
 use Rattle.std.proofs.Common.{◌≡◌, ℕ, ◌==◌, suc, arith, Bool, not, true, false, List, [], ◌∷◌, length, map, vec_len, refl, sym, ap, ◌∙◌}
 use Rattle.std.proofs.lemmas.Bool.{eqb-true}
-use Rattle.syntax_editor.specs.Editing.{Annotated, Editing}
+use Rattle.syntax_editor.specs.Editing.{Editing}
 use Rattle.syntax_editor.specs.Inside as inside
 use Rattle.syntax_tree.specs.declared.element.SyntaxElement.{SyntaxElement}
 use Rattle.syntax_editor.specs.declared.annotation.SyntaxAnnotation.{SyntaxAnnotation}
