@@ -1,11 +1,12 @@
 //! The children of a node: a balanced tree over blocks of them, whose parts lists share.
-ghost use Rattle.std.specs.Prelude.{◌≡◌, ◌≢◌, ◌+◌, ◌*◌, ◌<◌, ◌≤◌, ◌^◌, ◌++◌, max, length, slice_get, slice_index_or, take, ◌/◌, IfOk, IfSome, OnOk, MatchOption, drop, [], ◌∷◌};
+ghost use Rattle.std.specs.Prelude.{◌≡◌, ◌≢◌, ◌+◌, ◌*◌, ◌<◌, ◌≤◌, ◌^◌, ◌++◌, max, length, slice_get, slice_index_or, take, IfOk, IfSome, OnOk, MatchOption, drop, [], ◌∷◌};
 ghost use Rattle.std.specs.Option.{option_copied};
 ghost use Rattle.rowan_green.specs.Term.{texts_of, FitsNode};
 ghost use Rattle.rowan_green.specs.ChildAt.{IsChildAt};
 ghost use Rattle.rowan_green.specs.Balanced.{fewest, IsJoined};
 
 use crate::element::GreenElement;
+use crate::element_search::{Place, find_in_block};
 use std::alloc::{AllocError, Global};
 use std::marker::Model;
 use std::rc::Rc;
@@ -85,14 +86,6 @@ impl Model for Part {
     ghost use Rattle.std.proofs.Common.{arith};
 
     ghost size_decreases = { λ a h. Prim.omega arith };
-}
-
-/// The element at an offset: its number, where it starts, and how many lengths were looked at.
-#[derive(Clone, Copy)]
-pub(crate) struct Place {
-    pub(crate) index: usize,
-    pub(crate) start: u32,
-    pub(crate) looks: u32,
 }
 
 impl ElementList {
@@ -444,69 +437,6 @@ fn clones(alloc: Global, elements: &[GreenElement]) -> Result<Vec<GreenElement>,
         all.push(element.clone()?)?;
     }
     Ok(all)
-}
-
-impl Place {
-    /// The same place, where so many elements and bytes lie before, and one more look was needed.
-    fn further(self, count: usize, bytes: u32) -> Place
-        requires index { count + self.index < 2 ^ 64 }
-        requires start { bytes + self.start < 2 ^ 32 }
-        requires looks { self.looks + 1 < 2 ^ 32 }
-        ensures { result ≡ record { index = count + self.index; start = bytes + self.start; looks = self.looks + 1 } }
-    {
-        Place {
-            index: count + self.index,
-            start: bytes + self.start,
-            looks: self.looks + 1,
-        }
-    }
-}
-
-/// The element of a block at this offset, where `half` is the length of the text of its first half.
-fn find_in_block(elements: &[GreenElement], half: u32, offset: u32) -> Place
-    requires few { length elements.now ≤ 16 }
-    requires fits { length (texts_of elements.now) < 2 ^ 32 }
-    requires half { half ≡ length (texts_of (take (length elements.now / 2) elements.now)) }
-    requires inside { offset < length (texts_of elements.now) }
-    ensures place { IsChildAt elements.now offset result.index result.start }
-    ensures few { length elements.now < 8 → result.looks ≤ length elements.now }
-    ensures looks { result.looks ≤ 9 }
-{
-    if elements.len() < FEWEST {
-        return find_by_scan(elements, offset);
-    }
-    let (front, back) = elements.split_at(elements.len() / 2);
-    if offset < half {
-        find_by_scan(front, offset).further(0, 0)
-    } else {
-        find_by_scan(back, offset - half).further(front.len(), half)
-    }
-}
-
-/// The element at this offset, by the lengths of all that lie before.
-#[tactic(auto, using(crate::proofs::Lengths::lengths))]
-fn find_by_scan(elements: &[GreenElement], offset: u32) -> Place
-    requires few { length elements.now ≤ 8 }
-    requires fits { length (texts_of elements.now) < 2 ^ 32 }
-    requires inside { offset < length (texts_of elements.now) }
-    ensures place { IsChildAt elements.now offset result.index result.start }
-    ensures looks { result.looks ≤ length elements.now }
-{
-    let mut start = 0;
-    let mut looks = 0;
-    for (index, element) in elements.iter().enumerate() {
-        let end = start + element.text_len().0;
-        looks += 1;
-        if offset < end {
-            return Place {
-                index,
-                start,
-                looks,
-            };
-        }
-        start = end;
-    }
-    unreachable!()
 }
 
 /// Adds clones of the elements from `start` to before `end`.

@@ -18,6 +18,7 @@ mod display;
 pub mod element;
 mod element_list;
 mod element_list_join;
+mod element_search;
 pub mod error;
 mod fingerprint;
 pub mod node;

@@ -1,7 +1,7 @@
 use Rattle.std.proofs.Common.{arith}
 use Rattle.rowan_green.proofs.Lengths.{prefix_all}
 use Rattle.rowan_green.proofs.Summing.{scan_found}
-use Rattle.rowan_green.proofs.element_list.find_by_scan.Goals as goal
+use Rattle.rowan_green.proofs.element_search.find_by_scan.Goals as goal
 
 pub returns-then-offset-end-clause-place : goal.returns-then-offset-end-clause-place
 returns-then-offset-end-clause-place c =

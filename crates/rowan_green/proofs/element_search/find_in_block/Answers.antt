@@ -2,7 +2,7 @@ use Rattle.std.proofs.Common.{◌≡◌, ◌++◌, ◌/◌, length, arith}
 use Rattle.std.proofs.lemmas.List.{take-append-drop}
 use Rattle.rowan_green.specs.Term.{texts_of}
 use Rattle.rowan_green.proofs.Summing.{texts_split, child_right}
-use Rattle.rowan_green.proofs.element_list.find_in_block.Goals as goal
+use Rattle.rowan_green.proofs.element_search.find_in_block.Goals as goal
 
 pub find_by_scan-requires-else-offset-half-clause-fits : goal.find_by_scan-requires-else-offset-half-clause-fits
 find_by_scan-requires-else-offset-half-clause-fits c =
