@@ -1,8 +1,9 @@
 """The gate: every proof from nothing, the must-fail edits, the tests, and each program on its stored input.
 
     ./test               leaves out the edits that must-fail.ledger has as refused before over the very same sources,
-                         but for a sample of one crate, which the commit picks; tries all others, but for those past 100, as
-                         after a change of the kit: then the commit picks crates, and the run says how many it left for time
+                         but for a sample of one crate, which the commit picks; tries all others, but where they are more than
+                         100, as after a change of the kit: then 100 at most, and of one crate 50, which the commit picks, and
+                         the run says how many it left for time
     ./test --whole       tries every edit and does not read the ledger
     ./test --record      as ./test, with no sample; writes to the ledger the edits that were refused, whatever else failed
     ./test --share 2/3   with any of these: tries, of the edits, those of the second of three shares of the crates alone
@@ -30,6 +31,8 @@ TOP = os.path.dirname(os.path.dirname(os.path.realpath(__file__)))
 SAMPLE = 8
 # Edits that a run tries at most, unless it is asked for all or to record them: it has to end in time.
 MOST = 100
+# Of one crate, where there are more than that: no crate's edits then take the time of all others', and none wait for good.
+PART = 50
 # A check takes one to four gigabytes. Where there are fewer bytes a core than this, 'rt ci' by its own estimate leaves cores idle.
 BYTES_A_CORE = 5_000_000_000
 REFUSED = re.compile(r"rt: must-fail ([^/\s]+)/(\S+): refused, as it must be")
@@ -55,12 +58,18 @@ def commit():
 
 
 def within_time(edits):
-    """Returns the edits of as many crates as a run has time for, all where they are few; picked by the commit."""
+    """Returns the edits that a run has time for: all where they are few, else some crates' edits, of each a part. The commit picks."""
+    if len(edits) <= MOST:
+        return edits
+    seed, taken = commit(), set()
+
+    def picked(name):
+        return hashlib.sha256(seed + name.encode()).hexdigest()
+
     groups = by_crate(edits)
-    taken = set()
-    for name in sorted(groups, key=lambda name: hashlib.sha256(commit() + name.encode()).hexdigest()):
-        if len(edits) <= MOST or len(taken) + len(groups[name]) <= MOST:
-            taken.update(groups[name])
+    for name in sorted(groups, key=picked):
+        part = min(PART, MOST - len(taken))
+        taken.update(sorted(groups[name], key=picked)[:part])
     return taken
 
 

@@ -212,6 +212,17 @@ class Gate(unittest.TestCase):
         self.assertNotEqual(self.status, 0)
         self.assertEqual(len(self.run_gate("--edits", "apart", "--record")), 1)
 
+    def test_past_its_time_a_run_tries_a_part_of_a_crate_which_the_commit_picks(self):
+        for at in range(10, 150):
+            write(f"{self.top}/crates/apart/must-fail/e{at}.edit", f"file: src/lib.rt\nold: apart\nnew: {at}\n")
+        tried = self.run_gate()
+        self.assertEqual((len(tried), of("low", "middle") <= tried), (55, True))
+        git = ["git", "-C", self.top, "-c", "user.name=a", "-c", "user.email=a"]
+        for words in (["init", "-q"], ["commit", "-q", "--allow-empty", "-m", "another"]):
+            subprocess.run([*git, *words], check=True)
+        other = self.run_gate()
+        self.assertEqual((len(other), other == tried), (55, False))
+
     def test_list_runs_nothing(self):
         self.assertEqual(self.run_gate("--list"), {"not run"})
         self.assertEqual({*self.said[1:]}, ALL)
