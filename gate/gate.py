@@ -4,12 +4,13 @@
                          but for a sample of one crate, which the commit picks; tries all others, but where they are more than
                          100, as after a change of the kit: then 100 at most, and of one crate 50, which the commit picks, and
                          the run says how many it left for time
-    ./test --whole       tries every edit and does not read the ledger
+    ./test --whole       tries every edit, but for grammar_reader's, and does not read the ledger
     ./test --record      as ./test, with no sample; writes to the ledger the edits that were refused, whatever else failed
     ./test --share 2/3   with any of these: tries, of the edits, those of the second of three shares of the crates alone
     ./test --edits NAME  with any of these: tries the edits of one crate alone, and none of the tests and programs, over the
                          libraries that checks have built here from the sources as they are; a share is then one of this crate's
-                         edits, so that a crate with many can be tried side by side
+                         edits, so that a crate with many can be tried side by side. Of grammar_reader's edits any other run tries
+                         one at most, since each takes four processor minutes: its functions call one another
     ./test --list        with any of these: prints the edits that it would try, and runs nothing
 
 Its last line is 'N passed, M failed', as of 'rt ci'. Only edits rest on the ledger, and on a run without --whole alone.
@@ -33,6 +34,9 @@ SAMPLE = 8
 MOST = 100
 # Of one crate, where there are more than that: no crate's edits then take the time of all others', and none wait for good.
 PART = 50
+# The crates whose functions call one another: with an edit of one all of them are proved anew, in a third of the time of the crate's proof.
+# So a run tries one edit of each at most, unless it tries the edits of that crate alone.
+CYCLES = {"grammar_reader"}
 # A check takes one to four gigabytes. Where there are fewer bytes a core than this, 'rt ci' by its own estimate leaves cores idle.
 BYTES_A_CORE = 5_000_000_000
 REFUSED = re.compile(r"rt: must-fail ([^/\s]+)/(\S+): refused, as it must be")
@@ -57,19 +61,27 @@ def commit():
     return asked.stdout if asked.returncode == 0 else b""
 
 
+def shuffled(names):
+    """Returns names in an order that the commit picks."""
+    seed = commit()
+    return sorted(names, key=lambda name: hashlib.sha256(seed + name.encode()).hexdigest())
+
+
+def without_cycles(edits):
+    """Returns the edits but for those of the crates in CYCLES, of which it leaves one each."""
+    groups = by_crate(edits)
+    left_out = {edit for name in CYCLES for edit in shuffled(groups.get(name, []))[1:]}
+    return {*edits} - left_out
+
+
 def within_time(edits):
-    """Returns the edits that a run has time for: all where they are few, else some crates' edits, of each a part. The commit picks."""
+    """Returns the edits that a run has time for: all where they are few, else some crates' edits, of each a part."""
     if len(edits) <= MOST:
         return edits
-    seed, taken = commit(), set()
-
-    def picked(name):
-        return hashlib.sha256(seed + name.encode()).hexdigest()
-
-    groups = by_crate(edits)
-    for name in sorted(groups, key=picked):
+    groups, taken = by_crate(edits), set()
+    for name in shuffled(groups):
         part = min(PART, MOST - len(taken))
-        taken.update(sorted(groups[name], key=picked)[:part])
+        taken.update(shuffled(groups[name])[:part])
     return taken
 
 
@@ -195,7 +207,8 @@ def main():
         again = [] if asked.record or asked.edits or asked.share[1] > 1 else sample(known)
         wanted = {edit for edit in chosen(sums, asked) if edit not in known or edit in again}
         has_time = asked.whole or asked.record or asked.edits or asked.share[1] > 1
-        tried = wanted if has_time else within_time(wanted)
+        possible = wanted if asked.edits else without_cycles(wanted)
+        tried = possible if has_time else within_time(possible)
         late = f", {len(wanted) - len(tried)} of them for time" if tried != wanted else ""
         print(f"test: {len(sums)} must-fail edits: {len(tried)} tried, {len({*again} & tried)} of them as a sample; {len(sums) - len(tried)} left out{late}", flush=True)
         if asked.list:

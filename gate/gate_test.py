@@ -223,6 +223,18 @@ class Gate(unittest.TestCase):
         other = self.run_gate()
         self.assertEqual((len(other), other == tried), (55, False))
 
+    def test_of_a_crate_whose_functions_call_one_another_one_edit_is_tried(self):
+        name = "crates/grammar_reader"
+        write(f"{self.top}/crates.txt", f"{CRATES}grammar_reader:\n")
+        write(f"{self.top}/{name}/src/lib.rt", "a\n")
+        its = {f"{name}/must-fail/e{at}.edit" for at in range(3)}
+        for edit in its:
+            write(f"{self.top}/{edit}", f"file: src/lib.rt\nold: a\nnew: {edit}\n")
+        for words in ([], ["--whole"], ["--record"]):
+            tried = self.run_gate(*words, FAIL="1")
+            self.assertEqual((ALL <= tried, len(tried & its)), (True, 1))
+        self.assertEqual(self.run_gate("--edits", "grammar_reader"), its)
+
     def test_list_runs_nothing(self):
         self.assertEqual(self.run_gate("--list"), {"not run"})
         self.assertEqual({*self.said[1:]}, ALL)
