@@ -2,7 +2,7 @@
 use super::{IDENT, Place, ROOT, SEMICOLON, SPACE, open, range, spaces};
 use parser_input::edition::Edition;
 use parser_input::syntax_kind::SyntaxKind;
-use rust_document::{Document, MAX_TEXT, OpenError};
+use rust_document::{Document, MAX_TEXT, OpenError, SyntaxMessage};
 use std::alloc::{AllocError, Global};
 use std::test::Fail;
 use syntax_tree::TreeIds;
@@ -60,6 +60,21 @@ fn has_errors(
         equal &= (error.offset == *offset) & (shown.as_str() == *message);
     }
     Ok(equal)
+}
+
+/// Whether these are the messages of the lexer, each with its place.
+fn has_faults(document: &Document, expected: &[(usize, &str)]) -> bool {
+    let mut left = expected.iter();
+    for error in document.errors() {
+        let SyntaxMessage::Lexer(words) = error.message else {
+            continue;
+        };
+        match left.next() {
+            Some((offset, message)) if error.offset == *offset && words == *message => {}
+            _ => return false,
+        }
+    }
+    left.next().is_none()
 }
 
 /// A text with what is read of it: its elements with the paths that lead to them, its tokens, and its messages with their places.
@@ -211,6 +226,52 @@ const FIELDS: Row = Row {
     ],
 };
 
+/// A float behind a dot is the names of two fields.
+const FLOAT: Row = Row {
+    text: "fn f() { x.0.1; }",
+    tree: &[
+        ((SyntaxKind::EXPR_STMT, 9, 15), &[0, 5, 0, 2]),
+        ((SyntaxKind::FIELD_EXPR, 9, 14), &[0, 5, 0, 2, 0]),
+        ((SyntaxKind::FIELD_EXPR, 9, 12), &[0, 5, 0, 2, 0, 0]),
+        ((SyntaxKind::DOT, 12, 13), &[0, 5, 0, 2, 0, 1]),
+        ((SyntaxKind::NAME_REF, 13, 14), &[0, 5, 0, 2, 0, 2]),
+    ],
+    tokens: &[
+        (SyntaxKind::FN_KW, 0, 2),
+        (SyntaxKind::WHITESPACE, 2, 3),
+        (SyntaxKind::IDENT, 3, 4),
+        (SyntaxKind::L_PAREN, 4, 5),
+        (SyntaxKind::R_PAREN, 5, 6),
+        (SyntaxKind::WHITESPACE, 6, 7),
+        (SyntaxKind::L_CURLY, 7, 8),
+        (SyntaxKind::WHITESPACE, 8, 9),
+        (SyntaxKind::IDENT, 9, 10),
+        (SyntaxKind::DOT, 10, 11),
+        (SyntaxKind::FLOAT_NUMBER, 11, 14),
+        (SyntaxKind::SEMICOLON, 14, 15),
+        (SyntaxKind::WHITESPACE, 15, 16),
+        (SyntaxKind::R_CURLY, 16, 17),
+    ],
+    errors: &[],
+};
+
+const FRONTMATTER: Row = Row {
+    text: "---\n---\nstruct S;",
+    tree: &[
+        ((SyntaxKind::SOURCE_FILE, 0, 17), &[]),
+        ((SyntaxKind::FRONTMATTER, 0, 8), &[0]),
+        ((SyntaxKind::STRUCT, 8, 17), &[1]),
+    ],
+    tokens: &[
+        (SyntaxKind::FRONTMATTER, 0, 8),
+        (SyntaxKind::STRUCT_KW, 8, 14),
+        (SyntaxKind::WHITESPACE, 14, 15),
+        (SyntaxKind::IDENT, 15, 16),
+        (SyntaxKind::SEMICOLON, 16, 17),
+    ],
+    errors: &[],
+};
+
 /// Whether a document is what a row says.
 fn is_row(alloc: Global, document: &Document, row: &Row) -> Result<bool, AllocError> {
     let tree = has_tree(alloc, document, row.tree)?;
@@ -234,12 +295,53 @@ const READ: &[Row] = &[
     NO_ITEMS,
     OPEN_PARAMS,
     FIELDS,
+    FLOAT,
+    FRONTMATTER,
 ];
 
 #[test]
 fn texts_are_read(rt: HostRuntime) -> Result<(), Fail> {
     for row in READ {
         assert!(rt; is_read(rt.alloc(), row)?, "{}", row.text);
+    }
+    Ok(())
+}
+
+/// An edition, and the tokens of `#"a"` in it with the messages of the lexer.
+type Guarded = (Edition, &'static [Place], &'static [(usize, &'static str)]);
+
+/// From 2024 on a `#` before a string is a prefix kept for later.
+const GUARDED: &[Guarded] = &[
+    (
+        Edition::Edition2021,
+        &[(SyntaxKind::POUND, 0, 1), (SyntaxKind::STRING, 1, 4)],
+        &[],
+    ),
+    (
+        Edition::Edition2024,
+        &[
+            (SyntaxKind::ERROR, 0, 2),
+            (SyntaxKind::IDENT, 2, 3),
+            (SyntaxKind::STRING, 3, 4),
+        ],
+        &[
+            (0, "guarded prefix"),
+            (2, "unknown prefix"),
+            (3, "unterminated literal"),
+        ],
+    ),
+];
+
+/// Whether `#"a"` has the tokens and the messages of its row.
+fn is_guarded(alloc: Global, (edition, tokens, messages): &Guarded) -> Result<bool, Fail> {
+    let document = Document::open(alloc, *edition, "#\"a\"", &mut TreeIds::new())?;
+    Ok(has_tokens(&document, tokens) & has_faults(&document, messages))
+}
+
+#[test]
+fn prefixes_are_those_of_the_edition(rt: HostRuntime) -> Result<(), Fail> {
+    for row in GUARDED {
+        assert!(rt; is_guarded(rt.alloc(), row)?);
     }
     Ok(())
 }
