@@ -4,7 +4,7 @@
                          but for a sample of one crate, which the commit picks; tries all others, but where they are more than
                          100, as after a change of the kit: then 100 at most, and of one crate 50, which the commit picks, and
                          the run says how many it left for time
-    ./test --whole       tries every edit, but for grammar_reader's, and does not read the ledger
+    ./test --whole       tries every edit, but of grammar_reader's one, and does not read the ledger
     ./test --record      as ./test, with no sample; writes to the ledger the edits that were refused, whatever else failed
     ./test --share 2/3   with any of these: tries, of the edits, those of the second of three shares of the crates alone
     ./test --edits NAME  with any of these: tries the edits of one crate alone, and none of the tests and programs, over the
