@@ -8,9 +8,9 @@
     ./test --record      as ./test, with no sample; writes to the ledger the edits that were refused, whatever else failed
     ./test --share 2/3   with any of these: tries, of the edits, those of the second of three shares of the crates alone
     ./test --edits NAME  with any of these: tries the edits of one crate alone, and none of the tests and programs, over the
-                         libraries that checks have built here from the sources as they are; a share is then one of this crate's
-                         edits, so that a crate with many can be tried side by side. Of grammar_reader's edits any other run tries
-                         one at most, since each takes four processor minutes: its functions call one another
+                         libraries that checks have built here from the sources as they are; those of different functions together,
+                         by one check (together.py). A share is then one of this crate's edits. Of grammar_reader's edits any other
+                         run tries one at most: its functions call one another, so that one alone takes minutes
     ./test --list        with any of these: prints the edits that it would try, and runs nothing
 
 Its last line is 'N passed, M failed', as of 'rt ci'. Only edits rest on the ledger, and on a run without --whole alone.
@@ -25,6 +25,7 @@ import sys
 import tempfile
 
 import ledger
+import together
 from ledger import crate_of
 
 TOP = os.path.dirname(os.path.dirname(os.path.realpath(__file__)))
@@ -169,11 +170,24 @@ def run_all(at, tried):
     return status, last, all_passed, refused_in(lines, tried)
 
 
+def try_together(at, name, tried):
+    """Tries edits of a crate, those of different functions by one check. Returns those that are refused, and takes their files away."""
+    refused = set()
+    for edit, line in together.refused(f"{at}/crates/{name}", [f"{at}/{edit}" for edit in tried]):
+        print(f"test: must-fail {name}/{os.path.basename(edit)}: refused, as it must be, among others: {line[:160]}", flush=True)
+        refused.add(os.path.relpath(edit, at))
+        os.remove(edit)
+    return refused
+
+
 def run_edits(at, name, tried):
-    """The same of a crate's edits alone."""
-    status, last, lines = run(at, "must-fail", name)
-    print(last, end="")
-    refused = refused_in(lines, tried)
+    """The same of a crate's edits alone: together as far as that tells, then one by one what it leaves open."""
+    refused = try_together(at, name, tried)
+    status = 0
+    if refused != tried:
+        status, last, lines = run(at, "must-fail", name)
+        print(last, end="")
+        refused |= refused_in(lines, tried)
     return status, f"{len(refused)} passed, {len(tried) - len(refused)} failed\n", status == 0 and refused == tried, refused
 
 

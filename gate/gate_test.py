@@ -8,8 +8,15 @@ import unittest
 
 HERE = os.path.dirname(os.path.realpath(__file__))
 # Notes which edits it finds, builds a program, names the edits that are refused, and counts crates and edits as 'rt ci' does. FAIL: no
-# crate is proved. MISS: so many edits are not refused. STOP: a program fails.
+# crate is proved. MISS: so many edits are not refused. STOP: a program fails. A check says which functions have a wrong body.
 STAND_IN = """#!/usr/bin/env bash
+if [ "$1" = check ]; then
+    for name in $(grep -rhoE 'wrong_[a-z]+' src | cut -d_ -f2); do
+        echo "./proofs/part/$name/Answers.antt:1:1: error: \`goal\`: .."
+        echo "fn ${PWD##*/}::part::$name: not proved"
+    done
+    exit 1
+fi
 ls crates/*/must-fail/*.edit > "$TRIED" 2> /dev/null
 find crates -path '*/out/*' -type f > "$TRIED.built"
 for edit in $([ -n "${FAIL:-}" ] || tail -n +$((${MISS:-0} + 1)) "$TRIED"); do
@@ -55,7 +62,7 @@ class Gate(unittest.TestCase):
                 write(f"{top}/crates/{crate}/must-fail/e{at}.edit", f"file: src/lib.rt\nold: {crate}\nnew: {at}\n")
         write(f"{top}/crates.txt", CRATES)
         write(f"{top}/HANDLES", "Handles allowed: none.\n")
-        for name in ("gate.py", "ledger.py"):
+        for name in ("gate.py", "ledger.py", "together.py"):
             write(f"{top}/gate/{name}", "")
             shutil.copy(f"{HERE}/{name}", f"{top}/gate/{name}")
 
@@ -203,6 +210,15 @@ class Gate(unittest.TestCase):
         with open(self.ledger) as file:
             self.assertEqual(len(file.readlines()), len(ALL))
         self.assertEqual(len(self.run_gate("--record", FAIL="1")), 5)
+
+    def test_edits_of_different_functions_are_tried_together_and_the_others_alone(self):
+        write(f"{self.top}/crates/apart/src/part.rt", "".join(f"fn {name}() {{\n    right_{name}()\n}}\n" for name in "fgh"))
+        for at, new in enumerate(("wrong_f", "wrong_g", "other_h")):
+            write(f"{self.top}/crates/apart/must-fail/e{at}.edit", f"file: src/part.rt\nold: right_{new[-1]}\nnew: {new}\n")
+        together = {f"crates/apart/must-fail/e{at}.edit" for at in (0, 1)}
+        self.assertEqual(self.run_gate("--edits", "apart", "--record"), of("apart") - together)
+        self.assertEqual((self.status, self.said[-1]), (0, "10 passed, 0 failed"))
+        self.assertEqual(self.run_gate("--record"), of("low", "middle"))
 
     def test_edits_that_are_not_refused_are_not_recorded(self):
         self.run_gate("--edits", "apart", "--record", FAIL="1")
