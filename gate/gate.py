@@ -193,6 +193,7 @@ def run_edits(at, name, tried):
 
 def arguments():
     parser = argparse.ArgumentParser(prog="./test", usage=__doc__, add_help=False, allow_abbrev=False)
+    parser.add_argument("--help", action="help")
     for word in ("--whole", "--record", "--list"):
         parser.add_argument(word, action="store_true")
     parser.add_argument("--share", default="1/1")
@@ -217,6 +218,8 @@ def main():
             before = {} if asked.whole else ledger.recorded(copied)
         except (OSError, ValueError, LookupError) as error:
             stop(f"cannot tell what the edits rest on: {error!r}")
+        if asked.edits and asked.edits not in by_crate(sums):
+            stop(f"no crate {asked.edits} has must-fail edits")
         known = {path: key for path, key in sums.items() if before.get(path) == key}
         again = [] if asked.record or asked.edits or asked.share[1] > 1 else sample(known)
         wanted = {edit for edit in chosen(sums, asked) if edit not in known or edit in again}
@@ -243,7 +246,7 @@ def main():
         if asked.record and not all_passed:
             print(f"test: not all passed; recorded are the {len(refused)} edits that were refused")
         print(last, end="", flush=True)
-        return status or int(asked.record and not all_passed)
+        return status or int(not all_passed)
 
 
 if __name__ == "__main__":

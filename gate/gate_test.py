@@ -5,6 +5,9 @@ import subprocess
 import sys
 import tempfile
 import unittest
+from unittest import mock
+
+import gate
 
 HERE = os.path.dirname(os.path.realpath(__file__))
 # Notes which edits it finds, builds a program, names the edits that are refused, and counts crates and edits as 'rt ci' does. FAIL: no
@@ -29,7 +32,7 @@ echo "${RT_JOBS:-none}" > "$JOBS"
 passed=$(( $(wc -l < "$TRIED") + $(grep -c '^[a-z]' crates.txt) ))
 echo "a program says: 9 passed, 0 failed"
 [ -z "${FAIL:-}${STOP:-}" ] || { echo "$((passed - 1)) passed, 1 failed"; exit 1; }
-echo "$((passed - ${MISS:-0})) passed, 0 failed"
+echo "$((passed - ${MISS:-0})) passed, ${MISS:-0} failed"
 """
 CRATES = "# lowest first\nlow: memchr\nmiddle: low\napart:\napp: middle apart\n"
 EDITS = {"low": 2, "middle": 3, "apart": 10}
@@ -170,6 +173,10 @@ class Gate(unittest.TestCase):
         self.assertEqual(self.status, 1)
         self.assertFalse(os.path.exists(self.ledger))
 
+    def test_an_edit_that_is_not_refused_is_a_failure_whatever_rt_answers(self):
+        self.run_gate(MISS="1")
+        self.assertEqual((self.status, self.said[-1]), (1, "18 passed, 1 failed"))
+
     def test_what_was_refused_is_recorded_whatever_else_failed(self):
         self.run_gate("--record", MISS="2")
         self.assertNotEqual(self.status, 0)
@@ -178,8 +185,9 @@ class Gate(unittest.TestCase):
         self.assertEqual(self.run_gate("--record"), set())
 
     def test_what_cannot_be_read_is_a_failure(self):
-        self.assertEqual(self.run_gate("--share", "4/3"), {"not run"})
-        self.assertEqual((self.status, self.said[-1]), (2, "0 passed, 1 failed"))
+        for words in (["--share", "4/3"], ["--edits", "appart"], ["--edits", "app"]):
+            self.assertEqual(self.run_gate(*words), {"not run"})
+            self.assertEqual((self.status, self.said[-1]), (2, "0 passed, 1 failed"))
         # (two crates that stand on each other)
         write(f"{self.top}/crates.txt", "low: middle\nmiddle: low\n")
         self.assertEqual(self.run_gate(), {"not run"})
@@ -263,10 +271,20 @@ class Gate(unittest.TestCase):
         found = {os.path.relpath(f"{at}/{name}", out) for at, _, names in os.walk(out) for name in names}
         self.assertEqual(found, {"app", "incremental/mine"})
 
+    def test_help_runs_nothing(self):
+        self.assertEqual(self.run_gate("--help"), {"not run"})
+        self.assertEqual((self.status, any("must-fail.ledger" in line for line in self.said)), (0, True))
+
     def test_jobs_that_are_given_are_kept(self):
         self.run_gate(RT_JOBS="7")
         with open(f"{self.room}/jobs") as file:
             self.assertEqual(file.read(), "7\n")
+
+    def test_where_memory_is_short_each_core_has_a_job(self):
+        for bytes_a_core, jobs in ((gate.BYTES_A_CORE - 1, "2"), (gate.BYTES_A_CORE, None)):
+            with mock.patch("os.sched_getaffinity", return_value={0, 1}), mock.patch("os.sysconf", side_effect=[2, bytes_a_core]):
+                with mock.patch.dict("os.environ", clear=True):
+                    self.assertEqual(gate.environment().get("RT_JOBS"), jobs)
 
 
 if __name__ == "__main__":

@@ -85,7 +85,8 @@ def recorded(root):
     """Returns the sums that the ledger has, by the edit's path; none where there is no ledger."""
     if not os.path.isfile(f"{root}/{LEDGER}"):
         return {}
-    rows = [line.partition(" ") for line in read(f"{root}/{LEDGER}").decode().splitlines()]
+    lines = read(f"{root}/{LEDGER}").decode().splitlines()
+    rows = [line.partition(" ") for line in lines if not line.startswith("#")]
     return {path: key for key, _, path in rows}
 
 

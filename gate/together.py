@@ -120,17 +120,15 @@ def body_around(folder, made):
     return around[0] if len(around) == 1 else None
 
 
-def rounds(folder, edits):
-    """Returns lists of edits with their bodies and changes: those of a list are of different functions. An edit that changes anything but
-    one body is in none."""
-    groups = {}
+def of_different_functions(folder, edits):
+    """Returns edits, each with its body and its changes: of those that change one body alone the first of each function."""
+    firsts = {}
     for edit in sorted(edits):
         made = changes(folder, edit)
         body = body_around(folder, made)
         if body:
-            groups.setdefault((made[0][0], body.first), []).append((edit, body, made))
-    most = max(map(len, groups.values()), default=0)
-    return [[group[at] for group in groups.values() if at < len(group)] for at in range(most)]
+            firsts.setdefault((made[0][0], body.first), (edit, body, made))
+    return [*firsts.values()]
 
 
 def edited(folder, tried):
@@ -217,7 +215,7 @@ def refused(folder, edits):
     """Tries edits of a crate in rounds, and gives those that are refused, each with what a check says of that, after each round."""
     left = {*edits}
     while True:
-        tried = next(iter(rounds(folder, left)), [])
+        tried = of_different_functions(folder, left)
         lines = check(folder, edited(folder, tried)) if len(tried) > 1 else []
         now = refused_in(lines, tried)
         if not now:

@@ -96,8 +96,8 @@ class Together(unittest.TestCase):
         together.write(f"{self.folder}/{name}", "\n".join(lines))
         return f"{self.folder}/{name}"
 
-    def rounds(self, *edits):
-        return [{os.path.basename(edit) for edit, _, _ in tried} for tried in together.rounds(self.folder, edits)]
+    def of_different_functions(self, *edits):
+        return {os.path.basename(edit) for edit, _, _ in together.of_different_functions(self.folder, edits)}
 
     def test_bodies_of_functions_and_methods(self):
         found = [(it.name, it.is_method, PART[it.first : it.end]) for it in together.bodies("src/part.rt", PART)]
@@ -122,21 +122,21 @@ class Together(unittest.TestCase):
             found = together.bodies("src/lib.rt", f"{head}\n    fn f() {{\n        1\n    }}\n}}\n")
             self.assertEqual([it.name for it in found], [f"{name}::f"])
 
-    def test_edits_of_one_function_are_in_different_rounds(self):
-        edits = [self.edit("a", ("m + n", "m")), self.edit("b", ("add(n)", "n")), self.edit("c", ("self.0 + 1", "1"))]
-        self.assertEqual(self.rounds(*edits), [{"a", "c"}, {"b"}])
+    def test_of_the_edits_of_one_function_the_first_is_tried(self):
+        edits = [self.edit("b", ("add(n)", "n")), self.edit("a", ("m + n", "m")), self.edit("c", ("self.0 + 1", "1"))]
+        self.assertEqual(self.of_different_functions(*edits), {"a", "c"})
 
-    def test_what_changes_more_than_one_body_is_in_none(self):
+    def test_what_changes_more_than_one_body_is_not_tried_together(self):
         clause = self.edit("clause", ("n < 128", "n < 2"))
         constant = self.edit("constant", ("99", "98"))
         spec = self.edit("spec", ("Law", "Lie"), file="specs/Law.antt")
         two = self.edit("two", ("add(n)", "n"), ("self.0 + 1", "1"))
         often = self.edit("often", ("n + n", "n"), ("count", "n"))
-        self.assertEqual(self.rounds(clause, constant, spec, two, often), [])
+        self.assertEqual(self.of_different_functions(clause, constant, spec, two, often), {*()})
 
     def test_all_edits_of_a_round_are_made(self):
         edits = [self.edit("a", ("m + n", "self.0 + 1"), ("add(n)", "n")), self.edit("b", ("self.0 + 1", "add(n)"))]
-        (first,) = together.rounds(self.folder, edits)
+        first = together.of_different_functions(self.folder, edits)
         text = PART.replace("self.0 + 1", "?").replace("m + n", "self.0 + 1").replace("    add(n)", "    n").replace("?", "add(n)")
         self.assertEqual(together.edited(self.folder, first), {"src/part.rt": text})
 
