@@ -8,8 +8,8 @@ use std::alloc::{AllocError, Global};
 use std::marker::Model;
 use syntax_tree::{Spent, SyntaxElement};
 
-/// A mark, told apart from others by its number.
-#[derive(Clone, Copy, Debug, PartialEq, Eq)]
+/// A mark, told apart from others by its number, and before those that its source gives later.
+#[derive(Clone, Copy, Debug, PartialEq, Eq, PartialOrd, Ord, Hash)]
 pub struct SyntaxAnnotation {
     pub(crate) number: u32,
 }

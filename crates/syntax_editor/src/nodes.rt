@@ -1,4 +1,5 @@
-//! Nodes of six kinds, each of a type of its own.
+//! Nodes of six kinds, each of a type of its own. Two are equal where they are one node of one tree;
+//! a clone takes no memory.
 ghost use Rattle.std.specs.Prelude.{◌≡◌, ◌↔◌, ◌==◌, true, IsSome, IfSome};
 ghost use Rattle.parser_input.specs.Kind.{raw_of};
 ghost use Rattle.parser_input.specs.declared.syntax_kind.SyntaxKind.TheVariants.{SOURCE_FILE, STRUCT, FN, USE, ITEM_LIST, STMT_LIST};
@@ -7,16 +8,27 @@ ghost use Rattle.syntax_tree.specs.Language.{kind_of_raw};
 
 use crate::whitespace::is;
 use parser_input::SyntaxKind;
+use std::alloc::AllocError;
 use syntax_tree::{AstNode, SyntaxNode};
 
 /// A typed node that may have attributes and documentation.
 pub trait HasAttrs: AstNode {}
 
 /// A whole file.
-#[derive(Drop)]
+#[derive(PartialEq, Eq, Hash, Drop)]
 pub struct SourceFile {
     syntax: SyntaxNode,
     ghost own: { (raw_of (kind_of_raw (kind_at syntax.place)) == raw_of SOURCE_FILE) ≡ true },
+}
+
+impl Clone for SourceFile {
+    ghost is_clone = { λ node copy. copy.syntax ≡ node.syntax };
+
+    /// Refuses only where as many clones stand as a `usize` can count.
+    fn clone(&self) -> Result<SourceFile, AllocError> {
+        let syntax = self.syntax.clone()?;
+        Ok(SourceFile { syntax })
+    }
 }
 
 impl AstNode for SourceFile {
@@ -51,10 +63,20 @@ impl AstNode for SourceFile {
 }
 
 /// A `struct`.
-#[derive(Drop)]
+#[derive(PartialEq, Eq, Hash, Drop)]
 pub struct Struct {
     syntax: SyntaxNode,
     ghost own: { (raw_of (kind_of_raw (kind_at syntax.place)) == raw_of STRUCT) ≡ true },
+}
+
+impl Clone for Struct {
+    ghost is_clone = { λ node copy. copy.syntax ≡ node.syntax };
+
+    /// Refuses only where as many clones stand as a `usize` can count.
+    fn clone(&self) -> Result<Struct, AllocError> {
+        let syntax = self.syntax.clone()?;
+        Ok(Struct { syntax })
+    }
 }
 
 impl AstNode for Struct {
@@ -89,10 +111,20 @@ impl AstNode for Struct {
 }
 
 /// A function.
-#[derive(Drop)]
+#[derive(PartialEq, Eq, Hash, Drop)]
 pub struct Fn {
     syntax: SyntaxNode,
     ghost own: { (raw_of (kind_of_raw (kind_at syntax.place)) == raw_of FN) ≡ true },
+}
+
+impl Clone for Fn {
+    ghost is_clone = { λ node copy. copy.syntax ≡ node.syntax };
+
+    /// Refuses only where as many clones stand as a `usize` can count.
+    fn clone(&self) -> Result<Fn, AllocError> {
+        let syntax = self.syntax.clone()?;
+        Ok(Fn { syntax })
+    }
 }
 
 impl AstNode for Fn {
@@ -127,10 +159,20 @@ impl AstNode for Fn {
 }
 
 /// A `use`.
-#[derive(Drop)]
+#[derive(PartialEq, Eq, Hash, Drop)]
 pub struct Use {
     syntax: SyntaxNode,
     ghost own: { (raw_of (kind_of_raw (kind_at syntax.place)) == raw_of USE) ≡ true },
+}
+
+impl Clone for Use {
+    ghost is_clone = { λ node copy. copy.syntax ≡ node.syntax };
+
+    /// Refuses only where as many clones stand as a `usize` can count.
+    fn clone(&self) -> Result<Use, AllocError> {
+        let syntax = self.syntax.clone()?;
+        Ok(Use { syntax })
+    }
 }
 
 impl AstNode for Use {
@@ -165,10 +207,20 @@ impl AstNode for Use {
 }
 
 /// The items of a module, in their braces.
-#[derive(Drop)]
+#[derive(PartialEq, Eq, Hash, Drop)]
 pub struct ItemList {
     syntax: SyntaxNode,
     ghost own: { (raw_of (kind_of_raw (kind_at syntax.place)) == raw_of ITEM_LIST) ≡ true },
+}
+
+impl Clone for ItemList {
+    ghost is_clone = { λ node copy. copy.syntax ≡ node.syntax };
+
+    /// Refuses only where as many clones stand as a `usize` can count.
+    fn clone(&self) -> Result<ItemList, AllocError> {
+        let syntax = self.syntax.clone()?;
+        Ok(ItemList { syntax })
+    }
 }
 
 impl AstNode for ItemList {
@@ -203,10 +255,20 @@ impl AstNode for ItemList {
 }
 
 /// The statements of a block, in their braces.
-#[derive(Drop)]
+#[derive(PartialEq, Eq, Hash, Drop)]
 pub struct StmtList {
     syntax: SyntaxNode,
     ghost own: { (raw_of (kind_of_raw (kind_at syntax.place)) == raw_of STMT_LIST) ≡ true },
+}
+
+impl Clone for StmtList {
+    ghost is_clone = { λ node copy. copy.syntax ≡ node.syntax };
+
+    /// Refuses only where as many clones stand as a `usize` can count.
+    fn clone(&self) -> Result<StmtList, AllocError> {
+        let syntax = self.syntax.clone()?;
+        Ok(StmtList { syntax })
+    }
 }
 
 impl AstNode for StmtList {

@@ -10,7 +10,7 @@ use Rattle.rowan.specs.Place.{kind_at, Place, below, terms_below, start_of, end_
 use Rattle.rowan.specs.Around.{Cursor, place_in}
 use Rattle.rowan.specs.Walk.{Event, walk_forest, walk, entered, skipped}
 use Rattle.rowan.specs.declared.utility_types.WalkEvent.TheVariants.{Enter, Leave}
-use Rattle.rowan.proofs.Places.{end_within}
+use Rattle.rowan.proofs.Places.{end_within, next_start}
 use Rattle.syntax_tree.specs.Handle.{element_of, with_cursor}
 use Rattle.syntax_tree.specs.Search.{is_of, first_in}
 use Rattle.syntax_tree.specs.declared.element.SyntaxElement.{SyntaxElement}
@@ -23,7 +23,7 @@ inside zero (Leave c ∷ w) = []
 inside (suc depth) (Leave c ∷ w) = inside depth w
 
 -- all of them lie between two bytes
-abbrev AreIn : ℕ → ℕ → List Cursor → Type 0
+abbrev pub AreIn : ℕ → ℕ → List Cursor → Type 0
 AreIn a b [] = Unit {0}
 AreIn a b (c ∷ cs) = (a ≤ start_of (place_in c)) × (end_of (place_in c) ≤ b) × AreIn a b cs
 
@@ -60,16 +60,17 @@ other_range kind a b p from to starts ends out =
     let end : end_of p ≡ b = eqb-true (end_of p) b own.1 in
     out (omega (arith, start, starts)) (omega (arith, end, ends)))
 
-none_in : (n kind a b from to : ℕ) (cs : List Cursor) → AreIn from to cs → (from ≤ a → b ≤ to → ⊥) → first_in kind a b (map (with_cursor n) cs) ≡ None
+pub none_in : (n kind a b from to : ℕ) (cs : List Cursor) → AreIn from to cs → (from ≤ a → b ≤ to → ⊥) → first_in kind a b (map (with_cursor n) cs) ≡ None
 none_in n kind a b from to [] h out = refl
 none_in n kind a b from to (Node p ∷ cs) h out = cond-false _ _ _ (other_range kind a b p from to h.0 h.1 out) ∙ none_in n kind a b from to cs h.2 out
 none_in n kind a b from to (Token p ∷ cs) h out = cond-false _ _ _ (other_range kind a b p from to h.0 h.1 out) ∙ none_in n kind a b from to cs h.2 out
 
-map-both : (n : ℕ) (xs ys : List Cursor) → map (with_cursor n) (xs ++ ys) ≡ map (with_cursor n) xs ++ map (with_cursor n) ys
+pub map-both : (n : ℕ) (xs ys : List Cursor) → map (with_cursor n) (xs ++ ys) ≡ map (with_cursor n) xs ++ map (with_cursor n) ys
 map-both n [] ys = refl
 map-both n (x ∷ xs) ys = ap (λ (cs : List SyntaxElement). with_cursor n x ∷ cs) (map-both n xs ys)
 
-abbrev found : ℕ → ℕ → ℕ → ℕ → List Event → Option SyntaxElement
+-- the first of a kind and a range among what is entered
+abbrev pub found : ℕ → ℕ → ℕ → ℕ → List Event → Option SyntaxElement
 found n kind a b w = first_in kind a b (map (with_cursor n) (entered w))
 
 -- what lies inside an element that does not contain the range is not of it
@@ -107,7 +108,7 @@ shorter-skipped d (Enter c ∷ w) = omega (arith, shorter-skipped (suc d) w)
 shorter-skipped zero (Leave c ∷ w) = omega arith
 shorter-skipped (suc d) (Leave c ∷ w) = omega (arith, shorter-skipped d w)
 
-out_of : (a b from to : ℕ) → (nat_le from a && nat_le b to) ≡ false → from ≤ a → b ≤ to → ⊥
+pub out_of : (a b from to : ℕ) → (nat_le from a && nat_le b to) ≡ false → from ≤ a → b ≤ to → ⊥
 out_of a b from to out l r = both_ways _ out (and_from _ _ (le-leb from a l) (le-leb b to r))
 
 -- after an element that does not contain the range, and all that is inside it
@@ -129,7 +130,7 @@ goes_over n kind a b c v w is h other out =
 
 -- ---- the walk through a tree
 
-entered-append : (v w : List Event) → entered (v ++ w) ≡ entered v ++ entered w
+pub entered-append : (v w : List Event) → entered (v ++ w) ≡ entered v ++ entered w
 entered-append [] w = refl
 entered-append (Enter c ∷ v) w = ap (λ (cs : List Cursor). c ∷ cs) (entered-append v w)
 entered-append (Leave c ∷ v) w = entered-append v w
@@ -155,17 +156,29 @@ inside-forest d p i (node k g r) w =
     ∙ ap (λ (cs : List Cursor). here ∷ cs) (sym (append_assoc (entered below_it) (entered after) (inside d w)))
     ∙ ap (λ (cs : List Cursor). here ∷ (cs ++ inside d w)) (sym (entered-append below_it (Leave here ∷ after)))
 
--- what is entered below an element lies within its range
-forest-in : (p : Place) (i : ℕ) (f : Forest) → AreIn (start_of p) (end_of p) (entered (walk_forest p i f))
-forest-in p i empty = tt
-forest-in p i (leaf l r) = (omega arith, end_within p i, forest-in p (i + 1) r)
-forest-in p i (node k g r) =
+-- a child begins no earlier than the one before it
+later : (p : Place) (i low : ℕ) → low ≤ start_of (below p i) → low ≤ start_of (below p (i + 1))
+later p i low h =
+    let next : start_of (below p (i + 1)) ≡ end_of (below p i) = next_start p i in
+    let on : start_of (below p i) ≤ end_of (below p i) = omega arith in
+    omega (arith, h, next, on)
+
+-- what is entered below a place, from a child on, lies between a byte that the child does not begin before and the end of the place
+pub forest-from : (p : Place) (i low : ℕ) (f : Forest) → low ≤ start_of (below p i) → AreIn low (end_of p) (entered (walk_forest p i f))
+forest-from p i low empty h = tt
+forest-from p i low (leaf l r) h = (h, end_within p i, forest-from p (i + 1) low r (later p i low h))
+forest-from p i low (node k g r) h =
     let below_it = walk_forest (below p i) 0 g in
     let after = walk_forest p (i + 1) r in
-    let inner = wider _ _ (start_of p) (end_of p) (entered below_it) (omega arith) (end_within p i) (forest-in (below p i) 0 g) in
-    let both = all-in _ _ (entered below_it) (entered after) inner (forest-in p (i + 1) r) in
-    let P : List Cursor → Type 0 = AreIn (start_of p) (end_of p) in
-    (omega arith, end_within p i, subst P (sym (entered-append below_it (Leave (Node (below p i)) ∷ after))) both)
+    let own = forest-from (below p i) 0 (start_of (below p i)) g (omega arith) in
+    let inner = wider _ _ low (end_of p) (entered below_it) h (end_within p i) own in
+    let both = all-in _ _ (entered below_it) (entered after) inner (forest-from p (i + 1) low r (later p i low h)) in
+    let P : List Cursor → Type 0 = AreIn low (end_of p) in
+    (h, end_within p i, subst P (sym (entered-append below_it (Leave (Node (below p i)) ∷ after))) both)
+
+-- what is entered below an element lies within its range
+pub forest-in : (p : Place) (i : ℕ) (f : Forest) → AreIn (start_of p) (end_of p) (entered (walk_forest p i f))
+forest-in p i f = forest-from p i (start_of p) f (omega arith)
 
 -- what is entered from here on and before the leaving of an element is what stands below it
 below-within : (p : Place) (i : ℕ) (f : Forest) (w : List Event) → AreWithin (Node p) (inside zero (walk_forest p i f ++ Leave (Node p) ∷ w))

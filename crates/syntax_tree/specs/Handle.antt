@@ -1,6 +1,7 @@
 -- What a node or a token that is handed out stands for.
 use Rattle.std.specs.Prelude.{ℕ, List, map, Option, Some, None, option_map}
 use Rattle.rowan_green.specs.Either.{either}
+use Rattle.rowan_green.specs.declared.utility_types.NodeOrToken.TheVariants as cursors
 use Rattle.rowan.specs.Place.{Place, above}
 use Rattle.rowan.specs.Around.{Cursor}
 use Rattle.rowan.specs.Walk.{Event, entered}
@@ -21,6 +22,11 @@ node_of (Token e) = None
 abbrev pub token_of : SyntaxElement → Option Element
 token_of (Node e) = None
 token_of (Token e) = Some e
+
+-- where it stands, as a node or as a token
+abbrev pub cursor_of : SyntaxElement → Cursor
+cursor_of (Node e) = cursors.Node e.place
+cursor_of (Token e) = cursors.Token e.place
 
 -- the element at a place of the tree of this number
 abbrev pub with_number : ℕ → Place → Element

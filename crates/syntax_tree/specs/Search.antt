@@ -1,15 +1,20 @@
 -- Elements by their kind and their range.
-use Rattle.std.specs.Prelude.{ℕ, ◌==◌, Bool, ◌&&◌, List, Option, find}
+use Rattle.std.specs.Prelude.{ℕ, ◌==◌, Bool, ◌&&◌, List, Option, option_map, find}
 use Rattle.rowan_green.specs.declared.utility_types.NodeOrToken.TheVariants.{Node}
 use Rattle.rowan.specs.Place.{Place, kind_at, start_of, end_of}
+use Rattle.rowan.specs.Ranges.{child_at_range}
 use Rattle.rowan.specs.Walk.{walk}
 use Rattle.syntax_tree.specs.Element.{Element}
-use Rattle.syntax_tree.specs.Handle.{element_of, elements_left}
+use Rattle.syntax_tree.specs.Handle.{element_of, elements_left, with_cursor}
 use Rattle.syntax_tree.specs.declared.element.SyntaxElement.{SyntaxElement}
 
 -- whether what stands there is of a kind and has the bytes from `start` to just before `end`
 abbrev pub is_of : ℕ → ℕ → ℕ → Place → Bool
 is_of kind start end p = kind_at p == kind && (start_of p == start && end_of p == end)
+
+-- the first child whose range contains the bytes from `start` to just before `end`, if there is one
+abbrev pub child_holding : ℕ → ℕ → SyntaxElement → Option SyntaxElement
+child_holding start end e = option_map (with_cursor (element_of e).number) (child_at_range start end (element_of e).place)
 
 -- a node and all elements below it in preorder: a node before its children
 abbrev pub elements : Element → List SyntaxElement

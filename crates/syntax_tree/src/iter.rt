@@ -1,9 +1,9 @@
 //! The elements around a node, as iterators.
-ghost use Rattle.std.specs.Prelude.{◌≡◌, map, IfOk};
+ghost use Rattle.std.specs.Prelude.{◌≡◌, map, option_map, IfOk};
 ghost use Rattle.rowan_green.specs.declared.utility_types.NodeOrToken.TheVariants.{Node};
-ghost use Rattle.rowan.specs.Around.{ancestors, children, nodes};
+ghost use Rattle.rowan.specs.Around.{ancestors, element_ancestors, children, nodes};
 ghost use Rattle.rowan.specs.Walk.{walk};
-ghost use Rattle.syntax_tree.specs.Handle.{with_place, with_number, with_cursor};
+ghost use Rattle.syntax_tree.specs.Handle.{element_of, cursor_of, with_place, with_number, with_cursor};
 
 use crate::element::SyntaxElement;
 use crate::handle::{SyntaxNode, SyntaxToken};
@@ -19,6 +19,19 @@ pub(crate) fn numbered(tree: u32, cursor: rowan::SyntaxElement<RustLanguage>) ->
     match cursor {
         NodeOrToken::Node(cursor) => SyntaxElement::Node(SyntaxNode::of(tree, cursor)),
         NodeOrToken::Token(cursor) => SyntaxElement::Token(SyntaxToken::of(tree, cursor)),
+    }
+}
+
+/// The same, if there is a cursor.
+pub(crate) fn numbered_if(
+    tree: u32,
+    cursor: Option<rowan::SyntaxElement<RustLanguage>>,
+) -> Option<SyntaxElement>
+    ensures { result ≡ option_map (with_cursor tree) cursor }
+{
+    match cursor {
+        Some(cursor) => Some(numbered(tree, cursor)),
+        None => None,
     }
 }
 
@@ -178,6 +191,22 @@ impl Iterator for DescendantsWithTokens {
         match self.cursors.next()? {
             Ok(cursor) => Some(Ok(numbered(self.tree, cursor))),
             Err(e) => Some(Err(e)),
+        }
+    }
+}
+
+impl SyntaxElement {
+    /// A node, its parent, and so on up to the root; of a token those above it alone.
+    pub fn ancestors(&self) -> Result<Ancestors, AllocError>
+        ensures { IfOk result (λ a. a ≡ map (with_number (element_of self.now).number)
+            (element_ancestors (cursor_of self.now))) }
+    {
+        match self {
+            SyntaxElement::Node(node) => node.ancestors(),
+            SyntaxElement::Token(token) => Ok(Ancestors {
+                tree: token.tree(),
+                cursors: token.cursor().parent_ancestors()?,
+            }),
         }
     }
 }

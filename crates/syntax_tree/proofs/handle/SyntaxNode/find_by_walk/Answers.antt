@@ -10,7 +10,7 @@ use Rattle.syntax_tree.specs.Handle.{element_of, with_cursor}
 use Rattle.syntax_tree.specs.Search.{is_of, first_in, first_of}
 use Rattle.syntax_tree.specs.declared.element.SyntaxElement.{SyntaxElement}
 use Rattle.syntax_tree.proofs.NestedWalks.{Nested, walk_nested, GoesOn, goes_over}
-use Rattle.syntax_tree.proofs.handle.SyntaxNode.find.Goals as goal
+use Rattle.syntax_tree.proofs.handle.SyntaxNode.find_by_walk.Goals as goal
 
 pub loop-event-init : goal.loop-event-init
 loop-event-init c =

@@ -3,7 +3,7 @@ use Rattle.rowan.specs.Walk.{entered}
 use Rattle.syntax_tree.specs.Handle.{with_cursor}
 use Rattle.syntax_tree.specs.Search.{first_in, first_of}
 use Rattle.syntax_tree.proofs.NestedWalks.{Nested}
-use Rattle.syntax_tree.proofs.handle.SyntaxNode.find.Given as goal
+use Rattle.syntax_tree.proofs.handle.SyntaxNode.find_by_walk.Given as goal
 
 abbrev pub invariant-loop-event : goal.invariant-loop-event
 invariant-loop-event l = record {
