@@ -51,15 +51,7 @@ fn child(
 ) -> Result<Option<SyntaxElement>, AllocError>
     ensures { IfOk result (λ c. c ≡ child parent.now number) }
 {
-    let mut left = number;
-    for child in parent.children_with_tokens(alloc)? {
-        let child = child?;
-        if left == 0 {
-            return Ok(Some(child));
-        }
-        left -= 1;
-    }
-    Ok(None)
+    parent.nth_child_or_token(alloc, number)
 }
 
 /// What comes before an element that is put into the gap of this number.

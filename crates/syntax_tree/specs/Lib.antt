@@ -6,5 +6,4 @@ pub mod Position
 pub mod Refusal
 pub mod Referred
 pub mod Search
-pub mod Replacement
 pub mod Same

@@ -1,7 +1,8 @@
 //! The elements around a node, as iterators.
 ghost use Rattle.std.specs.Prelude.{◌≡◌, map, option_map, IfOk};
 ghost use Rattle.rowan_green.specs.declared.utility_types.NodeOrToken.TheVariants.{Node};
-ghost use Rattle.rowan.specs.Around.{ancestors, element_ancestors, children, nodes};
+ghost use Rattle.rowan.specs.Place.{below};
+ghost use Rattle.rowan.specs.Around.{ancestors, cursor_at, element_ancestors, children, nodes};
 ghost use Rattle.rowan.specs.Walk.{walk};
 ghost use Rattle.syntax_tree.specs.Handle.{element_of, cursor_of, with_place, with_number, with_cursor};
 
@@ -220,6 +221,20 @@ impl SyntaxNode {
             tree: self.tree(),
             cursors: self.cursor().ancestors()?,
         })
+    }
+
+    /// The child of this number, counted from 0, nodes and tokens alike. No cursor is made for those
+    /// before it.
+    pub fn nth_child_or_token(
+        &self,
+        alloc: Global,
+        number: usize,
+    ) -> Result<Option<SyntaxElement>, AllocError>
+        ensures { IfOk result (λ child. child ≡
+            option_map (with_cursor self.now.number) (cursor_at (below self.now.place number))) }
+    {
+        let child = self.cursor().nth_child_or_token(alloc, number)?;
+        Ok(numbered_if(self.tree(), child))
     }
 
     /// The children that are nodes, in order.

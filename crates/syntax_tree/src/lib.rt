@@ -14,7 +14,6 @@ pub mod iter;
 pub mod language;
 pub mod mapping;
 pub mod position;
-pub mod replace;
 mod same;
 pub mod tree_ids;
 pub mod ways;

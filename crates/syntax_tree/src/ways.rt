@@ -4,7 +4,6 @@ ghost use Rattle.syntax_tree.specs.Handle.{element_of, standing_at};
 
 use crate::element::SyntaxElement;
 use crate::handle::SyntaxNode;
-use crate::iter::numbered;
 use std::alloc::{AllocError, Global};
 
 impl SyntaxNode {
@@ -13,11 +12,7 @@ impl SyntaxNode {
         ensures { IfOk result (λ r. option_map element_of r
             ≡ standing_at self.now (number ∷ self.now.place.up)) }
     {
-        let found = self.cursor().nth_child_or_token(alloc, number)?;
-        match found {
-            Some(cursor) => Ok(Some(numbered(self.tree(), cursor))),
-            None => Ok(None),
-        }
+        self.nth_child_or_token(alloc, number)
     }
 }
 

@@ -1,18 +1,23 @@
--- The child of a number is what is left at the head of the children once so many are passed.
-use Rattle.std.proofs.Common.{◌≡◌, [], ◌∷◌, Some, None, ap, sym, ◌∙◌, arith, slice_get}
-use Rattle.std.proofs.lemmas.Option.{slice_get_past}
-use Rattle.rowan.proofs.Walks.{first_given}
+-- The child of a number is what stands there in the list of all children.
+use Rattle.std.proofs.Common.{◌≡◌, ℕ, zero, suc, ◌+◌, List, [], ◌∷◌, Some, None, refl, ap, sym, ◌∙◌, arith, drop, map, slice_get, option_map, Option}
+use Rattle.std.proofs.lemmas.Option.{slice_get-map}
+use Rattle.rowan_green.specs.Term.{Term}
+use Rattle.rowan.specs.Place.{Place, below, terms_below}
+use Rattle.rowan.specs.Around.{Cursor, children, cursor_at, cursor_in, cursor_of, numbered}
+use Rattle.syntax_tree.specs.Handle.{with_cursor}
 use Rattle.syntax_editor.proofs.spaced.child.Goals as goal
 
-pub returns-then-left-eq0 : goal.returns-then-left-eq0
-returns-then-left-eq0 c =
-    let e = first_given _ _ _ _ c.in_ok-child.was c.in-Some.ensures.steps in
-    let first : slice_get c.loop-child.child-iterator c.loop-child.left ≡ Some c.in_ok-child.child =
-    ap (λ xs. slice_get xs c.loop-child.left) e ∙ ap (slice_get (c.in_ok-child.child ∷ c.next.new.self)) c.if-left-eq0.true in
-    sym first ∙ c.loop-child.invariant.same
+numbered_at : (p : Place) (j : ℕ) (es : List Term) (i : ℕ) → slice_get (numbered p j es) i ≡ cursor_in (below p (j + i)) (slice_get es i)
+numbered_at p j [] i = refl
+numbered_at p j (e ∷ es) zero =
+    let n : j ≡ j + 0 = omega arith in
+    ap (λ (k : ℕ). Some (cursor_of (below p k) e)) n
+numbered_at p j (e ∷ es) (suc i) =
+    let n : j + 1 + i ≡ j + suc i = omega arith in
+    numbered_at p (j + 1) es i ∙ ap (λ (k : ℕ). cursor_in (below p k) (slice_get es i)) n
+
+child_at : (n : ℕ) (p : Place) (i : ℕ) → option_map (with_cursor n) (cursor_at (below p i)) ≡ slice_get (map (with_cursor n) (children p)) i
+child_at n p i = sym (slice_get-map (with_cursor n) (children p) i ∙ ap (option_map (with_cursor n)) (numbered_at p 0 (drop 0 (terms_below p)) i))
 
 pub returns : goal.returns
-returns c =
-    let none : slice_get c.loop-child.child-iterator c.loop-child.left ≡ None =
-    ap (λ xs. slice_get xs c.loop-child.left) c.in-None.ensures.steps.0 ∙ slice_get_past [] c.loop-child.left (omega arith) in
-    sym none ∙ c.loop-child.invariant.same
+returns c = ?
