@@ -27,11 +27,11 @@ pub enum Refusal {
     Float,
     /// An edit begins after its end, ends after the text, or has an end inside of a character.
     Range,
-    /// A text would have more than 16,777,216 bytes.
+    /// The document's text would have more than 16,777,216 bytes.
     TooLong,
     /// No element of the text has the target's kind and bytes.
     NoTarget,
-    /// The text to be put is not what it is to be read as.
+    /// The text to be put is not what it is to be read as, or has more than 16,777,216 bytes.
     Payload,
     /// Nothing stands beside the root.
     NoParent,

@@ -1,4 +1,5 @@
 //! What no contract says: that calls succeed where memory is ample. A row edits a tree that is built by hand, and says what must come of it.
+mod above;
 mod copy;
 mod doing;
 mod handles;
@@ -10,6 +11,7 @@ mod told;
 mod tree;
 mod typed;
 
+use crate::tests::above::kinds_above;
 use crate::tests::copy::edited_copy;
 use crate::tests::doing::{Do, Gap, answer, found_text};
 use crate::tests::levels::{between, has_level};
@@ -17,11 +19,11 @@ use crate::tests::merge::{merged, unmerged};
 use crate::tests::spaced::spaced;
 use crate::tests::told::told;
 use crate::tests::tree::Tree;
-use crate::tests::typed::{casts, stripped, typed_copy};
+use crate::tests::typed::{casts, holds_clone_and_other, stripped, typed_copy};
 use parser_input::SyntaxKind;
 use std::alloc::Global;
 use std::test::Fail;
-use syntax_editor::{IndentLevel, Space, SyntaxFactory};
+use syntax_editor::{Annotations, IndentLevel, Space, SyntaxFactory};
 use syntax_tree::TreeIds;
 
 /// A tree, what is done to it, and what comes of that.
@@ -437,6 +439,27 @@ fn typed_nodes_are_edited_as_copies(rt: HostRuntime) -> Result<(), Fail> {
     let is_copy = copy.as_str() == "2 {\n\n        a\n   } true";
     drop(copy);
     assert!(rt; is_copy);
+    Ok(())
+}
+
+#[test]
+fn typed_nodes_are_those_of_their_tree(rt: HostRuntime) -> Result<(), Fail> {
+    assert!(rt; holds_clone_and_other(rt.alloc())? == [true, false]);
+    Ok(())
+}
+
+#[test]
+fn what_is_above_an_element_begins_with_a_node(rt: HostRuntime) -> Result<(), Fail> {
+    assert!(rt; kinds_above(rt.alloc(), &[0, 1])?.as_str() == " LITERAL ARG_LIST");
+    assert!(rt; kinds_above(rt.alloc(), &[1])?.as_str() == " LITERAL ARG_LIST");
+    Ok(())
+}
+
+#[test]
+fn marks_come_one_after_another(rt: HostRuntime) -> Result<(), Fail> {
+    let mut marks = Annotations::new();
+    let first = marks.next()?;
+    assert!(rt; first < marks.next()?);
     Ok(())
 }
 

@@ -24,7 +24,7 @@ commit_message_of Foreign = codes "of another tree"
 commit_message_of Intersecting = codes "two changes replace one element"
 commit_message_of MissingMapping = codes "a change in a replaced node has no place in what replaces it"
 commit_message_of TooLong = codes "too long"
-commit_message_of Unfaithful = codes "not what its text says"
+commit_message_of Unfaithful = codes "the new text does not read as the rewritten tree"
 commit_message_of NoTreeNumber = codes "no tree number is left"
 commit_message_of NoMemory = codes "out of memory"
 

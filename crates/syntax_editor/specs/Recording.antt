@@ -67,7 +67,7 @@ with_single (c ∷ cs) w new = if is_single_at w c then over c (replace w 0 new 
 pub data Recording : Type 0 where
   -- an element or a gap is not one of the edited tree
   Foreign : Recording
-  -- the ends are no children of one parent, in order
+  -- the ends are not children of one parent in order
   BadRange : Recording
   -- the root is deleted, or replaced by something else than one node named alone
   BadTarget : Recording

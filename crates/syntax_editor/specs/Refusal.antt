@@ -27,8 +27,8 @@ RefusesRecord r records.NoMemory = Unit {0}
 
 abbrev pub record_message : RecordError → List ℕ
 record_message records.Foreign = codes "of another tree"
-record_message records.BadRange = codes "no children of one parent, in order"
-record_message records.BadTarget = codes "the root only becomes one other node"
+record_message records.BadRange = codes "the ends are not children of one parent in order"
+record_message records.BadTarget = codes "the root can only be replaced by one node"
 record_message records.NoMemory = codes "out of memory"
 
 -- only an editor of this tree, by number and by what stands there, is merged; out of memory only after that

@@ -11,7 +11,7 @@ pub enum RecordError {
     /// An element or a position is not one of the edited tree: another tree number, or no element
     /// of that kind stands there.
     Foreign = 1,
-    /// The ends are no children of one parent, in order.
+    /// The ends are not children of one parent in order.
     BadRange = 2,
     /// The root would be deleted, or become something else than one node.
     BadTarget = 3,
@@ -28,8 +28,8 @@ impl fmt::Display for RecordError {
     fn fmt<W: fmt::Write>(&self, f: &mut fmt::Formatter<W>) -> fmt::Result {
         match self {
             RecordError::Foreign => write!(f, "of another tree"),
-            RecordError::BadRange => write!(f, "no children of one parent, in order"),
-            RecordError::BadTarget => write!(f, "the root only becomes one other node"),
+            RecordError::BadRange => write!(f, "the ends are not children of one parent in order"),
+            RecordError::BadTarget => write!(f, "the root can only be replaced by one node"),
             RecordError::NoMemory => write!(f, "out of memory"),
         }
     }

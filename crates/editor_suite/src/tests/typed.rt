@@ -2,6 +2,7 @@
 use crate::tests::tree::{Tree, root};
 use parser_input::SyntaxKind;
 use std::alloc::Global;
+use std::collections::HashSet;
 use std::test::Fail;
 use syntax_editor::{
     AttrsOwnerEdit, Fn, ItemList, SourceFile, StmtList, Struct, SyntaxEditor, Use,
@@ -40,6 +41,17 @@ pub(crate) fn typed_copy(alloc: Global) -> Result<String, Fail> {
     let is_root = *editor.root() == *root.syntax();
     let text = editor.root().cursor().text()?;
     Ok(format!(in alloc; "{} {text} {is_root}", editor.root().tree())?)
+}
+
+/// Whether a set that holds a typed node holds a clone of it, and the same node of another tree.
+pub(crate) fn holds_clone_and_other(alloc: Global) -> Result<[bool; 2], Fail> {
+    let mut ids = TreeIds::new();
+    let list = statements(alloc, &mut ids)?;
+    let clone = list.clone()?;
+    let other = statements(alloc, &mut ids)?;
+    let mut set = HashSet::new(alloc);
+    set.insert(list)?;
+    Ok([set.contains(&clone), set.contains(&other)])
 }
 
 /// The text of a struct without its attributes and its documentation.
