@@ -1,5 +1,5 @@
 -- The child of a number is what stands there in the list of all children.
-use Rattle.std.proofs.Common.{◌≡◌, ℕ, zero, suc, ◌+◌, List, [], ◌∷◌, Some, None, refl, ap, sym, ◌∙◌, arith, drop, map, slice_get, option_map, Option}
+use Rattle.std.proofs.Common.{◌≡◌, ℕ, zero, suc, ◌+◌, List, [], ◌∷◌, Some, None, refl, ap, sym, ◌∙◌, arith, map, slice_get, option_map, Option}
 use Rattle.std.proofs.lemmas.Option.{slice_get-map}
 use Rattle.rowan_green.specs.Term.{Term}
 use Rattle.rowan.specs.Place.{Place, below, terms_below}
@@ -17,7 +17,10 @@ numbered_at p j (e ∷ es) (suc i) =
     numbered_at p (j + 1) es i ∙ ap (λ (k : ℕ). cursor_in (below p k) (slice_get es i)) n
 
 child_at : (n : ℕ) (p : Place) (i : ℕ) → option_map (with_cursor n) (cursor_at (below p i)) ≡ slice_get (map (with_cursor n) (children p)) i
-child_at n p i = sym (slice_get-map (with_cursor n) (children p) i ∙ ap (option_map (with_cursor n)) (numbered_at p 0 (drop 0 (terms_below p)) i))
+child_at n p i =
+    let number : 0 + i ≡ i = omega arith in
+    let standing = numbered_at p 0 (terms_below p) i ∙ ap (λ (k : ℕ). cursor_in (below p k) (slice_get (terms_below p) i)) number in
+    sym (slice_get-map (with_cursor n) (children p) i ∙ ap (option_map (with_cursor n)) standing)
 
 pub returns : goal.returns
 returns c = ?
