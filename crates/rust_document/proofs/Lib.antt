@@ -24,3 +24,4 @@ pub mod Solid
 pub mod Bound
 pub mod After
 pub mod AnnotatedRanges
+pub mod Alike

@@ -18,13 +18,14 @@ use Rattle.rust_document.specs.declared.read.Reading.{Reading}
 use Rattle.rust_document.specs.declared.error.CommitError.{CommitError}
 use Rattle.rust_document.specs.declared.error.CommitError.TheVariants as refusals
 
-abbrev chosen : Bool → Bool → Bool → Bool → Bool → Verdict
+-- the verdict by what is foreign, intersecting, missing, too long and unfaithful
+abbrev pub chosen : Bool → Bool → Bool → Bool → Bool → Verdict
 chosen f i m l u = first_fit (row f Foreign ∷ row i Intersecting ∷ row m MissingMapping ∷ row l TooLong ∷ row u Unfaithful ∷ []) Accepted
 
-abbrev misses : Editing → Bool
+abbrev pub misses : Editing → Bool
 misses e = is_none (jobs e.top e.changes e.mapping)
 
-verdict-is :
+pub verdict-is :
     (d : State) (e : Editing) (f i m l u : Bool) → is_foreign d e ≡ f → has_collision e.changes ≡ i → misses e ≡ m → is_too_long e ≡ l
     → not (is_faithful d.edition (rewritten e)) ≡ u → verdict d e ≡ chosen f i m l u
 verdict-is d e f i m l u p q r s t = λ j. chosen (p j) (q j) (r j) (s j) (t j)

@@ -1,5 +1,5 @@
 -- What holds of every document.
-use Rattle.std.specs.Prelude.{◌≡◌, ℕ, Bool, true, List, [], take, drop, length, chars, encode_utf8_all, Some}
+use Rattle.std.specs.Prelude.{◌≡◌, ℕ, Bool, true, false, List, [], ◌∷◌, ◌++◌, take, drop, length, chars, encode_utf8_all, Some}
 use Rattle.std.specs.Str.{IsUtf8}
 use Rattle.rowan_green.specs.Leaf.{Leaf}
 use Rattle.rowan_green.specs.Forest.{tree_text}
@@ -17,7 +17,9 @@ use Rattle.rust_document.specs.Brackets.{are_token_trees_closed}
 use Rattle.rust_document.specs.Operators.{are_operators_placed}
 use Rattle.rust_document.specs.Shape.{kinds_of, kinds_from, dots}
 use Rattle.rust_document.specs.Tokens.{tokens_of}
-use Rattle.syntax_editor.specs.Editing.{untouched}
+use Rattle.tree_rewrite.specs.Change.{Change}
+use Rattle.tree_rewrite.specs.Orders.{same_gap_at}
+use Rattle.syntax_editor.specs.Editing.{Editing, untouched, with_changes}
 use Rattle.rust_document.specs.Rewrite.{rewritten}
 use Rattle.rust_document.specs.Step.{State, present, root_element, verdict, Accepted}
 
@@ -76,3 +78,13 @@ TokenTreesAreClosed =
 abbrev pub OperatorsBindByPower : Type 0
 OperatorsBindByPower =
     (edition : Edition) (text : List ℕ) → messages edition text ≡ [] → are_operators_placed (kinds_from (tree edition text)) ≡ true
+
+-- two editors end alike: with one verdict, and where that is acceptance, in one tree, and so in one text
+pub record CommitsAlike (d : State) (e f : Editing) : Type 0 where
+  pub verdicts : verdict d e ≡ verdict d f
+  pub trees : verdict d e ≡ Accepted → rewritten e ≡ rewritten f
+
+-- Two neighbouring changes may be recorded in either order, unless both put into one gap.
+abbrev pub SwapsAreOne : Type 0
+SwapsAreOne = (d : State) (e : Editing) (before after : List Change) (one other : Change) → same_gap_at one other ≡ false
+    → CommitsAlike d (with_changes e (before ++ one ∷ (other ∷ after))) (with_changes e (before ++ other ∷ (one ∷ after)))

@@ -148,7 +148,10 @@ impl fmt::Display for CommitError {
                 )
             }
             CommitError::TooLong => write!(f, "too long"),
-            CommitError::Unfaithful => write!(f, "the new text does not read as the rewritten tree"),
+            CommitError::Unfaithful => write!(
+                f,
+                "the new text does not read as the rewritten tree"
+            ),
             CommitError::NoTreeNumber => write!(f, "no tree number is left"),
             CommitError::NoMemory => write!(f, "out of memory"),
         }

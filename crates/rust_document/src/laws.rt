@@ -1,8 +1,10 @@
-//! Laws of the definitions. Each is the contract of a function that makes no call.
+//! Laws of the definitions. Each is the contract of a function that calls other laws, or none.
 
 ghost use Rattle.rust_document.specs.EditLaws.{EditsAreUndone};
-ghost use Rattle.rust_document.specs.Laws.{TreesHaveTheirTexts, LeavesAreSlices, TextsDecide, PointersFollowTexts, UntouchedIsKept, KindsFollowInputs, OperatorsBindByPower, TokenTreesAreClosed};
+ghost use Rattle.rust_document.specs.Laws.{TreesHaveTheirTexts, LeavesAreSlices, TextsDecide, PointersFollowTexts, SwapsAreOne, UntouchedIsKept, KindsFollowInputs, OperatorsBindByPower, TokenTreesAreClosed};
 ghost use Rattle.rust_document.specs.OperatorExamples.{PlacedOperatorsAreTold};
+
+use tree_rewrite::laws;
 
 /// The leaves of a text's tree, joined, are the text.
 pub fn trees_have_their_texts()
@@ -58,3 +60,11 @@ pub fn operators_bind_by_power()
 pub fn edits_are_undone()
     ensures { EditsAreUndone }
 {}
+
+/// Two neighbouring changes that do not both put into one gap may be recorded in either order:
+/// neither the verdict of a commit nor the text that it accepts depends on it.
+pub fn swaps_are_one()
+    ensures { SwapsAreOne }
+{
+    laws::swaps_agree();
+}
