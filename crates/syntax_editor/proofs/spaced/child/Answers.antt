@@ -1,10 +1,11 @@
 -- The child of a number is what stands there in the list of all children.
-use Rattle.std.proofs.Common.{◌≡◌, ℕ, zero, suc, ◌+◌, List, [], ◌∷◌, Some, None, refl, ap, sym, ◌∙◌, arith, map, slice_get, option_map, Option}
+use Rattle.std.proofs.Common.{◌≡◌, ℕ, zero, suc, ◌+◌, List, [], ◌∷◌, Some, None, refl, ap, sym, ◌∙◌, arith, map, slice_get, option_map, Option, IfOk, subst}
 use Rattle.std.proofs.lemmas.Option.{slice_get-map}
 use Rattle.rowan_green.specs.Term.{Term}
 use Rattle.rowan.specs.Place.{Place, below, terms_below}
 use Rattle.rowan.specs.Around.{Cursor, children, cursor_at, cursor_in, cursor_of, numbered}
 use Rattle.syntax_tree.specs.Handle.{with_cursor}
+use Rattle.syntax_tree.specs.declared.element.SyntaxElement.{SyntaxElement}
 use Rattle.syntax_editor.proofs.spaced.child.Goals as goal
 
 numbered_at : (p : Place) (j : ℕ) (es : List Term) (i : ℕ) → slice_get (numbered p j es) i ≡ cursor_in (below p (j + i)) (slice_get es i)
@@ -23,4 +24,7 @@ child_at n p i =
     sym (slice_get-map (with_cursor n) (children p) i ∙ ap (option_map (with_cursor n)) standing)
 
 pub returns : goal.returns
-returns c = ?
+returns c =
+    let parent = c.args.parent.now in
+    let P : Option SyntaxElement → Type 0 = λ child. IfOk c.nth_child_or_token.result (λ r. r ≡ child) in
+    subst P (child_at parent.number parent.place c.args.number) c.nth_child_or_token.ensures
