@@ -7,6 +7,7 @@ mod comments;
 mod commits;
 mod edits;
 mod merged;
+mod no_text;
 mod opening;
 mod payloads;
 mod recording;

@@ -1,7 +1,8 @@
 //! Reads cases: each line of the input is a JSON object with an edition, what the text is read as, the text, the lines of its tree, and
 //! the messages, each as its offset and its words. Prints the cases that are read otherwise, and how many there are of both.
 //!
-//! The cases that lie beside it were computed by a slow, plain reader of the rules that shares no code with these crates.
+//! Of the cases that lie beside it, those with a name were worked by hand; the others were computed by a slow, plain reader of the rules
+//! that shares no code with these crates.
 #![tactic(auto)]
 
 use anyhow::Context;

@@ -4,7 +4,7 @@ use parser_input::SyntaxKind;
 use rowan_green::{GreenNode, GreenNodeBuilder};
 use std::alloc::Global;
 use std::test::Fail;
-use syntax_editor::{IndentLevel, StmtList};
+use syntax_editor::{IndentLevel, SourceFile, StmtList};
 use syntax_tree::{AstNode, SyntaxElement, SyntaxMapping, SyntaxNode, TreeIds};
 
 /// A leaf: its kind and its text.
@@ -99,6 +99,30 @@ fn typed(alloc: Global) -> Result<String, Fail> {
     text_of(alloc, set_in.dedent(alloc, level, &mut ids)?.syntax())
 }
 
+/// Set out by its own level, as a typed node.
+fn typed_reset(alloc: Global) -> Result<String, Fail> {
+    let mut ids = TreeIds::new();
+    let Some(list) = StmtList::cast(inner(alloc, &mut ids)?) else {
+        return Err(Fail::new("of another type"));
+    };
+    text_of(alloc, list.reset_indent(alloc, &mut ids)?.syntax())
+}
+
+/// A file set in by one step, as a typed node; its list is mapped.
+fn typed_mapped(alloc: Global) -> Result<String, Fail> {
+    let mut ids = TreeIds::new();
+    let root = SyntaxNode::new_root(alloc, file(alloc, BLOCK)?, &mut ids)?;
+    let Some(file) = SourceFile::cast(root) else {
+        return Err(Fail::new("of another type"));
+    };
+    let mut mapping = SyntaxMapping::new(alloc);
+    let new = file.indent_with_mapping(alloc, IndentLevel(1), &mut mapping, &mut ids)?;
+    if mapping.len() != 1 {
+        return Err(Fail::new("not mapped"));
+    }
+    text_of(alloc, new.syntax())
+}
+
 /// A file set in by one step; its list is mapped.
 fn mapped(alloc: Global) -> Result<String, Fail> {
     let mut ids = TreeIds::new();
@@ -140,5 +164,17 @@ fn lines_are_set_out_by_their_own_level(rt: HostRuntime) -> Result<(), Fail> {
 #[test]
 fn typed_nodes_are_set_in_and_out(rt: HostRuntime) -> Result<(), Fail> {
     assert!(rt; typed(rt.alloc())?.as_str() == "{\n        a\n    }");
+    Ok(())
+}
+
+#[test]
+fn typed_nodes_are_set_out_by_their_own_level(rt: HostRuntime) -> Result<(), Fail> {
+    assert!(rt; typed_reset(rt.alloc())?.as_str() == "{\n    a\n}");
+    Ok(())
+}
+
+#[test]
+fn child_nodes_of_typed_nodes_are_mapped(rt: HostRuntime) -> Result<(), Fail> {
+    assert!(rt; typed_mapped(rt.alloc())?.as_str() == "\n        {\n            a\n        }");
     Ok(())
 }

@@ -1,10 +1,11 @@
 //! Edits by hand.
-use super::{Place, open, range, spaces};
+use super::opening::{Row, is_row};
+use super::{IDENT, SEMICOLON, SPACE, open, range, spaces};
 use parser_input::edition::Edition;
 use parser_input::syntax_kind::SyntaxKind;
 use rowan_green::TextRange;
-use rust_document::{Document, EditError, MAX_TEXT};
-use std::alloc::{AllocError, Global};
+use rust_document::{CommitError, Document, EditError, MAX_TEXT};
+use std::alloc::Global;
 use std::test::Fail;
 use syntax_tree::TreeIds;
 
@@ -25,80 +26,131 @@ fn put(
     }
 }
 
-/// A text, a range of it, and what an edit puts there; then the text, how many messages it has, and elements that it has.
-struct Row {
+/// A text, a range of it, and what an edit puts there; then the text with all that is read of it.
+struct Edit {
     text: &'static str,
     at: (u32, u32),
     new: &'static str,
-    becomes: &'static str,
-    messages: usize,
-    places: &'static [Place],
+    becomes: Row,
 }
 
-fn has(alloc: Global, document: &Document, (kind, start, end): Place) -> Result<bool, AllocError> {
-    Ok(document.find(alloc, kind, range(start, end))?.is_some())
-}
-
-fn has_all(alloc: Global, document: &Document, places: &[Place]) -> Result<bool, AllocError> {
-    for place in places {
-        if !has(alloc, document, *place)? {
-            return Ok(false);
-        }
-    }
-    Ok(true)
-}
-
-/// Whether a document is as a row says after its edit.
-fn becomes(alloc: Global, document: &Document, row: &Row) -> Result<bool, AllocError> {
-    let read = (document.text() == row.becomes) & (document.errors().len() == row.messages);
-    Ok(read & has_all(alloc, document, row.places)?)
-}
-
-/// Whether an edit of a text of edition 2021 makes what its row says.
-fn is_edited(alloc: Global, row: &Row) -> Result<bool, Fail> {
+/// Whether an edit of a text of edition 2021 makes what it says.
+fn is_edited(alloc: Global, edit: &Edit) -> Result<bool, Fail> {
     let mut ids = TreeIds::new();
-    let mut document = Document::open(alloc, Edition::Edition2021, row.text, &mut ids)?;
-    let at = range(row.at.0, row.at.1);
-    let refused = put(alloc, &mut document, at, row.new, &mut ids)?;
-    Ok(refused.is_none() & becomes(alloc, &document, row)?)
+    let mut document = Document::open(alloc, Edition::Edition2021, edit.text, &mut ids)?;
+    let at = range(edit.at.0, edit.at.1);
+    let refused = put(alloc, &mut document, at, edit.new, &mut ids)?;
+    Ok(refused.is_none() & is_row(alloc, &document, &edit.becomes)?)
 }
 
 /// A comment swallows an item.
-const SWALLOWED: Row = Row {
+const SWALLOWED: Edit = Edit {
     text: "struct S; struct T;",
     at: (9, 9),
     new: "//",
-    becomes: "struct S;// struct T;",
-    messages: 0,
-    places: &[(SyntaxKind::COMMENT, 9, 21), (SyntaxKind::STRUCT, 0, 9)],
+    becomes: Row {
+        text: "struct S;// struct T;",
+        tree: &[
+            ((SyntaxKind::SOURCE_FILE, 0, 21), &[]),
+            ((SyntaxKind::STRUCT, 0, 9), &[0]),
+            ((SyntaxKind::COMMENT, 9, 21), &[1]),
+        ],
+        tokens: &[
+            (SyntaxKind::STRUCT_KW, 0, 6),
+            SPACE,
+            IDENT,
+            SEMICOLON,
+            (SyntaxKind::COMMENT, 9, 21),
+        ],
+        errors: &[],
+    },
 };
 
 /// A field is taken away: the kinds of the tokens stay, but the float no longer touches what follows it.
-const NO_FIELD: Row = Row {
+const NO_FIELD: Edit = Edit {
     text: "fn f() { x.0.1; }",
     at: (13, 14),
     new: "",
-    becomes: "fn f() { x.0.; }",
-    messages: 1,
-    places: &[(SyntaxKind::FIELD_EXPR, 9, 13)],
+    becomes: Row {
+        text: "fn f() { x.0.; }",
+        tree: &[
+            ((SyntaxKind::EXPR_STMT, 9, 14), &[0, 5, 0, 2]),
+            ((SyntaxKind::FIELD_EXPR, 9, 13), &[0, 5, 0, 2, 0]),
+            ((SyntaxKind::FIELD_EXPR, 9, 12), &[0, 5, 0, 2, 0, 0]),
+            ((SyntaxKind::NAME_REF, 11, 12), &[0, 5, 0, 2, 0, 0, 2]),
+            ((SyntaxKind::DOT, 12, 13), &[0, 5, 0, 2, 0, 1]),
+            ((SyntaxKind::SEMICOLON, 13, 14), &[0, 5, 0, 2, 1]),
+        ],
+        tokens: &[
+            (SyntaxKind::FN_KW, 0, 2),
+            (SyntaxKind::WHITESPACE, 2, 3),
+            (SyntaxKind::IDENT, 3, 4),
+            (SyntaxKind::L_PAREN, 4, 5),
+            (SyntaxKind::R_PAREN, 5, 6),
+            (SyntaxKind::WHITESPACE, 6, 7),
+            (SyntaxKind::L_CURLY, 7, 8),
+            (SyntaxKind::WHITESPACE, 8, 9),
+            (SyntaxKind::IDENT, 9, 10),
+            (SyntaxKind::DOT, 10, 11),
+            (SyntaxKind::FLOAT_NUMBER, 11, 13),
+            (SyntaxKind::SEMICOLON, 13, 14),
+            (SyntaxKind::WHITESPACE, 14, 15),
+            (SyntaxKind::R_CURLY, 15, 16),
+        ],
+        errors: &[(13, "expected field name or number")],
+    },
 };
 
 /// A dash in front of the opening line, and there is no frontmatter any more.
-const UNCLOSED: Row = Row {
+const UNCLOSED: Edit = Edit {
     text: "---\n---\nstruct S;",
     at: (0, 0),
     new: "-",
-    becomes: "----\n---\nstruct S;",
-    messages: 7,
-    places: &[(SyntaxKind::STRUCT, 9, 18)],
+    becomes: Row {
+        text: "----\n---\nstruct S;",
+        tree: &[
+            ((SyntaxKind::ERROR, 0, 1), &[0]),
+            ((SyntaxKind::MINUS, 0, 1), &[0, 0]),
+            ((SyntaxKind::ERROR, 3, 4), &[3]),
+            ((SyntaxKind::WHITESPACE, 4, 5), &[4]),
+            ((SyntaxKind::ERROR, 5, 6), &[5]),
+            ((SyntaxKind::ERROR, 7, 8), &[7]),
+            ((SyntaxKind::WHITESPACE, 8, 9), &[8]),
+            ((SyntaxKind::STRUCT, 9, 18), &[9]),
+        ],
+        tokens: &[
+            (SyntaxKind::MINUS, 0, 1),
+            (SyntaxKind::MINUS, 1, 2),
+            (SyntaxKind::MINUS, 2, 3),
+            (SyntaxKind::MINUS, 3, 4),
+            (SyntaxKind::WHITESPACE, 4, 5),
+            (SyntaxKind::MINUS, 5, 6),
+            (SyntaxKind::MINUS, 6, 7),
+            (SyntaxKind::MINUS, 7, 8),
+            (SyntaxKind::WHITESPACE, 8, 9),
+            (SyntaxKind::STRUCT_KW, 9, 15),
+            (SyntaxKind::WHITESPACE, 15, 16),
+            (SyntaxKind::IDENT, 16, 17),
+            (SyntaxKind::SEMICOLON, 17, 18),
+        ],
+        errors: &[
+            (0, "expected an item"),
+            (1, "expected an item"),
+            (2, "expected an item"),
+            (3, "expected an item"),
+            (5, "expected an item"),
+            (6, "expected an item"),
+            (7, "expected an item"),
+        ],
+    },
 };
 
-const ROWS: &[Row] = &[SWALLOWED, NO_FIELD, UNCLOSED];
+const EDITS: &[Edit] = &[SWALLOWED, NO_FIELD, UNCLOSED];
 
 #[test]
 fn texts_are_read_again(rt: HostRuntime) -> Result<(), Fail> {
-    for row in ROWS {
-        assert!(rt; is_edited(rt.alloc(), row)?, "at {}", row.text);
+    for edit in EDITS {
+        assert!(rt; is_edited(rt.alloc(), edit)?, "at {}", edit.text);
     }
     Ok(())
 }
@@ -186,6 +238,66 @@ fn are_refused(alloc: Global) -> Result<bool, Fail> {
 #[test]
 fn refused_edits(rt: HostRuntime) -> Result<(), Fail> {
     assert!(rt; are_refused(rt.alloc())?);
+    Ok(())
+}
+
+/// A path alone is no item.
+const NO_ITEM: Row = Row {
+    text: "a",
+    tree: &[
+        ((SyntaxKind::SOURCE_FILE, 0, 1), &[]),
+        ((SyntaxKind::ERROR, 0, 1), &[0]),
+        ((SyntaxKind::PATH, 0, 1), &[0, 0]),
+        ((SyntaxKind::IDENT, 0, 1), &[0, 0, 0, 0, 0]),
+    ],
+    tokens: &[(SyntaxKind::IDENT, 0, 1)],
+    errors: &[(1, "expected an item")],
+};
+
+/// Why an editor with nothing recorded is not committed.
+fn commit_refusal(
+    alloc: Global,
+    document: &mut Document,
+    ids: &mut TreeIds,
+) -> Result<Option<CommitError>, Fail> {
+    let editor = document.editor(alloc)?;
+    Ok(document.commit(alloc, editor, ids).err())
+}
+
+/// Whether a text opened with the last number can be neither edited nor committed, and stays.
+fn is_the_last(alloc: Global) -> Result<bool, Fail> {
+    let mut ids = TreeIds::starting_at(u32::MAX);
+    let mut document = Document::open(alloc, Edition::Edition2021, NO_ITEM.text, &mut ids)?;
+    let edit = put(alloc, &mut document, range(0, 1), "b", &mut ids)?;
+    let commit = commit_refusal(alloc, &mut document, &mut ids)?;
+    let refused = (edit == Some(EditError::NoTreeNumber))
+        & (commit == Some(CommitError::NoTreeNumber));
+    let number = document.root().tree() == u32::MAX;
+    Ok(is_row(alloc, &document, &NO_ITEM)? & refused & number)
+}
+
+#[test]
+fn no_number_is_left(rt: HostRuntime) -> Result<(), Fail> {
+    assert!(rt; is_the_last(rt.alloc())?);
+    Ok(())
+}
+
+/// Whether an editor of `struct S;` from before an edit is refused, and the document is as the edit left it.
+fn is_foreign(alloc: Global, at: TextRange, new: &str, becomes: &str) -> Result<bool, Fail> {
+    let mut ids = TreeIds::starting_at(2);
+    let mut document = open(alloc, "struct S;")?;
+    let older = document.editor(alloc)?;
+    let edit = put(alloc, &mut document, at, new, &mut ids)?;
+    let commit = document.commit(alloc, older, &mut ids).err();
+    let stays = (document.text() == becomes) & (document.root().tree() == 2);
+    Ok(edit.is_none() & (commit == Some(CommitError::Foreign)) & stays)
+}
+
+/// An edit makes all older editors foreign, also one that puts nothing in.
+#[test]
+fn editors_from_before_an_edit(rt: HostRuntime) -> Result<(), Fail> {
+    assert!(rt; is_foreign(rt.alloc(), range(9, 9), " ", "struct S; ")?);
+    assert!(rt; is_foreign(rt.alloc(), range(0, 0), "", "struct S;")?);
     Ok(())
 }
 

@@ -227,7 +227,7 @@ const FIELDS: Row = Row {
 };
 
 /// A float behind a dot is the names of two fields.
-const FLOAT: Row = Row {
+pub(super) const FLOAT: Row = Row {
     text: "fn f() { x.0.1; }",
     tree: &[
         ((SyntaxKind::EXPR_STMT, 9, 15), &[0, 5, 0, 2]),
@@ -272,19 +272,81 @@ const FRONTMATTER: Row = Row {
     errors: &[],
 };
 
+/// A call of two arguments.
+pub(super) const CALL: Row = Row {
+    text: "fn f() { g(1, 2); }",
+    tree: &[
+        ((SyntaxKind::FN, 0, 19), &[0]),
+        ((SyntaxKind::EXPR_STMT, 9, 17), &[0, 5, 0, 2]),
+        ((SyntaxKind::CALL_EXPR, 9, 16), &[0, 5, 0, 2, 0]),
+        ((SyntaxKind::ARG_LIST, 10, 16), &[0, 5, 0, 2, 0, 1]),
+        ((SyntaxKind::LITERAL, 11, 12), &[0, 5, 0, 2, 0, 1, 1]),
+        ((SyntaxKind::LITERAL, 14, 15), &[0, 5, 0, 2, 0, 1, 4]),
+    ],
+    tokens: &[
+        (SyntaxKind::FN_KW, 0, 2),
+        (SyntaxKind::WHITESPACE, 2, 3),
+        (SyntaxKind::IDENT, 3, 4),
+        (SyntaxKind::L_PAREN, 4, 5),
+        (SyntaxKind::R_PAREN, 5, 6),
+        (SyntaxKind::WHITESPACE, 6, 7),
+        (SyntaxKind::L_CURLY, 7, 8),
+        (SyntaxKind::WHITESPACE, 8, 9),
+        (SyntaxKind::IDENT, 9, 10),
+        (SyntaxKind::L_PAREN, 10, 11),
+        (SyntaxKind::INT_NUMBER, 11, 12),
+        (SyntaxKind::COMMA, 12, 13),
+        (SyntaxKind::WHITESPACE, 13, 14),
+        (SyntaxKind::INT_NUMBER, 14, 15),
+        (SyntaxKind::R_PAREN, 15, 16),
+        (SyntaxKind::SEMICOLON, 16, 17),
+        (SyntaxKind::WHITESPACE, 17, 18),
+        (SyntaxKind::R_CURLY, 18, 19),
+    ],
+    errors: &[],
+};
+
+/// Before 2024 a `#` before a string is a token of its own: an attribute that lacks all else.
+pub(super) const NO_ATTRIBUTE: Row = Row {
+    text: "#\"a\" b",
+    tree: &[
+        ((SyntaxKind::SOURCE_FILE, 0, 6), &[]),
+        ((SyntaxKind::ERROR, 0, 1), &[0]),
+        ((SyntaxKind::ATTR, 0, 1), &[0, 0]),
+        ((SyntaxKind::ERROR, 1, 4), &[1]),
+        ((SyntaxKind::WHITESPACE, 4, 5), &[2]),
+        ((SyntaxKind::ERROR, 5, 6), &[3]),
+        ((SyntaxKind::PATH, 5, 6), &[3, 0]),
+    ],
+    tokens: &[
+        (SyntaxKind::POUND, 0, 1),
+        (SyntaxKind::STRING, 1, 4),
+        (SyntaxKind::WHITESPACE, 4, 5),
+        (SyntaxKind::IDENT, 5, 6),
+    ],
+    errors: &[
+        (1, "expected L_BRACK"),
+        (1, "expected META"),
+        (1, "expected R_BRACK"),
+        (1, "expected an item"),
+        (1, "expected an item"),
+        (6, "expected an item"),
+    ],
+};
+
 /// Whether a document is what a row says.
-fn is_row(alloc: Global, document: &Document, row: &Row) -> Result<bool, AllocError> {
+pub(super) fn is_row(alloc: Global, document: &Document, row: &Row) -> Result<bool, AllocError> {
     let tree = has_tree(alloc, document, row.tree)?;
     let errors = has_errors(alloc, document, row.errors)?;
-    let number = document.root().tree() == 1;
     let text = document.text() == row.text;
-    Ok(tree & has_tokens(document, row.tokens) & errors & number & text)
+    Ok(tree & has_tokens(document, row.tokens) & errors & text)
 }
 
-/// Whether a text is read as its row says.
+/// Whether a text is read as its row says, in a tree of the number 1.
 pub(super) fn is_read(alloc: Global, row: &Row) -> Result<bool, Fail> {
     let document = open(alloc, row.text)?;
-    Ok(is_row(alloc, &document, row)?)
+    let number = document.root().tree() == 1;
+    Ok(is_row(alloc, &document, row)? & number)
 }
 
 const READ: &[Row] = &[
@@ -297,6 +359,8 @@ const READ: &[Row] = &[
     FIELDS,
     FLOAT,
     FRONTMATTER,
+    CALL,
+    NO_ATTRIBUTE,
 ];
 
 #[test]

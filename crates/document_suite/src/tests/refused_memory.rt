@@ -1,5 +1,6 @@
 //! Calls that are made again where memory was refused: a refusal leaves the document as it was, and the same call then does what ample
 //! memory has it do. `bench/refused.py` runs these with each request for memory refused in turn.
+use super::opening::{CALL, FLOAT, NO_ATTRIBUTE, Row, is_row};
 use super::{Place, range};
 use parser_input::edition::Edition;
 use parser_input::syntax_kind::SyntaxKind;
@@ -20,13 +21,13 @@ fn opened(alloc: Global, text: &str, ids: &mut TreeIds) -> Result<Document, Fail
 /// Whether an edit gives this text, made again where memory was refused.
 fn is_edited(
     alloc: Global,
-    text: &str,
+    row: &Row,
     at: TextRange,
     put: &str,
     becomes: &str,
 ) -> Result<bool, Fail> {
     let mut ids = TreeIds::new();
-    let mut document = opened(alloc, text, &mut ids)?;
+    let mut document = opened(alloc, row.text, &mut ids)?;
     for _ in 0..2 {
         if !document.can_edit(at) {
             return Ok(false);
@@ -34,7 +35,7 @@ fn is_edited(
         let answer = document.edit(alloc, at, put, &mut ids);
         match answer {
             Err(EditError::NoMemory) => {
-                if document.text() != text {
+                if !is_row(alloc, &document, row)? {
                     return Ok(false);
                 }
             }
@@ -65,10 +66,9 @@ fn recorded(
 /// Whether the text of `fn f() { g(1, 2); }` is this once both literals became an expression, recorded and committed again where memory
 /// was refused.
 fn is_committed(alloc: Global, put: &str, becomes: &str) -> Result<bool, Fail> {
-    let text = "fn f() { g(1, 2); }";
     let places = [(SyntaxKind::LITERAL, 11, 12), (SyntaxKind::LITERAL, 14, 15)];
     let mut ids = TreeIds::new();
-    let mut document = opened(alloc, text, &mut ids)?;
+    let mut document = opened(alloc, CALL.text, &mut ids)?;
     for _ in 0..2 {
         if let Some(editor) = recorded(alloc, &document, places, put, &mut ids) {
             let refused = document.commit(alloc, editor, &mut ids).err();
@@ -76,7 +76,7 @@ fn is_committed(alloc: Global, put: &str, becomes: &str) -> Result<bool, Fail> {
                 return Ok(refused.is_none() & (document.text() == becomes));
             }
         }
-        if document.text() != text {
+        if !is_row(alloc, &document, &CALL)? {
             return Ok(false);
         }
     }
@@ -86,9 +86,8 @@ fn is_committed(alloc: Global, put: &str, becomes: &str) -> Result<bool, Fail> {
 #[test]
 fn refused_edits_change_nothing(rt: HostRuntime) -> Result<(), Fail> {
     let alloc = rt.alloc();
-    let chain = "fn f() { x.0.1; }";
-    assert!(rt; is_edited(alloc, chain, range(13, 14), "", "fn f() { x.0.; }")?);
-    assert!(rt; is_edited(alloc, "#\"a\" b", range(5, 6), "c", "#\"a\" c")?);
+    assert!(rt; is_edited(alloc, &FLOAT, range(13, 14), "", "fn f() { x.0.; }")?);
+    assert!(rt; is_edited(alloc, &NO_ATTRIBUTE, range(5, 6), "c", "#\"a\" c")?);
     Ok(())
 }
 

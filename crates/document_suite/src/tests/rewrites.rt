@@ -16,6 +16,8 @@ enum New {
     Expr(&'static str),
     /// A struct, as an item.
     Struct(&'static str),
+    /// A use, as an item.
+    Use(&'static str),
 }
 
 /// What becomes of an element.
@@ -27,14 +29,17 @@ enum Change {
     Before(New),
     /// Another one comes after it.
     After(New),
+    /// Another one comes after it, with the white space that has to be between them.
+    Spaced(New),
     Delete,
     /// It goes, with all siblings up to this one.
     DeleteTo(Place),
 }
 
-/// The struct that a text is.
-fn only_struct(
+/// The item of a kind that a text is.
+fn only_item(
     alloc: Global,
+    kind: SyntaxKind,
     text: &str,
     ids: &mut TreeIds,
 ) -> Result<Option<SyntaxElement>, Fail> {
@@ -42,8 +47,21 @@ fn only_struct(
     let file = payload(alloc, entry, Edition::Edition2021, text, ids)?;
     let whole = file.text_range();
     match &file {
-        SyntaxElement::Node(root) => Ok(root.find(alloc, SyntaxKind::STRUCT, whole)?),
+        SyntaxElement::Node(root) => Ok(root.find(alloc, kind, whole)?),
         SyntaxElement::Token(_token) => Ok(None),
+    }
+}
+
+/// An item of a kind, as an element.
+fn item(
+    alloc: Global,
+    kind: SyntaxKind,
+    text: &str,
+    ids: &mut TreeIds,
+) -> Result<SyntaxElement, Fail> {
+    match only_item(alloc, kind, text, ids)? {
+        Some(element) => Ok(element),
+        None => Err(Fail::new("no such item")),
     }
 }
 
@@ -56,10 +74,8 @@ fn made(alloc: Global, new: New, ids: &mut TreeIds) -> Result<SyntaxElement, Fai
             let entry = PayloadEntry::Top(TopEntryPoint::Expr);
             Ok(payload(alloc, entry, edition, text, ids)?)
         }
-        New::Struct(text) => match only_struct(alloc, text, ids)? {
-            Some(element) => Ok(element),
-            None => Err(Fail::new("no struct")),
-        },
+        New::Struct(text) => item(alloc, SyntaxKind::STRUCT, text, ids),
+        New::Use(text) => item(alloc, SyntaxKind::USE, text, ids),
     }
 }
 
@@ -114,6 +130,19 @@ fn insert(
     }
 }
 
+/// Records that an element comes after another, with white space between them.
+fn insert_spaced(
+    alloc: Global,
+    editor: &mut SyntaxEditor,
+    target: &SyntaxElement,
+    new: New,
+    ids: &mut TreeIds,
+) -> Result<(), Fail> {
+    let new = made(alloc, new, ids)?;
+    editor.insert_with_whitespace(alloc, Position::after(target)?, &new, ids)?;
+    Ok(())
+}
+
 /// Records that an element is deleted, with all siblings up to the one at a place of a document.
 fn delete_to(
     alloc: Global,
@@ -144,6 +173,7 @@ fn record_of(
         Change::Put(new) => replace(alloc, editor, target, new, ids),
         Change::Before(new) => insert(alloc, editor, (target, true), new, ids),
         Change::After(new) => insert(alloc, editor, (target, false), new, ids),
+        Change::Spaced(new) => insert_spaced(alloc, editor, target, new, ids),
         Change::Delete => delete(alloc, editor, target),
         Change::DeleteTo(last) => delete_to(alloc, document, editor, target, last),
     }
@@ -302,6 +332,14 @@ const TWO_AFTER: Row = Row {
     becomes: "struct S;struct B;struct A;",
 };
 
+/// A use has a line of its own.
+const USE_AFTER: Row = Row {
+    text: "struct S;",
+    changes: &[(FIRST, Change::Spaced(New::Use("use a;")))],
+    answer: Ok(&[(9, 10), (10, 16)]),
+    becomes: "struct S;\nuse a;",
+};
+
 const LINE_FEED: Row = Row {
     text: "struct S;",
     changes: &[(
@@ -342,6 +380,7 @@ const SEVERAL: &[Row] = &[
     TWICE,
     DELETED_AND_AFTER,
     TWO_AFTER,
+    USE_AFTER,
     LINE_FEED,
     IN_DELETED,
 ];

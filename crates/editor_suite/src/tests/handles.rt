@@ -52,6 +52,8 @@ enum Ask {
     Detached,
     Gaps,
     Mapped,
+    Added,
+    Merged,
     Refused,
 }
 
@@ -137,17 +139,41 @@ fn gaps(alloc: Global, out: &mut String, root: SyntaxNode) -> Result<(), Fail> {
     show_gap(alloc, out, Position::before(&SyntaxElement::Node(root)))
 }
 
-/// A mapping of the path to its copy in another tree.
-fn mapping(alloc: Global, root: &SyntaxNode, other: &SyntaxNode) -> Result<SyntaxMapping, Fail> {
+/// A builder that maps the path to its copy in another tree.
+fn builder(
+    alloc: Global,
+    root: &SyntaxNode,
+    other: &SyntaxNode,
+) -> Result<SyntaxMappingBuilder, Fail> {
     let mut builder = SyntaxMappingBuilder::new(alloc, other.clone()?)?;
     let input = path(alloc, root)?;
     builder.map_node(alloc, input, path(alloc, other)?)?;
+    Ok(builder)
+}
+
+/// A mapping of the path to its copy in another tree.
+fn mapping(alloc: Global, root: &SyntaxNode, other: &SyntaxNode) -> Result<SyntaxMapping, Fail> {
+    let builder = builder(alloc, root, other)?;
     let mut mapping = SyntaxMapping::new(alloc);
     builder.finish(&mut mapping)?;
     Ok(mapping)
 }
 
-/// What that mapping has at the path's way.
+/// How many entries a mapping has, and what it has at the path's way.
+fn show_mapping(
+    alloc: Global,
+    out: &mut String,
+    mapping: &SyntaxMapping,
+    root: &SyntaxNode,
+) -> Result<(), Fail> {
+    let count = format!(in alloc; "{};", mapping.len())?;
+    out.push_str(&count)?;
+    match mapping.image_at(root.tree(), &[0])? {
+        Some(image) => alone(alloc, out, &SyntaxElement::Node(image.clone()?)),
+        None => Ok(out.push_str("none")?),
+    }
+}
+
 fn mapped(
     alloc: Global,
     out: &mut String,
@@ -155,10 +181,29 @@ fn mapped(
     other: &SyntaxNode,
 ) -> Result<(), Fail> {
     let mapping = mapping(alloc, root, other)?;
-    match mapping.image_at(root.tree(), &[0])? {
-        Some(image) => alone(alloc, out, &SyntaxElement::Node(image.clone()?)),
-        None => Ok(out.push_str("none")?),
-    }
+    show_mapping(alloc, out, &mapping, root)
+}
+
+/// A mapping to one tree, and after that what a builder has to another.
+fn added(
+    alloc: Global,
+    out: &mut String,
+    (root, other, newer): (&SyntaxNode, &SyntaxNode, &SyntaxNode),
+) -> Result<(), Fail> {
+    let mut mapping = mapping(alloc, root, other)?;
+    mapping.add_mapping(builder(alloc, root, newer)?)?;
+    show_mapping(alloc, out, &mapping, root)
+}
+
+/// A mapping to one tree, and after that a mapping to another.
+fn merged(
+    alloc: Global,
+    out: &mut String,
+    (root, other, newer): (&SyntaxNode, &SyntaxNode, &SyntaxNode),
+) -> Result<(), Fail> {
+    let mut whole = mapping(alloc, root, other)?;
+    whole.merge(mapping(alloc, root, newer)?)?;
+    show_mapping(alloc, out, &whole, root)
 }
 
 fn show_refusal(out: &mut String, refused: Result<(), MappingError>) -> Result<(), Fail> {
@@ -244,6 +289,23 @@ fn answer_of_two(
     }
 }
 
+/// What is asked of three trees.
+fn answer_of_three(
+    alloc: Global,
+    out: &mut String,
+    is_merged: bool,
+    ids: &mut TreeIds,
+) -> Result<(), Fail> {
+    let tree = root(alloc, ids)?;
+    let other = root(alloc, ids)?;
+    let newer = root(alloc, ids)?;
+    if is_merged {
+        merged(alloc, out, (&tree, &other, &newer))
+    } else {
+        added(alloc, out, (&tree, &other, &newer))
+    }
+}
+
 /// What is asked of one tree.
 fn answer_of_one(alloc: Global, out: &mut String, ask: Ask, ids: &mut TreeIds) -> Result<(), Fail> {
     let tree = root(alloc, ids)?;
@@ -262,6 +324,8 @@ fn is_met(alloc: Global, (ask, expected): &Row) -> Result<bool, Fail> {
     match ask {
         Ask::Mapped => answer_of_two(alloc, &mut out, true, &mut ids)?,
         Ask::Refused => answer_of_two(alloc, &mut out, false, &mut ids)?,
+        Ask::Added => answer_of_three(alloc, &mut out, false, &mut ids)?,
+        Ask::Merged => answer_of_three(alloc, &mut out, true, &mut ids)?,
         _ => answer_of_one(alloc, &mut out, *ask, &mut ids)?,
     }
     Ok(out.as_str() == *expected)
@@ -273,7 +337,9 @@ const ROWS: &[Row] = &[
     (Ask::Subtree, "2 PATH;"),
     (Ask::Detached, "2 IDENT 0;"),
     (Ask::Gaps, "0;1;2;NoParent;"),
-    (Ask::Mapped, "2 PATH 0;"),
+    (Ask::Mapped, "1;2 PATH 0;"),
+    (Ask::Added, "2;3 PATH 0;"),
+    (Ask::Merged, "2;3 PATH 0;"),
     (Ask::Refused, "Order;NotChild;MoreInputs;Ok;"),
 ];
 

@@ -66,6 +66,22 @@ impl Write for FailAt<'_> {
     }
 }
 
+/// What an endless reader gives for each read.
+const SPACE: &[u8] = b" ";
+
+/// A reader that gives one space for each read, and never ends.
+#[derive(Drop)]
+struct Endless;
+
+impl Read for Endless {
+    fn read(&mut self, buf: &mut [u8]) -> io::Result<usize> {
+        let count = SPACE.len().min(buf.len());
+        let (now, _) = SPACE.split_at(count);
+        buf[..count].copy_from_slice(now);
+        Ok(count)
+    }
+}
+
 /// A writer that takes nothing.
 #[derive(Drop)]
 struct Full;
@@ -126,6 +142,19 @@ fn none_fails(rt: HostRuntime) -> Result<(), Fail> {
     Ok(())
 }
 
+/// No read fails, and all the same the run ends, with nothing written.
+#[test]
+fn an_endless_reader(rt: HostRuntime) -> Result<(), Fail> {
+    let alloc = rt.alloc();
+    let mut output = Vec::new(alloc);
+    let mut reader = Watched::new(Endless);
+    let mut writer = Watched::new(&mut output);
+    assert!(rt; run(alloc, &mut reader, &mut writer) == Err(Fault::Reading));
+    assert!(rt; reader.failures() == 0 && reader.calls() == 67_108_864 && writer.calls() == 0);
+    assert!(rt; output.is_empty());
+    Ok(())
+}
+
 #[test]
 fn a_full_writer(rt: HostRuntime) -> Result<(), Fail> {
     let mut input = REQUEST;
@@ -142,4 +171,23 @@ fn flushes_are_calls(rt: HostRuntime) {
     let mut writer = Watched::new(&mut output);
     assert!(rt; writer.flush().is_ok() && writer.flush().is_err());
     assert!(rt; writer.calls() == 2 && writer.failures() == 1);
+}
+
+/// Each fault, and what is printed of it.
+const PRINTED: &[(Fault, &str)] = &[
+    (Fault::Reading, "fault: reading"),
+    (Fault::Writing, "fault: writing"),
+    (Fault::Memory, "fault: memory"),
+];
+
+fn is_printed(alloc: Global, (fault, text): &(Fault, &str)) -> Result<bool, Fail> {
+    Ok(fault.to_string(alloc)?.as_str() == *text)
+}
+
+#[test]
+fn faults_are_printed(rt: HostRuntime) -> Result<(), Fail> {
+    for row in PRINTED {
+        assert!(rt; is_printed(rt.alloc(), row)?, "{}", row.1);
+    }
+    Ok(())
 }
