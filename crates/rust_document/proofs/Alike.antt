@@ -1,5 +1,6 @@
 -- Editors whose changes end alike have one verdict, and one tree where that is acceptance.
 use Rattle.std.proofs.Common.{◌≡◌, Option, Some, None, is_none, is_some, Bool, true, false, not, ◌&&◌, ◌||◌, ℕ, nat_lt, List, length, chars, refl, sym, ◌∙◌, ap}
+use Rattle.rustc_lexer.specs.Rows.{first_fit}
 use Rattle.rowan_green.specs.Forest.{tree_text}
 use Rattle.tree_rewrite.specs.Change.{Change, has_collision}
 use Rattle.tree_rewrite.specs.Fits.{new_fits}
@@ -47,9 +48,9 @@ module _ (d : State) (e : Editing) (cs ds : List Change) (alike : AreAlike e.top
   other = with_changes e ds
 
   apart : (x y : Bool) → has_collision cs ≡ x → has_collision ds ≡ x → is_some (jobs e.top cs e.mapping) ≡ y → x ≡ false → is_some (jobs e.top ds e.mapping) ≡ y
-  apart x y p q r no =
-      let own : is_placeable e.top cs e.mapping ≡ y = ap (λ (b : Bool). not b && is_some (jobs e.top cs e.mapping)) (p ∙ no) ∙ r in
-      let its : is_placeable e.top ds e.mapping ≡ is_some (jobs e.top ds e.mapping) = ap (λ (b : Bool). not b && is_some (jobs e.top ds e.mapping)) (q ∙ no) in
+  apart x y p q r is_apart =
+      let own : is_placeable e.top cs e.mapping ≡ y = ap (λ (b : Bool). not b && is_some (jobs e.top cs e.mapping)) (p ∙ is_apart) ∙ r in
+      let its : is_placeable e.top ds e.mapping ≡ is_some (jobs e.top ds e.mapping) = ap (λ (b : Bool). not b && is_some (jobs e.top ds e.mapping)) (q ∙ is_apart) in
       sym its ∙ sym alike.placeable ∙ own
 
   by_place : (y : Bool) → is_some (jobs e.top cs e.mapping) ≡ y → is_some (jobs e.top ds e.mapping) ≡ y → has_collision cs ≡ false → has_collision ds ≡ false → verdict d one ≡ verdict d other
