@@ -1,6 +1,6 @@
 //! What no clause says: that calls succeed where memory is ample, and the worked edits.
 
-use lexed_text::{Kept, LexedText, laws};
+use lexed_text::{Kept, LexedText};
 use rustc_lexer::tokenize;
 use std::alloc::{AllocError, Global};
 use std::ops::Range;
@@ -179,12 +179,4 @@ fn refused_calls_change_nothing(rt: HostRuntime) -> Result<(), AllocError> {
     };
     assert!(rt; copy.text() == text.text() && is_lexed(&copy), "its copy");
     Ok(())
-}
-
-#[test]
-fn laws_are_called(_rt: HostRuntime) {
-    laws::front_stays();
-    laws::back_stays();
-    laws::counts_sum();
-    laws::counts_are_one();
 }

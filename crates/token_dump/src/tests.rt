@@ -2,7 +2,7 @@
 
 use rustc_lexer::{
     Base, Cursor, DocStyle, LiteralKind, Token, TokenKind, is_horizontal_whitespace,
-    is_id_continue, is_id_start, is_ident, is_whitespace, laws, strip_shebang, tokenize,
+    is_id_continue, is_id_start, is_ident, is_whitespace, strip_shebang, tokenize,
 };
 use std::process::Abort;
 
@@ -204,20 +204,4 @@ fn keeps_what_stands_between_two_places(rt: HostRuntime) {
     end.bump();
     assert_eq!(rt; start.until(&end).as_str(), "ab");
     assert!(rt; start.until(&start).is_empty());
-}
-
-#[test]
-fn states_laws() {
-    laws::lexeme_is_local();
-    laws::front_is_kept();
-    laws::tokens_go_on();
-    laws::boundaries_cut();
-    laws::tokens_join();
-    laws::lengths_sum();
-    laws::idents_are_idents();
-    laws::strings_close();
-    laws::characters_end();
-    laws::lifetimes_end();
-    laws::numbers_have_parts();
-    laws::comments_nest();
 }
