@@ -5,8 +5,9 @@
 //! from the two: the green value is the term there, an offset is the length of all text before it,
 //! a walk is a stretch of the word of the tree.
 //!
-//! A node keeps its parent and its offset, so a step to parent, child or neighbouring sibling takes
-//! constant time and at most one small block of memory; a token takes none. A clone takes none.
+//! A node keeps its parent and its offset, so a step to its parent takes constant time. A step to a
+//! child or to a neighbouring sibling takes time in the height of the balanced list of children.
+//! Each allocates at most one small block; a token allocates nothing, and cloning does not allocate.
 //! Steps to a sibling that is a node pass over the tokens between. Comparing two cursors reads both
 //! roots.
 //!

@@ -43,8 +43,8 @@ fn has_bytes(node: &GreenNode, skip: usize, bytes: &[u8]) -> bool
     left.is_empty()
 }
 
-/// A stretch of a node's text, read from its front: `left` bytes that begin `before` bytes after
-/// the begin of the child of number `index`.
+/// A stretch of a node's text, read from its front: `left` bytes that begin `offset` bytes after
+/// the start of the child of number `index`.
 #[derive(Drop)]
 struct Stretch<'a> {
     node: &'a GreenNode,
