@@ -1,5 +1,5 @@
 -- The parser's input, leaf by leaf.
-use Rattle.std.proofs.Common.{◌≡◌, ◌∙◌, ◌≤◌, ◌<◌, ◌+◌, ◌-◌, ◌==◌, ℕ, zero, suc, Bool, true, false, not, List, [], ◌∷◌, ◌++◌, length, take, drop, get_or, refl, sym, subst, ap, arith, chars, append_assoc, append-nil, slice_range, inl, inr, None, if◌then◌else◌}
+use Rattle.std.proofs.Common.{◌≡◌, ◌∙◌, ◌≤◌, ◌<◌, ◌+◌, ◌-◌, ◌==◌, ℕ, zero, suc, Bool, true, false, not, ◌&&◌, List, [], ◌∷◌, ◌++◌, length, take, drop, get_or, refl, sym, subst, ap, arith, chars, append_assoc, append-nil, slice_range, inl, inr, None, if◌then◌else◌}
 use Rattle.std.specs.Bool.{MatchBool}
 use Rattle.std.specs.Option.{unwrap_or}
 use Rattle.std.specs.Str.{IsAscii, IsUtf8, IsCharBoundary}
@@ -10,15 +10,19 @@ use Rattle.std.proofs.lemmas.List.{drop_all, take-append-drop}
 use Rattle.std.proofs.lemmas.Bool.Decides.{nat_tests}
 use Rattle.std.proofs.lemmas.Str.{IsUtf8-take, IsCharBoundary-from_drop, chars-append, chars-IsAscii, encodes-append, encodes-chars}
 use Rattle.rustc_lexer.proofs.Booleans.{bool_cases}
-use Rattle.parser_input.specs.Input.{Token, ends_in_dot, input, is_joint, token_of, touches}
+use Rattle.parser_input.specs.Input.{Token, contextual_of, ends_in_dot, input, is_before_angle, is_joint, token_of, touches}
 use Rattle.parser_input.specs.Keywords.{contextual_kind}
 use Rattle.parser_input.specs.Kind.{raw_of}
 use Rattle.parser_input.specs.Kind as kind
-use Rattle.parser_input.specs.Kinds.{EOF, FLOAT_NUMBER, IDENT}
+use Rattle.parser_input.specs.Kinds.{EOF, FLOAT_NUMBER, IDENT, PIPE, PIPE_GT, R_ANGLE}
 use Rattle.parser_input.specs.Leaf.{Leaf, is_trivia}
 use Rattle.parser_input.specs.Lexed.{leaves_of}
 use Rattle.parser_input.specs.Stored.{AreSpans, Passed, seen, seen_from}
 use Rattle.parser_input.specs.declared.edition.Edition.{Edition}
+use Rattle.parser_input.specs.declared.edition.Edition.TheVariants.{EditionNext}
+use Rattle.parser_input.specs.Edition.{is_from}
+use denote.Enum.Bare.{sameb}
+use Rattle.parser_input.specs.contracts.syntax_kind.SyntaxKind.{the_type}
 use Rattle.parser_input.specs.declared.lexed_str.StoredLeaf.{StoredLeaf}
 use Rattle.parser_input.specs.declared.syntax_kind.SyntaxKind.{SyntaxKind}
 use Rattle.parser_input.specs.declared.syntax_kind.SyntaxKind.TheVariants as kinds
@@ -83,11 +87,18 @@ joint-other k text next r is e = rw (not_float k is) e
 
 -- Contextual kinds.
 
-pub named : (k : SyntaxKind) (edition : Edition) (text : List ℕ) (r : ℕ) → k ≡ kinds.IDENT → r ≡ unwrap_or (contextual_kind edition text) IDENT → r ≡ (if raw_of k == IDENT then unwrap_or (contextual_kind edition text) IDENT else EOF)
-named k edition text r is e = rw is e
+pub named : (k : SyntaxKind) (edition : Edition) (text : List ℕ) (before : Bool) (r : ℕ) → k ≡ kinds.IDENT → r ≡ unwrap_or (contextual_kind edition text) IDENT → r ≡ contextual_of edition (raw_of k) text before
+named k edition text before r is e = rw is e
 
-pub unnamed : (k : SyntaxKind) (edition : Edition) (text : List ℕ) → (k ≡ kinds.IDENT → ⊥) → EOF ≡ (if raw_of k == IDENT then unwrap_or (contextual_kind edition text) IDENT else EOF)
-unnamed k edition text is = rw (not_ident k is) refl
+not_pipe : (kind : SyntaxKind) → (kind ≡ kinds.PIPE → ⊥) → (raw_of kind == PIPE) ≡ false
+not_pipe kinds.PIPE h = absurd (h refl)
+not_pipe _ h = refl
+
+pub piped : (k : SyntaxKind) (edition : Edition) (text : List ℕ) (before : Bool) (r : ℕ) → k ≡ kinds.PIPE → r ≡ (if before && is_from EditionNext edition then PIPE_GT else EOF) → r ≡ contextual_of edition (raw_of k) text before
+piped k edition text before r is e = rw is e
+
+pub unnamed : (k : SyntaxKind) (edition : Edition) (text : List ℕ) (before : Bool) → (k ≡ kinds.IDENT → ⊥) → (k ≡ kinds.PIPE → ⊥) → EOF ≡ contextual_of edition (raw_of k) text before
+unnamed k edition text before is other = rw (not_ident k is, not_pipe k other) refl
 
 -- The next leaf.
 
@@ -101,20 +112,38 @@ touches-some text place ps i p r h is e =
     let rest : drop i ps ≡ p ∷ drop (suc i) ps = drop-cons ps i p h ∙ ap (λ (q : StoredLeaf). q ∷ drop (suc i) ps) (sym is) in
     ap not e ∙ ap (λ (l : List StoredLeaf). touches (leaves_of (seen_from text place l))) (sym rest)
 
+pub angle-none : (text : List ℕ) (place : ℕ) (ps : List StoredLeaf) (i : ℕ) → length ps ≤ i → false ≡ is_before_angle (leaves_of (seen_from text place (drop i ps)))
+unfolding is_before_angle
+angle-none text place ps i h = ap (λ (l : List StoredLeaf). is_before_angle (leaves_of (seen_from text place l))) (sym (drop_all i ps h))
+
+pub angle-some : (text : List ℕ) (place : ℕ) (ps : List StoredLeaf) (i : ℕ) (p : StoredLeaf) (r : Bool) → i < length ps → p ≡ get_or ps i p → r ≡ (raw_of p.kind == R_ANGLE) → r ≡ is_before_angle (leaves_of (seen_from text place (drop i ps)))
+unfolding is_before_angle
+angle-some text place ps i p r h is e =
+    let rest : drop i ps ≡ p ∷ drop (suc i) ps = drop-cons ps i p h ∙ ap (λ (q : StoredLeaf). q ∷ drop (suc i) ps) (sym is) in
+    e ∙ ap (λ (l : List StoredLeaf). is_before_angle (leaves_of (seen_from text place l))) (sym rest)
+
+-- the test for one kind, as the code makes it
+same-angle : (kind : SyntaxKind) → sameb the_type kind kinds.R_ANGLE ≡ (raw_of kind == R_ANGLE)
+same-angle kinds.TOMBSTONE = refl
+same-angle _ = refl
+
+pub angle-told : (kind : SyntaxKind) (flag : Bool) → flag ≡ sameb the_type kind kinds.R_ANGLE → flag ≡ (raw_of kind == R_ANGLE)
+angle-told kind flag e = e ∙ same-angle kind
+
 -- The tokens of the leaves that are passed.
 
-pub passed-none : (edition : Edition) (text : List ℕ) (ps : List StoredLeaf) (tokens : List Token) → IsUtf8 text → AreSpans text 0 ps → tokens ≡ [] → Passed edition text ps 0 0 tokens
-passed-none edition text ps tokens u s none =
+pub passed-none : (whole : Bool) (edition : Edition) (text : List ℕ) (ps : List StoredLeaf) (tokens : List Token) → IsUtf8 text → AreSpans text 0 ps → tokens ≡ [] → Passed whole edition text ps 0 0 tokens
+passed-none whole edition text ps tokens u s none =
     record {
       spans = s;
       boundary = IsCharBoundary-from_drop text 0 (omega arith) u;
-      input_is = ap (λ (ts : List Token). ts ++ input edition (leaves_of (seen_from text 0 ps))) (sym none);
+      input_is = ap (λ (ts : List Token). ts ++ input whole edition (leaves_of (seen_from text 0 ps))) (sym none);
     }
 
-pub passed-all : (edition : Edition) (text : List ℕ) (ps : List StoredLeaf) (i place : ℕ) (tokens : List Token) → Passed edition text ps i place tokens → length ps ≤ i → tokens ≡ input edition (leaves_of (seen_from text 0 ps))
+pub passed-all : (whole : Bool) (edition : Edition) (text : List ℕ) (ps : List StoredLeaf) (i place : ℕ) (tokens : List Token) → Passed whole edition text ps i place tokens → length ps ≤ i → tokens ≡ input whole edition (leaves_of (seen_from text 0 ps))
 unfolding input
-passed-all edition text ps i place tokens p h =
-    sym (p.input_is ∙ ap (λ (l : List StoredLeaf). tokens ++ input edition (leaves_of (seen_from text place l))) (drop_all i ps h) ∙ append-nil tokens)
+passed-all whole edition text ps i place tokens p h =
+    sym (p.input_is ∙ ap (λ (l : List StoredLeaf). tokens ++ input whole edition (leaves_of (seen_from text place l))) (drop_all i ps h) ∙ append-nil tokens)
 
 -- the next leaf ends after where it starts, between characters
 pub record Ahead (text : List ℕ) (ps : List StoredLeaf) (i place : ℕ) (p : StoredLeaf) : Type 0 where
@@ -123,63 +152,65 @@ pub record Ahead (text : List ℕ) (ps : List StoredLeaf) (i place : ℕ) (p : S
   pub spans : AreSpans text p.end (drop (i + 1) ps)
   pub rest : drop i ps ≡ p ∷ drop (i + 1) ps
 
-pub ahead : (edition : Edition) (text : List ℕ) (ps : List StoredLeaf) (i place : ℕ) (tokens : List Token) (p d : StoredLeaf) → Passed edition text ps i place tokens → i < length ps → p ≡ get_or ps i d → Ahead text ps i place p
-ahead edition text ps i place tokens p d f h is =
+pub ahead : (whole : Bool) (edition : Edition) (text : List ℕ) (ps : List StoredLeaf) (i place : ℕ) (tokens : List Token) (p d : StoredLeaf) → Passed whole edition text ps i place tokens → i < length ps → p ≡ get_or ps i d → Ahead text ps i place p
+ahead whole edition text ps i place tokens p d f h is =
     let more : suc i ≡ i + 1 = omega arith in
     let rest : drop i ps ≡ p ∷ drop (i + 1) ps = drop-cons ps i d h ∙ ap (λ (q : StoredLeaf). q ∷ drop (suc i) ps) (sym is) ∙ ap (λ (k : ℕ). p ∷ drop k ps) more in
     let s : AreSpans text place (p ∷ drop (i + 1) ps) = subst (λ (l : List StoredLeaf). AreSpans text place l) rest f.spans in
     record { order = s.0; boundary = s.1; spans = s.2; rest = rest }
 
-input-trivia : (edition : Edition) (l : Leaf) (ls : List Leaf) → is_trivia l ≡ true → input edition (l ∷ ls) ≡ input edition ls
+input-trivia : (whole : Bool) (edition : Edition) (l : Leaf) (ls : List Leaf) → is_trivia l ≡ true → input whole edition (l ∷ ls) ≡ input whole edition ls
 unfolding input
-input-trivia edition l ls e = rw e refl
+input-trivia whole edition l ls e = rw e refl
 
-input-solid : (edition : Edition) (l : Leaf) (ls : List Leaf) → is_trivia l ≡ false → input edition (l ∷ ls) ≡ token_of edition l ls ∷ input edition ls
+input-solid : (whole : Bool) (edition : Edition) (l : Leaf) (ls : List Leaf) → is_trivia l ≡ false → input whole edition (l ∷ ls) ≡ token_of whole edition l ls ∷ input whole edition ls
 unfolding input
-input-solid edition l ls e = rw e refl
+input-solid whole edition l ls e = rw e refl
 
 trivia-told : (text : List ℕ) (place : ℕ) (p : StoredLeaf) (r : Bool) → r ≡ kind.is_trivia (raw_of p.kind) → r ≡ is_trivia (seen text place p).leaf
 unfolding is_trivia
 trivia-told text place p r e = e
 
-pub passed-trivia : (edition : Edition) (text : List ℕ) (ps : List StoredLeaf) (i place : ℕ) (tokens : List Token) (p d : StoredLeaf) → Passed edition text ps i place tokens → i < length ps → p ≡ get_or ps i d → true ≡ kind.is_trivia (raw_of p.kind) → Passed edition text ps (i + 1) p.end tokens
-passed-trivia edition text ps i place tokens p d f h is e =
-    let a = ahead edition text ps i place tokens p d f h is in
-    let skip = input-trivia edition (seen text place p).leaf (leaves_of (seen_from text p.end (drop (i + 1) ps))) (sym (trivia-told text place p true e)) in
+pub passed-trivia : (whole : Bool) (edition : Edition) (text : List ℕ) (ps : List StoredLeaf) (i place : ℕ) (tokens : List Token) (p d : StoredLeaf) → Passed whole edition text ps i place tokens → i < length ps → p ≡ get_or ps i d → true ≡ kind.is_trivia (raw_of p.kind) → Passed whole edition text ps (i + 1) p.end tokens
+passed-trivia whole edition text ps i place tokens p d f h is e =
+    let a = ahead whole edition text ps i place tokens p d f h is in
+    let skip = input-trivia whole edition (seen text place p).leaf (leaves_of (seen_from text p.end (drop (i + 1) ps))) (sym (trivia-told text place p true e)) in
     record {
       spans = a.spans;
       boundary = a.boundary;
       input_is =
-          f.input_is ∙ ap (λ (l : List StoredLeaf). tokens ++ input edition (leaves_of (seen_from text place l))) a.rest
+          f.input_is ∙ ap (λ (l : List StoredLeaf). tokens ++ input whole edition (leaves_of (seen_from text place l))) a.rest
           ∙ ap (λ (ts : List Token). tokens ++ ts) skip;
     }
 
 -- what is recorded of a leaf
-pub record IsTokenOf (edition : Edition) (text : List ℕ) (place : ℕ) (p : StoredLeaf) (rest : List StoredLeaf) (t : Token) : Type 0 where
+pub record IsTokenOf (whole : Bool) (edition : Edition) (text : List ℕ) (place : ℕ) (p : StoredLeaf) (rest : List StoredLeaf) (t : Token) : Type 0 where
   pub kind : t.kind ≡ raw_of p.kind
-  pub contextual : t.contextual ≡ (if raw_of p.kind == IDENT then unwrap_or (contextual_kind edition (chars (slice_range text place p.end))) IDENT else EOF)
+  pub contextual : t.contextual ≡ contextual_of edition (raw_of p.kind) (chars (slice_range text place p.end)) (is_before_angle (leaves_of (seen_from text p.end rest)))
   pub joint : t.joint ≡ is_joint (seen text place p).leaf (leaves_of (seen_from text p.end rest))
+  pub whole_is : t.whole ≡ whole
 
-token-is : (edition : Edition) (text : List ℕ) (place : ℕ) (p : StoredLeaf) (rest : List StoredLeaf) (t : Token) → IsTokenOf edition text place p rest t → t ≡ token_of edition (seen text place p).leaf (leaves_of (seen_from text p.end rest))
+token-is : (whole : Bool) (edition : Edition) (text : List ℕ) (place : ℕ) (p : StoredLeaf) (rest : List StoredLeaf) (t : Token) → IsTokenOf whole edition text place p rest t → t ≡ token_of whole edition (seen text place p).leaf (leaves_of (seen_from text p.end rest))
 unfolding token_of
-token-is edition text place p rest t is =
+token-is whole edition text place p rest t is =
     let l = (seen text place p).leaf in
-    let word = if raw_of p.kind == IDENT then unwrap_or (contextual_kind edition l.text) IDENT else EOF in
-    ap (λ (k : ℕ). record { kind = k; contextual = t.contextual; joint = t.joint }) is.kind
-    ∙ ap (λ (k : ℕ). record { kind = raw_of p.kind; contextual = k; joint = t.joint }) is.contextual
-    ∙ ap (λ (b : Bool). record { kind = raw_of p.kind; contextual = word; joint = b }) is.joint
+    let word = contextual_of edition (raw_of p.kind) l.text (is_before_angle (leaves_of (seen_from text p.end rest))) in
+    ap (λ (k : ℕ). record { kind = k; contextual = t.contextual; joint = t.joint; whole = t.whole }) is.kind
+    ∙ ap (λ (k : ℕ). record { kind = raw_of p.kind; contextual = k; joint = t.joint; whole = t.whole }) is.contextual
+    ∙ ap (λ (b : Bool). record { kind = raw_of p.kind; contextual = word; joint = b; whole = t.whole }) is.joint
+    ∙ ap (λ (b : Bool). record { kind = raw_of p.kind; contextual = word; joint = is_joint l (leaves_of (seen_from text p.end rest)); whole = b }) is.whole_is
 
-pub passed-token : (edition : Edition) (text : List ℕ) (ps : List StoredLeaf) (i place : ℕ) (tokens : List Token) (p d : StoredLeaf) (t : Token) (new : List Token) → Passed edition text ps i place tokens → i < length ps → p ≡ get_or ps i d → false ≡ kind.is_trivia (raw_of p.kind) → IsTokenOf edition text place p (drop (i + 1) ps) t → new ≡ tokens ++ t ∷ [] → Passed edition text ps (i + 1) p.end new
-passed-token edition text ps i place tokens p d t new f h is e token pushed =
-    let a = ahead edition text ps i place tokens p d f h is in
+pub passed-token : (whole : Bool) (edition : Edition) (text : List ℕ) (ps : List StoredLeaf) (i place : ℕ) (tokens : List Token) (p d : StoredLeaf) (t : Token) (new : List Token) → Passed whole edition text ps i place tokens → i < length ps → p ≡ get_or ps i d → false ≡ kind.is_trivia (raw_of p.kind) → IsTokenOf whole edition text place p (drop (i + 1) ps) t → new ≡ tokens ++ t ∷ [] → Passed whole edition text ps (i + 1) p.end new
+passed-token whole edition text ps i place tokens p d t new f h is e token pushed =
+    let a = ahead whole edition text ps i place tokens p d f h is in
     let rest = leaves_of (seen_from text p.end (drop (i + 1) ps)) in
-    let one = input-solid edition (seen text place p).leaf rest (sym (trivia-told text place p false e)) in
-    let same = token-is edition text place p (drop (i + 1) ps) t token in
+    let one = input-solid whole edition (seen text place p).leaf rest (sym (trivia-told text place p false e)) in
+    let same = token-is whole edition text place p (drop (i + 1) ps) t token in
     record {
       spans = a.spans;
       boundary = a.boundary;
       input_is =
-          f.input_is ∙ ap (λ (l : List StoredLeaf). tokens ++ input edition (leaves_of (seen_from text place l))) a.rest
-          ∙ ap (λ (ts : List Token). tokens ++ ts) (one ∙ ap (λ (u : Token). u ∷ input edition rest) (sym same))
-          ∙ sym (append_assoc tokens (t ∷ []) (input edition rest)) ∙ ap (λ (ts : List Token). ts ++ input edition rest) (sym pushed);
+          f.input_is ∙ ap (λ (l : List StoredLeaf). tokens ++ input whole edition (leaves_of (seen_from text place l))) a.rest
+          ∙ ap (λ (ts : List Token). tokens ++ ts) (one ∙ ap (λ (u : Token). u ∷ input whole edition rest) (sym same))
+          ∙ sym (append_assoc tokens (t ∷ []) (input whole edition rest)) ∙ ap (λ (ts : List Token). ts ++ input whole edition rest) (sym pushed);
     }

@@ -2,7 +2,7 @@
 use Rattle.std.proofs.Common.{◌≡◌, ◌∙◌, ℕ, Bool, refl, sym, true, false, ◌==◌, ◌||◌, ◌⊎◌, inl, inr}
 use denote.Enum.Bare.{sameb}
 use Rattle.parser_input.specs.contracts.syntax_kind.SyntaxKind.{the_type}
-use Rattle.parser_input.specs.declared.edition.Edition.TheVariants.{Edition2024}
+use Rattle.parser_input.specs.declared.edition.Edition.TheVariants.{EditionNext}
 use Rattle.parser_input.specs.declared.syntax_kind.SyntaxKind.{SyntaxKind}
 use Rattle.parser_input.specs.declared.syntax_kind.SyntaxKind.TheVariants.{TOMBSTONE, L_PAREN, R_PAREN, L_CURLY, R_CURLY, L_BRACK, R_BRACK, IDENT, WHITESPACE, COMMENT}
 use Rattle.parser_input.specs.Keywords.{is_any_identifier, is_keyword}
@@ -59,7 +59,7 @@ same-ident TOMBSTONE = refl
 same-ident _ = refl
 
 pub identifier-plain : (kind : SyntaxKind) (flag : Bool) → flag ≡ sameb the_type kind IDENT → flag ≡ true → flag ≡ is_any_identifier (raw_of kind)
-identifier-plain kind flag is holds = is ∙ same-ident kind ∙ or-true (raw_of kind == kinds.IDENT) (is_keyword Edition2024 (raw_of kind)) (sym (same-ident kind) ∙ sym is ∙ holds)
+identifier-plain kind flag is holds = is ∙ same-ident kind ∙ or-true (raw_of kind == kinds.IDENT) (is_keyword EditionNext (raw_of kind)) (sym (same-ident kind) ∙ sym is ∙ holds)
 
-pub identifier-word : (kind : SyntaxKind) (flag word : Bool) → flag ≡ sameb the_type kind IDENT → flag ≡ false → word ≡ is_keyword Edition2024 (raw_of kind) → word ≡ is_any_identifier (raw_of kind)
-identifier-word kind flag word is fails rest = rest ∙ or-false (raw_of kind == kinds.IDENT) (is_keyword Edition2024 (raw_of kind)) (sym (same-ident kind) ∙ sym is ∙ fails)
+pub identifier-word : (kind : SyntaxKind) (flag word : Bool) → flag ≡ sameb the_type kind IDENT → flag ≡ false → word ≡ is_keyword EditionNext (raw_of kind) → word ≡ is_any_identifier (raw_of kind)
+identifier-word kind flag word is fails rest = rest ∙ or-false (raw_of kind == kinds.IDENT) (is_keyword EditionNext (raw_of kind)) (sym (same-ident kind) ∙ sym is ∙ fails)

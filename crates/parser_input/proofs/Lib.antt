@@ -23,3 +23,4 @@ pub mod WordPlaces
 pub mod LineSteps
 pub mod FenceLaw
 pub mod SliceLaws
+pub mod LineScans

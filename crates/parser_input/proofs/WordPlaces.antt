@@ -25,7 +25,7 @@ placed : (default : Word) → map (λ word. word_at default word.text) words ≡
 unfolding words word_at place_of slot_of
 placed default = refl
 
-length-words : length words ≡ 58
+length-words : length words ≡ 59
 unfolding words
 length-words = refl
 
@@ -39,8 +39,8 @@ below n [] i d h e = h
 below n (x ∷ xs) zero d h e = let first : nat_lt x n ≡ true = (both _ _ e).0 in grind (arith, nat_tests)
 below n (x ∷ xs) (suc i) d h e = below n xs i d h (both _ _ e).1
 
-pub place-below : (slot : ℕ) → get_or PLACES slot 0 < 58
-place-below slot = below 58 PLACES slot 0 (lit< tt) refl
+pub place-below : (slot : ℕ) → get_or PLACES slot 0 < 59
+place-below slot = below 59 PLACES slot 0 (lit< tt) refl
 
 place_of-below : (text : List ℕ) → place_of text < length words
 unfolding place_of
@@ -108,7 +108,7 @@ word_of-unlisted text word at other =
     unlisted word text (λ same. other (ap (λ (word : Word). word.text) (sym e) ∙ same))
 
 -- the word at a place that the table names
-pub slice_get-words : (place : ℕ) (default : Word) → place < 58 → slice_get words place ≡ Some (get_or words place default)
+pub slice_get-words : (place : ℕ) (default : Word) → place < 59 → slice_get words place ≡ Some (get_or words place default)
 slice_get-words place default h = slice_get-get_or words place default (rw length-words h)
 
 pub word_of-empty : (text : List ℕ) → length text ≡ 0 → None ≡ word_of text

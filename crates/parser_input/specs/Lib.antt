@@ -20,3 +20,5 @@ pub mod Packed
 pub mod WordTable
 pub mod Single
 pub mod Faults
+pub mod Equal
+pub mod LineScans

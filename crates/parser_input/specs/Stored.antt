@@ -85,10 +85,10 @@ pub record Opened (text : List ℕ) (place : ℕ) (ps : List StoredLeaf) : Type 
   pub left_is : chars (drop place text) ≡ content (chars text)
 
 -- The first leaves of a text are recorded, up to a place: what is recorded, with the input of the others, is the text's input.
-pub record Passed (edition : Edition) (text : List ℕ) (ps : List StoredLeaf) (i place : ℕ) (tokens : List Token) : Type 0 where
+pub record Passed (whole : Bool) (edition : Edition) (text : List ℕ) (ps : List StoredLeaf) (i place : ℕ) (tokens : List Token) : Type 0 where
   pub spans : AreSpans text place (drop i ps)
   pub boundary : IsCharBoundary text place
-  pub input_is : input edition (leaves_of (seen_from text 0 ps)) ≡ tokens ++ input edition (leaves_of (seen_from text place (drop i ps)))
+  pub input_is : input whole edition (leaves_of (seen_from text 0 ps)) ≡ tokens ++ input whole edition (leaves_of (seen_from text place (drop i ps)))
 
 -- where the frontmatter ends, if there is one
 abbrev pub frontmatter_end : Result Source FrontmatterError → Option ℕ

@@ -10,6 +10,8 @@ pub enum Edition {
     Edition2018,
     Edition2021,
     Edition2024,
+    /// The edition to come.
+    EditionNext,
 }
 
 impl Edition {

@@ -4,13 +4,13 @@ ghost use Rattle.std.specs.Prelude.{◌≡◌, ◌≢◌, ◌<◌, [], ◌∷◌
 ghost use Rattle.parser_input.specs.Input.{Token};
 ghost use Rattle.parser_input.specs.Kind.{raw_of};
 ghost use Rattle.parser_input.specs.Kinds as kinds;
-ghost use Rattle.parser_input.specs.Recorded.{plain, identifier, token, tokens_with, touching, token_at};
+ghost use Rattle.parser_input.specs.Recorded.{plain, identifier, token, tokens_with, touching, token_at, pipe};
 
 use crate::syntax_kind::SyntaxKind;
 use std::alloc::{AllocError, Global};
 use std::marker::Model;
 
-/// A token as it is kept, in three bytes.
+/// A token of the input, in four bytes.
 #[derive(Clone, Copy)]
 struct InputToken {
     kind: SyntaxKind,
@@ -19,6 +19,8 @@ struct InputToken {
     contextual_kind: SyntaxKind,
     /// Whether nothing stands between this token and the next one.
     joint: bool,
+    /// `true` if the token is read by the grammar of the whole language.
+    whole: bool,
 }
 
 /// The tokens that the parser sees. It knows no texts: only kinds, and which tokens touch.
@@ -43,6 +45,43 @@ impl Model for Input {
     ghost invariant = { λ i. All (λ t. raw_of t.kind ≢ kinds.EOF) i.tokens.items };
 }
 
+impl PartialEq for InputToken {
+    ghost use Rattle.parser_input.specs.Equal.{same_seen, same_seen-equiv};
+    ghost use Rattle.std.specs.Cmp.{partial_equiv_from_equiv};
+
+    ghost eq = { same_seen };
+
+    ghost laws = { partial_equiv_from_equiv same_seen-equiv };
+
+    // (kinds are compared by their raw numbers, which contracts name)
+    fn eq(&self, other: &InputToken) -> bool {
+        self.kind.to_raw() == other.kind.to_raw()
+            && self.contextual_kind.to_raw() == other.contextual_kind.to_raw()
+            && self.joint == other.joint
+            && self.whole == other.whole
+    }
+}
+
+/// Two inputs are equal if they have the same tokens.
+impl PartialEq for Input {
+    ghost use Rattle.parser_input.specs.Equal.{same_input, same_input-equiv};
+    ghost use Rattle.std.specs.Cmp.{partial_equiv_from_equiv};
+
+    ghost eq = { same_input };
+
+    ghost laws = { partial_equiv_from_equiv same_input-equiv };
+
+    fn eq(&self, other: &Input) -> bool {
+        self.tokens.as_slice() == other.tokens.as_slice()
+    }
+}
+
+impl Eq for Input {
+    ghost use Rattle.parser_input.specs.Equal.{same_input-equiv};
+
+    ghost laws = { same_input-equiv };
+}
+
 impl Input {
     /// An input without tokens. The capacity is only a hint of how many tokens are to come.
     pub fn with_capacity(alloc: Global, capacity: usize) -> Result<Input, AllocError>
@@ -58,15 +97,17 @@ impl Input {
         kind: SyntaxKind,
         contextual_kind: SyntaxKind,
         joint: bool,
+        whole: bool,
     ) -> Result<(), AllocError>
         requires { raw_of kind ≢ kinds.EOF }
         ensures { self.new ≡ tokens_with (is_ok result) self.old
-            (token (raw_of kind) (raw_of contextual_kind) joint) }
+            (token (raw_of kind) (raw_of contextual_kind) joint whole) }
     {
         let token = InputToken {
             kind,
             contextual_kind,
             joint,
+            whole,
         };
         self.tokens.push(token)?;
         Ok(())
@@ -77,7 +118,7 @@ impl Input {
         requires { raw_of kind ≢ kinds.EOF }
         ensures { self.new ≡ tokens_with (is_ok result) self.old (plain (raw_of kind)) }
     {
-        self.push_token(kind, SyntaxKind::EOF, false)
+        self.push_token(kind, SyntaxKind::EOF, false, false)
     }
 
     /// Adds an identifier, with the kind that its word has as a contextual keyword. It does not
@@ -85,7 +126,14 @@ impl Input {
     pub fn push_ident(&mut self, contextual_kind: SyntaxKind) -> Result<(), AllocError>
         ensures { self.new ≡ tokens_with (is_ok result) self.old (identifier (raw_of contextual_kind)) }
     {
-        self.push_token(SyntaxKind::IDENT, contextual_kind, false)
+        self.push_token(SyntaxKind::IDENT, contextual_kind, false, false)
+    }
+
+    /// Appends a `|` that is the first token of the operator `|>`. It is not joint.
+    pub fn push_pipe(&mut self) -> Result<(), AllocError>
+        ensures { self.new ≡ tokens_with (is_ok result) self.old pipe }
+    {
+        self.push_token(SyntaxKind::PIPE, SyntaxKind::PIPE_GT, false, false)
     }
 
     /// Says that the token that was added last touches the next one. There must be one.
@@ -134,6 +182,16 @@ impl Input {
     {
         match self.tokens.get(n) {
             Some(token) => token.joint,
+            None => false,
+        }
+    }
+
+    /// Returns `true` if a token is read by the grammar of the whole language; `false` past the end.
+    pub fn is_whole(&self, n: usize) -> bool
+        ensures { result ≡ (token_at self.now n).whole }
+    {
+        match self.tokens.get(n) {
+            Some(token) => token.whole,
             None => false,
         }
     }

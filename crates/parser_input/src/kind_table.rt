@@ -2,7 +2,7 @@
 
 use crate::syntax_kind::SyntaxKind;
 
-pub(crate) static KINDS: [SyntaxKind; 238] = [
+pub(crate) static KINDS: [SyntaxKind; 256] = [
     SyntaxKind::TOMBSTONE,
     SyntaxKind::EOF,
     SyntaxKind::ERROR,
@@ -241,9 +241,27 @@ pub(crate) static KINDS: [SyntaxKind; 238] = [
     SyntaxKind::MATCH_ARM_LIST,
     SyntaxKind::MATCH_ARM,
     SyntaxKind::MATCH_GUARD,
+    SyntaxKind::EXTERN_CRATE,
+    SyntaxKind::EXTERN_BLOCK,
+    SyntaxKind::ABI,
+    SyntaxKind::UNION,
+    SyntaxKind::MACRO_RULES,
+    SyntaxKind::MACRO_DEF,
+    SyntaxKind::CONST_PARAM,
+    SyntaxKind::TYPE_ANCHOR,
+    SyntaxKind::PARENTHESIZED_ARG_LIST,
+    SyntaxKind::FN_PTR_TYPE,
+    SyntaxKind::FOR_TYPE,
+    SyntaxKind::RANGE_PAT,
+    SyntaxKind::LABEL,
+    SyntaxKind::AWAIT_EXPR,
+    SyntaxKind::UNDERSCORE_EXPR,
+    SyntaxKind::DEFER_KW,
+    SyntaxKind::DEFER_STMT,
+    SyntaxKind::PIPE_GT,
 ];
 
-pub(crate) static NAMES: [&str; 238] = [
+pub(crate) static NAMES: [&str; 256] = [
     "TOMBSTONE",
     "EOF",
     "ERROR",
@@ -482,4 +500,22 @@ pub(crate) static NAMES: [&str; 238] = [
     "MATCH_ARM_LIST",
     "MATCH_ARM",
     "MATCH_GUARD",
+    "EXTERN_CRATE",
+    "EXTERN_BLOCK",
+    "ABI",
+    "UNION",
+    "MACRO_RULES",
+    "MACRO_DEF",
+    "CONST_PARAM",
+    "TYPE_ANCHOR",
+    "PARENTHESIZED_ARG_LIST",
+    "FN_PTR_TYPE",
+    "FOR_TYPE",
+    "RANGE_PAT",
+    "LABEL",
+    "AWAIT_EXPR",
+    "UNDERSCORE_EXPR",
+    "DEFER_KW",
+    "DEFER_STMT",
+    "PIPE_GT",
 ];

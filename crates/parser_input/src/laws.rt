@@ -1,5 +1,6 @@
 //! Laws of the definitions, each the contract of a function that makes no call.
 
+ghost use Rattle.parser_input.specs.LineScans.{BlankLinesAreLongest, SpacesEndTexts};
 ghost use Rattle.parser_input.specs.Laws.{LeavesAreTheText, LexedIsLeaves, LeavesAreSlices, PiecesAreSlices, LinesJoin, FirstFenceCloses, NoFenceIsUnclosed};
 
 /// Where a text has no shebang and no frontmatter, and no guarded prefix that is cut anew, its
@@ -27,4 +28,12 @@ pub fn first_fence_closes()
     ensures lines { LinesJoin }
     ensures first { FirstFenceCloses }
     ensures none { NoFenceIsUnclosed }
+{}
+
+/// The two scans for whitespace at the ends of a text, by what they find: `blank_len` is the length
+/// of the longest front that is blank lines alone, and `solid_len` is the length of the text without
+/// the whitespace at its end.
+pub fn line_scans()
+    ensures blank { BlankLinesAreLongest }
+    ensures solid { SpacesEndTexts }
 {}

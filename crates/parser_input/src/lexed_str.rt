@@ -1,12 +1,12 @@
 //! The leaves of a text.
 
-ghost use Rattle.std.specs.Prelude.{◌≡◌, ◌≢◌, false, ℕ, List, drop, ◌<◌, ◌≤◌, ◌+◌, ◌==◌, length, chars, [], IfOk, OnOk, map, option_map, slice_range};
+ghost use Rattle.std.specs.Prelude.{◌≡◌, ◌≢◌, true, false, ℕ, List, drop, ◌<◌, ◌≤◌, ◌+◌, ◌==◌, length, chars, [], IfOk, OnOk, map, option_map, slice_range};
 ghost use Rattle.std.specs.List.{All, flat_map};
 ghost use Rattle.parser_input.specs.Preface.{source};
 ghost use Rattle.rustc_lexer.specs.Characters.{size};
 ghost use Rattle.rustc_lexer.specs.Tokens as lexer;
 ghost use Rattle.parser_input.specs.Kind.{raw_of};
-ghost use Rattle.parser_input.specs.Input.{input, touches};
+ghost use Rattle.parser_input.specs.Input.{input, is_before_angle, touches};
 ghost use Rattle.parser_input.specs.Kinds.{EOF};
 ghost use Rattle.parser_input.specs.Lexed.{content, is_split, leaves_of};
 ghost use Rattle.parser_input.specs.Faults.{faults};
@@ -213,16 +213,29 @@ fn is_solid(leaves: &[StoredLeaf], i: usize) -> bool
     }
 }
 
-// What the parser sees of stored leaves, one after another.
+// Whether there is a leaf at a place, and it is a `>`.
+fn is_angle(leaves: &[StoredLeaf], i: usize) -> bool
+    ensures { (text : List ℕ) (place : ℕ) → result
+        ≡ is_before_angle (leaves_of (seen_from text place (drop i leaves.now))) }
+{
+    match leaves.get(i) {
+        Some(leaf) => leaf.kind == SyntaxKind::R_ANGLE,
+        None => false,
+    }
+}
+
+// Returns the input tokens of stored leaves; all are read by the grammar that `whole` says.
 fn tokens(
     alloc: Global,
+    whole: bool,
     edition: Edition,
     text: &str,
     leaves: &[StoredLeaf],
 ) -> Result<Input, AllocError>
     requires spans { AreSpans text.now 0 leaves.now }
     requires kinds { All (λ p. raw_of p.kind ≢ EOF) leaves.now }
-    ensures { IfOk result (λ tokens. tokens ≡ input edition (leaves_of (seen_from text.now 0 leaves.now))) }
+    ensures { IfOk result (λ tokens. tokens
+        ≡ input whole edition (leaves_of (seen_from text.now 0 leaves.now))) }
 {
     let mut tokens = Input::with_capacity(alloc, leaves.len())?;
     let mut place = 0;
@@ -234,9 +247,10 @@ fn tokens(
             continue;
         }
         let own = &text[start..leaf.end];
-        let contextual = contextual_kind(edition, leaf.kind, own);
+        let before_angle = is_angle(leaves, i + 1);
+        let contextual = contextual_kind(edition, leaf.kind, own, before_angle);
         let joint = is_joint(leaf.kind, own, is_solid(leaves, i + 1));
-        tokens.push_token(leaf.kind, contextual, joint)?;
+        tokens.push_token(leaf.kind, contextual, joint, whole)?;
     }
     Ok(tokens)
 }
@@ -412,10 +426,28 @@ impl<'a> LexedStr<'a> {
         &self.text[self.text_start(leaves.start)..self.text_start(leaves.end)]
     }
 
-    /// What the parser sees of the text: its leaves without white space and comments.
+    /// Returns the parser's input: the leaves without whitespace and comments. It is read by the
+    /// grammar of the profile.
+    ///
+    /// # Errors
+    ///
+    /// [`AllocError`] if an allocation fails.
     pub fn to_input(&self, alloc: Global) -> Result<Input, AllocError>
-        ensures { IfOk result (λ tokens. tokens ≡ input self.now.edition (leaves_of self.now.leaves)) }
+        ensures { IfOk result (λ tokens. tokens
+            ≡ input false self.now.edition (leaves_of self.now.leaves)) }
     {
-        tokens(alloc, self.edition, self.text, &self.leaves)
+        tokens(alloc, false, self.edition, self.text, &self.leaves)
+    }
+
+    /// Returns the parser's input, marked to be read by the grammar of the whole language.
+    ///
+    /// # Errors
+    ///
+    /// [`AllocError`] if an allocation fails.
+    pub fn to_whole_input(&self, alloc: Global) -> Result<Input, AllocError>
+        ensures { IfOk result (λ tokens. tokens
+            ≡ input true self.now.edition (leaves_of self.now.leaves)) }
+    {
+        tokens(alloc, true, self.edition, self.text, &self.leaves)
     }
 }

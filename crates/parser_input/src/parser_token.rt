@@ -1,8 +1,9 @@
 //! What the parser sees of a leaf beside its kind.
 
-ghost use Rattle.std.specs.Prelude.{◌≡◌, ◌==◌, List, chars, unwrap_or, if◌then◌else◌};
-ghost use Rattle.parser_input.specs.Input.{ends_in_dot, is_joint, touches};
-ghost use Rattle.parser_input.specs.Keywords.{contextual_kind};
+ghost use Rattle.std.specs.Prelude.{◌≡◌, ◌&&◌, List, chars, if◌then◌else◌};
+ghost use Rattle.parser_input.specs.Input.{contextual_of, ends_in_dot, is_joint, touches};
+ghost use Rattle.parser_input.specs.Edition.{is_from};
+ghost use Rattle.parser_input.specs.declared.edition.Edition.TheVariants.{EditionNext};
 ghost use Rattle.parser_input.specs.Kind.{raw_of};
 ghost use Rattle.parser_input.specs.Kinds as kinds;
 ghost use Rattle.parser_input.specs.Leaf.{Leaf};
@@ -11,18 +12,34 @@ use crate::edition::Edition;
 use crate::keywords::contextual_keyword;
 use crate::syntax_kind::SyntaxKind;
 
-/// The kind that the word of an identifier has as a contextual keyword, or `IDENT`. `EOF` for any
-/// other leaf.
-pub(crate) fn contextual_kind(edition: Edition, kind: SyntaxKind, text: &str) -> SyntaxKind
-    ensures { raw_of result ≡ (if raw_of kind == kinds.IDENT then unwrap_or
-        (contextual_kind edition (chars text.now)) kinds.IDENT else kinds.EOF) }
+/// The kind that the word of an identifier has as a contextual keyword, or `IDENT`. That of the
+/// operator `|>` for a `|` right before a `>`, where the edition has it. `EOF` for any other leaf.
+pub(crate) fn contextual_kind(
+    edition: Edition,
+    kind: SyntaxKind,
+    text: &str,
+    before_angle: bool,
+) -> SyntaxKind
+    ensures { raw_of result ≡ contextual_of edition (raw_of kind) (chars text.now) before_angle }
 {
     match kind {
         SyntaxKind::IDENT => match contextual_keyword(edition, text) {
             Some(word) => word,
             None => SyntaxKind::IDENT,
         },
+        SyntaxKind::PIPE => pipe_kind(edition, before_angle),
         _ => SyntaxKind::EOF,
+    }
+}
+
+/// The contextual kind of a `|`.
+fn pipe_kind(edition: Edition, before_angle: bool) -> SyntaxKind
+    ensures { raw_of result ≡ (if before_angle && is_from EditionNext edition then kinds.PIPE_GT else kinds.EOF) }
+{
+    if before_angle && edition.is_from(Edition::EditionNext) {
+        SyntaxKind::PIPE_GT
+    } else {
+        SyntaxKind::EOF
     }
 }
 

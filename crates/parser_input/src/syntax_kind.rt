@@ -291,6 +291,28 @@ pub enum SyntaxKind {
     MATCH_ARM_LIST,
     MATCH_ARM,
     MATCH_GUARD,
+
+    // Nodes of the whole language, which the profile never reads.
+    EXTERN_CRATE,
+    EXTERN_BLOCK,
+    ABI,
+    UNION,
+    MACRO_RULES,
+    MACRO_DEF,
+    CONST_PARAM,
+    TYPE_ANCHOR,
+    PARENTHESIZED_ARG_LIST,
+    FN_PTR_TYPE,
+    FOR_TYPE,
+    RANGE_PAT,
+    LABEL,
+    AWAIT_EXPR,
+    UNDERSCORE_EXPR,
+
+    // Of edition `next`: a keyword, a statement, an operator of two characters.
+    DEFER_KW,
+    DEFER_STMT,
+    PIPE_GT,
 }
 
 const FIRST_KEYWORD: u16 = SyntaxKind::AS_KW as u16;
@@ -374,6 +396,7 @@ impl SyntaxKind {
                 edition.is_from(Edition::Edition2018)
             }
             SyntaxKind::GEN_KW => edition.is_from(Edition::Edition2024),
+            SyntaxKind::DEFER_KW => edition.is_from(Edition::EditionNext),
             _ => {
                 let raw = self.to_raw();
                 FIRST_KEYWORD <= raw && raw <= LAST_KEYWORD
@@ -386,7 +409,7 @@ impl SyntaxKind {
     pub fn is_any_identifier(self) -> bool
         ensures { result ≡ is_any_identifier (raw_of self) }
     {
-        self == SyntaxKind::IDENT || self.is_keyword(Edition::Edition2024)
+        self == SyntaxKind::IDENT || self.is_keyword(Edition::EditionNext)
     }
 }
 

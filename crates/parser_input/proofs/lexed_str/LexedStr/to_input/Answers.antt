@@ -1,5 +1,5 @@
 -- The stored leaves are the text's.
-use Rattle.std.proofs.Common.{◌≡◌, ◌≢◌, List, IfOk, sym, subst}
+use Rattle.std.proofs.Common.{◌≡◌, ◌≢◌, false, List, IfOk, sym, subst}
 use Rattle.std.specs.List.{All}
 use Rattle.parser_input.specs.Input.{Token, input}
 use Rattle.parser_input.specs.Kind.{raw_of}
@@ -20,5 +20,5 @@ tokens-requires-clause-kinds c =
 pub returns : goal.returns
 returns c =
     let s = c.self.inside in
-    let own = subst (λ (l : List StoredLeaf). IfOk c.tokens.result (λ (tokens : List Token). tokens ≡ input s.edition (leaves_of (seen_from s.text.now 0 l)))) c.deref.ensures.value c.tokens.ensures in
-    subst (λ (w : Whole). IfOk c.tokens.result (λ (tokens : List Token). tokens ≡ input w.edition (leaves_of w.leaves))) c.self.view_is own
+    let own = subst (λ (l : List StoredLeaf). IfOk c.tokens.result (λ (tokens : List Token). tokens ≡ input false s.edition (leaves_of (seen_from s.text.now 0 l)))) c.deref.ensures.value c.tokens.ensures in
+    subst (λ (w : Whole). IfOk c.tokens.result (λ (tokens : List Token). tokens ≡ input false w.edition (leaves_of w.leaves))) c.self.view_is own
