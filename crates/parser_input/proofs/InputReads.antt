@@ -1,5 +1,7 @@
 -- What a look-up in the stored tokens tells of the input.
-use Rattle.std.proofs.Common.{◌≡◌, ◌∙◌, ◌≤◌, ◌<◌, ℕ, zero, suc, List, [], ◌∷◌, length, map, get_or, refl, ap, arith}
+use Rattle.std.proofs.Common.{◌≡◌, ◌∙◌, ◌≤◌, ◌<◌, ℕ, zero, suc, Bool, ◌&&◌, List, [], ◌∷◌, length, map, get_or, refl, ap, arith}
+use lib.Pointwise.{pointwise}
+use Rattle.parser_input.specs.Equal.{same_input, same_seen}
 use Rattle.parser_input.specs.Input.{Token}
 use Rattle.parser_input.specs.Kinds.{EOF}
 use Rattle.parser_input.specs.Packed.{seen}
@@ -21,3 +23,10 @@ token-there items now n t view long is = get-seen items n t (plain EOF) long is 
 
 pub token-past : (items : List InputToken) (now : List Token) (n : ℕ) → map seen items ≡ now → length items ≤ n → plain EOF ≡ token_at now n
 token-past items now n view past = get-past items n (plain EOF) past ∙ ap (λ (l : List Token). token_at l n) view
+
+-- stored tokens are equal where the tokens are that they stand for
+pub same-as-seen : (xs ys : List InputToken) → pointwise same_seen xs ys ≡ same_input (map seen xs) (map seen ys)
+same-as-seen [] [] = refl
+same-as-seen [] (y ∷ ys) = refl
+same-as-seen (x ∷ xs) [] = refl
+same-as-seen (x ∷ xs) (y ∷ ys) = ap (λ (b : Bool). same_seen x y && b) (same-as-seen xs ys)

@@ -1,11 +1,10 @@
 -- What the scans for whitespace at the ends of a text find.
 use Rattle.std.proofs.Common.{◌≡◌, ◌∙◌, ℕ, zero, suc, ◌≤◌, ◌⊎◌, inl, inr, Bool, true, false, not, ◌==◌, List, [], ◌∷◌, ◌++◌, length, take, drop, refl, sym, ap, subst, arith}
-use Rattle.std.specs.List.{All}
 use Rattle.std.proofs.lemmas.List.Elements.{All-cons, All-nil}
 use Rattle.rustc_lexer.specs.Characters.{line_feed, is_whitespace}
 use Rattle.rustc_lexer.proofs.Booleans.{bool_cases}
 use Rattle.parser_input.specs.Lines.{one_more, blank_len, solid_len}
-use Rattle.parser_input.specs.LineScans.{AreBlankLines, AreSpaces, BlankLines, EndsIn, IsEmptyOrEndsIn, SolidPart}
+use Rattle.parser_input.specs.LineScans.{AreSpaces, BlankLines, EndsIn, IsEmptyOrEndsIn, SolidPart}
 
 -- one more character, where the scan of the others found some, or none
 scan-long : (sort : ℕ → Bool) (c n : ℕ) (cs : List ℕ) → n ≤ length cs → one_more (sort c) n ≤ length (c ∷ cs)
@@ -82,17 +81,17 @@ blank-ends (c ∷ cs) = elim (bool_cases (is_whitespace c)) [
 -- a text that ends so is one character, or goes on ending so without its first
 ends-less : (sort : ℕ → Bool) (c : ℕ) (cs : List ℕ) → EndsIn sort (c ∷ cs) → ((cs ≡ []) × (sort c ≡ true)) ⊎ EndsIn sort cs
 ends-less sort c cs e = of e.init e.text_is
-where
-  of : (init : List ℕ) → c ∷ cs ≡ init ++ e.last ∷ [] → ((cs ≡ []) × (sort c ≡ true)) ⊎ EndsIn sort cs
-  of [] is = let first : c ≡ e.last = cc in let rest : cs ≡ [] = cc in inl (rest, ap sort first ∙ e.last_is)
-  of (d ∷ ds) is = let rest : cs ≡ ds ++ e.last ∷ [] = cc in inr record { init = ds; last = e.last; text_is = rest; last_is = e.last_is }
+  where
+    of : (init : List ℕ) → c ∷ cs ≡ init ++ e.last ∷ [] → ((cs ≡ []) × (sort c ≡ true)) ⊎ EndsIn sort cs
+    of [] is = let first : c ≡ e.last = cc in let rest : cs ≡ [] = cc in inl (rest, ap sort first ∙ e.last_is)
+    of (d ∷ ds) is = let rest : cs ≡ ds ++ e.last ∷ [] = cc in inr record { init = ds; last = e.last; text_is = rest; last_is = e.last_is }
 
 ends-some : (sort : ℕ → Bool) (cs : List ℕ) → EndsIn sort cs → 1 ≤ length cs
 ends-some sort [] e = of e.init e.text_is
-where
-  of : (init : List ℕ) → [] ≡ init ++ e.last ∷ [] → 1 ≤ 0
-  of [] is = absurd (cc)
-  of (d ∷ ds) is = absurd (cc)
+  where
+    of : (init : List ℕ) → [] ≡ init ++ e.last ∷ [] → 1 ≤ 0
+    of [] is = absurd (cc)
+    of (d ∷ ds) is = absurd (cc)
 ends-some sort (c ∷ cs) e = omega arith
 
 one-more-long : (wanted : Bool) (n k : ℕ) → k ≤ n → 1 ≤ k → suc k ≤ one_more wanted n

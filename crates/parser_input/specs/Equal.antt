@@ -1,6 +1,6 @@
 -- The tests `same_token` and `same_input` decide equality.
-use Rattle.std.specs.Prelude.{◌≡◌, List, Bool, ◌&&◌, not, refl, sym, true, false, nat_eq}
-use Rattle.std.proofs.Common.{subst, Decides}
+use Rattle.std.specs.Prelude.{◌≡◌, List, Bool, ◌&&◌, not, refl, true, false, nat_eq}
+use Rattle.std.proofs.Common.{sym, subst, Decides}
 use Rattle.std.proofs.lemmas.Bool.{and_parts, and_from}
 use Rattle.std.specs.Cmp.{unsigned_Decides, decided, IsEquivalence}
 use Rattle.std.specs.Cmp.Lexicographic.{pointwise}

@@ -190,9 +190,9 @@ impl Input {
     pub fn is_whole(&self, n: usize) -> bool
         ensures { result ≡ (token_at self.now n).whole }
     {
-        match self.tokens.get(n) {
-            Some(token) => token.whole,
-            None => false,
-        }
+        let Some(token) = self.tokens.get(n) else {
+            return false;
+        };
+        token.whole
     }
 }
