@@ -1,11 +1,11 @@
 #!/usr/bin/env python3
-"""Writes the stored run of crates/leaves_dump from a file of cases.
+"""Writes the stored run of crates/leaves_dump from files of cases.
 
-Each line of the file is a JSON object: an edition, a text, its leaves (kind, start and end in bytes), what is wrong with them
+Each line of a file is a JSON object: an edition, a text, its leaves (kind, start and end in bytes), what is wrong with them
 (where the leaf starts, and a message), and the parser's input (kind, contextual kind, joint). The cases were computed by a
 slow reader of the rules that shares no code with this project.
 
-usage: leaves_from_cases.py CASES CRATE
+usage: leaves_from_cases.py CRATE CASES..
 """
 import sys
 
@@ -20,13 +20,14 @@ def answer(case):
     return "".join(leaves + ["\n"] + errors + ["\n"] + tokens + ["\n"])
 
 
-def main(path, crate):
+def main(crate, *paths):
     records, answers = [], []
-    for case in stored_run.cases(path):
-        records.append(case["edition"][-1] + case["text"])
-        answers.append(answer(case))
+    for path in paths:
+        for case in stored_run.cases(path):
+            records.append(case["edition"][-1] + case["text"])
+            answers.append(answer(case))
     stored_run.write(crate, records, answers)
 
 
 if __name__ == "__main__":
-    main(sys.argv[1], sys.argv[2])
+    main(*sys.argv[1:])

@@ -1,9 +1,10 @@
 -- The words of a request, and what each of them names.
-use Rattle.std.specs.Prelude.{ℕ, List, Option, Some, None, codes, find, if◌then◌else◌}
+use Rattle.std.specs.Prelude.{ℕ, Bool, ◌&&◌, nat_le, List, Option, Some, None, codes, find, option_and_then, if◌then◌else◌}
 use Rattle.std.specs.Str.{bytes_eq}
-use Rattle.parser_input.specs.Kind.{name_of}
+use Rattle.parser_input.specs.Kind.{name_of, raw_of}
+use Rattle.parser_input.specs.Kinds.{EXTERN_CRATE, UNDERSCORE_EXPR}
 use Rattle.parser_input.specs.declared.edition.Edition.{Edition}
-use Rattle.parser_input.specs.declared.edition.Edition.TheVariants.{Edition2015, Edition2018, Edition2021, Edition2024}
+use Rattle.parser_input.specs.declared.edition.Edition.TheVariants.{Edition2015, Edition2018, Edition2021, Edition2024, EditionNext}
 use Rattle.parser_input.specs.declared.syntax_kind.SyntaxKind.{SyntaxKind}
 use Rattle.parser_input.specs.KindTable.{all_kinds}
 use Rattle.document_requests.specs.declared.request.Op.{Op}
@@ -17,6 +18,7 @@ edition_named word =
     else if bytes_eq word (codes "2018") then Some Edition2018
     else if bytes_eq word (codes "2021") then Some Edition2021
     else if bytes_eq word (codes "2024") then Some Edition2024
+    else if bytes_eq word (codes "next") then Some EditionNext
     else None
 
 abbrev pub op_named : List ℕ → Option Op
@@ -36,6 +38,17 @@ entry_named word =
     else if bytes_eq word (codes "stmt") then Some Stmt
     else None
 
--- the kind of this name
-unfoldable pub kind_named : List ℕ → Option SyntaxKind
-kind_named word = find (λ kind. bytes_eq (name_of kind) word) all_kinds
+-- a kind that only the grammar of the whole language makes
+abbrev pub is_of_whole_language : ℕ → Bool
+is_of_whole_language kind = nat_le EXTERN_CRATE kind && nat_le kind UNDERSCORE_EXPR
+
+-- the kind of this name, among all kinds
+unfoldable pub any_kind_named : List ℕ → Option SyntaxKind
+any_kind_named word = find (λ kind. bytes_eq (name_of kind) word) all_kinds
+
+abbrev pub unless_of_whole_language : SyntaxKind → Option SyntaxKind
+unless_of_whole_language kind = if is_of_whole_language (raw_of kind) then None else Some kind
+
+-- the kind of a name that a request may use: a kind of the profile
+abbrev pub kind_named : List ℕ → Option SyntaxKind
+kind_named word = option_and_then unless_of_whole_language (any_kind_named word)

@@ -2,7 +2,8 @@
 ghost use Rattle.std.specs.Prelude.{◌≡◌, map, option_map, IfOk};
 ghost use Rattle.serde_json.specs.Find.{as_str};
 ghost use Rattle.serde_json.specs.View.{view, items_view};
-ghost use Rattle.document_requests.specs.Words.{edition_named, op_named, entry_named, kind_named};
+ghost use Rattle.parser_input.specs.Kind.{raw_of};
+ghost use Rattle.document_requests.specs.Words.{edition_named, op_named, entry_named, is_of_whole_language, kind_named};
 ghost use Rattle.document_requests.specs.Request.{whole_number, target_in, payload_in, put_named, change_of, all_in, edit_of, commit_of, command_of, request_of};
 ghost use Rattle.document_requests.specs.Asked.{change, command, request};
 
@@ -12,6 +13,10 @@ use parser_input::syntax_kind::SyntaxKind;
 use serde_json::Value;
 use std::alloc::{AllocError, Global};
 
+// The kinds of the whole language stand side by side, by their raw numbers.
+const FIRST_OF_WHOLE: u16 = SyntaxKind::EXTERN_CRATE as u16;
+const LAST_OF_WHOLE: u16 = SyntaxKind::UNDERSCORE_EXPR as u16;
+
 fn edition_named(word: &str) -> Option<Edition>
     ensures { result ≡ edition_named word.now }
 {
@@ -20,6 +25,7 @@ fn edition_named(word: &str) -> Option<Edition>
         "2018" => Some(Edition::Edition2018),
         "2021" => Some(Edition::Edition2021),
         "2024" => Some(Edition::Edition2024),
+        "next" => Some(Edition::EditionNext),
         _ => None,
     }
 }
@@ -49,10 +55,24 @@ fn entry_named(word: &str) -> Option<Entry>
     }
 }
 
+// Returns `true` for a kind that only the grammar of the whole language makes. Requests are read by
+// the profile, so they know none of these kinds.
+fn is_of_whole_language(kind: SyntaxKind) -> bool
+    ensures { result ≡ is_of_whole_language (raw_of kind) }
+{
+    let raw = kind.to_raw();
+    FIRST_OF_WHOLE <= raw && raw <= LAST_OF_WHOLE
+}
+
+// Returns the kind of a name that a request may use.
 fn kind_named(word: &str) -> Option<SyntaxKind>
     ensures { result ≡ kind_named word.now }
 {
-    SyntaxKind::from_name(word)
+    let kind = SyntaxKind::from_name(word)?;
+    if is_of_whole_language(kind) {
+        return None;
+    }
+    Some(kind)
 }
 
 fn target_in(values: &[Value]) -> Option<Target>

@@ -55,12 +55,13 @@ fn dump<W: Write>(alloc: Global, out: &mut W, edition: Edition, text: &str) -> i
     dump_input(out, &input)
 }
 
-// An edition by the last digit of its year; the latest, where it is none.
-fn edition_of(digit: Option<char>) -> Edition {
-    match digit {
+// Returns an edition by the last character of its name: a year, or `next`.
+fn edition_of(last: Option<char>) -> Edition {
+    match last {
         Some('5') => Edition::Edition2015,
         Some('8') => Edition::Edition2018,
         Some('1') => Edition::Edition2021,
+        Some('t') => Edition::EditionNext,
         _ => Edition::Edition2024,
     }
 }

@@ -1,5 +1,5 @@
 -- Entries: what a text is asked to be.
-use Rattle.std.specs.Prelude.{ℕ, ◌<◌, ◌≤◌, List, [], length}
+use Rattle.std.specs.Prelude.{ℕ, ◌<◌, ◌≤◌, List, [], length, codes}
 use Rattle.parser_input.specs.Kinds.{ERROR}
 use Rattle.parser_input.specs.Input.{Token}
 use Rattle.parser_events.specs.Forest.{Forest, Message, End, Said, Node, ◌then◌}
@@ -38,6 +38,10 @@ most_tokens = 16777216
 abbrev pub RefusesParse : List Token → ParseError → Type 0
 RefusesParse ts TooLong = most_tokens < length ts
 RefusesParse ts NoMemory = length ts ≤ most_tokens
+
+abbrev pub message_of : ParseError → List ℕ
+message_of TooLong = codes "too long"
+message_of NoMemory = codes "out of memory"
 
 -- the tokens that are left, taken as leaves
 unfoldable pub with_leaves : Reading → Reading

@@ -11,6 +11,8 @@ use parser_events::output::Output;
 use parser_events::parser::Parser;
 use parser_input::input::Input;
 use std::alloc::{AllocError, Global};
+use std::error::Error;
+use std::fmt;
 
 /// So many tokens of an input are read at most.
 pub const MOST_TOKENS: usize = 16_777_216;
@@ -30,14 +32,30 @@ pub enum TopEntryPoint {
     MetaItem,
 }
 
-/// Why an input was not read.
+/// The error type of [`TopEntryPoint::parse`].
 #[derive(Clone, Copy, Debug, PartialEq, Eq)]
 pub enum ParseError {
     /// It has more than [`MOST_TOKENS`] tokens.
     TooLong = 1,
-    /// Memory was refused.
+    /// Out of memory.
     NoMemory = 2,
 }
+
+impl fmt::Display for ParseError {
+    ghost use Rattle.std.specs.Prelude.{Some};
+    ghost use Rattle.ra_parser.specs.Entries.{message_of};
+
+    ghost output = { λ e. Some (message_of e) };
+
+    fn fmt<W: fmt::Write>(&self, f: &mut fmt::Formatter<W>) -> fmt::Result {
+        match self {
+            ParseError::TooLong => write!(f, "too long"),
+            ParseError::NoMemory => write!(f, "out of memory"),
+        }
+    }
+}
+
+impl Error for ParseError {}
 
 impl From<AllocError> for ParseError {
     ghost use Rattle.ra_parser.specs.declared.entry_points.ParseError.TheVariants.{NoMemory};

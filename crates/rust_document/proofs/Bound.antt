@@ -326,7 +326,7 @@ unfolding asked
 document-bound edition text none =
     let ls = leaves_in edition text in
     document-holds asked are_operators_placed operators-carried edition text none
-    (both-true (has_solid_leaves (forest_by source_file edition ls)) (grammar.are_operators_placed (forest_by source_file edition ls)) (entry-solid source_file edition ls) (entries-bind source_file (input edition ls)))
+    (both-true (has_solid_leaves (forest_by source_file edition ls)) (grammar.are_operators_placed (forest_by source_file edition ls)) (entry-solid source_file edition ls) (entries-bind source_file (input false edition ls)))
 
 -- Rows are told by computing.
 pub placed-told : PlacedOperatorsAreTold

@@ -131,7 +131,7 @@ module _ (given : forest.Forest → Bool) (holds : Forest → Bool) (carried : C
   unfolding tree_by dressed_by messages_by is_entry
   document-holds edition text none e =
       let ls = leaves_in edition text in
-      let f = entry whole source_file (input edition ls) in
+      let f = entry whole source_file (input false edition ls) in
       let silent = none-said (dress_root f ls) (no-sayings (sayings_of (dress_root f ls)) (of_leaves 0 (lexed edition text)) none) in
-      let inner = rooted-holds f ls (entry-rooted source_file (input edition ls) refl) silent e in
+      let inner = rooted-holds f ls (entry-rooted source_file (input false edition ls) refl) silent e in
       subst (λ (k : ℕ). holds (node k (kinds_of (tree edition text)).forest empty) ≡ true) (sym (document-root edition text)) (kept.file (kinds_of (tree edition text)).forest inner)

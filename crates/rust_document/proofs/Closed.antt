@@ -209,4 +209,4 @@ token-trees-carried = record {
 pub document-closed : TokenTreesAreClosed
 document-closed edition text none =
     document-holds are_token_trees_bracketed are_token_trees_closed token-trees-carried edition text none
-    (token-trees-bracketed source_file (input edition (leaves_in edition text)))
+    (token-trees-bracketed source_file (input false edition (leaves_in edition text)))

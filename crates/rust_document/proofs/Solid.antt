@@ -76,7 +76,7 @@ contextual-solid edition text = of (word_of text) refl
     of None e = plain-solid.0
     of (Some w) e = kind_of w (found-solid _ words w words-solid e) (is_contextual_in edition w)
 
-token-solid : (edition : Edition) (l : Leaf) (ls : List Leaf) → is_trivia l ≡ false → (is_solid (token_of edition l ls).kind && is_solid (token_of edition l ls).contextual) ≡ true
+token-solid : (edition : Edition) (l : Leaf) (ls : List Leaf) → is_trivia l ≡ false → (is_solid (token_of false edition l ls).kind && is_solid (token_of false edition l ls).contextual) ≡ true
 unfolding token_of is_solid is_trivia
 token-solid edition l ls own = both-true (is_solid l.kind) _ (rw own refl) (of (l.kind == IDENT))
   where
@@ -84,12 +84,12 @@ token-solid edition l ls own = both-true (is_solid l.kind) _ (rw own refl) (of (
     of true = contextual-solid edition l.text
     of false = plain-solid.1
 
-input-solid : (edition : Edition) (ls : List Leaf) → are_solid (input edition ls) ≡ true
+input-solid : (edition : Edition) (ls : List Leaf) → are_solid (input false edition ls) ≡ true
 unfolding input are_solid
 input-solid edition [] = refl
 input-solid edition (l ∷ ls) = elim (cases_Bool (is_trivia l)) [
   | inl i ↦ rw i (input-solid edition ls)
-  | inr i ↦ rw i (both-true _ (are_solid (input edition ls)) (token-solid edition l ls i) (input-solid edition ls))
+  | inr i ↦ rw i (both-true _ (are_solid (input false edition ls)) (token-solid edition l ls i) (input-solid edition ls))
 ]
 
 drop-solid : (n : ℕ) (ts : List Token) → are_solid ts ≡ true → are_solid (drop n ts) ≡ true
@@ -156,5 +156,5 @@ trees-solid (forest.Float b c f) ts us s e =
     let rest = trees-solid f after.0 us (left-solid (is_float b at.0) 1 at.0 after.0 inner.1 after.1.0) after.1.1 in
     (both-true (has_solid_leaves c) (has_solid_leaves f) inner.0 rest.0, rest.1)
 
-pub entry-solid : (x : Production) (edition : Edition) (ls : List Leaf) → has_solid_leaves (entry whole x (input edition ls)) ≡ true
-entry-solid x edition ls = (trees-solid (entry whole x (input edition ls)) (input edition ls) [] (input-solid edition ls) (entries-in-order x (input edition ls))).0
+pub entry-solid : (x : Production) (edition : Edition) (ls : List Leaf) → has_solid_leaves (entry whole x (input false edition ls)) ≡ true
+entry-solid x edition ls = (trees-solid (entry whole x (input false edition ls)) (input false edition ls) [] (input-solid edition ls) (entries-in-order x (input false edition ls))).0

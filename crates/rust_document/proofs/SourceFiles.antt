@@ -42,5 +42,5 @@ pub document-root : (edition : Edition) (text : List ℕ) → (tree edition text
 unfolding tree_by dressed_by
 document-root edition text =
     let ls = leaves_in edition text in
-    let own = source-entry (input edition ls) in
+    let own = source-entry (input false edition ls) in
     ap (λ (f : forest.Forest). (root_of (terms_of (dress_root f ls))).kind) own.1 ∙ dressed-kind SOURCE_FILE own.0 ls

@@ -1,5 +1,5 @@
 -- What was read of a text's leaves is the reading of the text.
-use Rattle.std.proofs.Common.{◌≡◌, ◌≤◌, ℕ, true, List, ◌++◌, map, length, refl, ap, ◌∙◌, arith}
+use Rattle.std.proofs.Common.{false, ◌≡◌, ◌≤◌, ℕ, true, List, ◌++◌, map, length, refl, ap, ◌∙◌, arith}
 use Rattle.std.proofs.Math.Utf8.{encodes}
 use Rattle.std.proofs.lemmas.List.{length-map}
 use Rattle.rowan_green.specs.Forest.{Tree}
@@ -25,7 +25,7 @@ use Rattle.rust_document.specs.declared.tokens.LexedToken.{LexedToken}
 use Rattle.rust_document.specs.declared.syntax_error.SyntaxError.{SyntaxError}
 
 -- an input has no more tokens than there are leaves
-pub tokens-within : (edition : Edition) (ls : List Lexed) → length (input edition (leaves_of ls)) ≤ length ls
+pub tokens-within : (edition : Edition) (ls : List Lexed) → length (input false edition (leaves_of ls)) ≤ length ls
 tokens-within edition ls = omega (arith, input-most edition (leaves_of ls), length-map ls (λ (l : Lexed). l.leaf))
 
 is-top : (top : TopEntryPoint) → is_entry (production_of top) ≡ true
@@ -42,7 +42,7 @@ is-top tops.MetaItem = refl
 steps-are : (top : TopEntryPoint) (edition : Edition) (ls : List Leaf) → AreStepsOf (steps (forest_by (production_of top) edition ls)) ls (forest_by (production_of top) edition ls)
 steps-are top edition ls = record {
   are = refl;
-  rooted = entry-rooted (production_of top) (input edition ls) (is-top top);
+  rooted = entry-rooted (production_of top) (input false edition ls) (is-top top);
   fit = entry-fits (production_of top) edition ls (is-top top);
 }
 

@@ -1,5 +1,5 @@
 -- The reading of a text: its leaves, its messages and its tree. No earlier text and no command enters.
-use Rattle.std.specs.Prelude.{ℕ, ◌+◌, List, [], ◌∷◌, ◌++◌, map, Option, None, Some, encode_utf8_all}
+use Rattle.std.specs.Prelude.{false, ℕ, ◌+◌, List, [], ◌∷◌, ◌++◌, map, Option, None, Some, encode_utf8_all}
 use Rattle.rustc_lexer.specs.Characters.{size}
 use Rattle.rowan_green.specs.Forest.{Forest, empty, node, leaf, Tree}
 use Rattle.parser_input.specs.Kinds.{ERROR}
@@ -40,7 +40,7 @@ root_of f = record { kind = ERROR; forest = f }
 
 -- what an entry reads of leaves, as trees of the parser
 abbrev pub forest_by : Production → Edition → List Leaf → forest.Forest
-forest_by x edition ls = entry whole x (input edition ls)
+forest_by x edition ls = entry whole x (input false edition ls)
 
 -- the same, dressed with these leaves
 unfoldable pub dressed_by : Production → Edition → List Leaf → Dressed

@@ -1,5 +1,5 @@
 -- What is listed of a text's steps is the tree of the text.
-use Rattle.std.proofs.Common.{◌≡◌, ℕ, true, List, [], ◌++◌, length, map, refl, ap, ◌∙◌}
+use Rattle.std.proofs.Common.{false, ◌≡◌, ℕ, true, List, [], ◌++◌, length, map, refl, ap, ◌∙◌}
 use Rattle.parser_input.specs.Input.{Token, input}
 use Rattle.parser_input.specs.Lexed.{leaves_of}
 use Rattle.parser_input.specs.Stored.{Whole, whole_of}
@@ -67,7 +67,7 @@ Puts old ss w new =
 
 pub read-as :
     (asked : Production) (edition : Edition) (text : List ℕ) (w : Whole) (ts : List Token) (ss : List Step) (old new : Rows)
-    → is_entry asked ≡ true → w ≡ whole_of edition text → ts ≡ input w.edition (leaves_of w.leaves) → ss ≡ steps (entry whole asked ts)
+    → is_entry asked ≡ true → w ≡ whole_of edition text → ts ≡ input false w.edition (leaves_of w.leaves) → ss ≡ steps (entry whole asked ts)
     → IsEmpty old → Puts old ss w new → IsTreeOf asked edition text new.rows.items new.said.items
 unfolding tree_of
 read-as asked edition text w ts ss old new is-entry lexed seen parsed empty puts =
@@ -75,7 +75,7 @@ read-as asked edition text w ts ss old new is-entry lexed seen parsed empty puts
     let f = entry_of asked w.edition ls in
     let are : ss ≡ steps f = parsed ∙ ap (λ (l : List Token). steps (entry whole asked l)) seen in
     let fit : fits ss ls ≡ true = ap (λ (l : List Step). fits l ls) are ∙ entry-fits asked w.edition ls is-entry in
-    let taken : TakesAll IsTaken old (text_steps (over asked w)) new = puts f (entry-rooted asked (input w.edition ls) is-entry) are fit in
+    let taken : TakesAll IsTaken old (text_steps (over asked w)) new = puts f (entry-rooted asked (input false w.edition ls) is-entry) are fit in
     record {
       elements_are = listed-alone (over asked w) old new empty taken ∙ ap (λ (v : Whole). elements 0 0 (over asked v)) lexed;
       sayings_are = said-alone (over asked w) old new empty taken ∙ ap (λ (v : Whole). sayings_of (over asked v)) lexed;

@@ -5,7 +5,7 @@ ghost use Rattle.tree_lines.specs.Names.{edition_of_year, entry_point_named};
 use parser_input::edition::Edition;
 use ra_parser::TopEntryPoint;
 
-/// The edition of a year.
+/// Returns the edition of a year, or the edition `next`.
 pub fn edition(year: &str) -> Option<Edition>
     ensures { result ≡ edition_of_year year.now }
 {
@@ -14,6 +14,7 @@ pub fn edition(year: &str) -> Option<Edition>
         "2018" => Some(Edition::Edition2018),
         "2021" => Some(Edition::Edition2021),
         "2024" => Some(Edition::Edition2024),
+        "next" => Some(Edition::EditionNext),
         _ => None,
     }
 }

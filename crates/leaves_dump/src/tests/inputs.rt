@@ -61,11 +61,34 @@ fn has(input: &Input, tokens: &[Seen]) -> bool {
     same
 }
 
+// Returns `true` if no token of the input says `!whole`.
+fn is_all_whole(input: &Input, whole: bool) -> bool {
+    let mut same = !input.is_whole(input.len());
+    for i in 0..input.len() {
+        same = same & (input.is_whole(i) == whole);
+    }
+    same
+}
+
+// Returns `true` if the input of a text in an edition has these tokens, by either grammar.
+fn sees_in(
+    alloc: Global,
+    edition: Edition,
+    text: &str,
+    tokens: &[Seen],
+) -> Result<bool, AllocError> {
+    let lexed = LexedStr::new(alloc, edition, text)?;
+    let profile = lexed.to_input(alloc)?;
+    let whole = lexed.to_whole_input(alloc)?;
+    Ok(has(&profile, tokens)
+        & is_all_whole(&profile, false)
+        & has(&whole, tokens)
+        & is_all_whole(&whole, true))
+}
+
 // What the parser sees of a text, token by token.
 fn sees(alloc: Global, text: &str, tokens: &[Seen]) -> Result<bool, AllocError> {
-    let lexed = LexedStr::new(alloc, Edition::Edition2015, text)?;
-    let input = lexed.to_input(alloc)?;
-    Ok(has(&input, tokens))
+    sees_in(alloc, Edition::Edition2015, text, tokens)
 }
 
 const JOINT_BY_THEIR_ENDS: &[(&str, &[Seen])] = &[
@@ -147,6 +170,96 @@ const CONTEXTUAL: &[(&str, &[Seen])] = &[
 fn contextual_words(rt: HostRuntime) -> Result<(), AllocError> {
     for (text, tokens) in CONTEXTUAL {
         assert!(rt; sees(rt.alloc(), text, tokens)?, "at {text}");
+    }
+    Ok(())
+}
+
+const PIPE_ANGLE: &[(Edition, &str, &[Seen])] = &[
+    (
+        Edition::EditionNext,
+        "a|>b",
+        &[
+            (SyntaxKind::IDENT, SyntaxKind::IDENT, true),
+            (SyntaxKind::PIPE, SyntaxKind::PIPE_GT, true),
+            (SyntaxKind::R_ANGLE, SyntaxKind::EOF, true),
+            (SyntaxKind::IDENT, SyntaxKind::IDENT, false),
+        ],
+    ),
+    (
+        Edition::EditionNext,
+        "| > || >",
+        &[
+            (SyntaxKind::PIPE, SyntaxKind::EOF, false),
+            (SyntaxKind::R_ANGLE, SyntaxKind::EOF, false),
+            (SyntaxKind::PIPE, SyntaxKind::EOF, true),
+            (SyntaxKind::PIPE, SyntaxKind::EOF, false),
+            (SyntaxKind::R_ANGLE, SyntaxKind::EOF, false),
+        ],
+    ),
+    (
+        Edition::EditionNext,
+        "||>=",
+        &[
+            (SyntaxKind::PIPE, SyntaxKind::EOF, true),
+            (SyntaxKind::PIPE, SyntaxKind::PIPE_GT, true),
+            (SyntaxKind::R_ANGLE, SyntaxKind::EOF, true),
+            (SyntaxKind::EQ, SyntaxKind::EOF, false),
+        ],
+    ),
+    (
+        Edition::Edition2024,
+        "|>",
+        &[
+            (SyntaxKind::PIPE, SyntaxKind::EOF, true),
+            (SyntaxKind::R_ANGLE, SyntaxKind::EOF, false),
+        ],
+    ),
+];
+
+#[test]
+fn pipe_angle_is_an_operator_of_next(rt: HostRuntime) -> Result<(), AllocError> {
+    for (edition, text, tokens) in PIPE_ANGLE {
+        assert!(rt; sees_in(rt.alloc(), *edition, text, tokens)?, "at {text}");
+    }
+    Ok(())
+}
+
+#[test]
+fn push_pipe_is_not_joint(rt: HostRuntime) -> Result<(), AllocError> {
+    let mut input = Input::with_capacity(rt.alloc(), 1)?;
+    input.push_pipe()?;
+    assert!(rt; has(&input, &[(SyntaxKind::PIPE, SyntaxKind::PIPE_GT, false)]));
+    assert!(rt; is_all_whole(&input, false));
+    Ok(())
+}
+
+// Returns `true` if two texts have equal inputs.
+fn are_equal(alloc: Global, edition: Edition, one: &str, other: &str) -> Result<bool, AllocError> {
+    let one = LexedStr::new(alloc, edition, one)?;
+    let other = LexedStr::new(alloc, edition, other)?;
+    let same = one.to_input(alloc)? == other.to_input(alloc)?;
+    let whole_differs = other.len() == 0 || one.to_whole_input(alloc)? != other.to_input(alloc)?;
+    Ok(same & whole_differs)
+}
+
+const EQUAL: &[(&str, &str)] = &[("", ""), ("a b", "c /**/ d\n"), ("x.0.1", "y.2.3")];
+
+const UNEQUAL: &[(&str, &str)] = &[
+    ("a", "a b"),
+    ("a", "1"),
+    ("a", "union"),
+    ("a+b", "a +b"),
+    ("x.0.1", "x.0."),
+    ("a |> b", "a | > b"),
+];
+
+#[test]
+fn inputs_are_equal_by_their_tokens(rt: HostRuntime) -> Result<(), AllocError> {
+    for (one, other) in EQUAL {
+        assert!(rt; are_equal(rt.alloc(), Edition::EditionNext, one, other)?, "at {one}");
+    }
+    for (one, other) in UNEQUAL {
+        assert!(rt; !are_equal(rt.alloc(), Edition::EditionNext, one, other)?, "at {one}");
     }
     Ok(())
 }

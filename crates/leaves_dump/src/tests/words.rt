@@ -7,6 +7,7 @@ const EDITIONS: &[Edition] = &[
     Edition::Edition2018,
     Edition::Edition2021,
     Edition::Edition2024,
+    Edition::EditionNext,
 ];
 
 fn is_undone(raw: u16) -> bool {
@@ -16,11 +17,11 @@ fn is_undone(raw: u16) -> bool {
     }
 }
 
-const NO_KINDS: &[u16] = &[238, 239, 256, u16::MAX];
+const NO_KINDS: &[u16] = &[256, 257, 512, u16::MAX];
 
 #[test]
 fn numbers_and_names_undo_each_other(rt: HostRuntime) {
-    for raw in 0..238 {
+    for raw in 0..256 {
         assert!(rt; is_undone(raw), "at {raw}");
     }
     for raw in NO_KINDS {
@@ -38,6 +39,10 @@ const NAMES: &[(SyntaxKind, &str)] = &[
     (SyntaxKind::SOURCE_FILE, "SOURCE_FILE"),
     (SyntaxKind::STRUCT, "STRUCT"),
     (SyntaxKind::MATCH_GUARD, "MATCH_GUARD"),
+    (SyntaxKind::EXTERN_CRATE, "EXTERN_CRATE"),
+    (SyntaxKind::UNDERSCORE_EXPR, "UNDERSCORE_EXPR"),
+    (SyntaxKind::DEFER_STMT, "DEFER_STMT"),
+    (SyntaxKind::PIPE_GT, "PIPE_GT"),
 ];
 
 fn is_named(kind: SyntaxKind, name: &str) -> bool {
@@ -79,7 +84,7 @@ fn is_told_by_name(raw: u16) -> bool {
 
 #[test]
 fn trivia_and_brackets(rt: HostRuntime) {
-    for raw in 0..238 {
+    for raw in 0..256 {
         assert!(rt; is_told_by_name(raw), "at {raw}");
     }
 }
@@ -91,9 +96,28 @@ fn is_keyword_of(raw: u16, edition: Edition) -> bool {
     }
 }
 
+/// Kinds by their raw numbers: those of the profile keep theirs, and the last three are those of
+/// edition `next`.
+const NUMBERS: &[(SyntaxKind, u16)] = &[
+    (SyntaxKind::TOMBSTONE, 0),
+    (SyntaxKind::MATCH_GUARD, 237),
+    (SyntaxKind::EXTERN_CRATE, 238),
+    (SyntaxKind::UNDERSCORE_EXPR, 252),
+    (SyntaxKind::DEFER_KW, 253),
+    (SyntaxKind::DEFER_STMT, 254),
+    (SyntaxKind::PIPE_GT, 255),
+];
+
+#[test]
+fn raw_numbers_of_kinds(rt: HostRuntime) {
+    for (kind, raw) in NUMBERS {
+        assert!(rt; kind.to_raw() == *raw, "at {raw}");
+    }
+}
+
 fn count_of_keywords(edition: Edition) -> u32 {
     let mut count = 0u32;
-    for raw in 0..238 {
+    for raw in 0..256 {
         if is_keyword_of(raw, edition) {
             count = count.wrapping_add(1);
         }
@@ -106,6 +130,7 @@ const COUNTS: &[(Edition, u32)] = &[
     (Edition::Edition2018, 57),
     (Edition::Edition2021, 57),
     (Edition::Edition2024, 58),
+    (Edition::EditionNext, 59),
 ];
 
 #[test]
@@ -122,6 +147,7 @@ enum When {
     Since2018,
     Before2018,
     Since2024,
+    SinceNext,
     Never,
 }
 
@@ -131,6 +157,7 @@ fn is_now(when: When, edition: Edition) -> bool {
         When::Since2018 => edition >= Edition::Edition2018,
         When::Before2018 => edition < Edition::Edition2018,
         When::Since2024 => edition >= Edition::Edition2024,
+        When::SinceNext => edition >= Edition::EditionNext,
         When::Never => false,
     }
 }
@@ -150,6 +177,7 @@ const WORDS: &[Word] = &[
     ("try", SyntaxKind::TRY_KW, When::Since2018, When::Never),
     ("dyn", SyntaxKind::DYN_KW, When::Since2018, When::Before2018),
     ("gen", SyntaxKind::GEN_KW, When::Since2024, When::Never),
+    ("defer", SyntaxKind::DEFER_KW, When::SinceNext, When::Never),
     ("auto", SyntaxKind::AUTO_KW, When::Never, When::Always),
     ("default", SyntaxKind::DEFAULT_KW, When::Never, When::Always),
     (
@@ -215,6 +243,8 @@ const KINDS: &[(Edition, &str, SyntaxKind)] = &[
     (Edition::Edition2021, "union", SyntaxKind::IDENT),
     (Edition::Edition2021, "_", SyntaxKind::UNDERSCORE),
     (Edition::Edition2024, "gen", SyntaxKind::GEN_KW),
+    (Edition::Edition2024, "defer", SyntaxKind::IDENT),
+    (Edition::EditionNext, "defer", SyntaxKind::DEFER_KW),
 ];
 
 #[test]

@@ -1,5 +1,5 @@
 -- The leaves of a text are its bytes, and are read as the grammar says.
-use Rattle.std.proofs.Common.{◌≡◌, ◌++◌, chars, map, length, refl, sym, ap, subst, ◌∙◌, arith, ◌≤◌}
+use Rattle.std.proofs.Common.{false, ◌≡◌, ◌++◌, chars, map, length, refl, sym, ap, subst, ◌∙◌, arith, ◌≤◌}
 use Rattle.std.proofs.Math.Utf8.{encodes}
 use Rattle.parser_input.specs.Input.{input}
 use Rattle.rust_document.specs.Costs.{steps_for}
@@ -30,7 +30,7 @@ lexed_tokens-requires c =
 
 pub returns-clause-steps : goal.returns-clause-steps
 returns-clause-steps c =
-    subst (λ (w : Whole). c.in_ok-built.field-0.steps ≤ steps_for (input w.edition (leaves_of w.leaves))) c.in_ok-lexed.ensures c.in_ok-built.ensures.steps
+    subst (λ (w : Whole). c.in_ok-built.field-0.steps ≤ steps_for (input false w.edition (leaves_of w.leaves))) c.in_ok-lexed.ensures c.in_ok-built.ensures.steps
 
 pub returns-clause-read : goal.returns-clause-read
 returns-clause-read c =
