@@ -12,6 +12,7 @@ mod opening;
 mod payloads;
 mod recording;
 mod refused_memory;
+mod renames;
 mod rewrites;
 mod trees;
 

@@ -1,2 +1,4 @@
 pub mod Taking
 pub mod Entered
+pub mod CoreLists
+pub mod Fitting

@@ -1,7 +1,11 @@
 -- Entries: what a text is asked to be.
-use Rattle.std.specs.Prelude.{ℕ, ◌<◌, ◌≤◌, List, [], length, codes}
+use Rattle.std.specs.Prelude.{◌≡◌, ℕ, ◌<◌, ◌≤◌, true, false, List, [], length, codes}
 use Rattle.parser_input.specs.Kinds.{ERROR}
-use Rattle.parser_input.specs.Input.{Token}
+use Rattle.parser_input.specs.Input.{Token, input}
+use Rattle.parser_input.specs.Leaf.{Leaf}
+use Rattle.parser_input.specs.declared.edition.Edition.{Edition}
+use Rattle.parser_events.specs.Fits.{fits}
+use Rattle.parser_events.specs.Steps.{Step}
 use Rattle.parser_events.specs.Forest.{Forest, Message, End, Said, Node, ◌then◌}
 use Rattle.rust_grammar.specs.Rule.{Production, source_file, macro_items, macro_statements, pattern, any_type, expression, meta}
 use Rattle.rust_grammar.specs.Meaning.{Reading}
@@ -42,6 +46,10 @@ RefusesParse ts NoMemory = length ts ≤ most_tokens
 abbrev pub message_of : ParseError → List ℕ
 message_of TooLong = codes "too long"
 message_of NoMemory = codes "out of memory"
+
+-- the steps fit every text with this input
+abbrev pub FitEveryText : List Token → List Step → Type 0
+FitEveryText tokens ss = (edition : Edition) (leaves : List Leaf) → tokens ≡ input false edition leaves → fits ss leaves ≡ true
 
 -- the tokens that are left, taken as leaves
 unfoldable pub with_leaves : Reading → Reading

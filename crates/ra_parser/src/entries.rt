@@ -142,7 +142,7 @@ pub(crate) fn read_entry(p: &mut Parser<'_>, entry_point: TopEntryPoint)
     requires short { length p.old.input < 2 ^ 64 }
     requires nodes { p.old.nodes ≡ Some (End ∷ []) }
     ensures tree { Holds p.new.nodes (marked (entry whole (production_of entry_point) (left p.old)) ∷ []) }
-    ensures looks { p.new.looks ≤ p.old.looks + looks_per_token * (length (left p.old) + 1) }
+    ensures looks { p.new.looks < p.old.looks + looks_per_token * (length (left p.old) + 1) }
 {
     match entry_point {
         TopEntryPoint::SourceFile => source_file(p),

@@ -1,10 +1,12 @@
 //! What a text is asked to be.
 
 ghost use Rattle.std.specs.Prelude.{◌≡◌, ◌≤◌, ◌+◌, ◌*◌, length, IfOk, IfErr};
+ghost use Rattle.parser_events.specs.Forest.{Forest};
 ghost use Rattle.parser_events.specs.Steps.{steps};
 ghost use Rattle.rust_grammar.specs.Entry.{entry};
 ghost use Rattle.rust_grammar.specs.Whole.{whole};
-ghost use Rattle.ra_parser.specs.Entries.{most_tokens, production_of, RefusesParse};
+ghost use Rattle.ra_parser.specs.Core.{IsCore};
+ghost use Rattle.ra_parser.specs.Entries.{most_tokens, production_of, FitEveryText, RefusesParse};
 
 use crate::entries::read_entry;
 use parser_events::output::Output;
@@ -43,7 +45,8 @@ pub enum ParseError {
 
 impl fmt::Display for ParseError {
     ghost use Rattle.std.specs.Prelude.{Some};
-    ghost use Rattle.ra_parser.specs.Entries.{message_of};
+    ghost use Rattle.ra_parser.specs.Core.{IsCore};
+ghost use Rattle.ra_parser.specs.Entries.{message_of};
 
     ghost output = { λ e. Some (message_of e) };
 
@@ -69,16 +72,22 @@ impl From<AllocError> for ParseError {
 }
 
 impl TopEntryPoint {
-    /// Reads the tokens of an input as the one thing that is asked. Every input has a tree: what is
-    /// wrong with it is said by messages in it, and tokens that have no place stand in errors. At
-    /// most [`STEPS_PER_TOKEN`] looks are made for each token and for the end.
+    /// Parses an input as this entry. Every input has a tree: errors are messages in it, and tokens
+    /// without a place are in `ERROR` nodes. The tree of a core file, type or expression is the one
+    /// that the core language gives it, without messages. At most [`STEPS_PER_TOKEN`] lookaheads are
+    /// made for each token and for the end.
     ///
     /// # Errors
     ///
-    /// An input of more than [`MOST_TOKENS`] tokens, or out of memory.
+    /// - [`ParseError::TooLong`] if `input` has more than [`MOST_TOKENS`] tokens.
+    /// - [`ParseError::NoMemory`] if an allocation fails.
     pub fn parse(self, alloc: Global, input: &Input) -> Result<Output, ParseError>
         ensures parsed { IfOk result (λ output. output.steps
             ≡ steps (entry whole (production_of self) input.now)) }
+        ensures core { IfOk result (λ output. (tree : Forest) → IsCore self input.now tree
+            → output.steps ≡ steps tree) }
+        ensures fits { IfOk result (λ output. FitEveryText input.now output.steps) }
+        ensures looked { IfOk result (λ output. 1 ≤ output.looks) }
         ensures looks { IfOk result (λ output. output.looks ≤ STEPS_PER_TOKEN * (length input.now + 1)) }
         ensures short { IfOk result (λ output. length input.now ≤ most_tokens) }
         ensures refused { IfErr result (RefusesParse input.now) }
@@ -88,6 +97,8 @@ impl TopEntryPoint {
         }
         let mut parser = Parser::new(alloc, input);
         read_entry(&mut parser, self);
+        // (one lookahead at least, so that a caller tells a parse from an output that was kept)
+        let _end = parser.kind_at(0);
         let output = parser.finish()?;
         Ok(output)
     }

@@ -25,3 +25,4 @@ pub mod Bound
 pub mod After
 pub mod AnnotatedRanges
 pub mod Alike
+pub mod CoreTexts

@@ -43,34 +43,34 @@ none-said (dressed.Node k c d) e =
     let second = none-said d both.1 in
     omega (arith, first, second)
 
-said-followed : (a b : Dressed) → said (a followed_by b) ≡ said a + said b
+pub said-followed : (a b : Dressed) → said (a followed_by b) ≡ said a + said b
 unfolding said
 said-followed dressed.End b = omega arith
 said-followed (dressed.Leaf k t d) b = said-followed d b
 said-followed (dressed.Said m p d) b = omega (arith, said-followed d b)
 said-followed (dressed.Node k c d) b = omega (arith, said-followed d b)
 
-said-leaves : (ls : List Leaf) → said (as_dressed ls) ≡ 0
+pub said-leaves : (ls : List Leaf) → said (as_dressed ls) ≡ 0
 unfolding said as_dressed
 said-leaves [] = refl
 said-leaves (l ∷ ls) = said-leaves ls
 
-said-put : (d : Dressed) (t : List ℕ) (n : ℕ) (s : Dressing) → said (put d t n s).given ≡ said s.given + said d
+pub said-put : (d : Dressed) (t : List ℕ) (n : ℕ) (s : Dressing) → said (put d t n s).given ≡ said s.given + said d
 unfolding put
 said-put d t n s = said-followed s.given d
 
-said-each : (c : ℕ) (s : Dressing) → said (put_each c s).given ≡ said s.given
+pub said-each : (c : ℕ) (s : Dressing) → said (put_each c s).given ≡ said s.given
 unfolding put_each
 said-each c s =
     let all = said-put (as_dressed (take c s.left)) (joined (take c s.left)) c s in
     let none = said-leaves (take c s.left) in
     omega (arith, all, none)
 
-said-pending : (s : Dressing) → said (put_pending s).given ≡ said s.given
+pub said-pending : (s : Dressing) → said (put_pending s).given ≡ said s.given
 unfolding put_pending
 said-pending s = said-each (length (pending s.left)) s
 
-said-leaf : (k n : ℕ) (s : Dressing) → said (put_leaf k n s).given ≡ said s.given
+pub said-leaf : (k n : ℕ) (s : Dressing) → said (put_leaf k n s).given ≡ said s.given
 unfolding put_leaf said
 said-leaf k n s =
     let text = joined (take (reach n s.left) s.left) in
@@ -80,11 +80,11 @@ said-say : (m : forest.Message) (s : Dressing) → said (say m s).given ≡ said
 unfolding say said
 said-say m s = omega (arith, said-followed s.given (dressed.Said m s.place dressed.End))
 
-said-close : (k : ℕ) (before s : Dressing) → said (close_node k before s).given ≡ said before.given + said s.given
+pub said-close : (k : ℕ) (before s : Dressing) → said (close_node k before s).given ≡ said before.given + said s.given
 unfolding close_node said
 said-close k before s = omega (arith, said-followed before.given (dressed.Node k s.given dressed.End))
 
-said-open : (s : Dressing) → said (open_node s).given ≡ 0
+pub said-open : (s : Dressing) → said (open_node s).given ≡ 0
 unfolding open_node said
 said-open s = refl
 

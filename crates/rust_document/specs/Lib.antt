@@ -21,3 +21,4 @@ pub mod Laws
 pub mod TreeSinks
 pub mod TreeBuilt
 pub mod Seen
+pub mod Core

@@ -7,6 +7,7 @@ ghost use Rattle.syntax_tree.specs.Handle.{element_of};
 ghost use Rattle.syntax_tree.specs.Refusal.{RefusesTree};
 ghost use Rattle.rust_document.specs.Commit.{RefusesCommit};
 ghost use Rattle.rust_document.specs.Committed.{annotated_ends, ends_of};
+ghost use Rattle.rust_document.specs.Core.{IsReadAsCore};
 ghost use Rattle.rust_document.specs.Costs.{most_steps};
 ghost use Rattle.rust_document.specs.Edit.{RefusesEdit, can_edit, edited};
 ghost use Rattle.rust_document.specs.Open.{IsOpened, RefusesOpen};
@@ -103,6 +104,7 @@ impl Document {
         ensures is_read { OnOk result (IsOpened text.now) }
         ensures brackets { IfOk result (λ d. HasPairedBrackets d) }
         ensures operators { IfOk result (λ d. HasPlacedOperators d) }
+        ensures core { IfOk result (λ d. IsReadAsCore d) }
         ensures refused { IfErr result (RefusesOpen text.now ids.old) }
         ensures kept { IfErr result (λ _. ids.new ≡ ids.old) }
     {
@@ -196,6 +198,7 @@ impl Document {
         ensures number { OnOk result (ids.new ≡ ids.old + 1) }
         ensures brackets { OnOk result (HasPairedBrackets self.new) }
         ensures operators { OnOk result (HasPlacedOperators self.new) }
+        ensures core { OnOk result (IsReadAsCore self.new) }
         ensures front { IfOk result (λ e. e.front ≡ 0) }
         ensures lexed { IfOk result (λ e. e.lexed ≡ length (after_preface self.old.edition
             (chars (edited self.old.text range.start.0 range.end.0 text.now)))) }
@@ -271,6 +274,7 @@ impl Document {
             }) }
         ensures brackets { OnOk result (HasPairedBrackets self.new) }
         ensures operators { OnOk result (HasPlacedOperators self.new) }
+        ensures core { OnOk result (IsReadAsCore self.new) }
         ensures changed { IfOk result (λ c. map ends_of c.changed.items ≡ changed editor) }
         ensures annotated { IfOk result (λ c. map annotated_ends c.annotated.items ≡ annotated editor) }
         ensures steps { IfOk result (λ c. c.steps ≤ most_steps self.old.edition
@@ -317,6 +321,7 @@ impl Document {
             }) }
         ensures brackets { OnOk result (HasPairedBrackets self.new) }
         ensures operators { OnOk result (HasPlacedOperators self.new) }
+        ensures core { OnOk result (IsReadAsCore self.new) }
         ensures number { OnOk result (ids.new ≡ ids.old + 1) }
         ensures refused { IfErr result (RefusesTree ids.old) }
         ensures kept { IfErr result (λ _. (self.new ≡ self.old) × (ids.new ≡ ids.old)) }

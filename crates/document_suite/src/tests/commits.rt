@@ -18,7 +18,7 @@ fn only_range(committed: &Committed) -> Option<TextRange> {
 }
 
 /// What a document answers to an editor: the range that is changed, if there is just one.
-fn commit(
+pub(super) fn commit(
     alloc: Global,
     document: &mut Document,
     editor: SyntaxEditor,
@@ -41,7 +41,7 @@ fn recorded(
 }
 
 /// An editor that puts a token for an element.
-fn put(
+pub(super) fn put(
     alloc: Global,
     document: &Document,
     place: Place,

@@ -48,7 +48,7 @@ fn has_tokens(document: &Document, expected: &[Place]) -> bool {
 }
 
 /// Whether these are the messages, each with its place.
-fn has_errors(
+pub(super) fn has_errors(
     alloc: Global,
     document: &Document,
     expected: &[(usize, &str)],

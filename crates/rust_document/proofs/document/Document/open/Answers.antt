@@ -1,6 +1,7 @@
--- What holds of a document without messages is a law.
+-- What holds of a document without messages, or of a text of the core language, is a law.
 use Rattle.rust_document.proofs.Closed.{document-closed}
 use Rattle.rust_document.proofs.Bound.{document-bound}
+use Rattle.rust_document.proofs.CoreTexts.{core-read}
 use Rattle.rust_document.proofs.document.Document.open.Goals as goal
 
 pub returns-clause-brackets : goal.returns-clause-brackets
@@ -8,3 +9,6 @@ returns-clause-brackets c = document-closed _ _
 
 pub returns-clause-operators : goal.returns-clause-operators
 returns-clause-operators c = document-bound _ _
+
+pub returns-clause-core : goal.returns-clause-core
+returns-clause-core c = core-read _ _
