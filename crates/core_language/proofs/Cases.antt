@@ -26,7 +26,7 @@ use Rattle.core_language.proofs.Otherwise.{read-otherwise}
 
 -- a token, in the reader's words
 abbrev token : (kind contextual : ℕ) → Bool → Token
-token kind contextual joint = record { kind = kind; contextual = contextual; joint = joint }
+token kind contextual joint = record { kind = kind; contextual = contextual; joint = joint; whole = false }
 
 abbrev tokens3 : List Token
 tokens3 = token STRUCT_KW EOF false ∷ token IDENT IDENT false ∷ token SEMICOLON EOF false ∷ []

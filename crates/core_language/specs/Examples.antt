@@ -7,7 +7,7 @@ use Rattle.core_language.specs.Language.{IsCoreFile, IsCoreExpression}
 
 -- a token that touches no other
 abbrev pub apart : ℕ → Token
-apart kind = record { kind = kind; contextual = if kind == IDENT then IDENT else EOF; joint = false }
+apart kind = record { kind = kind; contextual = if kind == IDENT then IDENT else EOF; joint = false; whole = false }
 
 -- The writing of trees: `a · b` stands side by side, `N ⟪ a ⟫` is a node.
 infixr 50 ◌·◌

@@ -1,16 +1,16 @@
 -- The input tokens of the core language. In all that follows a `Bool` named after a token says whether that token touches the
 -- next one; where it is free, white space makes no difference.
-use Rattle.std.specs.Prelude.{ℕ, Bool, true, List, [], ◌∷◌}
+use Rattle.std.specs.Prelude.{ℕ, Bool, true, false, List, [], ◌∷◌}
 use Rattle.parser_input.specs.Kinds.{EOF, IDENT}
 use Rattle.parser_input.specs.Input.{Token}
 
 -- a token of this kind that is no name: a keyword, a literal, one character of punctuation
 abbrev pub of_kind : ℕ → Bool → Token
-of_kind kind joint = record { kind = kind; contextual = EOF; joint = joint }
+of_kind kind joint = record { kind = kind; contextual = EOF; joint = joint; whole = false }
 
 -- a name, which is no keyword, and no contextual keyword either
 abbrev pub name_token : Bool → Token
-name_token joint = record { kind = IDENT; contextual = IDENT; joint = joint }
+name_token joint = record { kind = IDENT; contextual = IDENT; joint = joint; whole = false }
 
 -- Punctuation of these characters, and the tokens after it: one token a character, of which each but the last touches the next.
 abbrev pub joint_tokens : List ℕ → Bool → List Token → List Token

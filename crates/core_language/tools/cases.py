@@ -326,7 +326,7 @@ def heading(body):
         if used:
             lines.append(f"use Rattle.core_language.{module}.{{{', '.join(used)}}}")
     lines += ["", "-- a token, in the reader's words", "abbrev token : (kind contextual : ℕ) → Bool → Token"]
-    lines.append("token kind contextual joint = record { kind = kind; contextual = contextual; joint = joint }")
+    lines.append("token kind contextual joint = record { kind = kind; contextual = contextual; joint = joint; whole = false }")
     return "\n".join(lines)
 
 

@@ -125,8 +125,8 @@ marked_code = code_by (List Sign) (coded_list sign_code) (λ f. signs f []) (λ 
 
 abbrev token_code : Coded Token
 token_code =
-    code_by (ℕ × (ℕ × Bool)) (coded× coded_ℕ (coded× coded_ℕ coded_bool)) (λ t. (t.kind, (t.contextual, t.joint)))
-    (λ p. record { kind = p.0; contextual = p.1.0; joint = p.1.1 }) (λ _. refl)
+    code_by (ℕ × (ℕ × (Bool × Bool))) (coded× coded_ℕ (coded× coded_ℕ (coded× coded_bool coded_bool))) (λ t. (t.kind, (t.contextual, (t.joint, t.whole))))
+    (λ p. record { kind = p.0; contextual = p.1.0; joint = p.1.1.0; whole = p.1.1.1 }) (λ _. refl)
 
 -- a view is stored as the tuple of its fields
 abbrev pub view_code : Coded View

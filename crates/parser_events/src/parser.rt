@@ -129,6 +129,17 @@ impl<'t> Parser<'t> {
         SyntaxKind::EOF
     }
 
+    /// Returns `true` if the token `n` tokens ahead is read by the grammar of the whole language;
+    /// `false` past the end. It counts no lookahead.
+    pub fn whole_at(&self, n: usize) -> bool
+        ensures { result ≡ (token_at self.now.input (self.now.position + n)).whole }
+    {
+        if n < self.left {
+            return self.input.is_whole(self.input.len() - self.left + n);
+        }
+        false
+    }
+
     /// Whether the token so far ahead touches the next one. No past the end. This is no look.
     pub fn joint_at(&self, n: usize) -> bool
         ensures { result ≡ (token_at self.now.input (self.now.position + n)).joint }

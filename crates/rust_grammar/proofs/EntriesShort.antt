@@ -198,8 +198,8 @@ leaves-take (forest.Float b c f) ts us e =
 pub entry-short : (x : Production) (edition : Edition) (ls : List Leaf) → is_entry x ≡ true → length (text_steps (dress_root (entry_of x edition ls) ls)) ≤ 65 * length ls + 67
 entry-short x edition ls e =
     let f = entry_of x edition ls in
-    let dressed = dressed-most f ls (entry-rooted x (input edition ls) e) (entry-fits x edition ls e) in
-    let few = entry-steps x (input edition ls) in
-    let taken = leaves-take f (input edition ls) [] (entries-in-order x (input edition ls)) in
-    let most = input-most edition ls in
+    let dressed = dressed-most f ls (entry-rooted x (input false edition ls) e) (entry-fits x edition ls e) in
+    let few = entry-steps x (input false edition ls) in
+    let taken = leaves-take f (input false edition ls) [] (entries-in-order x (input false edition ls)) in
+    let most = input-most false edition ls in
     omega (arith, dressed, few, taken, most)

@@ -113,10 +113,10 @@ steps-weigh (forest.Float false c f) = omega (arith, steps-weigh c, steps-weigh 
 pub dressed-most : (f : Forest) (ls : List Leaf) → IsRooted f → fits (steps f) ls ≡ true → length (text_steps (dress_root f ls)) ≤ length ls + step_count f
 dressed-most f ls rooted fit = omega (arith, ap (λ (ss : List TextStep). length ss) (dressed-is-put f ls rooted fit), around-most (steps f) ls, steps-weigh f)
 
-pub input-most : (edition : Edition) (ls : List Leaf) → length (input edition ls) ≤ length ls
+pub input-most : (wide : Bool) (edition : Edition) (ls : List Leaf) → length (input wide edition ls) ≤ length ls
 unfolding input
-input-most edition [] = omega arith
-input-most edition (l ∷ ls) = elim (cases_Bool (is_trivia l)) [
-  | inl t ↦ rw t (omega (arith, input-most edition ls))
-  | inr t ↦ rw t (omega (arith, input-most edition ls))
+input-most wide edition [] = omega arith
+input-most wide edition (l ∷ ls) = elim (cases_Bool (is_trivia l)) [
+  | inl t ↦ rw t (omega (arith, input-most wide edition ls))
+  | inr t ↦ rw t (omega (arith, input-most wide edition ls))
 ]

@@ -9,10 +9,10 @@ use Rattle.rust_grammar.specs.Whole.{whole}
 
 -- an input token that touches the next one, and one that does not; no word is a contextual keyword
 abbrev pub touching : ℕ → Token
-touching k = record { kind = k; contextual = if k == IDENT then IDENT else EOF; joint = true }
+touching k = record { kind = k; contextual = if k == IDENT then IDENT else EOF; joint = true; whole = false }
 
 abbrev pub apart : ℕ → Token
-apart k = record { kind = k; contextual = if k == IDENT then IDENT else EOF; joint = false }
+apart k = record { kind = k; contextual = if k == IDENT then IDENT else EOF; joint = false; whole = false }
 
 -- The writing of trees: a leaf over one token, one over several, a message, an error with the token that it takes, a float
 -- after a dot; `a · b` stands side by side, `N ⟪ a ⟫` is a node.
@@ -321,13 +321,13 @@ examples =
     -- type `dyn T`, where `dyn` is no keyword
     ∷ record {
       asked = any_type;
-      tokens = record { kind = IDENT; contextual = DYN_KW; joint = false } ∷ apart IDENT ∷ [];
+      tokens = record { kind = IDENT; contextual = DYN_KW; joint = false; whole = false } ∷ apart IDENT ∷ [];
       tree = DYN_TRAIT_TYPE ⟪ leaf DYN_KW · TYPE_BOUND_LIST ⟪ TYPE_BOUND ⟪ a_path_type ⟫ ⟫ ⟫;
     }
     -- type `dyn self`, where `dyn` is no keyword
     ∷ record {
       asked = any_type;
-      tokens = record { kind = IDENT; contextual = DYN_KW; joint = false } ∷ apart SELF_KW ∷ [];
+      tokens = record { kind = IDENT; contextual = DYN_KW; joint = false; whole = false } ∷ apart SELF_KW ∷ [];
       tree = DYN_TRAIT_TYPE ⟪ leaf DYN_KW · TYPE_BOUND_LIST ⟪ TYPE_BOUND ⟪ PATH_TYPE ⟪ PATH ⟪ PATH_SEGMENT ⟪ NAME_REF ⟪ leaf SELF_KW ⟫ ⟫ ⟫ ⟫ ⟫ ⟫ ⟫;
     }
     -- file `struct S(pub (super::T));`

@@ -126,7 +126,7 @@ EntriesAreRooted = (x : Production) (tokens : List Token) → is_entry x ≡ tru
 
 -- the tree of an entry with these leaves
 abbrev pub entry_of : Production → Edition → List Leaf → Forest
-entry_of x edition leaves = entry all.whole x (input edition leaves)
+entry_of x edition leaves = entry all.whole x (input false edition leaves)
 
 -- Its steps fit every text with that input.
 abbrev pub EntriesFit : Type 0

@@ -13,7 +13,7 @@ pub record Reading : Type 0 where
 
 -- the n-th token ahead; past the last one stands the end of the input
 unfoldable pub ahead : ℕ → List Token → Token
-ahead n [] = record { kind = EOF; contextual = EOF; joint = false }
+ahead n [] = record { kind = EOF; contextual = EOF; joint = false; whole = false }
 ahead zero (t ∷ ts) = t
 ahead (suc n) (t ∷ ts) = ahead n ts
 
