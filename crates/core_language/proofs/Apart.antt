@@ -3,7 +3,7 @@ use Rattle.std.proofs.Common.{Bool, false, List}
 use Rattle.core_language.specs.Types.{Mutability, Immutable, Mutable, Path, Name, Below, CoreType, PathType, ReferenceType, SliceType}
 use Rattle.core_language.specs.Operators.{LiteralForm, FloatNumber}
 use Rattle.core_language.specs.Expressions.{Expression, Literal, Named, Parenthesized, FunctionCall, MethodCall, FieldAccess, Prefixed, Borrow, Binary, Assignment, Arguments, NoArgument, LastArgument, ArgumentComma}
-use Rattle.core_language.specs.Statements.{Pattern, NamePattern, Annotation, NoAnnotation, AnnotatedBy, Initializer, NoInitializer, InitializedBy, Statement, Let, Run, Statements, NoStatement, LastExpression, StatementThen, Block, Braces}
+use Rattle.core_language.specs.Statements.{Pattern, NamePattern, Annotation, NoAnnotation, AnnotatedBy, Initializer, NoInitializer, InitializedBy, Statement, Let, Run, Defer, Statements, NoStatement, LastExpression, StatementThen, Block, Braces}
 use Rattle.core_language.specs.Items.{Visibility, Private, Public, Listed, NoElement, LastElement, ElementComma, Field, NamedField, Parameter, TypedPattern, ReturnType, NoReturnType, Returns, Item, UnitStruct, RecordStruct, OuterModule, InnerModule, Function, Items, NoItem, ItemThen}
 use Rattle.core_language.specs.Spaced.{first_float, other_floats}
 
@@ -35,20 +35,20 @@ abbrev pub after_initializer : Initializer → List Bool → List Bool
 after_initializer NoInitializer floats = floats
 after_initializer (InitializedBy j e) floats = after e floats
 
--- after a statement
-abbrev pub after_statement : Statement → List Bool → List Bool
-after_statement (Let j p a v k) floats = after_initializer v floats
-after_statement (Run e k) floats = after e floats
+-- after a statement, statements and a block
+abbrev mutual
+  pub after_statement : Statement → List Bool → List Bool
+  after_statement (Let j p a v k) floats = after_initializer v floats
+  after_statement (Run e k) floats = after e floats
+  after_statement (Defer j b) floats = after_block b floats
 
--- after statements
-abbrev pub after_statements : Statements → List Bool → List Bool
-after_statements NoStatement floats = floats
-after_statements (LastExpression e) floats = after e floats
-after_statements (StatementThen s ss) floats = after_statements ss (after_statement s floats)
+  pub after_statements : Statements → List Bool → List Bool
+  after_statements NoStatement floats = floats
+  after_statements (LastExpression e) floats = after e floats
+  after_statements (StatementThen s ss) floats = after_statements ss (after_statement s floats)
 
--- after a block
-abbrev pub after_block : Block → List Bool → List Bool
-after_block (Braces j ss k) floats = after_statements ss floats
+  pub after_block : Block → List Bool → List Bool
+  after_block (Braces j ss k) floats = after_statements ss floats
 
 abbrev mutual
   pub after_item : Item → List Bool → List Bool
@@ -115,20 +115,20 @@ abbrev pub apart_initializer : Initializer → List Bool → Initializer
 apart_initializer NoInitializer floats = NoInitializer
 apart_initializer (InitializedBy j e) floats = InitializedBy false (apart e floats)
 
--- a statement apart
-abbrev pub apart_statement : Statement → List Bool → Statement
-apart_statement (Let j p a v k) floats = Let false (apart_pattern p) (apart_annotation a) (apart_initializer v floats) false
-apart_statement (Run e k) floats = Run (apart e floats) false
+-- a statement, statements and a block apart
+abbrev mutual
+  pub apart_statement : Statement → List Bool → Statement
+  apart_statement (Let j p a v k) floats = Let false (apart_pattern p) (apart_annotation a) (apart_initializer v floats) false
+  apart_statement (Run e k) floats = Run (apart e floats) false
+  apart_statement (Defer j b) floats = Defer false (apart_block b floats)
 
--- statements apart
-abbrev pub apart_statements : Statements → List Bool → Statements
-apart_statements NoStatement floats = NoStatement
-apart_statements (LastExpression e) floats = LastExpression (apart e floats)
-apart_statements (StatementThen s ss) floats = StatementThen (apart_statement s floats) (apart_statements ss (after_statement s floats))
+  pub apart_statements : Statements → List Bool → Statements
+  apart_statements NoStatement floats = NoStatement
+  apart_statements (LastExpression e) floats = LastExpression (apart e floats)
+  apart_statements (StatementThen s ss) floats = StatementThen (apart_statement s floats) (apart_statements ss (after_statement s floats))
 
--- a block apart
-abbrev pub apart_block : Block → List Bool → Block
-apart_block (Braces j ss k) floats = Braces false (apart_statements ss floats) false
+  pub apart_block : Block → List Bool → Block
+  apart_block (Braces j ss k) floats = Braces false (apart_statements ss floats) false
 
 -- a visibility apart
 abbrev pub apart_visibility : Visibility → Visibility

@@ -4,7 +4,7 @@ use Rattle.parser_events.specs.Forest.{Forest, End}
 use Rattle.core_language.specs.Expressions.{ArgumentComma, Arguments, Assignment, Binary, Borrow, Expression, FieldAccess, FunctionCall, LastArgument, Literal, MethodCall, Named, NoArgument, Parenthesized, Prefixed, arguments_tree, inside_expression}
 use Rattle.core_language.specs.Items.{ElementComma, Field, Function, InnerModule, Item, ItemThen, Items, LastElement, Listed, NamedField, NoElement, NoItem, NoReturnType, OuterModule, Parameter, Private, Public, RecordStruct, ReturnType, Returns, TypedPattern, UnitStruct, Visibility, field_tree, item_tree, items_tree, listed_tree, parameter_tree, return_type_tree, visibility_tree}
 use Rattle.core_language.specs.Laws.{CoreExpressionsAreClean, CoreFilesAreClean, CoreTypesAreClean, is_clean}
-use Rattle.core_language.specs.Statements.{AnnotatedBy, Annotation, Block, Braces, InitializedBy, Initializer, LastExpression, Let, NamePattern, NoAnnotation, NoInitializer, NoStatement, Pattern, Run, Statement, StatementThen, Statements, annotation_tree, block_tree, initializer_tree, pattern_tree, statement_tree, statements_tree}
+use Rattle.core_language.specs.Statements.{AnnotatedBy, Annotation, Block, Braces, Defer, InitializedBy, Initializer, LastExpression, Let, NamePattern, NoAnnotation, NoInitializer, NoStatement, Pattern, Run, Statement, StatementThen, Statements, annotation_tree, block_tree, initializer_tree, pattern_tree, statement_tree, statements_tree}
 use Rattle.core_language.specs.Types.{Below, CoreType, Immutable, Mutability, Mutable, Name, Path, PathType, ReferenceType, SliceType, inside_path, inside_type, mut_tree}
 
 -- Each part is clean where what stands after it is.
@@ -66,20 +66,21 @@ unfolding is_clean
 pattern-clean (NamePattern Immutable n) f h = h
 pattern-clean (NamePattern (Mutable i) n) f h = h
 
-statement-clean : (s : Statement) (f : Forest) → is_clean f ≡ true → is_clean (statement_tree s f) ≡ true
-unfolding is_clean
-statement-clean (Let j p n v k) f h = both _ _ (pattern-clean p _ (annotation-clean n _ (initializer-clean v _ refl))) h
-statement-clean (Run e k) f h = both _ _ (both _ _ (expression-clean e) refl) h
+mutual
+  unfolding is_clean
 
-statements-clean : (ss : Statements) (f : Forest) → is_clean f ≡ true → is_clean (statements_tree ss f) ≡ true
-unfolding is_clean
-statements-clean NoStatement f h = h
-statements-clean (LastExpression e) f h = both _ _ (expression-clean e) h
-statements-clean (StatementThen s ss) f h = statement-clean s _ (statements-clean ss f h)
+  statement-clean : (s : Statement) (f : Forest) → is_clean f ≡ true → is_clean (statement_tree s f) ≡ true
+  statement-clean (Let j p n v k) f h = both _ _ (pattern-clean p _ (annotation-clean n _ (initializer-clean v _ refl))) h
+  statement-clean (Run e k) f h = both _ _ (both _ _ (expression-clean e) refl) h
+  statement-clean (Defer j b) f h = both _ _ (block-clean b _ refl) h
 
-block-clean : (b : Block) (f : Forest) → is_clean f ≡ true → is_clean (block_tree b f) ≡ true
-unfolding is_clean
-block-clean (Braces j ss k) f h = both _ _ (both _ _ (statements-clean ss _ refl) refl) h
+  statements-clean : (ss : Statements) (f : Forest) → is_clean f ≡ true → is_clean (statements_tree ss f) ≡ true
+  statements-clean NoStatement f h = h
+  statements-clean (LastExpression e) f h = both _ _ (expression-clean e) h
+  statements-clean (StatementThen s ss) f h = statement-clean s _ (statements-clean ss f h)
+
+  block-clean : (b : Block) (f : Forest) → is_clean f ≡ true → is_clean (block_tree b f) ≡ true
+  block-clean (Braces j ss k) f h = both _ _ (both _ _ (statements-clean ss _ refl) refl) h
 
 visibility-clean : (v : Visibility) (f : Forest) → is_clean f ≡ true → is_clean (visibility_tree v f) ≡ true
 unfolding is_clean

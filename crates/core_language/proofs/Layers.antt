@@ -10,7 +10,7 @@ use Rattle.rust_grammar.specs.Words.{'as'}
 use Rattle.rust_grammar.specs.Whole.{rule}
 use Rattle.rust_grammar.proofs.WholeTable.{whole-means}
 use Rattle.core_language.specs.Expressions.{ArgumentComma, Arguments, Assignment, Binary, Borrow, Expression, FieldAccess, FunctionCall, LastArgument, Literal, MethodCall, Named, NoArgument, Parenthesized, Prefixed, arguments_tokens, begins_with_ampersand, expression_kind, expression_tokens, inside_expression, is_bit_and}
-use Rattle.core_language.specs.Operators.{Assign, AssignBitAnd, AssignBitOr, AssignBitXor, AssignDivide, AssignMinus, AssignPlus, AssignRemainder, AssignShiftLeft, AssignShiftRight, AssignTimes, Assigner, BitAnd, BitOr, BitXor, Divide, Equal, Greater, GreaterOrEqual, Less, LessOrEqual, LogicalAnd, LogicalOr, Minus, NotEqual, Operator, Plus, Remainder, ShiftLeft, ShiftRight, Times, assigner_tokens, operator_count, operator_kind, operator_tokens, operator_tree}
+use Rattle.core_language.specs.Operators.{Assign, AssignBitAnd, AssignBitOr, AssignBitXor, AssignDivide, AssignMinus, AssignPlus, AssignRemainder, AssignShiftLeft, AssignShiftRight, AssignTimes, Assigner, BitAnd, BitOr, BitXor, Divide, Equal, Greater, GreaterOrEqual, Less, LessOrEqual, LogicalAnd, LogicalOr, Minus, NotEqual, Operator, Pipe, Plus, Remainder, ShiftLeft, ShiftRight, Times, assigner_tokens, operator_count, operator_kind, operator_tokens, operator_tree}
 use Rattle.core_language.specs.Tokens.{name_token, of_kind}
 use Rattle.core_language.specs.Types.{Below, Immutable, Mutability, Mutable, Name, Path, mut_tokens, path_tokens}
 use Rattle.core_language.proofs.Operators.{Between, NotBoth, between}
@@ -28,6 +28,7 @@ mut-longer Immutable ts = omega arith
 mut-longer (Mutable j) ts = omega arith
 
 operator-longer : (o : Operator) (j : Bool) (ts : List Token) → length ts < length (operator_tokens o j ts)
+operator-longer Pipe j ts = omega arith
 operator-longer LogicalOr j ts = omega arith
 operator-longer LogicalAnd j ts = omega arith
 operator-longer Equal j ts = omega arith
@@ -109,7 +110,7 @@ layer-rule (suc (suc (suc (suc (suc (suc (suc (suc zero)))))))) h = refl
 layer-rule (suc (suc (suc (suc (suc (suc (suc (suc (suc d))))))))) h = absurd (omega arith)
 
 -- An operand and its layer's operator before it are taken together.
-turn-reads : (d k : ℕ) (i : Forest) (kind count : ℕ) (before after : List Token) (l : ℕ) (r : Forest) (more : List Token) →
+pub turn-reads : (d k : ℕ) (i : Forest) (kind count : ℕ) (before after : List Token) (l : ℕ) (r : Forest) (more : List Token) →
     ((g : Forest) → reads (ops d) (at g before) ≡ at (g then Leaf kind count End) after) →
     ((g : Forest) → begins_at (Call (layer_of d)) (at g after) ≡ true) →
     gives (layer_of d) (at End after) ≡ at (Node l r End) more →

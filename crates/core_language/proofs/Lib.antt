@@ -22,6 +22,7 @@ pub mod Same
 pub mod Respaced
 pub mod Otherwise
 pub mod Cases
+pub mod NextCases
 pub mod Touching
 pub mod Told
 pub mod OneExpression

@@ -1,11 +1,11 @@
 -- Tokens and tree together determine the derivation of patterns, statements and blocks.
 use Rattle.std.proofs.Common.{◌≡◌, ℕ, Bool, true, false, List, ◌∷◌, refl, ap, sym, arith, ◌==◌}
 use Rattle.parser_input.specs.Input.{Token}
-use Rattle.parser_input.specs.Kinds.{PUB_KW, LET_KW, COLON, EQ, SEMICOLON, L_CURLY, R_CURLY, MUT_KW, LET_STMT, EXPR_STMT}
+use Rattle.parser_input.specs.Kinds.{PUB_KW, LET_KW, COLON, EQ, SEMICOLON, L_CURLY, R_CURLY, MUT_KW, LET_STMT, EXPR_STMT, DEFER_KW, DEFER_STMT}
 use Rattle.parser_events.specs.Forest.{Forest, End, Leaf, Node}
 use Rattle.core_language.specs.Expressions.{Assignment, Binary, Borrow, Expression, FieldAccess, FunctionCall, Literal, MethodCall, Named, Parenthesized, Prefixed, expression_kind, expression_tokens, expression_tree, inside_expression}
 use Rattle.core_language.specs.Items.{Private, Public, Visibility, visibility_tokens, visibility_tree}
-use Rattle.core_language.specs.Statements.{AnnotatedBy, Annotation, Block, Braces, InitializedBy, Initializer, LastExpression, Let, NamePattern, NoAnnotation, NoInitializer, NoStatement, Pattern, Run, Statement, StatementThen, Statements, annotation_tokens, annotation_tree, block_tokens, block_tree, initializer_tokens, initializer_tree, pattern_tokens, pattern_tree, statement_tokens, statement_tree, statements_tokens, statements_tree}
+use Rattle.core_language.specs.Statements.{AnnotatedBy, Annotation, Block, Braces, Defer, InitializedBy, Initializer, LastExpression, Let, NamePattern, NoAnnotation, NoInitializer, NoStatement, Pattern, Run, Statement, StatementThen, Statements, annotation_tokens, annotation_tree, block_tokens, block_tree, initializer_tokens, initializer_tree, pattern_tokens, pattern_tree, statement_tokens, statement_tree, statements_tokens, statements_tree}
 use Rattle.core_language.specs.Tokens.{of_kind}
 use Rattle.core_language.specs.Types.{CoreType, Immutable, Mutable, inside_type, type_kind, type_tokens, type_tree}
 use Rattle.core_language.proofs.OneExpression.{expression-one, mark-one, name-one, type-one}
@@ -121,33 +121,6 @@ no-colon : (v : Initializer) → (first_leaf (initializer_tree v (Leaf SEMICOLON
 no-colon NoInitializer = refl
 no-colon (InitializedBy j e) = refl
 
-statement-one : (s t : Statement) (f g : Forest) (more other : List Token) → statement_tree s f ≡ statement_tree t g
-    → statement_tokens s more ≡ statement_tokens t other → Same s t f g more other
-statement-one (Let j p a v k) (Let l q b w m) f g more other e h =
-    let same : f ≡ g = cc in
-    let pattern_trees : pattern_tree p (annotation_tree a (initializer_tree v (Leaf SEMICOLON 1 End))) ≡ pattern_tree q (annotation_tree b (initializer_tree w (Leaf SEMICOLON 1 End))) = cc in
-    let first = mark-one LET_KW j l _ _ h in
-    let x = pattern-one p q _ _ _ _ pattern_trees first.1 in
-    let y = annotation-one a b _ _ _ _ (no-colon v) (no-colon w) x.trees x.tokens in
-    let z = initializer-one v w _ _ y.trees y.tokens in
-    let last = mark-one SEMICOLON k m more other z.1 in
-    let e1 : j ≡ l = first.0 in
-    let e2 : p ≡ q = x.part in
-    let e3 : a ≡ b = y.part in
-    let e4 : v ≡ w = z.0 in
-    let e5 : k ≡ m = last.0 in
-    record { part = cc; trees = same; tokens = last.1 }
-statement-one (Run a j) (Run b k) f g more other e h =
-    let same : f ≡ g = cc in
-    let inner : expression_tree a (Leaf SEMICOLON 1 End) ≡ expression_tree b (Leaf SEMICOLON 1 End) = cc in
-    let x = expression-in a b _ _ _ _ inner h in
-    let last = mark-one SEMICOLON j k more other x.tokens in
-    let e1 : a ≡ b = x.part in
-    let e2 : j ≡ k = last.0 in
-    record { part = cc; trees = same; tokens = last.1 }
-statement-one (Let j p a v k) (Run b m) f g more other e h = let n : LET_STMT ≡ EXPR_STMT = ap first_node e in absurd (omega (arith, n))
-statement-one (Run b m) (Let j p a v k) f g more other e h = let n : EXPR_STMT ≡ LET_STMT = ap first_node e in absurd (omega (arith, n))
-
 -- an expression's node is no statement's
 no-statement : (e : Expression) (s : Statement) (f g : Forest) → expression_tree e f ≡ statement_tree s g → ⊥
 no-statement e (Let j p a v k) f g h = no-let e (ap first_node h)
@@ -163,6 +136,19 @@ no-statement e (Let j p a v k) f g h = no-let e (ap first_node h)
     no-let (Borrow j m e) n = absurd (omega (arith, n))
     no-let (Binary l o j r) n = absurd (omega (arith, n))
     no-let (Assignment l o j r) n = absurd (omega (arith, n))
+no-statement e (Defer k b) f g h = no-defer e (ap first_node h)
+  where
+    no-defer : (e : Expression) → expression_kind e ≡ DEFER_STMT → ⊥
+    no-defer (Literal l j) n = absurd (omega (arith, n))
+    no-defer (Named p) n = absurd (omega (arith, n))
+    no-defer (Parenthesized j e k) n = absurd (omega (arith, n))
+    no-defer (FunctionCall e j es k) n = absurd (omega (arith, n))
+    no-defer (MethodCall e d n2 j es k) n = absurd (omega (arith, n))
+    no-defer (FieldAccess e d n2) n = absurd (omega (arith, n))
+    no-defer (Prefixed s j e) n = absurd (omega (arith, n))
+    no-defer (Borrow j m e) n = absurd (omega (arith, n))
+    no-defer (Binary l o j r) n = absurd (omega (arith, n))
+    no-defer (Assignment l o j r) n = absurd (omega (arith, n))
 no-statement e (Run b k) f g h = no-run e (ap first_node h)
   where
     no-run : (e : Expression) → expression_kind e ≡ EXPR_STMT → ⊥
@@ -177,36 +163,78 @@ no-statement e (Run b k) f g h = no-run e (ap first_node h)
     no-run (Binary l o j r) n = absurd (omega (arith, n))
     no-run (Assignment l o j r) n = absurd (omega (arith, n))
 
-statements-one : (ss us : Statements) (f g : Forest) (more other : List Token) → is_node f ≡ false → is_node g ≡ false
-    → statements_tree ss f ≡ statements_tree us g → statements_tokens ss more ≡ statements_tokens us other → Same ss us f g more other
-statements-one NoStatement NoStatement f g more other p q e h = record { part = refl; trees = e; tokens = h }
-statements-one (LastExpression a) (LastExpression b) f g more other p q e h =
-    let x = expression-in a b f g more other e h in
-    record { part = ap LastExpression x.part; trees = x.trees; tokens = x.tokens }
-statements-one (StatementThen s ss) (StatementThen u us) f g more other p q e h =
-    let x = statement-one s u _ _ _ _ e h in
-    let y = statements-one ss us f g more other p q x.trees x.tokens in
-    let e1 : s ≡ u = x.part in
-    let e2 : ss ≡ us = y.part in
-    record { part = cc; trees = y.trees; tokens = y.tokens }
-statements-one (LastExpression a) (StatementThen s us) f g more other p q e h = absurd (no-statement a s f _ e)
-statements-one (StatementThen s us) (LastExpression a) f g more other p q e h = absurd (no-statement a s g _ (sym e))
-statements-one NoStatement (LastExpression b) f g more other p q e h = absurd (differ (is_node f) (ap is_node e) p)
-statements-one NoStatement (StatementThen (Let j x a v k) us) f g more other p q e h = absurd (differ (is_node f) (ap is_node e) p)
-statements-one NoStatement (StatementThen (Run b k) us) f g more other p q e h = absurd (differ (is_node f) (ap is_node e) p)
-statements-one (LastExpression b) NoStatement f g more other p q e h = absurd (differ (is_node g) (ap is_node (sym e)) q)
-statements-one (StatementThen (Let j x a v k) us) NoStatement f g more other p q e h = absurd (differ (is_node g) (ap is_node (sym e)) q)
-statements-one (StatementThen (Run b k) us) NoStatement f g more other p q e h = absurd (differ (is_node g) (ap is_node (sym e)) q)
+mutual
+  statement-one : (s t : Statement) (f g : Forest) (more other : List Token) → statement_tree s f ≡ statement_tree t g
+      → statement_tokens s more ≡ statement_tokens t other → Same s t f g more other
+  statement-one (Let j p a v k) (Let l q b w m) f g more other e h =
+      let same : f ≡ g = cc in
+      let pattern_trees : pattern_tree p (annotation_tree a (initializer_tree v (Leaf SEMICOLON 1 End))) ≡ pattern_tree q (annotation_tree b (initializer_tree w (Leaf SEMICOLON 1 End))) = cc in
+      let first = mark-one LET_KW j l _ _ h in
+      let x = pattern-one p q _ _ _ _ pattern_trees first.1 in
+      let y = annotation-one a b _ _ _ _ (no-colon v) (no-colon w) x.trees x.tokens in
+      let z = initializer-one v w _ _ y.trees y.tokens in
+      let last = mark-one SEMICOLON k m more other z.1 in
+      let e1 : j ≡ l = first.0 in
+      let e2 : p ≡ q = x.part in
+      let e3 : a ≡ b = y.part in
+      let e4 : v ≡ w = z.0 in
+      let e5 : k ≡ m = last.0 in
+      record { part = cc; trees = same; tokens = last.1 }
+  statement-one (Run a j) (Run b k) f g more other e h =
+      let same : f ≡ g = cc in
+      let inner : expression_tree a (Leaf SEMICOLON 1 End) ≡ expression_tree b (Leaf SEMICOLON 1 End) = cc in
+      let x = expression-in a b _ _ _ _ inner h in
+      let last = mark-one SEMICOLON j k more other x.tokens in
+      let e1 : a ≡ b = x.part in
+      let e2 : j ≡ k = last.0 in
+      record { part = cc; trees = same; tokens = last.1 }
+  statement-one (Defer j b) (Defer k c) f g more other e h =
+      let same : f ≡ g = cc in
+      let inner : block_tree b End ≡ block_tree c End = cc in
+      let first = mark-one DEFER_KW j k _ _ h in
+      let x = block-one b c End End more other inner first.1 in
+      let e1 : j ≡ k = first.0 in
+      let e2 : b ≡ c = x.part in
+      record { part = cc; trees = same; tokens = x.tokens }
+  statement-one (Let j p a v k) (Defer m b) f g more other e h = let n : LET_STMT ≡ DEFER_STMT = ap first_node e in absurd (omega (arith, n))
+  statement-one (Defer m b) (Let j p a v k) f g more other e h = let n : DEFER_STMT ≡ LET_STMT = ap first_node e in absurd (omega (arith, n))
+  statement-one (Run a k) (Defer m b) f g more other e h = let n : EXPR_STMT ≡ DEFER_STMT = ap first_node e in absurd (omega (arith, n))
+  statement-one (Defer m b) (Run a k) f g more other e h = let n : DEFER_STMT ≡ EXPR_STMT = ap first_node e in absurd (omega (arith, n))
+  statement-one (Let j p a v k) (Run b m) f g more other e h = let n : LET_STMT ≡ EXPR_STMT = ap first_node e in absurd (omega (arith, n))
+  statement-one (Run b m) (Let j p a v k) f g more other e h = let n : EXPR_STMT ≡ LET_STMT = ap first_node e in absurd (omega (arith, n))
 
-pub block-one : (b c : Block) (f g : Forest) (more other : List Token) → block_tree b f ≡ block_tree c g
-    → block_tokens b more ≡ block_tokens c other → Same b c f g more other
-block-one (Braces j ss k) (Braces l us m) f g more other e h =
-    let same : f ≡ g = cc in
-    let inner : statements_tree ss (Leaf R_CURLY 1 End) ≡ statements_tree us (Leaf R_CURLY 1 End) = cc in
-    let first = mark-one L_CURLY j l _ _ h in
-    let x = statements-one ss us _ _ _ _ refl refl inner first.1 in
-    let last = mark-one R_CURLY k m more other x.tokens in
-    let e1 : j ≡ l = first.0 in
-    let e2 : ss ≡ us = x.part in
-    let e3 : k ≡ m = last.0 in
-    record { part = cc; trees = same; tokens = last.1 }
+  statements-one : (ss us : Statements) (f g : Forest) (more other : List Token) → is_node f ≡ false → is_node g ≡ false
+      → statements_tree ss f ≡ statements_tree us g → statements_tokens ss more ≡ statements_tokens us other → Same ss us f g more other
+  statements-one NoStatement NoStatement f g more other p q e h = record { part = refl; trees = e; tokens = h }
+  statements-one (LastExpression a) (LastExpression b) f g more other p q e h =
+      let x = expression-in a b f g more other e h in
+      record { part = ap LastExpression x.part; trees = x.trees; tokens = x.tokens }
+  statements-one (StatementThen s ss) (StatementThen u us) f g more other p q e h =
+      let x = statement-one s u _ _ _ _ e h in
+      let y = statements-one ss us f g more other p q x.trees x.tokens in
+      let e1 : s ≡ u = x.part in
+      let e2 : ss ≡ us = y.part in
+      record { part = cc; trees = y.trees; tokens = y.tokens }
+  statements-one (LastExpression a) (StatementThen s us) f g more other p q e h = absurd (no-statement a s f _ e)
+  statements-one (StatementThen s us) (LastExpression a) f g more other p q e h = absurd (no-statement a s g _ (sym e))
+  statements-one NoStatement (LastExpression b) f g more other p q e h = absurd (differ (is_node f) (ap is_node e) p)
+  statements-one NoStatement (StatementThen (Let j x a v k) us) f g more other p q e h = absurd (differ (is_node f) (ap is_node e) p)
+  statements-one NoStatement (StatementThen (Defer k b) us) f g more other p q e h = absurd (differ (is_node f) (ap is_node e) p)
+  statements-one NoStatement (StatementThen (Run b k) us) f g more other p q e h = absurd (differ (is_node f) (ap is_node e) p)
+  statements-one (LastExpression b) NoStatement f g more other p q e h = absurd (differ (is_node g) (ap is_node (sym e)) q)
+  statements-one (StatementThen (Let j x a v k) us) NoStatement f g more other p q e h = absurd (differ (is_node g) (ap is_node (sym e)) q)
+  statements-one (StatementThen (Defer k b) us) NoStatement f g more other p q e h = absurd (differ (is_node g) (ap is_node (sym e)) q)
+  statements-one (StatementThen (Run b k) us) NoStatement f g more other p q e h = absurd (differ (is_node g) (ap is_node (sym e)) q)
+
+  pub block-one : (b c : Block) (f g : Forest) (more other : List Token) → block_tree b f ≡ block_tree c g
+      → block_tokens b more ≡ block_tokens c other → Same b c f g more other
+  block-one (Braces j ss k) (Braces l us m) f g more other e h =
+      let same : f ≡ g = cc in
+      let inner : statements_tree ss (Leaf R_CURLY 1 End) ≡ statements_tree us (Leaf R_CURLY 1 End) = cc in
+      let first = mark-one L_CURLY j l _ _ h in
+      let x = statements-one ss us _ _ _ _ refl refl inner first.1 in
+      let last = mark-one R_CURLY k m more other x.tokens in
+      let e1 : j ≡ l = first.0 in
+      let e2 : ss ≡ us = x.part in
+      let e3 : k ≡ m = last.0 in
+      record { part = cc; trees = same; tokens = last.1 }

@@ -4,7 +4,7 @@ use Rattle.parser_input.specs.Input.{Token}
 use Rattle.parser_input.specs.Kinds.{AMP}
 use Rattle.parser_events.specs.Forest.{Forest, End, ◌then◌}
 use Rattle.core_language.specs.Expressions.{is_bit_and}
-use Rattle.core_language.specs.Operators.{BitAnd, BitOr, BitXor, Divide, Equal, Greater, GreaterOrEqual, Less, LessOrEqual, LogicalAnd, LogicalOr, Minus, NotEqual, Operator, Plus, Remainder, ShiftLeft, ShiftRight, Times, operator_tokens, operator_tree}
+use Rattle.core_language.specs.Operators.{BitAnd, BitOr, BitXor, Divide, Equal, Greater, GreaterOrEqual, Less, LessOrEqual, LogicalAnd, LogicalOr, Minus, NotEqual, Operator, Pipe, Plus, Remainder, ShiftLeft, ShiftRight, Times, operator_tokens, operator_tree}
 use Rattle.core_language.proofs.Places.{Calm, Stops, ops, turn, under, is_calm, stops_at, calm-of, stops-of}
 use Rattle.core_language.proofs.Rules.{at, begins_at, reads, table}
 use Rattle.core_language.proofs.Starts.{Free}
@@ -30,6 +30,8 @@ found {o = o} there taken stops calm = record { there = there; taken = taken; st
 
 pub between : (o : Operator) (j : Bool) (t : Token) (ts : List Token) → Free t → NotBoth o j t → Between o j t ts
 unfolding table
+between Pipe true t ts f n = found (λ g. refl) (λ g. refl) (λ g. refl) (λ i g. refl)
+between Pipe false t ts f n = found (λ g. refl) (λ g. refl) (λ g. refl) (λ i g. refl)
 between LogicalOr true t ts f n = found (λ g. refl) (λ g. refl) (λ g. refl) (λ i g. refl)
 between LogicalOr false t ts f n = found (λ g. refl) (λ g. refl) (λ g. refl) (λ i g. refl)
 between LogicalAnd true t ts f n = found (λ g. refl) (λ g. refl) (λ g. refl) (λ i g. refl)

@@ -1,13 +1,14 @@
--- What stands after an expression, and how the layers of operators are numbered: 0 for casts, then from products up to `||`.
-use Rattle.std.proofs.Common.{◌≡◌, ℕ, zero, suc, ◌+◌, Bool, true, false, not, ◌&&◌, List, ◌∷◌, refl, ◌==◌}
+-- What stands after an expression, and how the layers of operators are numbered: 0 for casts, then from products up to `||`. The
+-- turns of `|>` are those of a layer 10, which is no production of its own.
+use Rattle.std.proofs.Common.{◌≡◌, ℕ, zero, suc, ◌+◌, ◌≤◌, ◌⊎◌, inl, inr, arith, Bool, true, false, not, ◌&&◌, List, ◌∷◌, refl, ◌==◌}
 use Rattle.parser_input.specs.Input.{Token}
 use Rattle.parser_input.specs.Kinds.{AS_KW, DOT, QUESTION, COLON, BANG, L_CURLY, L_PAREN, L_BRACK, BIN_EXPR}
 use Rattle.parser_events.specs.Forest.{ExpectedExpression, Forest, End}
 use Rattle.rust_grammar.specs.Rule.{Production, cast, product, sum, bit_shift, bit_and, bit_xor, bit_or, comparison, conjunction, disjunction, block_like, Both, Not, Kind, Rule, Then, Or, Wrap, Want, Call}
 use Rattle.rust_grammar.specs.Meaning.{ahead, sees}
 use Rattle.rust_grammar.specs.Notation.{op, next}
-use Rattle.rust_grammar.specs.Words.{'==', '!=', '<=', '>=', '&&', '||', '<<', '>>', '<', '>', '-', '&', '|', '+', '*', '/', '^', '%'}
-use Rattle.core_language.specs.Operators.{BitAnd, BitOr, BitXor, Divide, Equal, Greater, GreaterOrEqual, Less, LessOrEqual, LogicalAnd, LogicalOr, Minus, NotEqual, Operator, Plus, Remainder, ShiftLeft, ShiftRight, Times, power}
+use Rattle.rust_grammar.specs.Words.{'==', '!=', '<=', '>=', '&&', '||', '|>', '<<', '>>', '<', '>', '-', '&', '|', '+', '*', '/', '^', '%'}
+use Rattle.core_language.specs.Operators.{BitAnd, BitOr, BitXor, Divide, Equal, Greater, GreaterOrEqual, Less, LessOrEqual, LogicalAnd, LogicalOr, Minus, NotEqual, Operator, Pipe, Plus, Remainder, ShiftLeft, ShiftRight, Times, power}
 use Rattle.core_language.specs.Expressions.{Expression, expression_tree}
 use Rattle.core_language.specs.Tokens.{name_token}
 use Rattle.core_language.proofs.Rules.{at, begins_at}
@@ -35,7 +36,8 @@ ops (suc (suc (suc (suc zero)))) = op '^'
 ops (suc (suc (suc (suc (suc zero))))) = op '|'
 ops (suc (suc (suc (suc (suc (suc zero)))))) = Or (op '==') (Or (op '!=') (Or (op '<') (Or (op '>') (Or (op '<=') (op '>=')))))
 ops (suc (suc (suc (suc (suc (suc (suc zero))))))) = op '&&'
-ops _ = op '||'
+ops (suc (suc (suc (suc (suc (suc (suc (suc zero)))))))) = op '||'
+ops _ = op '|>'
 
 -- a turn of the layer suc d
 abbrev pub turn : ℕ → Rule
@@ -43,6 +45,7 @@ turn d = Wrap BIN_EXPR (Then (ops d) (Want (Call (layer_of d)) ExpectedExpressio
 
 -- the layer of an operator, less one
 abbrev pub under : Operator → ℕ
+under Pipe = 9
 under LogicalOr = 8
 under LogicalAnd = 7
 under Equal = 6
@@ -62,25 +65,27 @@ under Times = 0
 under Divide = 0
 under Remainder = 0
 
-pub under-power : (o : Operator) → under o + power o ≡ 11
-under-power LogicalOr = refl
-under-power LogicalAnd = refl
-under-power Equal = refl
-under-power NotEqual = refl
-under-power Less = refl
-under-power Greater = refl
-under-power LessOrEqual = refl
-under-power GreaterOrEqual = refl
-under-power BitOr = refl
-under-power BitXor = refl
-under-power BitAnd = refl
-under-power ShiftLeft = refl
-under-power ShiftRight = refl
-under-power Plus = refl
-under-power Minus = refl
-under-power Times = refl
-under-power Divide = refl
-under-power Remainder = refl
+-- An operator is `|>`, or of one of nine layers; no operator has the power 3.
+pub place : (o : Operator) → (o ≡ Pipe) ⊎ ((under o + power o ≡ 12) × (under o ≤ 8))
+place Pipe = inl refl
+place LogicalOr = inr (refl, omega arith)
+place LogicalAnd = inr (refl, omega arith)
+place Equal = inr (refl, omega arith)
+place NotEqual = inr (refl, omega arith)
+place Less = inr (refl, omega arith)
+place Greater = inr (refl, omega arith)
+place LessOrEqual = inr (refl, omega arith)
+place GreaterOrEqual = inr (refl, omega arith)
+place BitOr = inr (refl, omega arith)
+place BitXor = inr (refl, omega arith)
+place BitAnd = inr (refl, omega arith)
+place ShiftLeft = inr (refl, omega arith)
+place ShiftRight = inr (refl, omega arith)
+place Plus = inr (refl, omega arith)
+place Minus = inr (refl, omega arith)
+place Times = inr (refl, omega arith)
+place Divide = inr (refl, omega arith)
+place Remainder = inr (refl, omega arith)
 
 -- The next token is not of this kind.
 abbrev pub IsNotNext : ℕ → List Token → Type 0

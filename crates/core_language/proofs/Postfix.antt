@@ -234,7 +234,7 @@ and-false : (b : Bool) → (b && false) ≡ false
 and-false true = refl
 and-false false = refl
 
-pub prefixed-high : (e : Expression) → IsWellFormed e → 14 ≤ level e → ReadsHigh e → ReadsPrefixed e
+pub prefixed-high : (e : Expression) → IsWellFormed e → 15 ≤ level e → ReadsHigh e → ReadsPrefixed e
 prefixed-high e i h r more calm base =
     let b = expression-begins e more in
     let pick : reads (rule prefixed) (at End (expression_tokens e more)) ≡ reads high (at End (expression_tokens e more)) = rw b.are (high-picks b.start (b.high i h) b.rest) in

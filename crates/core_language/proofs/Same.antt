@@ -1,11 +1,11 @@
 -- A derivation apart has the same tree, and is well formed where the derivation is.
 use Rattle.std.proofs.Common.{◌≡◌, ℕ, Bool, true, false, ◌&&◌, List, refl, ap, ◌∙◌}
-use Rattle.parser_input.specs.Kinds.{LET_STMT, EXPR_STMT, BLOCK_EXPR, STMT_LIST, ARG_LIST, RECORD_FIELD, RECORD_FIELD_LIST, PARAM, RET_TYPE, THIN_ARROW, STRUCT, MODULE, ITEM_LIST, FN, PATH, COLON2, AMP, L_BRACK, LET_KW, STRUCT_KW, MOD_KW, FN_KW, COMMA, L_PAREN, DOT, L_CURLY, COLON, EQ}
+use Rattle.parser_input.specs.Kinds.{DEFER_KW, DEFER_STMT, LET_STMT, EXPR_STMT, BLOCK_EXPR, STMT_LIST, ARG_LIST, RECORD_FIELD, RECORD_FIELD_LIST, PARAM, RET_TYPE, THIN_ARROW, STRUCT, MODULE, ITEM_LIST, FN, PATH, COLON2, AMP, L_BRACK, LET_KW, STRUCT_KW, MOD_KW, FN_KW, COMMA, L_PAREN, DOT, L_CURLY, COLON, EQ}
 use Rattle.parser_events.specs.Forest.{Forest, End, Leaf, Node}
 use Rattle.core_language.specs.Expressions.{AreWellFormed, ArgumentComma, Arguments, Assignment, Binary, Borrow, Expression, FieldAccess, FunctionCall, IsWellFormed, LastArgument, Literal, MethodCall, Named, NoArgument, Parenthesized, Prefixed, arguments_tree, expression_kind, expression_tree, inside_expression, is_field_access, level}
 use Rattle.core_language.specs.Items.{AreWellFormedItems, ElementComma, Field, Function, InnerModule, IsWellFormedItem, Item, ItemThen, Items, LastElement, Listed, NamedField, NoElement, NoItem, NoReturnType, OuterModule, Parameter, Private, Public, RecordStruct, ReturnType, Returns, TypedPattern, UnitStruct, Visibility, field_tree, item_tree, items_tree, listed_tree, parameter_tree, return_type_tree, visibility_tree}
 use Rattle.core_language.specs.Operators.{assigner_tree, operator_tree, prefix_kind}
-use Rattle.core_language.specs.Statements.{AnnotatedBy, Annotation, AreWellFormedStatements, Block, Braces, InitializedBy, Initializer, IsWellFormedInitializer, IsWellFormedStatement, LastExpression, Let, NamePattern, NoAnnotation, NoInitializer, NoStatement, Pattern, Run, Statement, StatementThen, Statements, annotation_tree, block_tree, initializer_tree, name_tree, pattern_tree, statement_tree, statements_tree}
+use Rattle.core_language.specs.Statements.{AnnotatedBy, Annotation, AreWellFormedStatements, Block, Braces, Defer, InitializedBy, Initializer, IsWellFormedInitializer, IsWellFormedStatement, LastExpression, Let, NamePattern, NoAnnotation, NoInitializer, NoStatement, Pattern, Run, Statement, StatementThen, Statements, annotation_tree, block_tree, initializer_tree, name_tree, pattern_tree, statement_tree, statements_tree}
 use Rattle.core_language.specs.Types.{Below, CoreType, Immutable, Mutability, Mutable, Name, Path, PathType, ReferenceType, SliceType, inside_path, inside_type, mut_tree, name_ref_tree, segment_tree, type_kind, type_tree}
 use Rattle.core_language.proofs.Apart.{after, after_item, after_statement, apart, apart_annotation, apart_arguments, apart_block, apart_field, apart_initializer, apart_item, apart_items, apart_listed, apart_mut, apart_parameter, apart_path, apart_pattern, apart_return_type, apart_statement, apart_statements, apart_type, apart_visibility}
 use Rattle.core_language.proofs.Places.{tree}
@@ -119,22 +119,24 @@ same-initializer : (v : Initializer) (f : Forest) (floats : List Bool)
 same-initializer NoInitializer f floats = refl
 same-initializer (InitializedBy j e) f floats = ap (λ (g : Forest). Leaf EQ 1 g) (same-expression e f floats)
 
-same-statement : (s : Statement) (f : Forest) (floats : List Bool) → statement_tree (apart_statement s floats) f ≡ statement_tree s f
-same-statement (Let j p a v k) f floats =
-    ap (λ (g : Forest). Node LET_STMT (Leaf LET_KW 1 g) f)
-    (same-pattern p _ ∙ ap (λ (g : Forest). pattern_tree p g) (same-annotation a _ ∙ ap (λ (g : Forest). annotation_tree a g) (same-initializer v _ floats)))
-same-statement (Run e k) f floats = ap (λ (g : Forest). Node EXPR_STMT g f) (same-expression e _ floats)
+mutual
+  same-statement : (s : Statement) (f : Forest) (floats : List Bool) → statement_tree (apart_statement s floats) f ≡ statement_tree s f
+  same-statement (Let j p a v k) f floats =
+      ap (λ (g : Forest). Node LET_STMT (Leaf LET_KW 1 g) f)
+      (same-pattern p _ ∙ ap (λ (g : Forest). pattern_tree p g) (same-annotation a _ ∙ ap (λ (g : Forest). annotation_tree a g) (same-initializer v _ floats)))
+  same-statement (Run e k) f floats = ap (λ (g : Forest). Node EXPR_STMT g f) (same-expression e _ floats)
+  same-statement (Defer j b) f floats = ap (λ (g : Forest). Node DEFER_STMT (Leaf DEFER_KW 1 g) f) (same-block b End floats)
 
-same-statements : (ss : Statements) (f : Forest) (floats : List Bool)
-    → statements_tree (apart_statements ss floats) f ≡ statements_tree ss f
-same-statements NoStatement f floats = refl
-same-statements (LastExpression e) f floats = same-expression e f floats
-same-statements (StatementThen s ss) f floats =
-    same-statement s _ floats
-    ∙ ap (λ (g : Forest). statement_tree s g) (same-statements ss f (after_statement s floats))
+  same-statements : (ss : Statements) (f : Forest) (floats : List Bool)
+      → statements_tree (apart_statements ss floats) f ≡ statements_tree ss f
+  same-statements NoStatement f floats = refl
+  same-statements (LastExpression e) f floats = same-expression e f floats
+  same-statements (StatementThen s ss) f floats =
+      same-statement s _ floats
+      ∙ ap (λ (g : Forest). statement_tree s g) (same-statements ss f (after_statement s floats))
 
-same-block : (b : Block) (f : Forest) (floats : List Bool) → block_tree (apart_block b floats) f ≡ block_tree b f
-same-block (Braces j ss k) f floats = ap (λ (g : Forest). Node BLOCK_EXPR (Node STMT_LIST (Leaf L_CURLY 1 g) End) f) (same-statements ss _ floats)
+  same-block : (b : Block) (f : Forest) (floats : List Bool) → block_tree (apart_block b floats) f ≡ block_tree b f
+  same-block (Braces j ss k) f floats = ap (λ (g : Forest). Node BLOCK_EXPR (Node STMT_LIST (Leaf L_CURLY 1 g) End) f) (same-statements ss _ floats)
 
 same-listed : {A : Type 0} (h : A → A) (tree : A → Forest → Forest) → ((a : A) (f : Forest) → tree (h a) f ≡ tree a f)
     → (l : Listed A) (f : Forest) → listed_tree tree (apart_listed h l) f ≡ listed_tree tree l f
@@ -206,15 +208,17 @@ still-initializer : (v : Initializer) (floats : List Bool) → IsWellFormedIniti
 still-initializer NoInitializer floats i = tt
 still-initializer (InitializedBy j e) floats i = still-expression e floats i
 
-still-statement : (s : Statement) (floats : List Bool) → IsWellFormedStatement s → IsWellFormedStatement (apart_statement s floats)
-still-statement (Let j p a v k) floats i = still-initializer v floats i
-still-statement (Run e k) floats i = still-expression e floats i
+mutual
+  still-statement : (s : Statement) (floats : List Bool) → IsWellFormedStatement s → IsWellFormedStatement (apart_statement s floats)
+  still-statement (Let j p a v k) floats i = still-initializer v floats i
+  still-statement (Run e k) floats i = still-expression e floats i
+  still-statement (Defer j (Braces c ss d)) floats i = still-statements ss floats i
 
-still-statements : (ss : Statements) (floats : List Bool) → AreWellFormedStatements ss
-    → AreWellFormedStatements (apart_statements ss floats)
-still-statements NoStatement floats i = tt
-still-statements (LastExpression e) floats i = still-expression e floats i
-still-statements (StatementThen s ss) floats i = (still-statement s floats i.0, still-statements ss (after_statement s floats) i.1)
+  still-statements : (ss : Statements) (floats : List Bool) → AreWellFormedStatements ss
+      → AreWellFormedStatements (apart_statements ss floats)
+  still-statements NoStatement floats i = tt
+  still-statements (LastExpression e) floats i = still-expression e floats i
+  still-statements (StatementThen s ss) floats i = (still-statement s floats i.0, still-statements ss (after_statement s floats) i.1)
 
 mutual
   still-item : (i : Item) (floats : List Bool) → IsWellFormedItem i → IsWellFormedItem (apart_item i floats)

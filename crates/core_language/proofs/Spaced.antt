@@ -1,13 +1,13 @@
 -- The leaves of a derivation's tree, spaced, are the tokens of the derivation apart.
 use Rattle.std.proofs.Common.{◌≡◌, Bool, false, true, List, ◌∷◌, refl, ap, ◌∙◌}
 use Rattle.parser_input.specs.Input.{Token}
-use Rattle.parser_input.specs.Kinds.{AMP, MUT_KW, L_BRACK, LET_KW, MINUS, R_ANGLE, STRUCT_KW, MOD_KW, FN_KW, COMMA, L_PAREN, R_PAREN, DOT, L_CURLY, COLON, EQ}
+use Rattle.parser_input.specs.Kinds.{AMP, DEFER_KW, MUT_KW, L_BRACK, LET_KW, MINUS, R_ANGLE, STRUCT_KW, MOD_KW, FN_KW, COMMA, L_PAREN, R_PAREN, DOT, L_CURLY, COLON, EQ}
 use Rattle.parser_events.specs.Forest.{Forest, End}
 use Rattle.core_language.specs.Expressions.{ArgumentComma, Arguments, Assignment, Binary, Borrow, Expression, FieldAccess, FunctionCall, LastArgument, Literal, MethodCall, Named, NoArgument, Parenthesized, Prefixed, arguments_tokens, arguments_tree, expression_tokens, expression_tree, inside_expression}
 use Rattle.core_language.specs.Items.{ElementComma, Field, Function, InnerModule, Item, ItemThen, Items, LastElement, Listed, NamedField, NoElement, NoItem, NoReturnType, OuterModule, Parameter, Private, Public, RecordStruct, ReturnType, Returns, TypedPattern, UnitStruct, Visibility, field_tokens, field_tree, item_tokens, item_tree, items_tokens, items_tree, listed_tokens, listed_tree, parameter_tokens, parameter_tree, return_type_tokens, return_type_tree, visibility_tokens, visibility_tree}
-use Rattle.core_language.specs.Operators.{Assign, AssignBitAnd, AssignBitOr, AssignBitXor, AssignDivide, AssignMinus, AssignPlus, AssignRemainder, AssignShiftLeft, AssignShiftRight, AssignTimes, Assigner, BitAnd, BitOr, BitXor, Byte, ByteText, CText, Character, Dereference, Divide, Equal, FalseWord, FloatNumber, Greater, GreaterOrEqual, Integer, Invert, Less, LessOrEqual, LiteralForm, LogicalAnd, LogicalOr, Minus, Negate, NotEqual, Operator, Plus, PrefixOperator, Remainder, ShiftLeft, ShiftRight, Text, Times, TrueWord, assigner_tokens, assigner_tree, literal_kind, operator_tokens, operator_tree, prefix_kind}
+use Rattle.core_language.specs.Operators.{Assign, AssignBitAnd, AssignBitOr, AssignBitXor, AssignDivide, AssignMinus, AssignPlus, AssignRemainder, AssignShiftLeft, AssignShiftRight, AssignTimes, Assigner, BitAnd, BitOr, BitXor, Byte, ByteText, CText, Character, Dereference, Divide, Equal, FalseWord, FloatNumber, Greater, GreaterOrEqual, Integer, Invert, Less, LessOrEqual, LiteralForm, LogicalAnd, LogicalOr, Minus, Negate, NotEqual, Operator, Pipe, Plus, PrefixOperator, Remainder, ShiftLeft, ShiftRight, Text, Times, TrueWord, assigner_tokens, assigner_tree, literal_kind, operator_tokens, operator_tree, prefix_kind}
 use Rattle.core_language.specs.Spaced.{leaf_before, spaced_before}
-use Rattle.core_language.specs.Statements.{AnnotatedBy, Annotation, Block, Braces, InitializedBy, Initializer, LastExpression, Let, NamePattern, NoAnnotation, NoInitializer, NoStatement, Pattern, Run, Statement, StatementThen, Statements, annotation_tokens, annotation_tree, block_tokens, block_tree, initializer_tokens, initializer_tree, pattern_tokens, pattern_tree, statement_tokens, statement_tree, statements_tokens, statements_tree}
+use Rattle.core_language.specs.Statements.{AnnotatedBy, Annotation, Block, Braces, Defer, InitializedBy, Initializer, LastExpression, Let, NamePattern, NoAnnotation, NoInitializer, NoStatement, Pattern, Run, Statement, StatementThen, Statements, annotation_tokens, annotation_tree, block_tokens, block_tree, initializer_tokens, initializer_tree, pattern_tokens, pattern_tree, statement_tokens, statement_tree, statements_tokens, statements_tree}
 use Rattle.core_language.specs.Tokens.{name_token, of_kind}
 use Rattle.core_language.specs.Types.{Below, CoreType, Immutable, Mutability, Mutable, Name, Path, PathType, ReferenceType, SliceType, inside_path, inside_type, mut_tokens, mut_tree, path_tokens, type_tokens}
 use Rattle.core_language.proofs.Apart.{after, after_arguments, after_block, after_initializer, after_item, after_items, after_literal, after_statement, after_statements, apart, apart_annotation, apart_arguments, apart_block, apart_field, apart_initializer, apart_item, apart_items, apart_listed, apart_mut, apart_parameter, apart_path, apart_pattern, apart_return_type, apart_statement, apart_statements, apart_type, apart_visibility, literal_joint}
@@ -36,6 +36,7 @@ spaced-type (SliceType j t k) floats more = ap (λ (ts : List Token). of_kind L_
 spaced-operator : (o : Operator) (f : Forest) (floats : List Bool) (more : List Bool → List Token)
     → spaced_before (operator_tree o f) floats more ≡ operator_tokens o false (spaced_before f floats more)
 unfolding spaced_before
+spaced-operator Pipe f floats more = refl
 spaced-operator LogicalOr f floats more = refl
 spaced-operator LogicalAnd f floats more = refl
 spaced-operator Equal f floats more = refl
@@ -150,30 +151,31 @@ unfolding spaced_before
 spaced-initializer NoInitializer f floats more = refl
 spaced-initializer (InitializedBy j e) f floats more = ap (λ (ts : List Token). of_kind EQ false ∷ ts) (spaced-expression e floats _)
 
-spaced-statement : (s : Statement) (f : Forest) (floats : List Bool) (more : List Bool → List Token) →
-    spaced_before (statement_tree s f) floats more
-    ≡ statement_tokens (apart_statement s floats) (spaced_before f (after_statement s floats) more)
-unfolding spaced_before
-spaced-statement (Let j p a v k) f floats more =
-    ap (λ (ts : List Token). of_kind LET_KW false ∷ ts)
-    (spaced-pattern p _ floats _
-    ∙ ap (λ (ts : List Token). pattern_tokens (apart_pattern p) ts)
-    (spaced-annotation a _ floats _ ∙ ap (λ (ts : List Token). annotation_tokens (apart_annotation a) ts) (spaced-initializer v _ floats _)))
-spaced-statement (Run e k) f floats more = spaced-expression e floats _
+mutual
+  unfolding spaced_before
 
-spaced-statements : (ss : Statements) (f : Forest) (floats : List Bool) (more : List Bool → List Token) →
-    spaced_before (statements_tree ss f) floats more
-    ≡ statements_tokens (apart_statements ss floats) (spaced_before f (after_statements ss floats) more)
-unfolding spaced_before
-spaced-statements NoStatement f floats more = refl
-spaced-statements (LastExpression e) f floats more = spaced-expression e floats _
-spaced-statements (StatementThen s ss) f floats more =
-    spaced-statement s _ floats more ∙ ap (λ (ts : List Token). statement_tokens (apart_statement s floats) ts) (spaced-statements ss f (after_statement s floats) more)
+  spaced-statement : (s : Statement) (f : Forest) (floats : List Bool) (more : List Bool → List Token) →
+      spaced_before (statement_tree s f) floats more
+      ≡ statement_tokens (apart_statement s floats) (spaced_before f (after_statement s floats) more)
+  spaced-statement (Let j p a v k) f floats more =
+      ap (λ (ts : List Token). of_kind LET_KW false ∷ ts)
+      (spaced-pattern p _ floats _
+      ∙ ap (λ (ts : List Token). pattern_tokens (apart_pattern p) ts)
+      (spaced-annotation a _ floats _ ∙ ap (λ (ts : List Token). annotation_tokens (apart_annotation a) ts) (spaced-initializer v _ floats _)))
+  spaced-statement (Run e k) f floats more = spaced-expression e floats _
+  spaced-statement (Defer j b) f floats more = ap (λ (ts : List Token). of_kind DEFER_KW false ∷ ts) (spaced-block b _ floats _)
 
-spaced-block : (b : Block) (f : Forest) (floats : List Bool) (more : List Bool → List Token)
-    → spaced_before (block_tree b f) floats more ≡ block_tokens (apart_block b floats) (spaced_before f (after_block b floats) more)
-unfolding spaced_before
-spaced-block (Braces j ss k) f floats more = ap (λ (ts : List Token). of_kind L_CURLY false ∷ ts) (spaced-statements ss _ floats _)
+  spaced-statements : (ss : Statements) (f : Forest) (floats : List Bool) (more : List Bool → List Token) →
+      spaced_before (statements_tree ss f) floats more
+      ≡ statements_tokens (apart_statements ss floats) (spaced_before f (after_statements ss floats) more)
+  spaced-statements NoStatement f floats more = refl
+  spaced-statements (LastExpression e) f floats more = spaced-expression e floats _
+  spaced-statements (StatementThen s ss) f floats more =
+      spaced-statement s _ floats more ∙ ap (λ (ts : List Token). statement_tokens (apart_statement s floats) ts) (spaced-statements ss f (after_statement s floats) more)
+
+  spaced-block : (b : Block) (f : Forest) (floats : List Bool) (more : List Bool → List Token)
+      → spaced_before (block_tree b f) floats more ≡ block_tokens (apart_block b floats) (spaced_before f (after_block b floats) more)
+  spaced-block (Braces j ss k) f floats more = ap (λ (ts : List Token). of_kind L_CURLY false ∷ ts) (spaced-statements ss _ floats _)
 
 spaced-listed : {A : Type 0} (g : A → A) (put : A → List Token → List Token) (tree : A → Forest → Forest) →
     ((a : A) (f : Forest) (floats : List Bool) (more : List Bool → List Token) → spaced_before (tree a f) floats more ≡ put (g a) (spaced_before f floats more)) →

@@ -46,7 +46,7 @@ pub record Begins (e : Expression) (ts : List Token) : Type 0 where
   pub rest : List Token
   pub are : ts ≡ token_of start ∷ rest
   pub amp : begins_with_ampersand e ≡ is_ampersand start
-  pub high : IsWellFormed e → 14 ≤ level e → is_high start ≡ true
+  pub high : IsWellFormed e → 15 ≤ level e → is_high start ≡ true
 
 pub expression-begins : (e : Expression) (more : List Token) → Begins e (expression_tokens e more)
 expression-begins (Literal l j) more = record { start = WithLiteral l j; rest = more; are = refl; amp = refl; high = λ i h. refl }
@@ -63,7 +63,7 @@ expression-begins (Borrow j m e) more = record { start = WithAmpersand j; rest =
 expression-begins (Binary l o j r) more =
     let b = expression-begins l _ in record { start = b.start; rest = b.rest; are = b.are; amp = b.amp; high = λ i h. b.high i.0 (le_trans' h i.2) }
   where
-    le_trans' : 14 ≤ power o → power o ≤ level l → 14 ≤ level l
+    le_trans' : 15 ≤ power o → power o ≤ level l → 15 ≤ level l
     le_trans' x y = omega arith
 expression-begins (Assignment l o j r) more =
     let b = expression-begins l _ in record { start = b.start; rest = b.rest; are = b.are; amp = b.amp; high = λ i h. absurd (omega arith) }

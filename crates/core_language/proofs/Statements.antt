@@ -1,18 +1,18 @@
 -- Core statements and blocks are read.
 use Rattle.std.proofs.Common.{◌≡◌, ℕ, suc, ◌<◌, ◌≤◌, Bool, true, false, List, ◌∷◌, length, nat_lt, not, refl, ap, ◌∙◌, subst, arith, if◌then◌else◌}
 use Rattle.parser_input.specs.Input.{Token}
-use Rattle.parser_input.specs.Kinds.{DOT, L_PAREN, COLON, EQ, SEMICOLON, LET_KW, L_CURLY, R_CURLY, LET_STMT, LET_ELSE, EXPR_STMT, STMT_LIST, BLOCK_EXPR}
+use Rattle.parser_input.specs.Kinds.{DEFER_KW, DEFER_STMT, DOT, L_PAREN, COLON, EQ, SEMICOLON, LET_KW, L_CURLY, R_CURLY, LET_STMT, LET_ELSE, EXPR_STMT, STMT_LIST, BLOCK_EXPR}
 use Rattle.parser_events.specs.Forest.{Expected, ExpectedType, ExpectedPattern, ExpectedExpression, Forest, End, Leaf, Node, ◌then◌}
 use Rattle.rust_grammar.specs.Rule.{Production, Look, Rule, Then, Or, Opt, Want, Call, Continue, Unless, Mode, Star, When, Nothing, One, Wrap, block_like, expression, pattern, any_type, block, statement, statement_end, statement_list}
 use Rattle.rust_grammar.specs.Rule as rules
 use Rattle.rust_grammar.specs.Meaning.{Reading, ahead}
 use Rattle.rust_grammar.specs.Notation.{until}
-use Rattle.rust_grammar.specs.Words.{':', '=', 'semi', 'let', 'else', 'l_curly', 'r_curly'}
+use Rattle.rust_grammar.specs.Words.{':', '=', 'semi', 'let', 'defer', 'else', 'l_curly', 'r_curly'}
 use Rattle.rust_grammar.specs.Whole.{rule}
 use Rattle.rust_grammar.proofs.WholeTable.{whole-means}
 use Rattle.core_language.specs.Expressions.{Assignment, Binary, Borrow, Expression, FieldAccess, FunctionCall, IsWellFormed, Literal, MethodCall, Named, Parenthesized, Prefixed, expression_kind, expression_tokens, inside_expression}
-use Rattle.core_language.specs.Operators.{Assign, AssignBitAnd, AssignBitOr, AssignBitXor, AssignDivide, AssignMinus, AssignPlus, AssignRemainder, AssignShiftLeft, AssignShiftRight, AssignTimes, Assigner, BitAnd, BitOr, BitXor, Byte, ByteText, CText, Character, Dereference, Divide, Equal, FalseWord, FloatNumber, Greater, GreaterOrEqual, Integer, Invert, Less, LessOrEqual, LiteralForm, LogicalAnd, LogicalOr, Minus, Negate, NotEqual, Operator, Plus, Remainder, ShiftLeft, ShiftRight, Text, Times, TrueWord, assigner_tokens, literal_kind, operator_tokens}
-use Rattle.core_language.specs.Statements.{AnnotatedBy, Annotation, AreWellFormedStatements, Block, Braces, InitializedBy, Initializer, IsWellFormedBlock, IsWellFormedStatement, LastExpression, Let, NamePattern, NoAnnotation, NoInitializer, NoStatement, Pattern, Run, Statement, StatementThen, Statements, annotation_tokens, block_tokens, block_tree, initializer_tokens, pattern_tokens, statement_tokens, statement_tree, statements_tokens, statements_tree}
+use Rattle.core_language.specs.Operators.{Assign, AssignBitAnd, AssignBitOr, AssignBitXor, AssignDivide, AssignMinus, AssignPlus, AssignRemainder, AssignShiftLeft, AssignShiftRight, AssignTimes, Assigner, BitAnd, BitOr, BitXor, Byte, ByteText, CText, Character, Dereference, Divide, Equal, FalseWord, FloatNumber, Greater, GreaterOrEqual, Integer, Invert, Less, LessOrEqual, LiteralForm, LogicalAnd, LogicalOr, Minus, Negate, NotEqual, Operator, Pipe, Plus, Remainder, ShiftLeft, ShiftRight, Text, Times, TrueWord, assigner_tokens, literal_kind, operator_tokens}
+use Rattle.core_language.specs.Statements.{AnnotatedBy, Annotation, AreWellFormedStatements, Block, Braces, Defer, InitializedBy, Initializer, IsWellFormedBlock, IsWellFormedStatement, LastExpression, Let, NamePattern, NoAnnotation, NoInitializer, NoStatement, Pattern, Run, Statement, StatementThen, Statements, annotation_tokens, block_tokens, block_tree, initializer_tokens, pattern_tokens, statement_tokens, statement_tree, statements_tokens, statements_tree}
 use Rattle.core_language.specs.Tokens.{name_token, of_kind}
 use Rattle.core_language.specs.Types.{Immutable, Mutable, inside_type, type_kind, type_tokens}
 use Rattle.core_language.proofs.Atoms.{block-path}
@@ -32,6 +32,7 @@ NotBlock more = (j : Bool) (g : Forest) → begins_at (Call block_like) (at g (n
 
 not-block-op : (o : Operator) (j : Bool) (ts : List Token) → NotBlock (operator_tokens o j ts)
 unfolding table
+not-block-op Pipe j ts i g = refl
 not-block-op LogicalOr j ts i g = refl
 not-block-op LogicalAnd j ts i g = refl
 not-block-op Equal j ts i g = refl
@@ -219,23 +220,24 @@ unfolding forms
 let-both j ts x i c us y h d vs z l k more t1 e1 t2 e2 t3 e3 =
     rw (t1 (Leaf LET_KW 1 End)) (rw e1 (rw (t2 (Leaf LET_KW 1 (Node x i (Leaf COLON 1 End)))) (rw e2 (rw (t3 (Leaf LET_KW 1 (Node x i (Leaf COLON 1 (Node y h (Leaf EQ 1 End)))))) (rw e3 refl)))))
 
-statement-reads : (s : Statement) (more : List Token) → IsWellFormedStatement s
-    → gives statement (at End (statement_tokens s more)) ≡ at (statement_tree s End) more
-unfolding ahead
-statement-reads (Let j (NamePattern m n) NoAnnotation NoInitializer k) more i =
-    whole-means statement false _ ∙ let-picks j _
-    ∙ let-bare j _ _ _ k more (pattern-is-there (NamePattern m n) (BeforeEnd k more)) (pattern-reads (NamePattern m n) (BeforeEnd k more))
-statement-reads (Let j (NamePattern m n) (AnnotatedBy c t) NoInitializer k) more i =
-    whole-means statement false _ ∙ let-picks j _
-    ∙ let-typed j _ _ _ c (type_tokens t (of_kind SEMICOLON k ∷ more)) (type_kind t) (inside_type t) k more (pattern-is-there (NamePattern m n) (typed c t _)) (pattern-reads (NamePattern m n) (typed c t _)) (type-there t _) (type-reads t _ refl refl)
-statement-reads (Let j (NamePattern m n) NoAnnotation (InitializedBy d e) k) more i =
-    whole-means statement false _ ∙ let-picks j _
-    ∙ let-valued j _ _ _ d (expression_tokens e (of_kind SEMICOLON k ∷ more)) (expression_kind e) (inside_expression e) k more (pattern-is-there (NamePattern m n) (BeforeValue d _)) (pattern-reads (NamePattern m n) (BeforeValue d _)) (expression-is-there e _) (core-expression-reads e i _ (closed-semi k more))
-statement-reads (Let j (NamePattern m n) (AnnotatedBy c t) (InitializedBy d e) k) more i =
-    whole-means statement false _ ∙ let-picks j _
-    ∙ let-both j _ _ _ c (type_tokens t (of_kind EQ d ∷ expression_tokens e (of_kind SEMICOLON k ∷ more))) (type_kind t) (inside_type t) d (expression_tokens e (of_kind SEMICOLON k ∷ more)) (expression_kind e) (inside_expression e) k more
-    (pattern-is-there (NamePattern m n) (typed c t _)) (pattern-reads (NamePattern m n) (typed c t _)) (type-there t _) (type-reads t _ refl refl) (expression-is-there e _) (core-expression-reads e i _ (closed-semi k more))
-statement-reads (Run e k) more i = run-reads e (of_kind SEMICOLON k ∷ more) _ i (closed-semi k more) (end-semi (expression_kind e) (inside_expression e) k more)
+-- a block that is deferred
+abbrev defer_rule : Rule
+defer_rule = rules.Node DEFER_STMT (Then (One 'defer') (Want (Call block) (Expected BLOCK_EXPR)))
+
+defer-picks : (j : Bool) (ts : List Token)
+    → reads (rule statement) (at End (of_kind DEFER_KW j ∷ ts)) ≡ reads defer_rule (at End (of_kind DEFER_KW j ∷ ts))
+unfolding table
+defer-picks j ts = refl
+
+block-there : (j : Bool) (g : Forest) (ts : List Token) → begins_at (Call block) (at g (of_kind L_CURLY j ∷ ts)) ≡ true
+unfolding table
+block-there j g ts = refl
+
+defer-reads : (j : Bool) (ts : List Token) (f : Forest) (more : List Token) → ((g : Forest) → begins_at (Call block) (at g ts) ≡ true)
+    → gives block (at End ts) ≡ at f more
+    → reads defer_rule (at End (of_kind DEFER_KW j ∷ ts)) ≡ at (Node DEFER_STMT (Leaf DEFER_KW 1 f) End) more
+unfolding forms
+defer-reads j ts f more there e = rw (there (Leaf DEFER_KW 1 End)) (rw e refl)
 
 -- The statements of a block, one a turn.
 abbrev turn_statement : Rule
@@ -248,6 +250,10 @@ turn-closed g k more = rw (some-left more) refl
 turn-let : (g : Forest) (j : Bool) (ts : List Token) → begins_at turn_statement (at g (of_kind LET_KW j ∷ ts)) ≡ true
 unfolding table
 turn-let g j ts = rw (some-left ts) refl
+
+turn-defer : (g : Forest) (j : Bool) (ts : List Token) → begins_at turn_statement (at g (of_kind DEFER_KW j ∷ ts)) ≡ true
+unfolding table
+turn-defer g j ts = rw (some-left ts) refl
 
 either-twice : (b : Bool) → (if b then true else (if (if b then true else true) then true else true)) ≡ true
 either-twice true = refl
@@ -277,6 +283,7 @@ turn-run e more g = let b = expression-begins e more in rw b.are (turn-start b.s
 turn-there : (s : Statement) (more : List Token) (g : Forest) → begins_at turn_statement (at g (statement_tokens s more)) ≡ true
 turn-there (Let j p n v k) more g = turn-let g j _
 turn-there (Run e k) more g = turn-run e _ g
+turn-there (Defer j b) more g = turn-defer g j _
 
 pub unless-reads : (l : Look) (x : Production) (g : Forest) (ts : List Token) (f : Forest) (more : List Token)
     → gives x (at End ts) ≡ at f more → reads (Unless l (Call x)) (at g ts) ≡ at (g then f) more
@@ -295,30 +302,31 @@ initializer-longer : (v : Initializer) (more : List Token) → length more ≤ l
 initializer-longer NoInitializer more = omega arith
 initializer-longer (InitializedBy j e) more = let h = expression-longer e more in omega (arith, h)
 
-pub statement-longer : (s : Statement) (more : List Token) → length more < length (statement_tokens s more)
-statement-longer (Let j p n v k) more =
-    let a = pattern-longer p (annotation_tokens n (initializer_tokens v (of_kind SEMICOLON k ∷ more))) in
-    let b = annotation-longer n (initializer_tokens v (of_kind SEMICOLON k ∷ more)) in
-    let c = initializer-longer v (of_kind SEMICOLON k ∷ more) in
-    omega (arith, a, b, c)
-statement-longer (Run e k) more = let h = expression-longer e (of_kind SEMICOLON k ∷ more) in omega (arith, h)
+mutual
+  pub statement-longer : (s : Statement) (more : List Token) → length more < length (statement_tokens s more)
+  statement-longer (Let j p n v k) more =
+      let a = pattern-longer p (annotation_tokens n (initializer_tokens v (of_kind SEMICOLON k ∷ more))) in
+      let b = annotation-longer n (initializer_tokens v (of_kind SEMICOLON k ∷ more)) in
+      let c = initializer-longer v (of_kind SEMICOLON k ∷ more) in
+      omega (arith, a, b, c)
+  statement-longer (Run e k) more = let h = expression-longer e (of_kind SEMICOLON k ∷ more) in omega (arith, h)
+  statement-longer (Defer j b) more = let h = block-longer b more in omega (arith, h)
+
+  statements-longer : (ss : Statements) (more : List Token) → length more ≤ length (statements_tokens ss more)
+  statements-longer NoStatement more = omega arith
+  statements-longer (LastExpression e) more = let h = expression-longer e more in omega (arith, h)
+  statements-longer (StatementThen s ss) more =
+      let h = statement-longer s (statements_tokens ss more) in
+      let i = statements-longer ss more in
+      omega (arith, h, i)
+
+  block-longer : (b : Block) (more : List Token) → length more < length (block_tokens b more)
+  block-longer (Braces j ss k) more = let h = statements-longer ss (of_kind R_CURLY k ∷ more) in omega (arith, h)
 
 statement-then : (s : Statement) (f : Forest) → statement_tree s End then f ≡ statement_tree s f
 statement-then (Let j p n v k) f = refl
 statement-then (Run e k) f = refl
-
-statements-read : (ss : Statements) → AreWellFormedStatements ss → (g : Forest) (k : Bool) (more : List Token) →
-    StarReads turn_statement (at g (statements_tokens ss (of_kind R_CURLY k ∷ more))) (at (g then statements_tree ss End) (of_kind R_CURLY k ∷ more))
-statements-read NoStatement i g k more = rw then-end (Stop (turn-closed g k more))
-statements-read (LastExpression e) i g k more =
-    Turn (turn-run e _ g) (unless-reads (until 'r_curly') statement g _ (tree e) _ (run-reads e (of_kind R_CURLY k ∷ more) _ i (closed-curly k more) (end-last (tree e) k more))) (expression-longer e (of_kind R_CURLY k ∷ more)) (Stop (turn-closed _ k more))
-statements-read (StatementThen s ss) i g k more =
-    let h = statement-longer s (statements_tokens ss (of_kind R_CURLY k ∷ more)) in
-    let last = statements-read ss i.1 (g then statement_tree s End) k more in
-    let same : (g then statement_tree s End) then statements_tree ss End ≡ g then statements_tree (StatementThen s ss) End =
-    then-assoc g (statement_tree s End) (statements_tree ss End) ∙ ap (λ (f : Forest). g then f) (statement-then s (statements_tree ss End)) in
-    Turn (turn-there s _ g) (unless-reads (until 'r_curly') statement g _ (statement_tree s End) _ (statement-reads s _ i.0)) h
-    (subst (λ (f : Forest). StarReads turn_statement (at (g then statement_tree s End) (statements_tokens ss (of_kind R_CURLY k ∷ more))) (at f (of_kind R_CURLY k ∷ more))) same last)
+statement-then (Defer j b) f = refl
 
 -- A list in braces.
 pub braces-read : (list : ℕ) (a : Rule) (j k : Bool) (ts : List Token) (f : Forest) (more : List Token)
@@ -348,14 +356,52 @@ statements-then : (ss : Statements) (f : Forest) → statements_tree ss End then
 statements-then NoStatement f = refl
 statements-then (LastExpression e) f = refl
 statements-then (StatementThen (Let j p n v k) ss) f = ap (λ (x : Forest). statement_tree (Let j p n v k) x) (statements-then ss f)
+statements-then (StatementThen (Defer j b) ss) f = ap (λ (x : Forest). statement_tree (Defer j b) x) (statements-then ss f)
 statements-then (StatementThen (Run e k) ss) f = ap (λ (x : Forest). statement_tree (Run e k) x) (statements-then ss f)
 
-pub block-reads : (b : Block) (more : List Token) → IsWellFormedBlock b
-    → gives block (at End (block_tokens b more)) ≡ at (block_tree b End) more
-block-reads (Braces j ss k) more i =
-    whole-means block false _
-    ∙ block-picks _ _ more
-    (whole-means statement_list false _
-    ∙ ap (λ (a : Rule). reads a (at End (of_kind L_CURLY j ∷ statements_tokens ss (of_kind R_CURLY k ∷ more)))) list-rule
-    ∙ braces-read STMT_LIST turn_statement j k _ (statements_tree ss End) more (star-reads turn_statement (statements-read ss i (Leaf L_CURLY 1 End) k more))
-    ∙ ap (λ (f : Forest). at (Node STMT_LIST (Leaf L_CURLY 1 f) End) more) (statements-then ss (Leaf R_CURLY 1 End)))
+-- Statements, lists of them and blocks are read.
+mutual
+  unfolding ahead
+
+  statement-reads : (s : Statement) (more : List Token) → IsWellFormedStatement s
+      → gives statement (at End (statement_tokens s more)) ≡ at (statement_tree s End) more
+  statement-reads (Let j (NamePattern m n) NoAnnotation NoInitializer k) more i =
+      whole-means statement false _ ∙ let-picks j _
+      ∙ let-bare j _ _ _ k more (pattern-is-there (NamePattern m n) (BeforeEnd k more)) (pattern-reads (NamePattern m n) (BeforeEnd k more))
+  statement-reads (Let j (NamePattern m n) (AnnotatedBy c t) NoInitializer k) more i =
+      whole-means statement false _ ∙ let-picks j _
+      ∙ let-typed j _ _ _ c (type_tokens t (of_kind SEMICOLON k ∷ more)) (type_kind t) (inside_type t) k more (pattern-is-there (NamePattern m n) (typed c t _)) (pattern-reads (NamePattern m n) (typed c t _)) (type-there t _) (type-reads t _ refl refl)
+  statement-reads (Let j (NamePattern m n) NoAnnotation (InitializedBy d e) k) more i =
+      whole-means statement false _ ∙ let-picks j _
+      ∙ let-valued j _ _ _ d (expression_tokens e (of_kind SEMICOLON k ∷ more)) (expression_kind e) (inside_expression e) k more (pattern-is-there (NamePattern m n) (BeforeValue d _)) (pattern-reads (NamePattern m n) (BeforeValue d _)) (expression-is-there e _) (core-expression-reads e i _ (closed-semi k more))
+  statement-reads (Let j (NamePattern m n) (AnnotatedBy c t) (InitializedBy d e) k) more i =
+      whole-means statement false _ ∙ let-picks j _
+      ∙ let-both j _ _ _ c (type_tokens t (of_kind EQ d ∷ expression_tokens e (of_kind SEMICOLON k ∷ more))) (type_kind t) (inside_type t) d (expression_tokens e (of_kind SEMICOLON k ∷ more)) (expression_kind e) (inside_expression e) k more
+      (pattern-is-there (NamePattern m n) (typed c t _)) (pattern-reads (NamePattern m n) (typed c t _)) (type-there t _) (type-reads t _ refl refl) (expression-is-there e _) (core-expression-reads e i _ (closed-semi k more))
+  statement-reads (Run e k) more i = run-reads e (of_kind SEMICOLON k ∷ more) _ i (closed-semi k more) (end-semi (expression_kind e) (inside_expression e) k more)
+  statement-reads (Defer j (Braces k ss m)) more i =
+      whole-means statement false _ ∙ defer-picks j _
+      ∙ defer-reads j _ _ more (λ g. block-there k g _) (block-reads (Braces k ss m) more i)
+
+  statements-read : (ss : Statements) → AreWellFormedStatements ss → (g : Forest) (k : Bool) (more : List Token) →
+      StarReads turn_statement (at g (statements_tokens ss (of_kind R_CURLY k ∷ more))) (at (g then statements_tree ss End) (of_kind R_CURLY k ∷ more))
+  statements-read NoStatement i g k more = rw then-end (Stop (turn-closed g k more))
+  statements-read (LastExpression e) i g k more =
+      Turn (turn-run e _ g) (unless-reads (until 'r_curly') statement g _ (tree e) _ (run-reads e (of_kind R_CURLY k ∷ more) _ i (closed-curly k more) (end-last (tree e) k more))) (expression-longer e (of_kind R_CURLY k ∷ more)) (Stop (turn-closed _ k more))
+  statements-read (StatementThen s ss) i g k more =
+      let h = statement-longer s (statements_tokens ss (of_kind R_CURLY k ∷ more)) in
+      let last = statements-read ss i.1 (g then statement_tree s End) k more in
+      let same : (g then statement_tree s End) then statements_tree ss End ≡ g then statements_tree (StatementThen s ss) End =
+      then-assoc g (statement_tree s End) (statements_tree ss End) ∙ ap (λ (f : Forest). g then f) (statement-then s (statements_tree ss End)) in
+      Turn (turn-there s _ g) (unless-reads (until 'r_curly') statement g _ (statement_tree s End) _ (statement-reads s _ i.0)) h
+      (subst (λ (f : Forest). StarReads turn_statement (at (g then statement_tree s End) (statements_tokens ss (of_kind R_CURLY k ∷ more))) (at f (of_kind R_CURLY k ∷ more))) same last)
+
+  pub block-reads : (b : Block) (more : List Token) → IsWellFormedBlock b
+      → gives block (at End (block_tokens b more)) ≡ at (block_tree b End) more
+  block-reads (Braces j ss k) more i =
+      whole-means block false _
+      ∙ block-picks _ _ more
+      (whole-means statement_list false _
+      ∙ ap (λ (a : Rule). reads a (at End (of_kind L_CURLY j ∷ statements_tokens ss (of_kind R_CURLY k ∷ more)))) list-rule
+      ∙ braces-read STMT_LIST turn_statement j k _ (statements_tree ss End) more (star-reads turn_statement (statements-read ss i (Leaf L_CURLY 1 End) k more))
+      ∙ ap (λ (f : Forest). at (Node STMT_LIST (Leaf L_CURLY 1 f) End) more) (statements-then ss (Leaf R_CURLY 1 End)))

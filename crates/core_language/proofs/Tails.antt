@@ -1,20 +1,21 @@
 -- Assignments, and whole expressions.
-use Rattle.std.proofs.Common.{◌≡◌, ℕ, Bool, true, false, List, ◌∷◌, refl, ap, ◌∙◌, if◌then◌else◌}
+use Rattle.std.proofs.Common.{◌≡◌, ℕ, Bool, true, false, List, ◌∷◌, refl, ap, ◌∙◌, arith, if◌then◌else◌}
 use Rattle.parser_input.specs.Input.{Token}
 use Rattle.parser_input.specs.Kinds.{DOT, BIN_EXPR}
 use Rattle.parser_events.specs.Forest.{ExpectedExpression, Forest, End, Leaf, Node, ◌then◌}
-use Rattle.rust_grammar.specs.Rule.{Production, Rule, Or, Wrap, Then, Want, Call, Continue, Nothing, operation, operation_tail, expression, disjunction}
+use Rattle.rust_grammar.specs.Rule.{Production, Rule, Or, Wrap, Then, Want, Call, Continue, Nothing, operation, operation_tail, pipe_tail, expression, disjunction}
 use Rattle.rust_grammar.specs.Meaning.{Reading, ahead}
 use Rattle.rust_grammar.specs.Notation.{op}
 use Rattle.rust_grammar.specs.Words.{'+=', '-=', '*=', '/=', '%=', '&=', '|=', '^=', '<<=', '>>=', '='}
 use Rattle.rust_grammar.specs.Whole.{rule}
 use Rattle.rust_grammar.proofs.WholeTable.{whole-means}
-use Rattle.core_language.specs.Expressions.{Assignment, Expression, expression_kind, expression_tokens, inside_expression}
-use Rattle.core_language.specs.Operators.{Assign, AssignBitAnd, AssignBitOr, AssignBitXor, AssignDivide, AssignMinus, AssignPlus, AssignRemainder, AssignShiftLeft, AssignShiftRight, AssignTimes, Assigner, assigner_count, assigner_kind, assigner_tokens, assigner_tree}
-use Rattle.core_language.proofs.Layers.{ReadsAt}
-use Rattle.core_language.proofs.Places.{Base, Calm, IsNotNext, Stops, is_calm, stops_at, calm-of, stops-of, tree}
+use Rattle.core_language.specs.Expressions.{Assignment, Binary, Expression, expression_kind, expression_tokens, inside_expression}
+use Rattle.core_language.specs.Operators.{Assign, AssignBitAnd, AssignBitOr, AssignBitXor, AssignDivide, AssignMinus, AssignPlus, AssignRemainder, AssignShiftLeft, AssignShiftRight, AssignTimes, Assigner, Pipe, assigner_count, assigner_kind, assigner_tokens, assigner_tree, operator_count, operator_kind, operator_tokens, operator_tree}
+use Rattle.core_language.proofs.Layers.{ReadsAt, turn-reads}
+use Rattle.core_language.proofs.Operators.{Between, between}
+use Rattle.core_language.proofs.Places.{Base, Calm, IsNotNext, Stops, is_calm, ops, stops_at, calm-of, stops-of, tree, turn}
 use Rattle.core_language.proofs.Rules.{at, begins_at, call-reads, forms, gives, or-first, or-second, reads, table, then-reads}
-use Rattle.core_language.proofs.Starts.{Free, expression-begins, operation-is-there, start-free, token_of}
+use Rattle.core_language.proofs.Starts.{Free, expression-begins, layer-is-there, operation-is-there, start-free, token_of}
 
 -- the spellings of assignments
 abbrev pub assignment : Rule
@@ -29,16 +30,16 @@ setting = Wrap BIN_EXPR (Then assignment (Want (Call operation) ExpectedExpressi
 pub record Set (o : Assigner) (j : Bool) (t : Token) (ts : List Token) : Type 0 where
   pub there : (g : Forest) → begins_at setting (at g (assigner_tokens o j (t ∷ ts))) ≡ true
   pub taken : (g : Forest) → reads assignment (at g (assigner_tokens o j (t ∷ ts))) ≡ at (g then assigner_tree o End) (t ∷ ts)
-  pub stops : Stops 9 (assigner_tokens o j (t ∷ ts))
+  pub stops : Stops 10 (assigner_tokens o j (t ∷ ts))
   pub calm : Calm (assigner_tokens o j (t ∷ ts))
 
 -- the same, by tests
 found : {o : Assigner} {j : Bool} {t : Token} {ts : List Token} →
     ((g : Forest) → begins_at setting (at g (assigner_tokens o j (t ∷ ts))) ≡ true) →
     ((g : Forest) → reads assignment (at g (assigner_tokens o j (t ∷ ts))) ≡ at (g then assigner_tree o End) (t ∷ ts)) →
-    ((g : Forest) → stops_at 9 g (assigner_tokens o j (t ∷ ts)) ≡ true) →
+    ((g : Forest) → stops_at 10 g (assigner_tokens o j (t ∷ ts)) ≡ true) →
     ((i : Bool) (g : Forest) → is_calm i g (assigner_tokens o j (t ∷ ts)) ≡ true) → Set o j t ts
-found there taken stops calm = record { there = there; taken = taken; stops = stops-of 9 _ stops; calm = calm-of _ calm }
+found there taken stops calm = record { there = there; taken = taken; stops = stops-of 10 _ stops; calm = calm-of _ calm }
 
 assigner-between : (o : Assigner) (j : Bool) (t : Token) (ts : List Token) → Free t → Set o j t ts
 unfolding table
@@ -65,14 +66,14 @@ assigner-between AssignShiftLeft false t ts f = found (λ g. refl) (λ g. refl) 
 assigner-between AssignShiftRight true t ts f = found (λ g. refl) (λ g. refl) (λ g. refl) (λ i g. refl)
 assigner-between AssignShiftRight false t ts f = found (λ g. refl) (λ g. refl) (λ g. refl) (λ i g. refl)
 
--- where no dot is next, an operation begins with an operand, and its tail is an assignment or nothing
+-- where no dot is next, an operation begins with an operand, and its tail is no range
 operation-picks : (g : Forest) (ts : List Token) → IsNotNext DOT ts
     → reads (rule operation) (at g ts) ≡ reads (Then (Call disjunction) (Continue operation_tail)) (at g ts)
 unfolding table
 operation-picks g ts h = rw h refl
 
 tail-picks : (g : Forest) (ts : List Token) → IsNotNext DOT ts
-    → reads (rule operation_tail) (at g ts) ≡ reads (Or setting Nothing) (at g ts)
+    → reads (rule operation_tail) (at g ts) ≡ reads (Continue pipe_tail) (at g ts)
 unfolding table
 tail-picks g ts h = rw h refl
 
@@ -84,17 +85,44 @@ nothing-reads : (s : Reading) → reads Nothing s ≡ s
 unfolding forms
 nothing-reads s = refl
 
+-- `|>` with its right operand, and what stands after it
+abbrev piping : Rule
+piping = Then (turn 9) (Continue pipe_tail)
+
+pipe-rule : rule pipe_tail ≡ Or piping (Or setting Nothing)
+unfolding table
+pipe-rule = refl
+
+pipe-begins : (s : Reading) → begins_at piping s ≡ begins_at (turn 9) s
+unfolding forms
+pipe-begins s = refl
+
+-- where no `|>` is next, what stands after an operand is an assignment or nothing
+pipe-ends : (g : Forest) (ts : List Token) → begins_at (turn 9) (at g ts) ≡ false
+    → gives pipe_tail (at g ts) ≡ reads (Or setting Nothing) (at g ts)
+pipe-ends g ts h =
+    whole-means pipe_tail false _
+    ∙ ap (λ (a : Rule). reads a (at g ts)) pipe-rule
+    ∙ or-second piping (Or setting Nothing) _ (pipe-begins _ ∙ h)
+
+pipe-turns : (g : Forest) (ts : List Token) (u t : Reading) → begins_at (turn 9) (at g ts) ≡ true
+    → reads (turn 9) (at g ts) ≡ u → gives pipe_tail u ≡ t → gives pipe_tail (at g ts) ≡ t
+pipe-turns g ts u t h e f =
+    whole-means pipe_tail false _
+    ∙ ap (λ (a : Rule). reads a (at g ts)) pipe-rule
+    ∙ or-first piping (Or setting Nothing) _ (pipe-begins _ ∙ h)
+    ∙ then-reads (turn 9) (Continue pipe_tail) _ e (continue-reads pipe_tail _ ∙ f)
+
 -- Nothing here goes on with an expression.
 pub record Closed (more : List Token) : Type 0 where
   pub calm : Calm more
-  pub stops : Stops 9 more
-  pub base : Base more
+  pub stops : Stops 10 more
   pub set : (g : Forest) → begins_at setting (at g more) ≡ false
 
 -- the same, by tests
-pub closed-of : (more : List Token) → ((i : Bool) (g : Forest) → is_calm i g more ≡ true) → ((g : Forest) → stops_at 9 g more ≡ true) →
+pub closed-of : (more : List Token) → ((i : Bool) (g : Forest) → is_calm i g more ≡ true) → ((g : Forest) → stops_at 10 g more ≡ true) →
     ((g : Forest) → begins_at setting (at g more) ≡ false) → Closed more
-closed-of more calm stops set = let s = stops-of 9 more stops in record { calm = calm-of more calm; stops = s; base = s.1.1.1.1.1.1.1.1.1; set = set }
+closed-of more calm stops set = record { calm = calm-of more calm; stops = stops-of 10 more stops; set = set }
 
 setting-reads : (k : ℕ) (i : Forest) (kind count : ℕ) (before after : List Token) (l : ℕ) (r : Forest) (more : List Token) →
     ((g : Forest) → reads assignment (at g before) ≡ at (g then Leaf kind count End) after) →
@@ -112,37 +140,58 @@ no-dot : (e : Expression) (more : List Token) → IsNotNext DOT (expression_toke
 unfolding ahead
 no-dot e more = let b = expression-begins e more in rw b.are ((start-free b.start).dot)
 
--- An expression that is no assignment is an operand of the highest layer.
-pub whole-operand : (e : Expression) → ReadsAt 9 e → ReadsWhole e
-whole-operand e r more c =
+bottom : {ts : List Token} → Stops 9 ts → Base ts
+bottom s = s.1.1.1.1.1.1.1.1.1
+
+-- An expression as the left operand of `|>` or of an assignment: where the tail after it ends, the whole ends.
+abbrev pub ReadsPiped : Expression → Type 0
+ReadsPiped e =
+    (more : List Token) (t : Reading) → Calm more → Stops 9 more → gives pipe_tail (at (tree e) more) ≡ t → gives operation (at End (expression_tokens e more)) ≡ t
+
+-- An operand of the highest layer is such a one.
+pub piped-operand : (e : Expression) → ReadsAt 9 e → ReadsPiped e
+piped-operand e r more t calm stops end =
     whole-means operation false _
     ∙ operation-picks End (expression_tokens e more) (no-dot e more)
     ∙ then-reads (Call disjunction) (Continue operation_tail) _
-    (call-reads disjunction _ _ more (r more c.calm c.stops))
-    (continue-reads operation_tail _ ∙ whole-means operation_tail false _ ∙ tail-picks (tree e) more c.base.dot ∙ or-second setting Nothing _ (c.set _) ∙ nothing-reads _)
+    (call-reads disjunction _ _ more (r more calm stops))
+    (continue-reads operation_tail _
+    ∙ whole-means operation_tail false _
+    ∙ tail-picks (tree e) more (bottom stops).dot
+    ∙ continue-reads pipe_tail _
+    ∙ end)
 
-pub whole-assign : (l : Expression) (o : Assigner) (j : Bool) (r : Expression) → ReadsAt 9 l → ReadsWhole r
+-- So is `|>` between such a one and an operand of the highest layer.
+pub piped-turn : (l : Expression) (j : Bool) (r : Expression) → ReadsPiped l → ReadsAt 9 r → ReadsPiped (Binary l Pipe j r)
+piped-turn l j r left right more t calm stops end =
+    let b = expression-begins r more in
+    let m : Between Pipe j (token_of b.start) b.rest = between Pipe j (token_of b.start) b.rest (start-free b.start) (λ p q. absurd cc) in
+    let there : (g : Forest) → begins_at (turn 9) (at g (operator_tokens Pipe j (expression_tokens r more))) ≡ true = λ g. rw b.are (m.there g) in
+    let taken : (g : Forest) → reads (ops 9) (at g (operator_tokens Pipe j (expression_tokens r more))) ≡ at (g then operator_tree Pipe End) (expression_tokens r more) = λ g. rw b.are (m.taken g) in
+    let stop : Stops 9 (operator_tokens Pipe j (expression_tokens r more)) = rw b.are m.stops in
+    let calm' : Calm (operator_tokens Pipe j (expression_tokens r more)) = rw b.are m.calm in
+    left (operator_tokens Pipe j (expression_tokens r more)) t calm' stop
+    (pipe-turns (tree l) (operator_tokens Pipe j (expression_tokens r more)) _ t (there (tree l))
+    (turn-reads 9 (expression_kind l) (inside_expression l) (operator_kind Pipe) (operator_count Pipe) (operator_tokens Pipe j (expression_tokens r more)) (expression_tokens r more) (expression_kind r) (inside_expression r) more taken (λ g. layer-is-there 9 (omega arith) r more g) (right more calm stops))
+    end)
+
+-- It is whole where nothing goes on with it.
+pub whole-piped : (e : Expression) → ReadsPiped e → ReadsWhole e
+whole-piped e r more c = r more _ c.calm c.stops.1 (pipe-ends (tree e) more (c.stops.0 _) ∙ or-second setting Nothing _ (c.set _) ∙ nothing-reads _)
+
+pub whole-assign : (l : Expression) (o : Assigner) (j : Bool) (r : Expression) → ReadsPiped l → ReadsWhole r
     → ReadsWhole (Assignment l o j r)
 whole-assign l o j r left right more c =
     let b = expression-begins r more in
     let m = assigner-between o j (token_of b.start) b.rest (start-free b.start) in
     let there : (g : Forest) → begins_at setting (at g (assigner_tokens o j (expression_tokens r more))) ≡ true = λ g. rw b.are (m.there g) in
     let taken : (g : Forest) → reads assignment (at g (assigner_tokens o j (expression_tokens r more))) ≡ at (g then assigner_tree o End) (expression_tokens r more) = λ g. rw b.are (m.taken g) in
-    let stop : Stops 9 (assigner_tokens o j (expression_tokens r more)) = rw b.are m.stops in
+    let stop : Stops 10 (assigner_tokens o j (expression_tokens r more)) = rw b.are m.stops in
     let calm' : Calm (assigner_tokens o j (expression_tokens r more)) = rw b.are m.calm in
-    let base : Base (assigner_tokens o j (expression_tokens r more)) = rw b.are (bottom m.stops) in
-    whole-means operation false _
-    ∙ operation-picks End (expression_tokens l (assigner_tokens o j (expression_tokens r more))) (no-dot l (assigner_tokens o j (expression_tokens r more)))
-    ∙ then-reads (Call disjunction) (Continue operation_tail) _
-    (call-reads disjunction _ _ (assigner_tokens o j (expression_tokens r more)) (left (assigner_tokens o j (expression_tokens r more)) calm' stop))
-    (continue-reads operation_tail _
-    ∙ whole-means operation_tail false _
-    ∙ tail-picks (tree l) (assigner_tokens o j (expression_tokens r more)) base.dot
+    left (assigner_tokens o j (expression_tokens r more)) _ calm' stop.1
+    (pipe-ends (tree l) (assigner_tokens o j (expression_tokens r more)) (stop.0 _)
     ∙ or-first setting Nothing _ (there _)
     ∙ setting-reads (expression_kind l) (inside_expression l) (assigner_kind o) (assigner_count o) (assigner_tokens o j (expression_tokens r more)) (expression_tokens r more) (expression_kind r) (inside_expression r) more taken (operation-is-there r more) (right more c))
-  where
-    bottom : {ts : List Token} → Stops 9 ts → Base ts
-    bottom s = s.1.1.1.1.1.1.1.1.1
 
 expression-rule : rule expression ≡ Call operation
 unfolding table

@@ -1,13 +1,14 @@
 -- Literals and operators are told by the kinds of their leaves, and the bit of an operator by its tokens.
 use Rattle.std.proofs.Common.{◌≡◌, ℕ, Bool, true, false, List, ◌∷◌, refl, ap, sym, ◌∙◌, ◌==◌, if◌then◌else◌}
 use Rattle.parser_input.specs.Input.{Token}
-use Rattle.parser_input.specs.Kinds.{AMP, AMP2, AMPEQ, BANG, BYTE, BYTE_STRING, CARET, CARETEQ, CHAR, C_STRING, EQ, EQ2, FLOAT_NUMBER, GTEQ, INT_NUMBER, LTEQ, L_ANGLE, MINUS, MINUSEQ, NEQ, PERCENTEQ, PIPE, PIPE2, PIPEEQ, PLUS, PLUSEQ, R_ANGLE, SHL, SHLEQ, SHR, SHREQ, SLASH, SLASHEQ, STAR, STAREQ, STRING, TRUE_KW}
-use Rattle.core_language.specs.Operators.{Assign, AssignBitAnd, AssignBitOr, AssignBitXor, AssignDivide, AssignMinus, AssignPlus, AssignRemainder, AssignShiftLeft, AssignShiftRight, AssignTimes, Assigner, BitAnd, BitOr, BitXor, Byte, ByteText, CText, Character, Dereference, Divide, Equal, FalseWord, FloatNumber, Greater, GreaterOrEqual, Integer, Invert, Less, LessOrEqual, LiteralForm, LogicalAnd, LogicalOr, Minus, Negate, NotEqual, Operator, Plus, PrefixOperator, Remainder, ShiftLeft, ShiftRight, Text, Times, TrueWord, assigner_kind, assigner_tokens, literal_kind, operator_kind, operator_tokens, prefix_kind}
+use Rattle.parser_input.specs.Kinds.{AMP, AMP2, AMPEQ, BANG, BYTE, BYTE_STRING, CARET, CARETEQ, CHAR, C_STRING, EQ, EQ2, FLOAT_NUMBER, GTEQ, INT_NUMBER, LTEQ, L_ANGLE, MINUS, MINUSEQ, NEQ, PERCENTEQ, PIPE, PIPE2, PIPE_GT, PIPEEQ, PLUS, PLUSEQ, R_ANGLE, SHL, SHLEQ, SHR, SHREQ, SLASH, SLASHEQ, STAR, STAREQ, STRING, TRUE_KW}
+use Rattle.core_language.specs.Operators.{Assign, AssignBitAnd, AssignBitOr, AssignBitXor, AssignDivide, AssignMinus, AssignPlus, AssignRemainder, AssignShiftLeft, AssignShiftRight, AssignTimes, Assigner, BitAnd, BitOr, BitXor, Byte, ByteText, CText, Character, Dereference, Divide, Equal, FalseWord, FloatNumber, Greater, GreaterOrEqual, Integer, Invert, Less, LessOrEqual, LiteralForm, LogicalAnd, LogicalOr, Minus, Negate, NotEqual, Operator, Pipe, Plus, PrefixOperator, Remainder, ShiftLeft, ShiftRight, Text, Times, TrueWord, assigner_kind, assigner_tokens, literal_kind, operator_kind, operator_tokens, prefix_kind}
 
 -- the operator with a leaf of this kind
 abbrev operator_of : ℕ → Operator
 operator_of k =
-    if k == PIPE2 then LogicalOr
+    if k == PIPE_GT then Pipe
+    else if k == PIPE2 then LogicalOr
     else if k == AMP2 then LogicalAnd
     else if k == EQ2 then Equal
     else if k == NEQ then NotEqual
@@ -27,6 +28,7 @@ operator_of k =
     else Remainder
 
 operator-back : (o : Operator) → operator_of (operator_kind o) ≡ o
+operator-back Pipe = refl
 operator-back LogicalOr = refl
 operator-back LogicalAnd = refl
 operator-back Equal = refl
@@ -124,6 +126,7 @@ pub head-one : (t u : Token) (more other : List Token) → t ∷ more ≡ u ∷ 
 head-one t u more other e = let x : t ≡ u = cc in (ap (λ (y : Token). y.joint) x, cc)
 
 pub operator-one : (o : Operator) (j k : Bool) (ts us : List Token) → operator_tokens o j ts ≡ operator_tokens o k us → (j ≡ k) × (ts ≡ us)
+operator-one Pipe j k ts us e = let r = head-one _ _ _ _ e in head-one _ _ ts us r.1
 operator-one LogicalOr j k ts us e = let r = head-one _ _ _ _ e in head-one _ _ ts us r.1
 operator-one LogicalAnd j k ts us e = let r = head-one _ _ _ _ e in head-one _ _ ts us r.1
 operator-one Equal j k ts us e = let r = head-one _ _ _ _ e in head-one _ _ ts us r.1
@@ -173,6 +176,7 @@ is_assigner_kind k =
     else false
 
 operator-assigns : (o : Operator) → is_assigner_kind (operator_kind o) ≡ false
+operator-assigns Pipe = refl
 operator-assigns LogicalOr = refl
 operator-assigns LogicalAnd = refl
 operator-assigns Equal = refl

@@ -89,14 +89,14 @@ expression_tree e f = Node (expression_kind e) (inside_expression e) f
 
 -- How tightly an expression holds together: an operation as its operator's power says, an assignment least of all.
 abbrev pub level : Expression → ℕ
-level (Literal l literal) = 14
-level (Named p) = 14
-level (Parenthesized opening e closing) = 14
-level (FunctionCall e opening es closing) = 14
-level (MethodCall e dot name opening es closing) = 14
-level (FieldAccess e dot name) = 14
-level (Prefixed o operator e) = 13
-level (Borrow ampersand m e) = 13
+level (Literal l literal) = 15
+level (Named p) = 15
+level (Parenthesized opening e closing) = 15
+level (FunctionCall e opening es closing) = 15
+level (MethodCall e dot name opening es closing) = 15
+level (FieldAccess e dot name) = 15
+level (Prefixed o operator e) = 14
+level (Borrow ampersand m e) = 14
 level (Binary l o last r) = power o
 level (Assignment l o last r) = 1
 
@@ -127,14 +127,14 @@ abbrev mutual
   IsWellFormed (Literal l literal) = Unit {0}
   IsWellFormed (Named p) = Unit {0}
   IsWellFormed (Parenthesized opening e closing) = IsWellFormed e
-  IsWellFormed (FunctionCall e opening es closing) = IsWellFormed e × (14 ≤ level e) × (is_field_access e ≡ false) × AreWellFormed es
-  IsWellFormed (MethodCall e dot name opening es closing) = IsWellFormed e × (14 ≤ level e) × AreWellFormed es
-  IsWellFormed (FieldAccess e dot name) = IsWellFormed e × (14 ≤ level e)
-  IsWellFormed (Prefixed o operator e) = IsWellFormed e × (13 ≤ level e)
-  IsWellFormed (Borrow ampersand m e) = IsWellFormed e × (13 ≤ level e)
+  IsWellFormed (FunctionCall e opening es closing) = IsWellFormed e × (15 ≤ level e) × (is_field_access e ≡ false) × AreWellFormed es
+  IsWellFormed (MethodCall e dot name opening es closing) = IsWellFormed e × (15 ≤ level e) × AreWellFormed es
+  IsWellFormed (FieldAccess e dot name) = IsWellFormed e × (15 ≤ level e)
+  IsWellFormed (Prefixed o operator e) = IsWellFormed e × (14 ≤ level e)
+  IsWellFormed (Borrow ampersand m e) = IsWellFormed e × (14 ≤ level e)
   IsWellFormed (Binary l o last r) =
       IsWellFormed l × IsWellFormed r × (power o ≤ level l) × (power o < level r) × ((is_bit_and o && last && begins_with_ampersand r) ≡ false)
-  IsWellFormed (Assignment l o last r) = IsWellFormed l × IsWellFormed r × (3 ≤ level l)
+  IsWellFormed (Assignment l o last r) = IsWellFormed l × IsWellFormed r × (2 ≤ level l)
 
   pub AreWellFormed : Arguments → Type 0
   AreWellFormed NoArgument = Unit {0}

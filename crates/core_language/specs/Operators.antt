@@ -1,9 +1,9 @@
 -- The literals and the operators of the core language, each with the kind of its leaf, its characters and its power.
 use Rattle.std.specs.Prelude.{ℕ, Bool, List, [], ◌∷◌, length}
-use Rattle.parser_input.specs.Kinds.{AMP, AMP2, AMPEQ, BANG, BYTE, BYTE_STRING, CARET, CARETEQ, CHAR, C_STRING, EQ, EQ2, FALSE_KW, FLOAT_NUMBER, GTEQ, INT_NUMBER, LTEQ, L_ANGLE, MINUS, MINUSEQ, NEQ, PERCENT, PERCENTEQ, PIPE, PIPE2, PIPEEQ, PLUS, PLUSEQ, R_ANGLE, SHL, SHLEQ, SHR, SHREQ, SLASH, SLASHEQ, STAR, STAREQ, STRING, TRUE_KW}
+use Rattle.parser_input.specs.Kinds.{AMP, AMP2, AMPEQ, BANG, BYTE, BYTE_STRING, CARET, CARETEQ, CHAR, C_STRING, EQ, EQ2, FALSE_KW, FLOAT_NUMBER, GTEQ, INT_NUMBER, LTEQ, L_ANGLE, MINUS, MINUSEQ, NEQ, PERCENT, PERCENTEQ, PIPE, PIPE2, PIPEEQ, PIPE_GT, PLUS, PLUSEQ, R_ANGLE, SHL, SHLEQ, SHR, SHREQ, SLASH, SLASHEQ, STAR, STAREQ, STRING, TRUE_KW}
 use Rattle.parser_input.specs.Input.{Token}
 use Rattle.parser_events.specs.Forest.{Forest, Leaf}
-use Rattle.core_language.specs.Tokens.{joint_tokens}
+use Rattle.core_language.specs.Tokens.{joint_tokens, pipe_tokens}
 
 -- what a literal can be
 pub data LiteralForm : Type 0 where
@@ -43,6 +43,7 @@ prefix_kind Dereference = STAR
 
 -- the operators between two operands that give a value
 pub data Operator : Type 0 where
+  Pipe : Operator
   LogicalOr : Operator
   LogicalAnd : Operator
   Equal : Operator
@@ -64,27 +65,29 @@ pub data Operator : Type 0 where
 
 -- how tightly it holds its operands together
 abbrev pub power : Operator → ℕ
-power LogicalOr = 3
-power LogicalAnd = 4
-power Equal = 5
-power NotEqual = 5
-power Less = 5
-power Greater = 5
-power LessOrEqual = 5
-power GreaterOrEqual = 5
-power BitOr = 6
-power BitXor = 7
-power BitAnd = 8
-power ShiftLeft = 9
-power ShiftRight = 9
-power Plus = 10
-power Minus = 10
-power Times = 11
-power Divide = 11
-power Remainder = 11
+power Pipe = 2
+power LogicalOr = 4
+power LogicalAnd = 5
+power Equal = 6
+power NotEqual = 6
+power Less = 6
+power Greater = 6
+power LessOrEqual = 6
+power GreaterOrEqual = 6
+power BitOr = 7
+power BitXor = 8
+power BitAnd = 9
+power ShiftLeft = 10
+power ShiftRight = 10
+power Plus = 11
+power Minus = 11
+power Times = 12
+power Divide = 12
+power Remainder = 12
 
 -- its characters
 abbrev pub operator_characters : Operator → List ℕ
+operator_characters Pipe = PIPE ∷ R_ANGLE ∷ []
 operator_characters LogicalOr = PIPE ∷ PIPE ∷ []
 operator_characters LogicalAnd = AMP ∷ AMP ∷ []
 operator_characters Equal = EQ ∷ EQ ∷ []
@@ -106,6 +109,7 @@ operator_characters Remainder = PERCENT ∷ []
 
 -- the kind of its leaf
 abbrev pub operator_kind : Operator → ℕ
+operator_kind Pipe = PIPE_GT
 operator_kind LogicalOr = PIPE2
 operator_kind LogicalAnd = AMP2
 operator_kind Equal = EQ2
@@ -127,6 +131,7 @@ operator_kind Remainder = PERCENT
 
 -- its tokens
 abbrev pub operator_tokens : Operator → Bool → List Token → List Token
+operator_tokens Pipe last more = pipe_tokens last more
 operator_tokens o last more = joint_tokens (operator_characters o) last more
 
 -- how many tokens its leaf stands over: one a character

@@ -2,10 +2,10 @@
 -- punctuation of several characters. Of a float's token the input has, in place of this, whether its text does not end in a dot;
 -- a tree does not know that, so it is given.
 use Rattle.std.specs.Prelude.{ℕ, ◌==◌, Bool, false, not, List, [], ◌∷◌, if◌then◌else◌}
-use Rattle.parser_input.specs.Kinds.{AMP, AMP2, AMPEQ, BANG, CARET, CARETEQ, COLON, COLON2, DOT, DOT2, DOT2EQ, EQ, EQ2, FAT_ARROW, FLOAT_NUMBER, GTEQ, IDENT, LTEQ, L_ANGLE, MINUS, MINUSEQ, NEQ, PERCENT, PERCENTEQ, PIPE, PIPE2, PIPEEQ, PLUS, PLUSEQ, R_ANGLE, SHL, SHLEQ, SHR, SHREQ, SLASH, SLASHEQ, STAR, STAREQ, THIN_ARROW}
+use Rattle.parser_input.specs.Kinds.{AMP, AMP2, AMPEQ, BANG, CARET, CARETEQ, COLON, COLON2, DOT, DOT2, DOT2EQ, EQ, EQ2, FAT_ARROW, FLOAT_NUMBER, GTEQ, IDENT, LTEQ, L_ANGLE, MINUS, MINUSEQ, NEQ, PERCENT, PERCENTEQ, PIPE, PIPE2, PIPEEQ, PIPE_GT, PLUS, PLUSEQ, R_ANGLE, SHL, SHLEQ, SHR, SHREQ, SLASH, SLASHEQ, STAR, STAREQ, THIN_ARROW}
 use Rattle.parser_input.specs.Input.{Token}
 use Rattle.parser_events.specs.Forest.{Forest, End, Leaf, Said, ErrorLeaf, Node, Float}
-use Rattle.core_language.specs.Tokens.{of_kind, name_token, joint_tokens}
+use Rattle.core_language.specs.Tokens.{of_kind, name_token, joint_tokens, pipe_tokens}
 
 -- a kind of leaf, and its characters
 pub record Composite : Type 0 where
@@ -44,12 +44,13 @@ abbrev pub characters_in : List Composite → ℕ → List ℕ
 characters_in [] kind = kind ∷ []
 characters_in (c ∷ cs) kind = let others = characters_in cs kind in if c.kind == kind then c.characters else others
 
--- the tokens of a leaf that is no float; a name is taken for no contextual keyword
+-- the tokens of a leaf that is no float; a name is taken for no contextual keyword, and the first character of `|>` is marked
 abbrev pub leaf_tokens : ℕ → List Token → List Token
 leaf_tokens kind more =
     let name = name_token false ∷ more in
+    let pipe = pipe_tokens false more in
     let other = joint_tokens (characters_in composites kind) false more in
-    if kind == IDENT then name else other
+    if kind == IDENT then name else if kind == PIPE_GT then pipe else other
 
 -- the first of these; a float of which nothing is told does not touch the next token
 abbrev pub first_float : List Bool → Bool

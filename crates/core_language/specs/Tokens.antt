@@ -1,7 +1,7 @@
 -- The input tokens of the core language. In all that follows a `Bool` named after a token says whether that token touches the
 -- next one; where it is free, white space makes no difference.
 use Rattle.std.specs.Prelude.{ℕ, Bool, true, false, List, [], ◌∷◌}
-use Rattle.parser_input.specs.Kinds.{EOF, IDENT}
+use Rattle.parser_input.specs.Kinds.{EOF, IDENT, PIPE, R_ANGLE, PIPE_GT}
 use Rattle.parser_input.specs.Input.{Token}
 
 -- a token of this kind that is no name: a keyword, a literal, one character of punctuation
@@ -17,3 +17,7 @@ abbrev pub joint_tokens : List ℕ → Bool → List Token → List Token
 joint_tokens [] joint more = more
 joint_tokens (kind ∷ []) joint more = of_kind kind joint ∷ more
 joint_tokens (kind ∷ next ∷ kinds) joint more = of_kind kind true ∷ joint_tokens (next ∷ kinds) joint more
+
+-- The operator `|>`, and the tokens after it: a `|` that is marked as its first character, and a `>`.
+abbrev pub pipe_tokens : Bool → List Token → List Token
+pipe_tokens joint more = record { kind = PIPE; contextual = PIPE_GT; joint = true; whole = false } ∷ of_kind R_ANGLE joint ∷ more

@@ -15,10 +15,10 @@ import sys
 PUNCTUATION = {
     "COLON2": 2, "EQ2": 2, "NEQ": 2, "LTEQ": 2, "GTEQ": 2, "AMP2": 2, "PIPE2": 2, "SHL": 2, "SHR": 2, "THIN_ARROW": 2,
     "PLUSEQ": 2, "MINUSEQ": 2, "STAREQ": 2, "SLASHEQ": 2, "PERCENTEQ": 2, "AMPEQ": 2, "PIPEEQ": 2, "CARETEQ": 2,
-    "SHLEQ": 3, "SHREQ": 3, "DOT2": 2, "DOT2EQ": 3, "FAT_ARROW": 2,
+    "SHLEQ": 3, "SHREQ": 3, "DOT2": 2, "DOT2EQ": 3, "FAT_ARROW": 2, "PIPE_GT": 2,
 }
 OPERATORS = {
-    "PIPE2": "LogicalOr", "AMP2": "LogicalAnd", "EQ2": "Equal", "NEQ": "NotEqual", "L_ANGLE": "Less", "R_ANGLE": "Greater",
+    "PIPE_GT": "Pipe", "PIPE2": "LogicalOr", "AMP2": "LogicalAnd", "EQ2": "Equal", "NEQ": "NotEqual", "L_ANGLE": "Less", "R_ANGLE": "Greater",
     "LTEQ": "LessOrEqual", "GTEQ": "GreaterOrEqual", "PIPE": "BitOr", "CARET": "BitXor", "AMP": "BitAnd", "SHL": "ShiftLeft",
     "SHR": "ShiftRight", "PLUS": "Plus", "MINUS": "Minus", "STAR": "Times", "SLASH": "Divide", "PERCENT": "Remainder",
 }
@@ -171,6 +171,10 @@ class Derivation:
         if tree[0] == "EXPR_STMT":
             inner, proof = self.expression(row[0])
             return f"(Run {inner} {self.leaf(row[1], 'SEMICOLON')})", proof
+        if tree[0] == "DEFER_STMT":
+            word = self.leaf(row[0], "DEFER_KW")
+            block, proof = self.block(row[1])
+            return f"(Defer {word} {block})", proof
         let_word = self.leaf(row.pop(0), "LET_KW")
         pattern, annotation, initializer, proof = self.pattern(row.pop(0)), "NoAnnotation", "NoInitializer", "tt"
         if row[0][0] == "COLON":
@@ -185,7 +189,7 @@ class Derivation:
     def statements(self, row):
         if not row:
             return "NoStatement", "tt"
-        if row[0][0] in ("LET_STMT", "EXPR_STMT"):
+        if row[0][0] in ("LET_STMT", "EXPR_STMT", "DEFER_STMT"):
             first, proof = self.statement(row[0])
             rest, others = self.statements(row[1:])
             return f"(StatementThen {first} {rest})", f"({proof}, {others})"
@@ -276,13 +280,13 @@ def lemmas(number, case):
 
 
 COMPUTING = (
-    "meaning by_length by_rank follow look_of begins_below read turns leaf say skip split fresh node wrapped behind sees ahead is_end begins passes"
+    "meaning by_length by_rank follow look_of begins_below read turns leaf say skip split fresh node wrapped after sees ahead is_end begins passes"
     " is_silent shift in_mode anew there_at rule rank whole row any_of one_of is_longer no_longer longest paths types patterns"
     " expressions statements items leaves is_used_up takes_all entry"
 )
 IMPORTS = """use Rattle.rust_grammar.specs.Rule.{begins, passes, is_silent, shift, in_mode, anew, there_at}
 use Rattle.rust_grammar.specs.Notation.{row, any_of, one_of, is_longer, no_longer, longest}
-use Rattle.rust_grammar.specs.Meaning.{meaning, by_length, by_rank, follow, look_of, begins_below, read, turns, leaf, say, skip, split, fresh, node, wrapped, behind, sees, ahead, is_end}
+use Rattle.rust_grammar.specs.Meaning.{meaning, by_length, by_rank, follow, look_of, begins_below, read, turns, leaf, say, skip, split, fresh, node, wrapped, after, sees, ahead, is_end}
 use Rattle.rust_grammar.specs.Paths.{paths}
 use Rattle.rust_grammar.specs.Types.{types}
 use Rattle.rust_grammar.specs.Patterns.{patterns}
@@ -298,7 +302,7 @@ DEFINED = {
     ),
     "specs.Expressions": "Literal Named Parenthesized FunctionCall MethodCall FieldAccess Prefixed Borrow Binary Assignment"
     " NoArgument LastArgument ArgumentComma",
-    "specs.Statements": "NamePattern NoAnnotation AnnotatedBy NoInitializer InitializedBy Let Run NoStatement LastExpression StatementThen Braces",
+    "specs.Statements": "NamePattern NoAnnotation AnnotatedBy NoInitializer InitializedBy Let Run Defer NoStatement LastExpression StatementThen Braces",
     "specs.Items": "Private Public NoElement LastElement ElementComma NamedField TypedPattern NoReturnType Returns UnitStruct RecordStruct"
     " OuterModule InnerModule Function NoItem ItemThen",
     "specs.Language": "IsCoreFile",

@@ -4,7 +4,7 @@ use Rattle.std.proofs.lemmas.Bool.{eqb-true}
 use Rattle.parser_input.specs.Kinds.{BIN_EXPR}
 use Rattle.parser_events.specs.Forest as forest
 use Rattle.parser_events.specs.Forest.{Forest, Message, ◌then◌}
-use Rattle.rust_grammar.specs.Rule.{Production, Rule, Look, Nothing, One, Any, Then, Near, Or, Opt, Star, Node, Wrap, Want, Say, Skip, Split, When, Unless, Call, Continue, Mode, body, literal, block, statement_end, macro_statement_end, expression, operation, operation_tail, disjunction, conjunction, comparison, bit_or, bit_xor, bit_and, bit_shift, sum, product, cast, prefixed, postfix, after_dot, atom, block_like, if_expr, begins}
+use Rattle.rust_grammar.specs.Rule.{Production, Rule, Look, Nothing, One, Any, Then, Near, Or, Opt, Star, Node, Wrap, Want, Say, Skip, Split, When, Unless, Call, Continue, Mode, body, literal, block, statement_end, macro_statement_end, expression, operation, operation_tail, pipe_tail, disjunction, conjunction, comparison, bit_or, bit_xor, bit_and, bit_shift, sum, product, cast, prefixed, postfix, after_dot, atom, block_like, if_expr, begins}
 use Rattle.rust_grammar.specs.Meaning.{Reading, Calls, read, sees, ahead, fresh, leaf, say, skip, split, node, wrapped, after, turns}
 use Rattle.rust_grammar.specs.Powers.{power, are_operators_placed}
 use Rattle.rust_grammar.proofs.Plain.{and_l, and_r}
@@ -17,8 +17,9 @@ unfoldable pub starts : Production → Standing
 starts body = Placed
 starts statement_end = Placed
 starts macro_statement_end = Placed
-starts operation_tail = Operand 3
-starts postfix = Operand 12
+starts operation_tail = Operand 4
+starts pipe_tail = Operand 2
+starts postfix = Operand 13
 starts after_dot = Placed
 starts x = Empty
 
@@ -27,24 +28,25 @@ unfoldable pub ends : Production → Standing
 ends expression = Operand 1
 ends operation = Operand 1
 ends operation_tail = Operand 1
-ends disjunction = Operand 3
-ends conjunction = Operand 4
-ends comparison = Operand 5
-ends bit_or = Operand 6
-ends bit_xor = Operand 7
-ends bit_and = Operand 8
-ends bit_shift = Operand 9
-ends sum = Operand 10
-ends product = Operand 11
-ends cast = Operand 12
-ends prefixed = Operand 12
-ends postfix = Operand 12
-ends after_dot = Operand 12
-ends atom = Operand 12
-ends literal = Operand 12
-ends block = Operand 12
-ends block_like = Operand 12
-ends if_expr = Operand 12
+ends pipe_tail = Operand 1
+ends disjunction = Operand 4
+ends conjunction = Operand 5
+ends comparison = Operand 6
+ends bit_or = Operand 7
+ends bit_xor = Operand 8
+ends bit_and = Operand 9
+ends bit_shift = Operand 10
+ends sum = Operand 11
+ends product = Operand 12
+ends cast = Operand 13
+ends prefixed = Operand 13
+ends postfix = Operand 13
+ends after_dot = Operand 13
+ends atom = Operand 13
+ends literal = Operand 13
+ends block = Operand 13
+ends block_like = Operand 13
+ends if_expr = Operand 13
 ends x = Placed
 
 -- one leaf, an operator of this power

@@ -11,7 +11,7 @@ use Rattle.parser_events.specs.Forest.{Forest}
 use Rattle.parser_events.specs.Steps.{Step, steps}
 use Rattle.parser_events.specs.Trivia.{pending}
 use Rattle.rust_grammar.specs.Rule.{Spelling}
-use Rattle.rust_grammar.specs.Spelled.{marks, are_next, is_token, is_contextual, is_one_of, is_spelled, is_float, drop_if, then_after}
+use Rattle.rust_grammar.specs.Spelled.{marks, are_next, is_token, is_contextual, is_contextual_word, has_contextual, is_one_of, is_spelled, is_float, drop_if, then_after}
 use Rattle.rust_grammar.proofs.Plain.{and_l, and_r}
 use Rattle.rust_grammar.proofs.Spelling.{or-first}
 
@@ -136,22 +136,22 @@ unfolding are_plain is_one_of
 marks-stand wide edition [] kind count ls plain e = absurd (true≢false (sym e))
 marks-stand wide edition (x ∷ rs) kind count ls plain e =
     let mine = and_l (not (length x.parts == 0) && no_float x.parts) (are_plain rs) plain in
-    elim (or_cases ((x.kind == kind) && (length x.parts == count) && are_next x.parts (input wide edition ls)) (is_one_of rs kind count (input wide edition ls)) e) [
+    elim (or_cases ((x.kind == kind) && (length x.parts == count) && (has_contextual x.contextual (input wide edition ls) && are_next x.parts (input wide edition ls))) (is_one_of rs kind count (input wide edition ls)) e) [
       | inl i ↦
           let same : length x.parts ≡ count = eqb-true (length x.parts) count (and_r (x.kind == kind) (length x.parts == count) (and_l ((x.kind == kind) && (length x.parts == count)) _ i)) in
-          let row = row-stands wide edition x.parts ls (and_l (not (length x.parts == 0)) (no_float x.parts) mine) (and_r (not (length x.parts == 0)) (no_float x.parts) mine) (and_r ((x.kind == kind) && (length x.parts == count)) _ i) in
+          let row = row-stands wide edition x.parts ls (and_l (not (length x.parts == 0)) (no_float x.parts) mine) (and_r (not (length x.parts == 0)) (no_float x.parts) mine) (and_r (has_contextual x.contextual (input wide edition ls)) _ (and_r ((x.kind == kind) && (length x.parts == count)) _ i)) in
           subst (λ (n : ℕ). Stands wide edition n (from_token ls) (drop n (input wide edition ls))) same row
       | inr i ↦ marks-stand wide edition rs kind count ls (and_r (not (length x.parts == 0) && no_float x.parts) (are_plain rs) plain) i
     ]
 
-some-token : (wide : Bool) (edition : Edition) (kind : ℕ) (ls : List Leaf) (ts : List Token) → input wide edition ls ≡ ts → (is_token kind ts || is_contextual kind ts) ≡ true → Stands wide edition 1 (from_token ls) (drop 1 ts)
-unfolding is_token is_contextual
+some-token : (wide : Bool) (edition : Edition) (kind : ℕ) (ls : List Leaf) (ts : List Token) → input wide edition ls ≡ ts → (is_token kind ts || is_contextual_word kind ts) ≡ true → Stands wide edition 1 (from_token ls) (drop 1 ts)
+unfolding is_token is_contextual is_contextual_word
 some-token wide edition kind ls [] i e = absurd (true≢false (sym e))
 some-token wide edition kind ls (t ∷ ts) i e = one-stands wide edition ls t ts i
 
 pub leaf-stands : (wide : Bool) (edition : Edition) (kind count : ℕ) (ls : List Leaf) → is_spelled kind count (input wide edition ls) ≡ true → Stands wide edition count (from_token ls) (drop count (input wide edition ls))
 unfolding is_spelled
-leaf-stands wide edition kind count ls e = elim (or_cases ((count == 1) && (is_token kind (input wide edition ls) || is_contextual kind (input wide edition ls))) (is_one_of marks kind count (input wide edition ls)) e) [
+leaf-stands wide edition kind count ls e = elim (or_cases ((count == 1) && (is_token kind (input wide edition ls) || is_contextual_word kind (input wide edition ls))) (is_one_of marks kind count (input wide edition ls)) e) [
   | inl i ↦ subst (λ (n : ℕ). Stands wide edition n (from_token ls) (drop n (input wide edition ls))) (sym (eqb-true count 1 (and_l (count == 1) _ i))) (some-token wide edition kind ls (input wide edition ls) refl (and_r (count == 1) _ i))
   | inr i ↦ marks-stand wide edition marks kind count ls marks-plain i
 ]
@@ -190,4 +190,4 @@ dropped true n ts us e = (refl, cc)
 dropped false n ts us e = absurd (let z : None ≡ Some us = e in cc)
 
 pub token-stands : (wide : Bool) (edition : Edition) (kind : ℕ) (ls : List Leaf) → is_token kind (input wide edition ls) ≡ true → Stands wide edition 1 (from_token ls) (drop 1 (input wide edition ls))
-token-stands wide edition kind ls e = some-token wide edition kind ls (input wide edition ls) refl (or-first (is_token kind (input wide edition ls)) (is_contextual kind (input wide edition ls)) e)
+token-stands wide edition kind ls e = some-token wide edition kind ls (input wide edition ls) refl (or-first (is_token kind (input wide edition ls)) (is_contextual_word kind (input wide edition ls)) e)

@@ -15,7 +15,7 @@ use Rattle.rust_grammar.specs.Meaning.{Reading, Calls, read, meaning, sees, look
 use Rattle.rust_grammar.specs.Entry.{leaves, is_used_up, takes_all, entry}
 use Rattle.rust_grammar.specs.Notation.{wanted}
 use Rattle.rust_grammar.specs.Laws.{is_entry, entry_of}
-use Rattle.rust_grammar.specs.Spelled.{marks, are_next, is_token, is_contextual, is_one_of, is_spelled, is_float, drop_if, then_after, tokens_after}
+use Rattle.rust_grammar.specs.Spelled.{marks, are_next, is_token, is_contextual, is_contextual_word, has_contextual, is_one_of, is_spelled, is_float, drop_if, then_after, tokens_after}
 use Rattle.rust_grammar.specs.Whole.{rule, whole}
 use Rattle.rust_grammar.proofs.Plain.{and_l, and_r}
 use Rattle.rust_grammar.proofs.Fine.{takes}
@@ -135,21 +135,21 @@ unfolding are_plain is_one_of
 mark-takes [] kind count ts plain e = absurd (true≢false (sym e))
 mark-takes (x ∷ rs) kind count ts plain e =
     let mine = and_l (not (length x.parts == 0) && no_float x.parts) (are_plain rs) plain in
-    elim (or_cases ((x.kind == kind) && (length x.parts == count) && are_next x.parts ts) (is_one_of rs kind count ts) e) [
+    elim (or_cases ((x.kind == kind) && (length x.parts == count) && (has_contextual x.contextual ts && are_next x.parts ts)) (is_one_of rs kind count ts) e) [
       | inl i ↦
           let same : length x.parts ≡ count = eqb-true (length x.parts) count (and_r (x.kind == kind) (length x.parts == count) (and_l _ _ i)) in
-          subst (λ (n : ℕ). length (drop n ts) + 1 ≤ length ts) same (row-takes x.parts ts (and_l (not (length x.parts == 0)) (no_float x.parts) mine) (and_r _ _ i))
+          subst (λ (n : ℕ). length (drop n ts) + 1 ≤ length ts) same (row-takes x.parts ts (and_l (not (length x.parts == 0)) (no_float x.parts) mine) (and_r (has_contextual x.contextual ts) _ (and_r _ _ i)))
       | inr i ↦ mark-takes rs kind count ts (and_r (not (length x.parts == 0) && no_float x.parts) (are_plain rs) plain) i
     ]
 
-token-takes : (kind : ℕ) (ts : List Token) → (is_token kind ts || is_contextual kind ts) ≡ true → length (drop 1 ts) + 1 ≤ length ts
-unfolding is_token is_contextual
+token-takes : (kind : ℕ) (ts : List Token) → (is_token kind ts || is_contextual_word kind ts) ≡ true → length (drop 1 ts) + 1 ≤ length ts
+unfolding is_token is_contextual is_contextual_word
 token-takes kind [] e = absurd (true≢false (sym e))
 token-takes kind (t ∷ ts) e = omega arith
 
 leaf-takes : (kind count : ℕ) (ts : List Token) → is_spelled kind count ts ≡ true → length (drop count ts) + 1 ≤ length ts
 unfolding is_spelled
-leaf-takes kind count ts e = elim (or_cases ((count == 1) && (is_token kind ts || is_contextual kind ts)) (is_one_of marks kind count ts) e) [
+leaf-takes kind count ts e = elim (or_cases ((count == 1) && (is_token kind ts || is_contextual_word kind ts)) (is_one_of marks kind count ts) e) [
   | inl i ↦ subst (λ (n : ℕ). length (drop n ts) + 1 ≤ length ts) (sym (eqb-true count 1 (and_l _ _ i))) (token-takes kind ts (and_r _ _ i))
   | inr i ↦ mark-takes marks kind count ts marks-plain i
 ]

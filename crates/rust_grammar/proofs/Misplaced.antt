@@ -5,4 +5,4 @@ use Rattle.rust_grammar.specs.Misplaced.{MisplacedOperatorsAreTold}
 
 pub misplaced-told : MisplacedOperatorsAreTold
 unfolding is_among power operator level left_level right_level is_operator_placed are_operators_placed
-misplaced-told = (refl, (refl, (refl, (refl, (refl, (refl, (refl, (refl, tt))))))))
+misplaced-told = (refl, (refl, (refl, (refl, (refl, (refl, (refl, (refl, (refl, (refl, (refl, tt)))))))))))

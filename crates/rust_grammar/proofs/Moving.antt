@@ -3,7 +3,7 @@ use Rattle.std.proofs.Common.{◌≡◌, ℕ, zero, suc, ◌<◌, ◌≤◌, Boo
 use Rattle.std.proofs.lemmas.Bool.{cases_Bool, ltb-true, lt-ltb}
 use Rattle.std.proofs.lemmas.List.{length-drop}
 use Rattle.parser_input.specs.Input.{Token}
-use Rattle.rust_grammar.specs.Rule.{Production, Rule, Look, Always, Never, Nothing, One, Any, Then, Near, Or, Opt, Star, Node, Wrap, Want, Say, Skip, Split, When, Unless, Call, Continue, Mode, begins, there_at, anew}
+use Rattle.rust_grammar.specs.Rule.{Production, Rule, Look, Always, Never, Nothing, One, Any, Then, Near, Or, Opt, Star, Node, Wrap, Want, Say, Skip, Split, When, Unless, Call, Continue, Mode, begins, spelled_at, anew}
 use Rattle.rust_grammar.specs.Meaning.{Reading, Calls, read, sees, fresh, leaf, say, skip, split, node, wrapped, after, turns}
 use Rattle.rust_grammar.proofs.Plain.{and_l, and_r}
 use Rattle.rust_grammar.proofs.Known.{either-if, implies, implied, cut, cut-seen}
@@ -27,7 +27,7 @@ unmoved_calls g m k (Call y) = if g.always y then cut k (asked m (anew (g.looks 
 unmoved_calls g m k a = Always
 
 unfoldable pub unmoved_option : Movers → Option Bool → Look → Rule → Look
-unmoved_option g m k (One x) = if nat_lt 0 (length x.parts) then cut k (asked m (there_at 0 x.parts)) else Always
+unmoved_option g m k (One x) = if nat_lt 0 (length x.parts) then cut k (asked m (spelled_at 0 x)) else Always
 unmoved_option g m k a = unmoved_calls g m k a
 
 unfoldable pub unmoved : Movers → Option Bool → Look → Rule → Look
@@ -103,7 +103,7 @@ module _ (g : Movers) (call : Calls) (ok : Moved g call) where
   option-kept : (a : Rule) (m : Option Bool) (k : Look) (c : Bool) (s : Reading) → IsMode m c → sees c s k ≡ true → 0 < length s.rest → Unmoved (unmoved_option g m k a) c s (read g.looks call c (Opt a) s)
   unfolding unmoved_option unmoved_calls read begins leaf sees
   option-kept (One x) m k c s mode h some = claimed (nat_lt 0 (length x.parts)) _ c s _ (λ e.
-      kept k (there_at 0 x.parts) m c s s (leaf x.kind (length x.parts) s) (sees c s (there_at 0 x.parts)) mode h (λ f. fewer (length x.parts) s.rest (ltb-true _ _ e) some) refl)
+      kept k (spelled_at 0 x) m c s s (leaf x.kind (length x.parts) s) (sees c s (spelled_at 0 x)) mode h (λ f. fewer (length x.parts) s.rest (ltb-true _ _ e) some) refl)
   option-kept (Call y) m k c s mode h some = claimed (g.always y) _ c s _ (λ e.
       kept k (anew (g.looks y)) m c s s (after s (call y c (fresh s))) (sees c s (anew (g.looks y))) mode h (λ f. call-moves y c s e some) refl)
   option-kept a m k c s mode h some = λ same. refl

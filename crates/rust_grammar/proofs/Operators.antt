@@ -11,15 +11,15 @@ use Rattle.rust_grammar.proofs.Powers.{Operand, is_operand, is_of, then-placed}
 
 -- an operator of power p fits between operands of these levels
 unfoldable pub fits_between : (p q r : ℕ) → Bool
-fits_between p q r = nat_lt 0 p && (nat_le p q && (nat_lt 1 q && (nat_le q 12 && (nat_le r 12 && (p == 1 || nat_lt p r)))))
+fits_between p q r = nat_lt 0 p && (nat_le p q && (nat_lt 1 q && (nat_le q 13 && (nat_le r 13 && (p == 1 || nat_lt p r)))))
 
 -- an operator fits between these operands
 pub record Fits (p q r : ℕ) : Type 0 where
   pub is_operator : 0 < p
   pub left : p ≤ q
   pub no_assignment : 1 < q
-  pub left_bound : q ≤ 12
-  pub right_bound : r ≤ 12
+  pub left_bound : q ≤ 13
+  pub right_bound : r ≤ 13
   pub right : (p == 1 || nat_lt p r) ≡ true
 
 pub fits-so : (p q r : ℕ) → fits_between p q r ≡ true → Fits p q r
@@ -28,14 +28,14 @@ fits-so p q r e =
     let e1 = and_r (nat_lt 0 p) _ e in
     let e2 = and_r (nat_le p q) _ e1 in
     let e3 = and_r (nat_lt 1 q) _ e2 in
-    let e4 = and_r (nat_le q 12) _ e3 in
+    let e4 = and_r (nat_le q 13) _ e3 in
     record {
       is_operator = ltb-true _ _ (and_l (nat_lt 0 p) _ e);
       left = leb-true _ _ (and_l (nat_le p q) _ e1);
       no_assignment = ltb-true _ _ (and_l (nat_lt 1 q) _ e2);
-      left_bound = leb-true _ _ (and_l (nat_le q 12) _ e3);
-      right_bound = leb-true _ _ (and_l (nat_le r 12) _ e4);
-      right = and_r (nat_le r 12) _ e4;
+      left_bound = leb-true _ _ (and_l (nat_le q 13) _ e3);
+      right_bound = leb-true _ _ (and_l (nat_le r 13) _ e4);
+      right = and_r (nat_le r 13) _ e4;
     }
 
 -- The children of a binary expression: the left operand, the operator, and what stands after it
@@ -49,7 +49,7 @@ operator-around q (forest.Node i c forest.End) k n g e = refl
 operator-around q (forest.Float b c forest.End) k n g e = refl
 operator-around q f k n g e = absurd (true≢false (sym e))
 
-left-around : (q : ℕ) (f : Forest) (k n : ℕ) (g : Forest) → q ≤ 12 → is_operand q f ≡ true → q ≤ left_level (around f k n g)
+left-around : (q : ℕ) (f : Forest) (k n : ℕ) (g : Forest) → q ≤ 13 → is_operand q f ≡ true → q ≤ left_level (around f k n g)
 unfolding is_operand left_level
 left-around q forest.End k n g l e = l
 left-around q (forest.Node i c forest.End) k n g l e = leb-true q (level i c) e
@@ -63,7 +63,7 @@ right-around q (forest.Node i c forest.End) k n g e = refl
 right-around q (forest.Float b c forest.End) k n g e = refl
 right-around q f k n g e = absurd (true≢false (sym e))
 
-right-operand : (r : ℕ) (g : Forest) → r ≤ 12 → is_operand r g ≡ true → r ≤ right_level g
+right-operand : (r : ℕ) (g : Forest) → r ≤ 13 → is_operand r g ≡ true → r ≤ right_level g
 unfolding is_operand right_level
 right-operand r forest.End l e = l
 right-operand r (forest.Node i c forest.End) l e = leb-true r (level i c) e
@@ -108,10 +108,10 @@ pub said-only : (m : Message) → are_operators_placed (forest.Said m forest.End
 unfolding are_operators_placed
 said-only m = refl
 
-pub right-there : (r : ℕ) (g : Forest) → r ≤ 12 → is_of (Operand r) g ≡ true → (r ≤ right_level g) × (are_operators_placed g ≡ true)
+pub right-there : (r : ℕ) (g : Forest) → r ≤ 13 → is_of (Operand r) g ≡ true → (r ≤ right_level g) × (are_operators_placed g ≡ true)
 unfolding is_of
 right-there r g l h = (right-operand r g l (and_l (is_operand r g) (are_operators_placed g) h), and_r (is_operand r g) (are_operators_placed g) h)
 
-pub said-bound : (r : ℕ) (m : Message) → r ≤ 12 → r ≤ right_level (forest.Said m forest.End)
+pub said-bound : (r : ℕ) (m : Message) → r ≤ 13 → r ≤ right_level (forest.Said m forest.End)
 unfolding right_level
 said-bound r m l = l

@@ -20,7 +20,7 @@ pub data Standing : Type 0 where
 unfoldable pub is_operand : ℕ → Forest → Bool
 is_operand q forest.End = true
 is_operand q (forest.Node k c forest.End) = nat_le q (level k c)
-is_operand q (forest.Float e c forest.End) = nat_le q 12
+is_operand q (forest.Float e c forest.End) = nat_le q 13
 is_operand q f = false
 
 unfoldable pub is_of : Standing → Forest → Bool
@@ -63,7 +63,7 @@ beside Placed q = placed q
 -- in a tree of their own, which is no binary expression
 unfoldable pub inside : Standing → Standing
 inside Unknown = Unknown
-inside p = Operand 12
+inside p = Operand 13
 
 pub empty-is : (p : Standing) → is_of p forest.End ≡ true
 unfolding is_of is_operand is_end are_operators_placed
@@ -91,7 +91,7 @@ less-asked : (p q : ℕ) (f : Forest) → nat_le q p ≡ true → is_operand p f
 unfolding is_operand
 less-asked p q forest.End e i = refl
 less-asked p q (forest.Node k c forest.End) e i = le-trans p q (level k c) e i
-less-asked p q (forest.Float b c forest.End) e i = le-trans p q 12 e i
+less-asked p q (forest.Float b c forest.End) e i = le-trans p q 13 e i
 less-asked p q f e i = absurd (true≢false (sym i))
 
 pub weaken : (p q : Standing) (f : Forest) → is_within p q ≡ true → is_of p f ≡ true → is_of q f ≡ true
@@ -195,11 +195,11 @@ if-none true x e = absurd (true≢false e)
 if-none false x e = refl
 
 -- in a node that is no binary expression, and in a float
-node-placed : (k : ℕ) (c : Forest) → (k == BIN_EXPR) ≡ false → are_operators_placed c ≡ true → is_of (Operand 12) (forest.Node k c forest.End) ≡ true
+node-placed : (k : ℕ) (c : Forest) → (k == BIN_EXPR) ≡ false → are_operators_placed c ≡ true → is_of (Operand 13) (forest.Node k c forest.End) ≡ true
 unfolding is_of is_operand are_operators_placed level
 node-placed k c e i = rw e (rw i refl)
 
-float-placed : (b : Bool) (c : Forest) → are_operators_placed c ≡ true → is_of (Operand 12) (forest.Float b c forest.End) ≡ true
+float-placed : (b : Bool) (c : Forest) → are_operators_placed c ≡ true → is_of (Operand 13) (forest.Float b c forest.End) ≡ true
 unfolding is_of is_operand are_operators_placed
 float-placed b c i = rw i refl
 

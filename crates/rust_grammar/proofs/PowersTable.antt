@@ -4,7 +4,7 @@ use Rattle.parser_input.specs.Input.{Token}
 use Rattle.parser_input.specs.Kinds.{ERROR}
 use Rattle.parser_events.specs.Forest as forest
 use Rattle.parser_events.specs.Forest.{Forest, UnexpectedTokens}
-use Rattle.rust_grammar.specs.Rule.{Production, source_file, macro_items, macro_statements, item, body, assoc_items, variants, record_fields, tuple_fields, visibility, attribute, meta, token_tree, use_tree, use_list, params, param, name, lifetime, name_ref, path, type_path, expr_path, generic_args, generic_arg, generic_params, generic_param, bounds, bound, where_clause, where_pred, any_type, ret_type, pattern, single_pattern, pattern_fields, pattern_field, literal, statement_list, block, statement, macro_statement, statement_end, macro_statement_end, expression, operation, operation_tail, disjunction, conjunction, comparison, bit_or, bit_xor, bit_and, bit_shift, sum, product, cast, prefixed, postfix, after_dot, arguments, atom, field_values, field_value, block_like, if_expr, match_arms, match_arm}
+use Rattle.rust_grammar.specs.Rule.{Production, source_file, macro_items, macro_statements, item, body, assoc_items, variants, record_fields, tuple_fields, visibility, attribute, meta, token_tree, use_tree, use_list, params, param, name, lifetime, name_ref, path, type_path, expr_path, generic_args, generic_arg, generic_params, generic_param, bounds, bound, where_clause, where_pred, any_type, ret_type, pattern, single_pattern, pattern_fields, pattern_field, literal, statement_list, block, statement, macro_statement, statement_end, macro_statement_end, expression, operation, operation_tail, pipe_tail, disjunction, conjunction, comparison, bit_or, bit_xor, bit_and, bit_shift, sum, product, cast, prefixed, postfix, after_dot, arguments, atom, field_values, field_value, block_like, if_expr, match_arms, match_arm}
 use Rattle.rust_grammar.specs.Notation.{wanted}
 use Rattle.rust_grammar.specs.Meaning.{Reading, Calls, meaning, sees, look_of, wrapped}
 use Rattle.rust_grammar.specs.Paths.{paths}
@@ -73,6 +73,7 @@ all_placed macro_statement_end = refl
 all_placed expression = refl
 all_placed operation = refl
 all_placed operation_tail = refl
+all_placed pipe_tail = refl
 all_placed disjunction = refl
 all_placed conjunction = refl
 all_placed comparison = refl
@@ -107,7 +108,7 @@ known-end expression = refl
 known-end x = refl
 
 -- a node that is no binary expression is enough for each
-enough : (x : Production) → is_within (Operand 12) (ends x) ≡ true
+enough : (x : Production) → is_within (Operand 13) (ends x) ≡ true
 unfolding ends is_within
 enough expression = refl
 enough x = refl
@@ -118,7 +119,7 @@ unfolding is_of
 any-placed p f e h = weaken p Placed f e h
 
 -- trees in a node of their own
-of-placed-node : (f : Forest) → are_operators_placed f ≡ true → is_of (Operand 12) (forest.Node ERROR f forest.End) ≡ true
+of-placed-node : (f : Forest) → are_operators_placed f ≡ true → is_of (Operand 13) (forest.Node ERROR f forest.End) ≡ true
 unfolding is_of inside
 of-placed-node f h = of-node Placed ERROR f refl h
 
@@ -131,7 +132,7 @@ unmade y d t = wrapped ERROR t
 
 unmade-keeps : HoldOf KeepsPowers unmade
 unfolding unmade wrapped
-unmade-keeps y d t h = weaken (Operand 12) (ends y) _ (enough y) (of-placed-node t.given (any-placed (starts y) t.given (known-start y) h))
+unmade-keeps y d t h = weaken (Operand 13) (ends y) _ (enough y) (of-placed-node t.given (any-placed (starts y) t.given (known-start y) h))
 
 productions-keep : HoldOf KeepsPowers (meaning whole)
 productions-keep =

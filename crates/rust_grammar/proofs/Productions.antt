@@ -1,10 +1,10 @@
 -- Productions by number, so that they can be compared.
 use Rattle.std.proofs.Common.{◌≡◌, ℕ, Bool, true, List, [], ◌∷◌, nat_eq, refl, sym, ap, ◌∙◌, get_or}
 use Rattle.std.proofs.lemmas.Bool.{eqb-true}
-use Rattle.rust_grammar.specs.Rule.{Production, source_file, macro_items, macro_statements, item, body, assoc_items, variants, record_fields, tuple_fields, visibility, attribute, meta, token_tree, use_tree, use_list, params, param, name, lifetime, name_ref, path, type_path, expr_path, generic_args, generic_arg, generic_params, generic_param, bounds, bound, where_clause, where_pred, any_type, ret_type, pattern, single_pattern, pattern_fields, pattern_field, literal, statement_list, block, statement, macro_statement, statement_end, macro_statement_end, expression, operation, operation_tail, disjunction, conjunction, comparison, bit_or, bit_xor, bit_and, bit_shift, sum, product, cast, prefixed, postfix, after_dot, arguments, atom, field_values, field_value, block_like, if_expr, match_arms, match_arm}
+use Rattle.rust_grammar.specs.Rule.{Production, source_file, macro_items, macro_statements, item, body, assoc_items, variants, record_fields, tuple_fields, visibility, attribute, meta, token_tree, use_tree, use_list, params, param, name, lifetime, name_ref, path, type_path, expr_path, generic_args, generic_arg, generic_params, generic_param, bounds, bound, where_clause, where_pred, any_type, ret_type, pattern, single_pattern, pattern_fields, pattern_field, literal, statement_list, block, statement, macro_statement, statement_end, macro_statement_end, expression, operation, operation_tail, pipe_tail, disjunction, conjunction, comparison, bit_or, bit_xor, bit_and, bit_shift, sum, product, cast, prefixed, postfix, after_dot, arguments, atom, field_values, field_value, block_like, if_expr, match_arms, match_arm}
 
 all : List Production
-all = source_file ∷ macro_items ∷ macro_statements ∷ item ∷ body ∷ assoc_items ∷ variants ∷ record_fields ∷ tuple_fields ∷ visibility ∷ attribute ∷ meta ∷ token_tree ∷ use_tree ∷ use_list ∷ params ∷ param ∷ name ∷ lifetime ∷ name_ref ∷ path ∷ type_path ∷ expr_path ∷ generic_args ∷ generic_arg ∷ generic_params ∷ generic_param ∷ bounds ∷ bound ∷ where_clause ∷ where_pred ∷ any_type ∷ ret_type ∷ pattern ∷ single_pattern ∷ pattern_fields ∷ pattern_field ∷ literal ∷ statement_list ∷ block ∷ statement ∷ macro_statement ∷ statement_end ∷ macro_statement_end ∷ expression ∷ operation ∷ operation_tail ∷ disjunction ∷ conjunction ∷ comparison ∷ bit_or ∷ bit_xor ∷ bit_and ∷ bit_shift ∷ sum ∷ product ∷ cast ∷ prefixed ∷ postfix ∷ after_dot ∷ arguments ∷ atom ∷ field_values ∷ field_value ∷ block_like ∷ if_expr ∷ match_arms ∷ match_arm ∷ []
+all = source_file ∷ macro_items ∷ macro_statements ∷ item ∷ body ∷ assoc_items ∷ variants ∷ record_fields ∷ tuple_fields ∷ visibility ∷ attribute ∷ meta ∷ token_tree ∷ use_tree ∷ use_list ∷ params ∷ param ∷ name ∷ lifetime ∷ name_ref ∷ path ∷ type_path ∷ expr_path ∷ generic_args ∷ generic_arg ∷ generic_params ∷ generic_param ∷ bounds ∷ bound ∷ where_clause ∷ where_pred ∷ any_type ∷ ret_type ∷ pattern ∷ single_pattern ∷ pattern_fields ∷ pattern_field ∷ literal ∷ statement_list ∷ block ∷ statement ∷ macro_statement ∷ statement_end ∷ macro_statement_end ∷ expression ∷ operation ∷ operation_tail ∷ pipe_tail ∷ disjunction ∷ conjunction ∷ comparison ∷ bit_or ∷ bit_xor ∷ bit_and ∷ bit_shift ∷ sum ∷ product ∷ cast ∷ prefixed ∷ postfix ∷ after_dot ∷ arguments ∷ atom ∷ field_values ∷ field_value ∷ block_like ∷ if_expr ∷ match_arms ∷ match_arm ∷ []
 
 abbrev number : Production → ℕ
 number source_file = 0
@@ -54,27 +54,28 @@ number macro_statement_end = 43
 number expression = 44
 number operation = 45
 number operation_tail = 46
-number disjunction = 47
-number conjunction = 48
-number comparison = 49
-number bit_or = 50
-number bit_xor = 51
-number bit_and = 52
-number bit_shift = 53
-number sum = 54
-number product = 55
-number cast = 56
-number prefixed = 57
-number postfix = 58
-number after_dot = 59
-number arguments = 60
-number atom = 61
-number field_values = 62
-number field_value = 63
-number block_like = 64
-number if_expr = 65
-number match_arms = 66
-number match_arm = 67
+number pipe_tail = 47
+number disjunction = 48
+number conjunction = 49
+number comparison = 50
+number bit_or = 51
+number bit_xor = 52
+number bit_and = 53
+number bit_shift = 54
+number sum = 55
+number product = 56
+number cast = 57
+number prefixed = 58
+number postfix = 59
+number after_dot = 60
+number arguments = 61
+number atom = 62
+number field_values = 63
+number field_value = 64
+number block_like = 65
+number if_expr = 66
+number match_arms = 67
+number match_arm = 68
 
 numbered : (x : Production) → get_or all (number x) source_file ≡ x
 unfolding all
@@ -125,6 +126,7 @@ numbered macro_statement_end = refl
 numbered expression = refl
 numbered operation = refl
 numbered operation_tail = refl
+numbered pipe_tail = refl
 numbered disjunction = refl
 numbered conjunction = refl
 numbered comparison = refl

@@ -1,6 +1,6 @@
 -- Types, patterns and expressions of the whole grammar pass the test of one node.
 use Rattle.std.proofs.Common.{◌≡◌, Bool, true, false, refl, if◌then◌else◌}
-use Rattle.rust_grammar.specs.Rule.{Production, source_file, macro_items, macro_statements, item, body, assoc_items, variants, record_fields, tuple_fields, visibility, attribute, meta, token_tree, use_tree, use_list, params, param, name, lifetime, name_ref, path, type_path, expr_path, generic_args, generic_arg, generic_params, generic_param, bounds, bound, where_clause, where_pred, any_type, ret_type, pattern, single_pattern, pattern_fields, pattern_field, literal, statement_list, block, statement, macro_statement, statement_end, macro_statement_end, expression, operation, operation_tail, disjunction, conjunction, comparison, bit_or, bit_xor, bit_and, bit_shift, sum, product, cast, prefixed, postfix, after_dot, arguments, atom, field_values, field_value, block_like, if_expr, match_arms, match_arm, begins, passes, is_silent, shift, in_mode, anew, there_at}
+use Rattle.rust_grammar.specs.Rule.{Production, source_file, macro_items, macro_statements, item, body, assoc_items, variants, record_fields, tuple_fields, visibility, attribute, meta, token_tree, use_tree, use_list, params, param, name, lifetime, name_ref, path, type_path, expr_path, generic_args, generic_arg, generic_params, generic_param, bounds, bound, where_clause, where_pred, any_type, ret_type, pattern, single_pattern, pattern_fields, pattern_field, literal, statement_list, block, statement, macro_statement, statement_end, macro_statement_end, expression, operation, operation_tail, pipe_tail, disjunction, conjunction, comparison, bit_or, bit_xor, bit_and, bit_shift, sum, product, cast, prefixed, postfix, after_dot, arguments, atom, field_values, field_value, block_like, if_expr, match_arms, match_arm, begins, passes, is_silent, shift, in_mode, anew, there_at}
 use Rattle.rust_grammar.specs.Notation.{row, one_of, any_of, is_longer, no_longer, longest}
 use Rattle.rust_grammar.specs.Meaning.{look_of, begins_below}
 use Rattle.rust_grammar.specs.Paths.{paths}
@@ -33,6 +33,7 @@ gives_one block = true
 gives_one expression = true
 gives_one operation = true
 gives_one operation_tail = true
+gives_one pipe_tail = true
 gives_one disjunction = true
 gives_one conjunction = true
 gives_one comparison = true
@@ -54,6 +55,7 @@ gives_one x = false
 -- what they begin with
 unfoldable pub starts_with : Production → Shape
 starts_with operation_tail = Single
+starts_with pipe_tail = Single
 starts_with postfix = Several
 starts_with after_dot = Several
 starts_with x = Blank
@@ -113,6 +115,7 @@ all_roots macro_statement_end = refl
 all_roots expression = refl
 all_roots operation = refl
 all_roots operation_tail = refl
+all_roots pipe_tail = refl
 all_roots disjunction = refl
 all_roots conjunction = refl
 all_roots comparison = refl

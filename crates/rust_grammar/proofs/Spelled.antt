@@ -1,17 +1,17 @@
 -- The test is sound: what passes it is read as it is spelled.
-use Rattle.std.proofs.Common.{◌≡◌, ℕ, zero, suc, Bool, true, false, not, ◌&&◌, ◌||◌, ◌==◌, List, [], ◌∷◌, length, drop, nat_lt, Option, Some, refl, sym, ap, subst, ◌∙◌, ◌⊎◌, inl, inr, if◌then◌else◌, true≢false}
+use Rattle.std.proofs.Common.{◌≡◌, ℕ, zero, suc, Bool, true, false, not, ◌&&◌, ◌||◌, ◌==◌, List, [], ◌∷◌, length, drop, nat_lt, Option, Some, None, refl, sym, ap, subst, ◌∙◌, ◌⊎◌, inl, inr, if◌then◌else◌, true≢false}
 use Rattle.std.proofs.lemmas.Bool.{cases_Bool, eqb-true, or_cases}
-use Rattle.parser_input.specs.Kinds.{EOF, FLOAT_NUMBER}
+use Rattle.parser_input.specs.Kinds.{EOF, FLOAT_NUMBER, PIPE_GT}
 use Rattle.parser_input.specs.Input.{Token}
 use Rattle.parser_events.specs.Forest as forest
 use Rattle.parser_events.specs.Forest.{Forest, ◌then◌}
-use Rattle.rust_grammar.specs.Rule.{Production, Rule, Spelling, Look, Always, Never, Kind, Contextual, Joint, Left, InCondition, Given, Both, Either, Not, Nothing, One, Any, Then, Near, Or, Opt, Star, Node, Wrap, Want, Say, Skip, Split, When, Unless, Call, Continue, Mode, begins, there_at, anew}
+use Rattle.rust_grammar.specs.Rule.{Production, Rule, Spelling, Look, Always, Never, Kind, Contextual, Joint, Left, InCondition, Given, Both, Either, Not, Nothing, One, Any, Then, Near, Or, Opt, Star, Node, Wrap, Want, Say, Skip, Split, When, Unless, Call, Continue, Mode, begins, there_at, with_contextual, spelled_at, anew}
 use Rattle.rust_grammar.specs.Meaning.{Reading, Calls, read, sees, ahead, fresh, is_end, leaf, say, skip, split, node, wrapped, after, turns}
-use Rattle.rust_grammar.specs.Spelled.{marks, is_token, is_contextual, is_one_of, is_spelled, drop_if, then_after, tokens_after}
+use Rattle.rust_grammar.specs.Spelled.{marks, are_next, is_token, is_contextual, is_contextual_word, has_contextual, is_one_of, is_spelled, drop_if, then_after, tokens_after}
 use Rattle.rust_grammar.proofs.Plain.{and_l, and_r}
 use Rattle.rust_grammar.proofs.Known.{either-if, both-if-l, both-if-r, if-first, if-second, if-both, implies, implied, cut, cut-seen, sift, sift-seen}
 use Rattle.rust_grammar.proofs.Elsewhere.{anew-seen, without, without-seen, back-seen, asked, asked-seen, IsMode}
-use Rattle.rust_grammar.proofs.Spelling.{first_width, Claims, Sound, IsInOrder, counts, denies, denies_first, decided, past, after_call, after_calls, after_option, after_other, look_after, at, no_end, is_among, is_word, is_mark, safe, more-in-order, or-first, or-second, token-seen, contextual-seen, own-token, float-seen, spelling-seen, among-marks, unlike}
+use Rattle.rust_grammar.proofs.Spelling.{first_width, Claims, Sound, IsInOrder, counts, denies, denies_first, decided, past, after_call, after_calls, after_option, after_other, look_after, at, no_end, no_end_there, is_among, is_word, is_mark, safe, more-in-order, or-first, or-second, token-seen, contextual-seen, contextual-there, both-true, own-token, float-seen, spelling-seen, among-marks, unlike}
 
 -- one of two readings
 pub chosen : (P : Reading → Type 0) (b : Bool) (u v : Reading) → (b ≡ true → P u) → (b ≡ false → P v) → P (if b then u else v)
@@ -19,36 +19,42 @@ chosen P true u v p q = p refl
 chosen P false u v p q = q refl
 
 -- A spelling that is surely there is there.
-word-seen : (k : Look) (kind : ℕ) (ps : List ℕ) (c : Bool) (s : Reading) → is_word k kind ps ≡ true → sees c s k ≡ true → (length ps == 1 && (is_token kind s.rest || is_contextual kind s.rest)) ≡ true
-unfolding is_word sees
+word-seen : (k : Look) (kind : ℕ) (ps : List ℕ) (c : Bool) (s : Reading) → is_word k kind ps ≡ true → sees c s k ≡ true → (length ps == 1 && (is_token kind s.rest || is_contextual_word kind s.rest)) ≡ true
+unfolding is_word is_contextual_word sees
 word-seen k kind [] c s e h = absurd (true≢false (sym e))
 word-seen k kind (p ∷ []) c s e h =
-    let some = and_l (not (EOF == kind)) (implies k (Kind 0 kind) || implies k (Contextual 0 kind)) e in
-    elim (or_cases (implies k (Kind 0 kind)) (implies k (Contextual 0 kind)) (and_r (not (EOF == kind)) (implies k (Kind 0 kind) || implies k (Contextual 0 kind)) e)) [
-      | inl i ↦ or-first (is_token kind s.rest) (is_contextual kind s.rest) (token-seen kind s.rest some (implied c s k (Kind 0 kind) i h))
-      | inr i ↦ or-second (is_token kind s.rest) (is_contextual kind s.rest) (contextual-seen kind s.rest some (implied c s k (Contextual 0 kind) i h))
+    let word = implies k (Contextual 0 kind) && not (kind == PIPE_GT) in
+    let some = and_l (not (EOF == kind)) (implies k (Kind 0 kind) || word) e in
+    elim (or_cases (implies k (Kind 0 kind)) word (and_r (not (EOF == kind)) (implies k (Kind 0 kind) || word) e)) [
+      | inl i ↦ or-first (is_token kind s.rest) (is_contextual_word kind s.rest) (token-seen kind s.rest some (implied c s k (Kind 0 kind) i h))
+      | inr i ↦ or-second (is_token kind s.rest) (is_contextual_word kind s.rest) (both-true (is_contextual kind s.rest) (not (kind == PIPE_GT))
+          (contextual-seen kind s.rest some (implied c s k (Contextual 0 kind) (and_l (implies k (Contextual 0 kind)) (not (kind == PIPE_GT)) i) h)) (and_r (implies k (Contextual 0 kind)) (not (kind == PIPE_GT)) i))
     ]
 word-seen k kind (p ∷ q ∷ ps) c s e h = absurd (true≢false (sym e))
 
 mark-seen : (k : Look) (x : Spelling) (c : Bool) (s : Reading) → is_mark k x ≡ true → sees c s k ≡ true → is_one_of marks x.kind (length x.parts) s.rest ≡ true
 unfolding is_mark
 mark-seen k x c s e h =
-    let more = and_r (implies k (there_at 0 x.parts)) (no_end x.parts && is_among marks x) e in
-    let there = implied c s k (there_at 0 x.parts) (and_l (implies k (there_at 0 x.parts)) (no_end x.parts && is_among marks x) e) h in
-    among-marks marks x s.rest (and_r (no_end x.parts) (is_among marks x) more) (spelling-seen c s x.parts 0 s.rest refl (and_l (no_end x.parts) (is_among marks x) more) there)
+    let first = no_end_there x.contextual in
+    let more = and_r (implies k (spelled_at 0 x)) (first && (no_end x.parts && is_among marks x)) e in
+    let rest = and_r first (no_end x.parts && is_among marks x) more in
+    let there = implied c s k (spelled_at 0 x) (and_l (implies k (spelled_at 0 x)) (first && (no_end x.parts && is_among marks x)) e) h in
+    let parts = contextual-there x.contextual (there_at 0 x.parts) c s (and_l first (no_end x.parts && is_among marks x) more) there in
+    among-marks marks x s.rest (and_r (no_end x.parts) (is_among marks x) rest)
+    (both-true (has_contextual x.contextual s.rest) (are_next x.parts s.rest) parts.0 (spelling-seen c s x.parts 0 s.rest refl (and_l (no_end x.parts) (is_among marks x) rest) parts.1))
 
 pub spelled-there : (k : Look) (x : Spelling) (c : Bool) (s : Reading) → (is_word k x.kind x.parts || is_mark k x) ≡ true → sees c s k ≡ true → is_spelled x.kind (length x.parts) s.rest ≡ true
 unfolding is_spelled
 spelled-there k x c s e h = elim (or_cases (is_word k x.kind x.parts) (is_mark k x) e) [
-  | inl i ↦ or-first (length x.parts == 1 && (is_token x.kind s.rest || is_contextual x.kind s.rest)) (is_one_of marks x.kind (length x.parts) s.rest) (word-seen k x.kind x.parts c s i h)
-  | inr i ↦ or-second (length x.parts == 1 && (is_token x.kind s.rest || is_contextual x.kind s.rest)) (is_one_of marks x.kind (length x.parts) s.rest) (mark-seen k x c s i h)
+  | inl i ↦ or-first (length x.parts == 1 && (is_token x.kind s.rest || is_contextual_word x.kind s.rest)) (is_one_of marks x.kind (length x.parts) s.rest) (word-seen k x.kind x.parts c s i h)
+  | inr i ↦ or-second (length x.parts == 1 && (is_token x.kind s.rest || is_contextual_word x.kind s.rest)) (is_one_of marks x.kind (length x.parts) s.rest) (mark-seen k x c s i h)
 ]
 
 pub any-there : (ts : List Token) → nat_lt 0 (length ts) ≡ true → is_spelled (ahead 0 ts).kind 1 ts ≡ true
 unfolding is_spelled
 any-there ts e =
-    or-first (is_token (ahead 0 ts).kind ts || is_contextual (ahead 0 ts).kind ts) (is_one_of marks (ahead 0 ts).kind 1 ts)
-    (or-first (is_token (ahead 0 ts).kind ts) (is_contextual (ahead 0 ts).kind ts) (own-token ts e))
+    or-first (is_token (ahead 0 ts).kind ts || is_contextual_word (ahead 0 ts).kind ts) (is_one_of marks (ahead 0 ts).kind 1 ts)
+    (or-first (is_token (ahead 0 ts).kind ts) (is_contextual_word (ahead 0 ts).kind ts) (own-token ts e))
 
 -- the next token is of another kind
 denied : (k : Look) (j : ℕ) (c : Bool) (s : Reading) → denies k j ≡ true → sees c s k ≡ true → ((ahead 0 s.rest).kind == j) ≡ false
@@ -78,27 +84,39 @@ first-denied k [] c s e h = absurd (true≢false (sym e))
 first-denied k (p ∷ []) c s e h = denied k p c s e h
 first-denied k (p ∷ q ∷ ps) c s e h = rw (denied k p c s e h) refl
 
+refused : (m : Option ℕ) (n : ℕ) (l : Look) (c : Bool) (s : Reading) → sees c s l ≡ false → sees c s (with_contextual n m l) ≡ false
+unfolding sees
+refused None n l c s e = e
+refused (Some k) n l c s e = of ((ahead n s.rest).contextual == k)
+  where
+    of : (b : Bool) → (if b then sees c s l else false) ≡ false
+    of true = e
+    of false = refl
+
+first-refused : (k : Look) (x : Spelling) (c : Bool) (s : Reading) → denies_first k x.parts ≡ true → sees c s k ≡ true → sees c s (spelled_at 0 x) ≡ false
+first-refused k x c s e h = refused x.contextual 0 (there_at 0 x.parts) c s (first-denied k x.parts c s e h)
+
 -- where a spelling was read if it was next
-module _ (c : Bool) (s t : Reading) (ps : List ℕ) (taken : sees c s (there_at 0 ps) ≡ true → t.rest ≡ drop (length ps) s.rest) (same : sees c s (there_at 0 ps) ≡ false → t ≡ s) where
-  decided-seen : (k other : Look) → sees c s k ≡ true → sees c t other ≡ true → sees c t (decided k ps other) ≡ true
+module _ (c : Bool) (s t : Reading) (x : Spelling) (taken : sees c s (spelled_at 0 x) ≡ true → t.rest ≡ drop (length x.parts) s.rest) (same : sees c s (spelled_at 0 x) ≡ false → t ≡ s) where
+  decided-seen : (k other : Look) → sees c s k ≡ true → sees c t other ≡ true → sees c t (decided k x other) ≡ true
   unfolding decided
-  decided-seen k other h i = elim (cases_Bool (implies k (there_at 0 ps))) [
-    | inl e ↦ rw e (back-seen c s t (length ps) (taken (implied c s k (there_at 0 ps) e h)) k h)
-    | inr e ↦ rw e (elim (cases_Bool (denies_first k ps)) [
-      | inl d ↦ rw d (subst (λ (u : Reading). sees c u k ≡ true) (sym (same (first-denied k ps c s d h))) h)
+  decided-seen k other h i = elim (cases_Bool (implies k (spelled_at 0 x))) [
+    | inl e ↦ rw e (back-seen c s t (length x.parts) (taken (implied c s k (spelled_at 0 x) e h)) k h)
+    | inr e ↦ rw e (elim (cases_Bool (denies_first k x.parts)) [
+      | inl d ↦ rw d (subst (λ (u : Reading). sees c u k ≡ true) (sym (same (first-refused k x c s d h))) h)
       | inr d ↦ rw d i
     ])
   ]
 
-  past-seen : (k : Look) → sees c s k ≡ true → sees c t (past k ps) ≡ true
+  past-seen : (k : Look) → sees c s k ≡ true → sees c t (past k x) ≡ true
   unfolding past sees
   past-seen (Either a b) h = elim (either-if (sees c s a) (sees c s b) h) [
-    | inl i ↦ if-first (sees c t (past a ps)) (sees c t (past b ps)) (past-seen a i)
-    | inr i ↦ if-second (sees c t (past a ps)) (sees c t (past b ps)) (past-seen b i)
+    | inl i ↦ if-first (sees c t (past a x)) (sees c t (past b x)) (past-seen a i)
+    | inr i ↦ if-second (sees c t (past a x)) (sees c t (past b x)) (past-seen b i)
   ]
   past-seen (Both a b) h =
-      decided-seen (Both a b) (Both (past a ps) (past b ps)) h
-      (if-both (sees c t (past a ps)) (sees c t (past b ps)) (past-seen a (both-if-l (sees c s a) (sees c s b) h)) (past-seen b (both-if-r (sees c s a) (sees c s b) h)))
+      decided-seen (Both a b) (Both (past a x) (past b x)) h
+      (if-both (sees c t (past a x)) (sees c t (past b x)) (past-seen a (both-if-l (sees c s a) (sees c s b) h)) (past-seen b (both-if-r (sees c s a) (sees c s b) h)))
   past-seen Always h = decided-seen Always Always h refl
   past-seen Never h = decided-seen Never Always h refl
   past-seen (Kind n k) h = decided-seen (Kind n k) Always h refl
@@ -205,7 +223,7 @@ module _ (g : Claims) (call : Calls) (ok : Sound g call) where
   option-seen : (a : Rule) (k : Look) (c : Bool) (s : Reading) → sees c s k ≡ true → sees c (read g.looks call c (Opt a) s) (after_option g k a) ≡ true
   unfolding after_option after_calls read begins sees leaf
   option-seen (One x) k c s h =
-      past-seen c s (if sees c s (there_at 0 x.parts) then leaf x.kind (length x.parts) s else s) x.parts
+      past-seen c s (if sees c s (spelled_at 0 x) then leaf x.kind (length x.parts) s else s) x
       (λ e. rw e refl) (λ e. rw e refl) k h
   option-seen (Call y) k c s h = claimed (g.gives y) (Either k Given) c _ (λ e.
       chosen (λ (u : Reading). sees c u (Either k Given) ≡ true) (sees c s (anew (g.looks y))) _ _

@@ -1,13 +1,13 @@
 -- A test of a table: what its rules read stands over the tokens as it is spelled.
 use Rattle.std.proofs.Common.{◌≡◌, ℕ, zero, suc, ◌+◌, Bool, true, false, not, ◌&&◌, ◌||◌, ◌==◌, List, [], ◌∷◌, length, drop, nat_lt, nat_eq, Option, Some, None, refl, sym, ap, subst, ◌∙◌, inl, inr, if◌then◌else◌, true≢false, arith}
 use Rattle.std.proofs.lemmas.Bool.{eqb-true, eq-eqb, ltb-true, or_cases}
-use Rattle.parser_input.specs.Kinds.{EOF, FLOAT_NUMBER}
+use Rattle.parser_input.specs.Kinds.{EOF, FLOAT_NUMBER, PIPE_GT}
 use Rattle.parser_input.specs.Input.{Token}
 use Rattle.parser_events.specs.Forest as forest
 use Rattle.parser_events.specs.Forest.{Forest, ◌then◌}
-use Rattle.rust_grammar.specs.Rule.{Production, Rule, Spelling, Look, Always, Kind, Contextual, Left, Given, Both, Either, Nothing, One, Any, Then, Near, Or, Opt, Star, Node, Wrap, Want, Say, Skip, Split, When, Unless, Call, Continue, Mode, begins, there_at, anew}
+use Rattle.rust_grammar.specs.Rule.{Production, Rule, Spelling, Look, Always, Kind, Contextual, Left, Given, Both, Either, Nothing, One, Any, Then, Near, Or, Opt, Star, Node, Wrap, Want, Say, Skip, Split, When, Unless, Call, Continue, Mode, begins, there_at, with_contextual, spelled_at, anew}
 use Rattle.rust_grammar.specs.Meaning.{Reading, Calls, sees, ahead, is_end}
-use Rattle.rust_grammar.specs.Spelled.{marks, are_next, is_token, is_contextual, is_one_of, is_spelled, is_float, drop_if, then_after, tokens_after}
+use Rattle.rust_grammar.specs.Spelled.{marks, are_next, is_token, is_contextual, has_contextual, is_one_of, is_spelled, is_float, drop_if, then_after, tokens_after}
 use Rattle.rust_grammar.proofs.Plain.{and_l, and_r}
 use Rattle.rust_grammar.proofs.Known.{both-if-l, both-if-r, implies, cut, sift}
 use Rattle.rust_grammar.proofs.Elsewhere.{without, back, asked}
@@ -48,16 +48,16 @@ unfoldable pub denies_first : Look → List ℕ → Bool
 denies_first k [] = false
 denies_first k (p ∷ ps) = denies k p
 
--- what is known after these tokens, where they are next, and else of the same place
-unfoldable pub decided : Look → List ℕ → Look → Look
-decided k ps other =
-    let skipped = if denies_first k ps then k else other in
-    if implies k (there_at 0 ps) then back (length ps) k else skipped
+-- what is known after this spelling, where it is next, and else of the same place
+unfoldable pub decided : Look → Spelling → Look → Look
+decided k x other =
+    let skipped = if denies_first k x.parts then k else other in
+    if implies k (spelled_at 0 x) then back (length x.parts) k else skipped
 
-unfoldable pub past : Look → List ℕ → Look
-past (Either a b) ps = Either (past a ps) (past b ps)
-past (Both a b) ps = decided (Both a b) ps (Both (past a ps) (past b ps))
-past k ps = decided k ps Always
+unfoldable pub past : Look → Spelling → Look
+past (Either a b) x = Either (past a x) (past b x)
+past (Both a b) x = decided (Both a b) x (Both (past a x) (past b x))
+past k x = decided k x Always
 
 -- how many tokens a rule takes, if it is one leaf: as many as its first alternative
 unfoldable pub first_width : Rule → ℕ
@@ -76,7 +76,7 @@ after_calls g k (Call y) = if g.gives y then Either k Given else Always
 after_calls g k a = Always
 
 unfoldable pub after_option : Claims → Look → Rule → Look
-after_option g k (One x) = past k x.parts
+after_option g k (One x) = past k x
 after_option g k a = after_calls g k a
 
 unfoldable pub after_other : Claims → Look → Rule → Look
@@ -102,17 +102,28 @@ same_parts [] [] = true
 same_parts (k ∷ ks) (l ∷ ls) = nat_eq k l && same_parts ks ls
 same_parts ks ls = false
 
+-- the same contextual kind, or none in both
+unfoldable pub same_contextual : Option ℕ → Option ℕ → Bool
+same_contextual None None = true
+same_contextual (Some k) (Some l) = nat_eq k l
+same_contextual m n = false
+
+-- this contextual kind is not that of the input's end
+unfoldable pub no_end_there : Option ℕ → Bool
+no_end_there None = true
+no_end_there (Some k) = not (EOF == k)
+
 unfoldable pub is_among : List Spelling → Spelling → Bool
 is_among [] x = false
-is_among (y ∷ ys) x = (nat_eq y.kind x.kind && same_parts y.parts x.parts) || is_among ys x
+is_among (y ∷ ys) x = (nat_eq y.kind x.kind && (same_contextual y.contextual x.contextual && same_parts y.parts x.parts)) || is_among ys x
 
 -- a spelling of one token, of its own kind or as a contextual keyword
 unfoldable pub is_word : Look → ℕ → List ℕ → Bool
-is_word k kind (p ∷ []) = not (EOF == kind) && (implies k (Kind 0 kind) || implies k (Contextual 0 kind))
+is_word k kind (p ∷ []) = not (EOF == kind) && (implies k (Kind 0 kind) || (implies k (Contextual 0 kind) && not (kind == PIPE_GT)))
 is_word k kind ps = false
 
 unfoldable pub is_mark : Look → Spelling → Bool
-is_mark k x = implies k (there_at 0 x.parts) && (no_end x.parts && is_among marks x)
+is_mark k x = implies k (spelled_at 0 x) && (no_end_there x.contextual && (no_end x.parts && is_among marks x))
 
 -- The test: where this is known, the rule is read as it is spelled.
 unfoldable pub safe : Claims → Option Bool → Look → Rule → Bool
@@ -250,15 +261,37 @@ same-parts (k ∷ ks) (l ∷ ls) e = let f = eqb-true k l (and_l (nat_eq k l) (s
 same-parts [] (l ∷ ls) e = absurd (true≢false (sym e))
 same-parts (k ∷ ks) [] e = absurd (true≢false (sym e))
 
-pub among-marks : (rs : List Spelling) (x : Spelling) (ts : List Token) → is_among rs x ≡ true → are_next x.parts ts ≡ true → is_one_of rs x.kind (length x.parts) ts ≡ true
+same-contextual : (m n : Option ℕ) → same_contextual m n ≡ true → m ≡ n
+unfolding same_contextual
+same-contextual None None e = refl
+same-contextual (Some k) (Some l) e = ap Some (eqb-true k l e)
+same-contextual None (Some l) e = absurd (true≢false (sym e))
+same-contextual (Some k) None e = absurd (true≢false (sym e))
+
+-- the contextual kind that a look asks of the next token is that of the token
+pub contextual-there : (m : Option ℕ) (l : Look) (c : Bool) (s : Reading) → no_end_there m ≡ true → sees c s (with_contextual 0 m l) ≡ true → (has_contextual m s.rest ≡ true) × (sees c s l ≡ true)
+unfolding no_end_there has_contextual sees
+contextual-there None l c s e h = (refl, h)
+contextual-there (Some k) l c s e h =
+    (contextual-seen k s.rest e (both-if-l ((ahead 0 s.rest).contextual == k) (sees c s l) h), both-if-r ((ahead 0 s.rest).contextual == k) (sees c s l) h)
+
+-- this spelling is next
+abbrev pub is_next : Spelling → List Token → Bool
+is_next x ts = has_contextual x.contextual ts && are_next x.parts ts
+
+pub among-marks : (rs : List Spelling) (x : Spelling) (ts : List Token) → is_among rs x ≡ true → is_next x ts ≡ true → is_one_of rs x.kind (length x.parts) ts ≡ true
 unfolding is_among is_one_of
 among-marks [] x ts e h = absurd (true≢false (sym e))
-among-marks (y ∷ rs) x ts e h = elim (or_cases (nat_eq y.kind x.kind && same_parts y.parts x.parts) (is_among rs x) e) [
+among-marks (y ∷ rs) x ts e h = elim (or_cases (nat_eq y.kind x.kind && (same_contextual y.contextual x.contextual && same_parts y.parts x.parts)) (is_among rs x) e) [
   | inl i ↦
-      let kind = and_l (nat_eq y.kind x.kind) (same_parts y.parts x.parts) i in
-      let parts = same-parts y.parts x.parts (and_r (nat_eq y.kind x.kind) (same_parts y.parts x.parts) i) in
+      let kind = and_l (nat_eq y.kind x.kind) (same_contextual y.contextual x.contextual && same_parts y.parts x.parts) i in
+      let more = and_r (nat_eq y.kind x.kind) (same_contextual y.contextual x.contextual && same_parts y.parts x.parts) i in
+      let contextual = same-contextual y.contextual x.contextual (and_l (same_contextual y.contextual x.contextual) (same_parts y.parts x.parts) more) in
+      let parts = same-parts y.parts x.parts (and_r (same_contextual y.contextual x.contextual) (same_parts y.parts x.parts) more) in
       let count : (length y.parts == length x.parts) ≡ true = eq-eqb _ _ (ap length parts) in
-      let next : are_next y.parts ts ≡ true = subst (λ (ks : List ℕ). are_next ks ts ≡ true) (sym parts) h in
-      or-first (nat_eq y.kind x.kind && nat_eq (length y.parts) (length x.parts) && are_next y.parts ts) (is_one_of rs x.kind (length x.parts) ts) (both-true (nat_eq y.kind x.kind && nat_eq (length y.parts) (length x.parts)) (are_next y.parts ts) (both-true (nat_eq y.kind x.kind) (nat_eq (length y.parts) (length x.parts)) kind count) next)
-  | inr i ↦ or-second (nat_eq y.kind x.kind && (length y.parts == length x.parts) && are_next y.parts ts) (is_one_of rs x.kind (length x.parts) ts) (among-marks rs x ts i h)
+      let next : is_next y ts ≡ true =
+      subst (λ (m : Option ℕ). (has_contextual m ts && are_next y.parts ts) ≡ true) (sym contextual)
+      (subst (λ (ks : List ℕ). (has_contextual x.contextual ts && are_next ks ts) ≡ true) (sym parts) h) in
+      or-first (nat_eq y.kind x.kind && nat_eq (length y.parts) (length x.parts) && is_next y ts) (is_one_of rs x.kind (length x.parts) ts) (both-true (nat_eq y.kind x.kind && nat_eq (length y.parts) (length x.parts)) (is_next y ts) (both-true (nat_eq y.kind x.kind) (nat_eq (length y.parts) (length x.parts)) kind count) next)
+  | inr i ↦ or-second (nat_eq y.kind x.kind && (length y.parts == length x.parts) && is_next y ts) (is_one_of rs x.kind (length x.parts) ts) (among-marks rs x ts i h)
 ]

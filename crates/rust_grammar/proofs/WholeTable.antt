@@ -1,6 +1,6 @@
 -- The table of the whole grammar passes the test, so its productions mean what their rules say.
 use Rattle.std.proofs.Common.{◌≡◌, Bool, true, false, refl}
-use Rattle.rust_grammar.specs.Rule.{Production, source_file, macro_items, macro_statements, item, body, assoc_items, variants, record_fields, tuple_fields, visibility, attribute, meta, token_tree, use_tree, use_list, params, param, name, lifetime, name_ref, path, type_path, expr_path, generic_args, generic_arg, generic_params, generic_param, bounds, bound, where_clause, where_pred, any_type, ret_type, pattern, single_pattern, pattern_fields, pattern_field, literal, statement_list, block, statement, macro_statement, statement_end, macro_statement_end, expression, operation, operation_tail, disjunction, conjunction, comparison, bit_or, bit_xor, bit_and, bit_shift, sum, product, cast, prefixed, postfix, after_dot, arguments, atom, field_values, field_value, block_like, if_expr, match_arms, match_arm, begins, passes, is_silent, shift, in_mode, anew, there_at}
+use Rattle.rust_grammar.specs.Rule.{Production, source_file, macro_items, macro_statements, item, body, assoc_items, variants, record_fields, tuple_fields, visibility, attribute, meta, token_tree, use_tree, use_list, params, param, name, lifetime, name_ref, path, type_path, expr_path, generic_args, generic_arg, generic_params, generic_param, bounds, bound, where_clause, where_pred, any_type, ret_type, pattern, single_pattern, pattern_fields, pattern_field, literal, statement_list, block, statement, macro_statement, statement_end, macro_statement_end, expression, operation, operation_tail, pipe_tail, disjunction, conjunction, comparison, bit_or, bit_xor, bit_and, bit_shift, sum, product, cast, prefixed, postfix, after_dot, arguments, atom, field_values, field_value, block_like, if_expr, match_arms, match_arm, begins, passes, is_silent, shift, in_mode, anew, there_at}
 use Rattle.rust_grammar.specs.Notation.{row, one_of, any_of, is_longer, no_longer, longest}
 use Rattle.rust_grammar.specs.Meaning.{Reading, read, meaning, look_of, begins_below}
 use Rattle.rust_grammar.proofs.Fine.{fine, ranked, ranked_at_end, fails, takes}
@@ -94,6 +94,7 @@ all_fine macro_statement_end = refl
 all_fine expression = refl
 all_fine operation = refl
 all_fine operation_tail = refl
+all_fine pipe_tail = refl
 all_fine disjunction = refl
 all_fine conjunction = refl
 all_fine comparison = refl
@@ -170,6 +171,7 @@ all_have_rules macro_statement_end = refl
 all_have_rules expression = refl
 all_have_rules operation = refl
 all_have_rules operation_tail = refl
+all_have_rules pipe_tail = refl
 all_have_rules disjunction = refl
 all_have_rules conjunction = refl
 all_have_rules comparison = refl
@@ -241,6 +243,7 @@ whole-begins macro_statement_end = refl
 whole-begins expression = refl
 whole-begins operation = refl
 whole-begins operation_tail = refl
+whole-begins pipe_tail = refl
 whole-begins disjunction = refl
 whole-begins conjunction = refl
 whole-begins comparison = refl

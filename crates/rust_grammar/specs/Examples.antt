@@ -1,6 +1,6 @@
 -- Inputs, and the trees that the whole grammar gives them.
 use Rattle.std.specs.Prelude.{if◌then◌else◌, ℕ, ◌==◌, Bool, true, false, List, [], ◌∷◌, ◌≡◌}
-use Rattle.parser_input.specs.Kinds.{EOF, ERROR, SEMICOLON, COMMA, DOT, L_PAREN, R_PAREN, L_CURLY, R_CURLY, L_BRACK, R_BRACK, AT, POUND, QUESTION, COLON, EQ, L_ANGLE, R_ANGLE, MINUS, AMP, PIPE, PLUS, STAR, DOT2, DOT2EQ, COLON2, EQ2, FAT_ARROW, INT_NUMBER, FLOAT_NUMBER, IDENT, UNDERSCORE, AS_KW, FN_KW, IF_KW, LET_KW, MATCH_KW, PUB_KW, STRUCT_KW, USE_KW, WHERE_KW, DYN_KW, SOURCE_FILE, MACRO_ITEMS, MACRO_STMTS, USE, USE_TREE, USE_TREE_LIST, RENAME, STRUCT, RECORD_FIELD_LIST, RECORD_FIELD, FN, PARAM_LIST, PARAM, VISIBILITY, ATTR, META, NAME, NAME_REF, PATH, PATH_SEGMENT, GENERIC_ARG_LIST, ASSOC_TYPE_ARG, CONST_ARG, TYPE_ARG, TYPE_BOUND_LIST, TYPE_BOUND, PATH_TYPE, REF_TYPE, DYN_TRAIT_TYPE, LITERAL_PAT, WILDCARD_PAT, IDENT_PAT, STMT_LIST, LET_STMT, EXPR_STMT, LITERAL, BLOCK_EXPR, RANGE_EXPR, BIN_EXPR, CALL_EXPR, ARG_LIST, METHOD_CALL_EXPR, FIELD_EXPR, RECORD_EXPR, RECORD_EXPR_FIELD_LIST, RECORD_EXPR_FIELD, PATH_EXPR, TUPLE_EXPR, PAREN_EXPR, CLOSURE_EXPR, LET_EXPR, IF_EXPR, MATCH_EXPR, MATCH_ARM_LIST, MATCH_ARM, MATCH_GUARD, SELF_KW, SUPER_KW, BANG, TUPLE_FIELD_LIST, TUPLE_FIELD, PAREN_TYPE, MACRO_CALL, TOKEN_TREE}
+use Rattle.parser_input.specs.Kinds.{EOF, ERROR, SEMICOLON, COMMA, DOT, L_PAREN, R_PAREN, L_CURLY, R_CURLY, L_BRACK, R_BRACK, AT, POUND, QUESTION, COLON, EQ, L_ANGLE, R_ANGLE, MINUS, AMP, PIPE, PLUS, STAR, DOT2, DOT2EQ, COLON2, EQ2, FAT_ARROW, INT_NUMBER, FLOAT_NUMBER, IDENT, UNDERSCORE, AS_KW, FN_KW, IF_KW, LET_KW, MATCH_KW, PUB_KW, STRUCT_KW, USE_KW, WHERE_KW, DYN_KW, SOURCE_FILE, MACRO_ITEMS, MACRO_STMTS, USE, USE_TREE, USE_TREE_LIST, RENAME, STRUCT, RECORD_FIELD_LIST, RECORD_FIELD, FN, PARAM_LIST, PARAM, VISIBILITY, ATTR, META, NAME, NAME_REF, PATH, PATH_SEGMENT, GENERIC_ARG_LIST, ASSOC_TYPE_ARG, CONST_ARG, TYPE_ARG, TYPE_BOUND_LIST, TYPE_BOUND, PATH_TYPE, REF_TYPE, DYN_TRAIT_TYPE, LITERAL_PAT, WILDCARD_PAT, IDENT_PAT, STMT_LIST, LET_STMT, EXPR_STMT, LITERAL, BLOCK_EXPR, RANGE_EXPR, BIN_EXPR, CALL_EXPR, ARG_LIST, METHOD_CALL_EXPR, FIELD_EXPR, RECORD_EXPR, RECORD_EXPR_FIELD_LIST, RECORD_EXPR_FIELD, PATH_EXPR, TUPLE_EXPR, PAREN_EXPR, CLOSURE_EXPR, LET_EXPR, IF_EXPR, MATCH_EXPR, MATCH_ARM_LIST, MATCH_ARM, MATCH_GUARD, SELF_KW, SUPER_KW, BANG, TUPLE_FIELD_LIST, TUPLE_FIELD, PAREN_TYPE, MACRO_CALL, TOKEN_TREE, PIPE_GT, DEFER_KW, DEFER_STMT}
 use Rattle.parser_events.specs.Forest.{Expected, UnexpectedIn, ExpectedType, ExpectedExpression, ExpectedPattern, ExpectedItem, ExpectedStatement, ExpectedField, UnexpectedTokens, Message, Forest, End, Leaf, Said, ErrorLeaf, Node, Float, ◌then◌}
 use Rattle.rust_grammar.specs.Rule.{source_file, macro_items, macro_statements, meta, any_type, pattern, expression, Production}
 use Rattle.parser_input.specs.Input.{Token}
@@ -13,6 +13,10 @@ touching k = record { kind = k; contextual = if k == IDENT then IDENT else EOF; 
 
 abbrev pub apart : ℕ → Token
 apart k = record { kind = k; contextual = if k == IDENT then IDENT else EOF; joint = false; whole = false }
+
+-- a `|` that is the first token of the operator `|>`, and the `>` after it
+abbrev pub pipe : List Token → List Token
+pipe more = record { kind = PIPE; contextual = PIPE_GT; joint = true; whole = false } ∷ apart R_ANGLE ∷ more
 
 -- The writing of trees: a leaf over one token, one over several, a message, an error with the token that it takes, a float
 -- after a dot; `a · b` stands side by side, `N ⟪ a ⟫` is a node.
@@ -359,6 +363,54 @@ examples =
       asked = expression;
       tokens = apart IF_KW ∷ apart LET_KW ∷ apart IDENT ∷ apart IDENT ∷ touching L_CURLY ∷ apart R_CURLY ∷ [];
       tree = IF_EXPR ⟪ leaf IF_KW · LET_EXPR ⟪ leaf LET_KW · a_name_pat · said (Expected EQ) · a_path_expr ⟫ · an_empty_block ⟫;
+    }
+    -- file `fn f() { a |> b; }`, of edition `next`
+    ∷ record {
+      asked = source_file;
+      tokens = apart FN_KW ∷ touching IDENT ∷ touching L_PAREN ∷ apart R_PAREN ∷ apart L_CURLY ∷ apart IDENT ∷ pipe (touching IDENT ∷ apart SEMICOLON ∷ apart R_CURLY ∷ []);
+      tree = SOURCE_FILE ⟪ FN ⟪ leaf FN_KW · a_name · no_params · BLOCK_EXPR ⟪ STMT_LIST ⟪ leaf L_CURLY · EXPR_STMT ⟪ BIN_EXPR ⟪ a_path_expr · joined PIPE_GT 2 · a_path_expr ⟫ · leaf SEMICOLON ⟫ · leaf R_CURLY ⟫ ⟫ ⟫ ⟫;
+    }
+    -- the same file, of an earlier one
+    ∷ record {
+      asked = source_file;
+      tokens = apart FN_KW ∷ touching IDENT ∷ touching L_PAREN ∷ apart R_PAREN ∷ apart L_CURLY ∷ apart IDENT ∷ touching PIPE ∷ apart R_ANGLE ∷ touching IDENT ∷ apart SEMICOLON ∷ apart R_CURLY ∷ [];
+      tree = SOURCE_FILE ⟪ FN ⟪ leaf FN_KW · a_name · no_params · BLOCK_EXPR ⟪ STMT_LIST ⟪ leaf L_CURLY · EXPR_STMT ⟪ BIN_EXPR ⟪ BIN_EXPR ⟪ a_path_expr · leaf PIPE · said ExpectedExpression ⟫ · leaf R_ANGLE · a_path_expr ⟫ · leaf SEMICOLON ⟫ · leaf R_CURLY ⟫ ⟫ ⟫ ⟫;
+    }
+    -- file `fn f() { defer {} }`, of edition `next`
+    ∷ record {
+      asked = source_file;
+      tokens = apart FN_KW ∷ touching IDENT ∷ touching L_PAREN ∷ apart R_PAREN ∷ apart L_CURLY ∷ apart DEFER_KW ∷ touching L_CURLY ∷ apart R_CURLY ∷ apart R_CURLY ∷ [];
+      tree = SOURCE_FILE ⟪ FN ⟪ leaf FN_KW · a_name · no_params · BLOCK_EXPR ⟪ STMT_LIST ⟪ leaf L_CURLY · DEFER_STMT ⟪ leaf DEFER_KW · an_empty_block ⟫ · leaf R_CURLY ⟫ ⟫ ⟫ ⟫;
+    }
+    -- expression `a |> b |> c`
+    ∷ record {
+      asked = expression;
+      tokens = apart IDENT ∷ pipe (apart IDENT ∷ pipe (apart IDENT ∷ []));
+      tree = BIN_EXPR ⟪ BIN_EXPR ⟪ a_path_expr · joined PIPE_GT 2 · a_path_expr ⟫ · joined PIPE_GT 2 · a_path_expr ⟫;
+    }
+    -- expression `a..b |> c`
+    ∷ record {
+      asked = expression;
+      tokens = touching IDENT ∷ touching DOT ∷ touching DOT ∷ apart IDENT ∷ pipe (apart IDENT ∷ []);
+      tree = BIN_EXPR ⟪ RANGE_EXPR ⟪ a_path_expr · joined DOT2 2 · a_path_expr ⟫ · joined PIPE_GT 2 · a_path_expr ⟫;
+    }
+    -- expression `a = b |> c`
+    ∷ record {
+      asked = expression;
+      tokens = apart IDENT ∷ apart EQ ∷ apart IDENT ∷ pipe (apart IDENT ∷ []);
+      tree = BIN_EXPR ⟪ a_path_expr · leaf EQ · BIN_EXPR ⟪ a_path_expr · joined PIPE_GT 2 · a_path_expr ⟫ ⟫;
+    }
+    -- expression `a |> b..c`
+    ∷ record {
+      asked = expression;
+      tokens = apart IDENT ∷ pipe (touching IDENT ∷ touching DOT ∷ touching DOT ∷ apart IDENT ∷ []);
+      tree = ERROR ⟪ BIN_EXPR ⟪ a_path_expr · joined PIPE_GT 2 · a_path_expr ⟫ · said UnexpectedTokens · leaf DOT · leaf DOT · leaf IDENT ⟫;
+    }
+    -- expression `a |>= b`
+    ∷ record {
+      asked = expression;
+      tokens = apart IDENT ∷ record { kind = PIPE; contextual = PIPE_GT; joint = true; whole = false } ∷ touching R_ANGLE ∷ apart EQ ∷ apart IDENT ∷ [];
+      tree = BIN_EXPR ⟪ BIN_EXPR ⟪ a_path_expr · joined PIPE_GT 2 · said ExpectedExpression ⟫ · leaf EQ · a_path_expr ⟫;
     }
     ∷ []
 

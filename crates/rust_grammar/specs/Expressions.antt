@@ -2,8 +2,8 @@
 use Rattle.std.specs.Prelude.{[], ◌∷◌}
 use Rattle.parser_input.specs.Kinds.{COMMA, PARAM_LIST, PARAM, MACRO_CALL, NAME_REF, BLOCK_EXPR, RANGE_EXPR, BIN_EXPR, CAST_EXPR, PREFIX_EXPR, REF_EXPR, CALL_EXPR, ARG_LIST, INDEX_EXPR, TRY_EXPR, METHOD_CALL_EXPR, FIELD_EXPR, MACRO_EXPR, RECORD_EXPR, RECORD_EXPR_FIELD_LIST, RECORD_EXPR_FIELD, PATH_EXPR, TUPLE_EXPR, PAREN_EXPR, ARRAY_EXPR, RETURN_EXPR, BREAK_EXPR, CONTINUE_EXPR, CLOSURE_EXPR, LET_EXPR, IF_EXPR, WHILE_EXPR, LOOP_EXPR, FOR_EXPR, MATCH_EXPR, MATCH_ARM_LIST, MATCH_ARM, MATCH_GUARD}
 use Rattle.parser_events.specs.Forest.{Expected, ExpectedExpression, ExpectedMatchArm, ExpectedField}
-use Rattle.rust_grammar.specs.Rule.{expression, operation, operation_tail, disjunction, conjunction, comparison, bit_or, bit_xor, bit_and, bit_shift, sum, product, cast, prefixed, postfix, after_dot, arguments, atom, field_values, field_value, block_like, if_expr, match_arms, match_arm, Production, Look, Joint, InCondition, Both, Either, Spelling, Rule, Nothing, One, Want, Say, Skip, Split, When, Unless, Call}
-use Rattle.rust_grammar.specs.Words.{'dots', 'dots_eq', '::', '==', '=>', '!=', '<=', '>=', '&&', '||', '<<', '>>', '+=', '-=', '*=', '/=', '%=', '&=', '|=', '^=', '<<=', '>>=', 'semi', 'comma', 'dot', 'l_paren', 'r_paren', 'l_curly', 'r_curly', '[', ']', '?', ':', '=', '!', '<', '>', '-', '&', '|', '+', '*', '/', '^', '%', 'break', 'continue', 'else', 'for', 'if', 'in', 'let', 'loop', 'match', 'move', 'mut', 'return', 'unsafe', 'while', 'as', 'ident', 'float'}
+use Rattle.rust_grammar.specs.Rule.{expression, operation, operation_tail, pipe_tail, disjunction, conjunction, comparison, bit_or, bit_xor, bit_and, bit_shift, sum, product, cast, prefixed, postfix, after_dot, arguments, atom, field_values, field_value, block_like, if_expr, match_arms, match_arm, Production, Look, Joint, InCondition, Both, Either, Spelling, Rule, Nothing, One, Want, Say, Skip, Split, When, Unless, Call}
+use Rattle.rust_grammar.specs.Words.{'dots', 'dots_eq', '::', '==', '=>', '!=', '<=', '>=', '&&', '||', '|>', '<<', '>>', '+=', '-=', '*=', '/=', '%=', '&=', '|=', '^=', '<<=', '>>=', 'semi', 'comma', 'dot', 'l_paren', 'r_paren', 'l_curly', 'r_curly', '[', ']', '?', ':', '=', '!', '<', '>', '-', '&', '|', '+', '*', '/', '^', '%', 'break', 'continue', 'else', 'for', 'if', 'in', 'let', 'loop', 'match', 'move', 'mut', 'return', 'unsafe', 'while', 'as', 'ident', 'float'}
 use Rattle.rust_grammar.specs.Calls.{TokenTree, ExprPath, GenericArgs, RetType, AnyType, Pattern, SinglePattern, Literal, StatementList, Block, Expression, Operation, Disjunction, Comparison, Prefixed, Arguments, Atom, FieldValues, FieldValue, BlockLike, IfExpr, MatchArms, MatchArm}
 use Rattle.rust_grammar.specs.Notation.{◌or◌, ◌▸◌, ◌▹◌, ⁅◌⁆, ◌*, ◌!, ◌⟨◌⟩, ◌<⟨◌⟩, more, off, on, next, row, ◌before◌, until, rest_listed, listed, op}
 use Rattle.rust_grammar.specs.Shared.{field_name}
@@ -61,6 +61,9 @@ expressions others operation_tail =
     RANGE_EXPR <⟨ range_to 'dots_eq' ⟩ ▸ more operation_tail
     or RANGE_EXPR <⟨ range_to 'dots' ⟩ ▸ more operation_tail
     or RANGE_EXPR <⟨ range_mark ⟩
+    or more pipe_tail
+expressions others pipe_tail =
+    BIN_EXPR <⟨ op '|>' ▸ Disjunction ! ⟩ ▸ more pipe_tail
     or BIN_EXPR <⟨ assignment ▸ Operation ! ⟩
     or Nothing
 expressions others disjunction = layer conjunction (op '||')

@@ -1,6 +1,6 @@
 -- Trees in which an operator is misplaced.
 use Rattle.std.specs.Prelude.{◌≡◌, ℕ, false, List, [], ◌∷◌}
-use Rattle.parser_input.specs.Kinds.{IDENT, PATH_EXPR, BIN_EXPR, PLUS, MINUS, STAR, EQ, PLUSEQ, EQ2, AMP2, PIPE2}
+use Rattle.parser_input.specs.Kinds.{IDENT, PATH_EXPR, BIN_EXPR, PLUS, MINUS, STAR, EQ, PLUSEQ, EQ2, AMP2, PIPE2, PIPE_GT}
 use Rattle.parser_events.specs.Forest.{Forest, End, Leaf, Node, ◌then◌}
 use Rattle.rust_grammar.specs.Powers.{are_operators_placed}
 
@@ -21,6 +21,9 @@ misplaced =
     ∷ binary_expression (binary_expression operand PIPE2 operand) AMP2 operand
     ∷ binary_expression operand PLUS (binary_expression operand EQ operand)
     ∷ binary_expression (binary_expression operand EQ operand) PLUSEQ operand
+    ∷ binary_expression operand PIPE_GT (binary_expression operand PIPE_GT operand)
+    ∷ binary_expression (binary_expression operand PIPE_GT operand) PIPE2 operand
+    ∷ binary_expression (binary_expression operand EQ operand) PIPE_GT operand
     ∷ binary_expression operand IDENT operand
     ∷ Node PATH_EXPR (binary_expression (binary_expression operand PLUS operand) STAR operand) End
     ∷ []

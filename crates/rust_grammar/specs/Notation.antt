@@ -6,8 +6,8 @@
 use Rattle.std.specs.Prelude.{ℕ, ◌+◌, ◌==◌, Bool, true, false, ◌&&◌, List, [], ◌∷◌, length, Option, Some, None, if◌then◌else◌}
 use Rattle.parser_input.specs.Kinds.{COMMA, ASSOC_ITEM_LIST, VARIANT_LIST, META, TOKEN_TREE, USE_TREE, PARAM_LIST, NAME, NAME_REF, PATH, LITERAL, STMT_LIST, BLOCK_EXPR, ARG_LIST, MATCH_ARM_LIST}
 use Rattle.parser_events.specs.Forest.{Message, Expected, UnexpectedIn, ExpectedType, ExpectedPattern, ExpectedExpression}
-use Rattle.rust_grammar.specs.Rule.{assoc_items, variants, meta, token_tree, use_tree, params, name, name_ref, path, any_type, pattern, single_pattern, literal, statement_list, block, expression, operation, comparison, prefixed, arguments, match_arms, Production, Look, Always, Never, Left, Both, Either, Not, Spelling, Rule, Nothing, One, Then, Near, Or, Opt, Star, Node, Wrap, Want, Say, Skip, When, Unless, Call, Continue, Mode, there_at}
-use Rattle.rust_grammar.specs.Words.{'dots', 'dots_eq', '==', '=>', '!=', '<=', '>=', '&&', '||', '<<', '>>', '+=', '-=', '*=', '/=', '%=', '&=', '|=', '^=', '<<=', '>>=', 'semi', 'comma', 'r_paren', 'l_curly', 'r_curly', ']', '=', '<', '>', '-', '&', '|', '+', '*', '/', '^', '%'}
+use Rattle.rust_grammar.specs.Rule.{assoc_items, variants, meta, token_tree, use_tree, params, name, name_ref, path, any_type, pattern, single_pattern, literal, statement_list, block, expression, operation, disjunction, comparison, prefixed, arguments, match_arms, Production, Look, Always, Never, Left, Both, Either, Not, Spelling, Rule, Nothing, One, Then, Near, Or, Opt, Star, Node, Wrap, Want, Say, Skip, When, Unless, Call, Continue, Mode, spelled_at}
+use Rattle.rust_grammar.specs.Words.{'dots', 'dots_eq', '==', '=>', '!=', '<=', '>=', '&&', '||', '|>', '<<', '>>', '+=', '-=', '*=', '/=', '%=', '&=', '|=', '^=', '<<=', '>>=', 'semi', 'comma', 'r_paren', 'l_curly', 'r_curly', ']', '=', '<', '>', '-', '&', '|', '+', '*', '/', '^', '%'}
 
 infixr 40 ◌or◌
 infixr 50 ◌▸◌
@@ -92,6 +92,7 @@ wanted statement_list = Some (Expected STMT_LIST)
 wanted block = Some (Expected BLOCK_EXPR)
 wanted expression = Some ExpectedExpression
 wanted operation = Some ExpectedExpression
+wanted disjunction = Some ExpectedExpression
 wanted comparison = Some ExpectedExpression
 wanted prefixed = Some ExpectedExpression
 wanted arguments = Some (Expected ARG_LIST)
@@ -125,7 +126,7 @@ at_end = Not Left
 -- these spellings stand one after the other, from the n-th token on
 unfoldable pub row : ℕ → List Spelling → Look
 row n [] = Always
-row n (x ∷ xs) = Both (there_at n x.parts) (row (n + length x.parts) xs)
+row n (x ∷ xs) = Both (spelled_at n x) (row (n + length x.parts) xs)
 
 -- one of these spellings stands at the n-th token
 unfoldable pub one_of : ℕ → List Spelling → Look
@@ -173,7 +174,7 @@ listed list opening element close = One opening ▸ rest_listed list element clo
 
 -- The operators of expressions, and the marks that one of them could be taken for the front of.
 abbrev pub operators : List Spelling
-operators = '=' ∷ '+=' ∷ '-=' ∷ '*=' ∷ '/=' ∷ '%=' ∷ '&=' ∷ '|=' ∷ '^=' ∷ '<<=' ∷ '>>=' ∷ '||' ∷ '&&' ∷ '==' ∷ '!=' ∷ '<' ∷ '>' ∷ '<=' ∷ '>=' ∷ '|' ∷ '^' ∷ '&' ∷ '<<' ∷ '>>' ∷ '+' ∷ '-' ∷ '*' ∷ '/' ∷ '%' ∷ 'dots_eq' ∷ 'dots' ∷ '=>' ∷ []
+operators = '=' ∷ '+=' ∷ '-=' ∷ '*=' ∷ '/=' ∷ '%=' ∷ '&=' ∷ '|=' ∷ '^=' ∷ '<<=' ∷ '>>=' ∷ '|>' ∷ '||' ∷ '&&' ∷ '==' ∷ '!=' ∷ '<' ∷ '>' ∷ '<=' ∷ '>=' ∷ '|' ∷ '^' ∷ '&' ∷ '<<' ∷ '>>' ∷ '+' ∷ '-' ∷ '*' ∷ '/' ∷ '%' ∷ 'dots_eq' ∷ 'dots' ∷ '=>' ∷ []
 
 -- whether the second spelling begins with the first and is longer
 unfoldable pub is_longer : List ℕ → List ℕ → Bool
@@ -183,18 +184,18 @@ is_longer (k ∷ ks) [] = false
 is_longer (k ∷ ks) (l ∷ ls) = k == l && is_longer ks ls
 
 -- a look, and where that is so not this spelling
-abbrev but_not : Bool → List ℕ → Look → Look
-but_not true ps l = Both (Not (there_at 0 ps)) l
-but_not false ps l = l
+abbrev but_not : Bool → Spelling → Look → Look
+but_not true x l = Both (Not (spelled_at 0 x)) l
+but_not false x l = l
 
 -- none of these stands here that begins with this spelling and is longer
 unfoldable pub no_longer : List ℕ → List Spelling → Look
 no_longer ks [] = Always
-no_longer ks (x ∷ xs) = but_not (is_longer ks x.parts) x.parts (no_longer ks xs)
+no_longer ks (x ∷ xs) = but_not (is_longer ks x.parts) x (no_longer ks xs)
 
 -- a spelling is next, and no longer operator that begins with it
 unfoldable pub longest : Spelling → Look
-longest x = Both (there_at 0 x.parts) (no_longer x.parts operators)
+longest x = Both (spelled_at 0 x) (no_longer x.parts operators)
 
 -- an operator, where no longer one stands
 abbrev pub op : Spelling → Rule

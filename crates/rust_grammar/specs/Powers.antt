@@ -1,6 +1,6 @@
 -- The powers of operators, and where binary expressions may stand as operands of each other.
 use Rattle.std.specs.Prelude.{ℕ, ◌==◌, Bool, true, false, ◌&&◌, ◌||◌, List, [], ◌∷◌, nat_lt, nat_le, if◌then◌else◌}
-use Rattle.parser_input.specs.Kinds.{EOF, BIN_EXPR, STAR, SLASH, PERCENT, PLUS, MINUS, SHL, SHR, AMP, CARET, PIPE, EQ2, NEQ, L_ANGLE, R_ANGLE, LTEQ, GTEQ, AMP2, PIPE2, EQ, PLUSEQ, MINUSEQ, STAREQ, SLASHEQ, PERCENTEQ, AMPEQ, PIPEEQ, CARETEQ, SHLEQ, SHREQ}
+use Rattle.parser_input.specs.Kinds.{EOF, BIN_EXPR, STAR, SLASH, PERCENT, PLUS, MINUS, SHL, SHR, AMP, CARET, PIPE, EQ2, NEQ, L_ANGLE, R_ANGLE, LTEQ, GTEQ, AMP2, PIPE2, EQ, PLUSEQ, MINUSEQ, STAREQ, SLASHEQ, PERCENTEQ, AMPEQ, PIPEEQ, CARETEQ, SHLEQ, SHREQ, PIPE_GT}
 use Rattle.parser_events.specs.Forest as forest
 use Rattle.parser_events.specs.Forest.{Forest}
 
@@ -21,16 +21,17 @@ assignments = EQ ∷ PLUSEQ ∷ MINUSEQ ∷ STAREQ ∷ SLASHEQ ∷ PERCENTEQ ∷
 -- has no power.
 unfoldable pub power : ℕ → ℕ
 power kind =
-    if is_among kind (STAR ∷ SLASH ∷ PERCENT ∷ []) then 11 else (
-    if is_among kind (PLUS ∷ MINUS ∷ []) then 10 else (
-    if is_among kind (SHL ∷ SHR ∷ []) then 9 else (
-    if kind == AMP then 8 else (
-    if kind == CARET then 7 else (
-    if kind == PIPE then 6 else (
-    if is_among kind comparisons then 5 else (
-    if kind == AMP2 then 4 else (
-    if kind == PIPE2 then 3 else (
-    if is_among kind assignments then 1 else 0)))))))))
+    if is_among kind (STAR ∷ SLASH ∷ PERCENT ∷ []) then 12 else (
+    if is_among kind (PLUS ∷ MINUS ∷ []) then 11 else (
+    if is_among kind (SHL ∷ SHR ∷ []) then 10 else (
+    if kind == AMP then 9 else (
+    if kind == CARET then 8 else (
+    if kind == PIPE then 7 else (
+    if is_among kind comparisons then 6 else (
+    if kind == AMP2 then 5 else (
+    if kind == PIPE2 then 4 else (
+    if kind == PIPE_GT then 2 else (
+    if is_among kind assignments then 1 else 0))))))))))
 
 -- the operator of a binary expression with these children: the first leaf
 unfoldable pub operator : Forest → ℕ
@@ -43,16 +44,16 @@ operator (forest.Float e c f) = operator f
 
 -- How tightly a node holds together: a binary expression as its operator binds, any other node more tightly than each operator.
 unfoldable pub level : (kind : ℕ) → (children : Forest) → ℕ
-level kind children = if kind == BIN_EXPR then power (operator children) else 12
+level kind children = if kind == BIN_EXPR then power (operator children) else 13
 
 -- how tightly the first of these trees holds together
 unfoldable pub left_level : Forest → ℕ
 left_level (forest.Node k c f) = level k c
-left_level f = 12
+left_level f = 13
 
 -- how tightly the last of these trees holds together
 unfoldable pub right_level : Forest → ℕ
-right_level forest.End = 12
+right_level forest.End = 13
 right_level (forest.Leaf k n f) = right_level f
 right_level (forest.Said message f) = right_level f
 right_level (forest.ErrorLeaf message k f) = right_level f

@@ -1,5 +1,5 @@
 -- The rules that a grammar is written in.
-use Rattle.std.specs.Prelude.{ℕ, ◌+◌, Bool, true, false, List, [], ◌∷◌, length, if◌then◌else◌}
+use Rattle.std.specs.Prelude.{ℕ, ◌+◌, Bool, true, false, List, [], ◌∷◌, Option, Some, None, if◌then◌else◌}
 use Rattle.parser_events.specs.Forest.{Message}
 
 -- The productions: items, names and paths, types, patterns, statements, expressions.
@@ -51,6 +51,7 @@ pub data Production : Type 0 where
   expression : Production
   operation : Production
   operation_tail : Production
+  pipe_tail : Production
   disjunction : Production
   conjunction : Production
   comparison : Production
@@ -88,9 +89,11 @@ pub data Look : Type 0 where
   Either : Look → Look → Look
   Not : Look → Look
 
--- A spelling: the kind of its leaf, and the kinds of its input tokens, all but the last joint.
+-- A spelling: the kind of its leaf, the contextual kind of its first input token where that is asked, and the kinds of its input
+-- tokens, all but the last joint.
 pub record Spelling : Type 0 where
   pub kind : ℕ
+  pub contextual : Option ℕ
   pub parts : List ℕ
 
 -- The nine forms are: one leaf (One, Any); a sequence (Nothing, Then, Near, which asks the looks of both parts, those of the
@@ -122,11 +125,20 @@ pub data Rule : Type 0 where
   Continue : Production → Rule
   Mode : (condition : Bool) → Rule → Rule
 
--- the spelling from the n-th token on
+-- tokens of these kinds from the n-th on, all but the last joint
 unfoldable pub there_at : ℕ → List ℕ → Look
 there_at n [] = Always
 there_at n (k ∷ []) = Kind n k
 there_at n (k ∷ l ∷ ks) = Both (Kind n k) (Both (Joint n) (there_at (n + 1) (l ∷ ks)))
+
+-- a look, and the contextual kind that is asked of the n-th token, if one is
+abbrev pub with_contextual : ℕ → Option ℕ → Look → Look
+with_contextual n None l = l
+with_contextual n (Some k) l = Both (Contextual n k) l
+
+-- the spelling from the n-th token on
+abbrev pub spelled_at : ℕ → Spelling → Look
+spelled_at n x = with_contextual n x.contextual (there_at n x.parts)
 
 -- A look, m tokens further ahead. Whether a token is left, and whether something was given, is still asked of the place itself;
 -- the whole grammar asks neither of them further ahead, as a law says.
@@ -176,7 +188,7 @@ is_silent r = false
 -- in a production that is called anew, nothing has been given yet.
 unfoldable pub begins : (Production → Look) → Rule → Look
 begins f Nothing = Always
-begins f (One x) = there_at 0 x.parts
+begins f (One x) = spelled_at 0 x
 begins f Any = Left
 begins f (Then a b) =
     let first = begins f a in

@@ -1,9 +1,9 @@
 -- The rows of statements and blocks.
 use Rattle.std.specs.Prelude.{[], ◌∷◌}
-use Rattle.parser_input.specs.Kinds.{MACRO_STMTS, STMT_LIST, LET_STMT, LET_ELSE, EXPR_STMT, BLOCK_EXPR}
+use Rattle.parser_input.specs.Kinds.{MACRO_STMTS, STMT_LIST, LET_STMT, LET_ELSE, EXPR_STMT, BLOCK_EXPR, DEFER_STMT}
 use Rattle.parser_events.specs.Forest.{ExpectedStatement}
 use Rattle.rust_grammar.specs.Rule.{macro_statements, statement_list, block, statement, macro_statement, statement_end, macro_statement_end, postfix, Production, Look, Both, Either, Not, Rule, Nothing, One, Skip, When, Unless, Call}
-use Rattle.rust_grammar.specs.Words.{'dots', 'semi', 'dot', 'l_curly', 'r_curly', '#', '?', ':', '=', '!', 'const', 'else', 'enum', 'fn', 'impl', 'let', 'mod', 'pub', 'static', 'struct', 'trait', 'type', 'unsafe', 'use'}
+use Rattle.rust_grammar.specs.Words.{'dots', 'semi', 'dot', 'l_curly', 'r_curly', '#', '?', ':', '=', '!', 'const', 'defer', 'else', 'enum', 'fn', 'impl', 'let', 'mod', 'pub', 'static', 'struct', 'trait', 'type', 'unsafe', 'use'}
 use Rattle.rust_grammar.specs.Calls.{Item, Attribute, AnyType, Pattern, StatementList, Block, Expression, BlockLike}
 use Rattle.rust_grammar.specs.Notation.{◌or◌, ◌▸◌, ⁅◌⁆, ◌*, ◌⁺, ◌!, ◌⟨◌⟩, ◌<⟨◌⟩, more, off, at_end, next, ◌before◌, ◌before_any◌, any_of, one_of, until}
 
@@ -42,6 +42,7 @@ abbrev pub statement_of : Listing → Rule
 statement_of list =
     One 'semi'
     or When ('#' before '!') Attribute
+    or DEFER_STMT ⟨ One 'defer' ▸ Block ! ⟩
     or LET_STMT ⟨ One 'let' ▸ Pattern ! ▸ ⁅ One ':' ▸ AnyType ! ⁆ ▸ ⁅ One '=' ▸ Expression ! ⁆ ▸ ⁅ LET_ELSE ⟨ One 'else' ▸ Block ! ⟩ ⁆ ▸ One 'semi' ! ⟩
     or When item_begins Item
     or BlockLike ▸ (When goes_on ((more postfix) ⁺ ▸ more list.end) or EXPR_STMT <⟨ One 'semi' ⟩ or When list.ends Nothing or EXPR_STMT <⟨ Nothing ⟩)

@@ -1,6 +1,6 @@
 -- The whole grammar: the rows of all subjects, and the order in which productions call each other.
 use Rattle.std.specs.Prelude.{ℕ}
-use Rattle.rust_grammar.specs.Rule.{source_file, macro_items, macro_statements, item, body, meta, use_tree, param, path, type_path, expr_path, generic_arg, generic_param, bounds, bound, where_pred, any_type, pattern, single_pattern, pattern_field, block, statement, macro_statement, expression, operation, disjunction, conjunction, comparison, bit_or, bit_xor, bit_and, bit_shift, sum, product, cast, prefixed, postfix, atom, field_value, block_like, match_arm, Production, Rule, Nothing}
+use Rattle.rust_grammar.specs.Rule.{source_file, macro_items, macro_statements, item, body, meta, use_tree, param, path, type_path, expr_path, generic_arg, generic_param, bounds, bound, where_pred, any_type, pattern, single_pattern, pattern_field, block, statement, macro_statement, expression, operation, operation_tail, disjunction, conjunction, comparison, bit_or, bit_xor, bit_and, bit_shift, sum, product, cast, prefixed, postfix, atom, field_value, block_like, match_arm, Production, Rule, Nothing}
 use Rattle.rust_grammar.specs.Meaning.{Table}
 use Rattle.rust_grammar.specs.Items.{items}
 use Rattle.rust_grammar.specs.Statements.{statements}
@@ -36,6 +36,7 @@ rank statement = 17
 rank macro_statement = 17
 rank expression = 16
 rank operation = 15
+rank operation_tail = 1
 rank disjunction = 14
 rank conjunction = 13
 rank comparison = 12

@@ -1,15 +1,19 @@
 -- The spellings: a word, a mark of one character, and marks of several, whose input tokens touch each other.
-use Rattle.std.specs.Prelude.{ℕ, List, [], ◌∷◌}
-use Rattle.parser_input.specs.Kinds.{SEMICOLON, COMMA, DOT, L_PAREN, R_PAREN, L_CURLY, R_CURLY, L_BRACK, R_BRACK, AT, POUND, QUESTION, COLON, EQ, BANG, L_ANGLE, R_ANGLE, MINUS, AMP, PIPE, PLUS, STAR, SLASH, CARET, PERCENT, DOT2, DOT2EQ, COLON2, EQ2, FAT_ARROW, NEQ, THIN_ARROW, LTEQ, GTEQ, AMP2, PIPE2, SHL, SHR, PLUSEQ, MINUSEQ, STAREQ, SLASHEQ, PERCENTEQ, AMPEQ, PIPEEQ, CARETEQ, SHLEQ, SHREQ, INT_NUMBER, FLOAT_NUMBER, CHAR, BYTE, STRING, BYTE_STRING, C_STRING, IDENT, UNDERSCORE, LIFETIME_IDENT, AS_KW, BREAK_KW, CONST_KW, CONTINUE_KW, CRATE_KW, ELSE_KW, ENUM_KW, FALSE_KW, FN_KW, FOR_KW, IF_KW, IMPL_KW, IN_KW, LET_KW, LOOP_KW, MATCH_KW, MOD_KW, MOVE_KW, MUT_KW, PUB_KW, REF_KW, RETURN_KW, SELF_KW, SELF_TYPE_KW, STATIC_KW, STRUCT_KW, SUPER_KW, TRAIT_KW, TRUE_KW, TYPE_KW, UNSAFE_KW, USE_KW, WHERE_KW, WHILE_KW, DYN_KW, SHEBANG, FRONTMATTER}
+use Rattle.std.specs.Prelude.{ℕ, List, [], ◌∷◌, Some, None}
+use Rattle.parser_input.specs.Kinds.{SEMICOLON, COMMA, DOT, L_PAREN, R_PAREN, L_CURLY, R_CURLY, L_BRACK, R_BRACK, AT, POUND, QUESTION, COLON, EQ, BANG, L_ANGLE, R_ANGLE, MINUS, AMP, PIPE, PLUS, STAR, SLASH, CARET, PERCENT, DOT2, DOT2EQ, COLON2, EQ2, FAT_ARROW, NEQ, THIN_ARROW, LTEQ, GTEQ, AMP2, PIPE2, SHL, SHR, PLUSEQ, MINUSEQ, STAREQ, SLASHEQ, PERCENTEQ, AMPEQ, PIPEEQ, CARETEQ, SHLEQ, SHREQ, INT_NUMBER, FLOAT_NUMBER, CHAR, BYTE, STRING, BYTE_STRING, C_STRING, IDENT, UNDERSCORE, LIFETIME_IDENT, AS_KW, BREAK_KW, CONST_KW, CONTINUE_KW, CRATE_KW, ELSE_KW, ENUM_KW, FALSE_KW, FN_KW, FOR_KW, IF_KW, IMPL_KW, IN_KW, LET_KW, LOOP_KW, MATCH_KW, MOD_KW, MOVE_KW, MUT_KW, PUB_KW, REF_KW, RETURN_KW, SELF_KW, SELF_TYPE_KW, STATIC_KW, STRUCT_KW, SUPER_KW, TRAIT_KW, TRUE_KW, TYPE_KW, UNSAFE_KW, USE_KW, WHERE_KW, WHILE_KW, DYN_KW, SHEBANG, FRONTMATTER, DEFER_KW, PIPE_GT}
 use Rattle.rust_grammar.specs.Rule.{Spelling}
 
 -- a spelling of one token
 abbrev pub one : ℕ → Spelling
-one k = record { kind = k; parts = k ∷ [] }
+one k = record { kind = k; contextual = None; parts = k ∷ [] }
 
 -- a spelling of several tokens, told by the kinds of its characters
 abbrev pub joined : ℕ → List ℕ → Spelling
-joined k ks = record { kind = k; parts = ks }
+joined k ks = record { kind = k; contextual = None; parts = ks }
+
+-- a spelling of several tokens, the first of which has the leaf's kind as its contextual kind
+abbrev pub marked : ℕ → List ℕ → Spelling
+marked k ks = record { kind = k; contextual = Some k; parts = ks }
 
 abbrev pub 'dots' : Spelling
 'dots' = joined DOT2 (DOT ∷ DOT ∷ [])
@@ -43,6 +47,9 @@ abbrev pub '&&' : Spelling
 
 abbrev pub '||' : Spelling
 '||' = joined PIPE2 (PIPE ∷ PIPE ∷ [])
+
+abbrev pub '|>' : Spelling
+'|>' = marked PIPE_GT (PIPE ∷ R_ANGLE ∷ [])
 
 abbrev pub '<<' : Spelling
 '<<' = joined SHL (L_ANGLE ∷ L_ANGLE ∷ [])
@@ -166,6 +173,9 @@ abbrev pub 'continue' : Spelling
 
 abbrev pub 'crate' : Spelling
 'crate' = one CRATE_KW
+
+abbrev pub 'defer' : Spelling
+'defer' = one DEFER_KW
 
 abbrev pub 'else' : Spelling
 'else' = one ELSE_KW
