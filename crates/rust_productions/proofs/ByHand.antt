@@ -1,5 +1,5 @@
 -- How what functions do goes together to what rules say.
-use Rattle.std.proofs.Common.{◌≡◌, ℕ, suc, Bool, true, false, [], ◌∷◌, length, refl, sym, ap, subst, ◌∙◌}
+use Rattle.std.proofs.Common.{◌≡◌, ℕ, suc, Bool, true, false, [], ◌∷◌, length, refl, sym, ap, subst, ◌∙◌, None}
 use Rattle.parser_input.specs.Kinds.{ERROR}
 use Rattle.parser_events.specs.Forest as forest
 use Rattle.parser_events.specs.Forest.{Forest, Message, ◌then◌}
@@ -133,7 +133,7 @@ module _ (c : Bool) where
   reads-leaf p = record { does = does-as (λ s e. refl) p }
 
   -- the next token, whatever it is
-  pub reads-any : {kind : ℕ} {old mid new : View} → ((s : Reading) → left old ≡ s.rest → (ahead 0 s.rest).kind ≡ kind) → Does (λ s. s) old mid → Reads c (One (record { kind = kind; parts = kind ∷ [] })) mid new → Reads c Any old new
+  pub reads-any : {kind : ℕ} {old mid new : View} → ((s : Reading) → left old ≡ s.rest → (ahead 0 s.rest).kind ≡ kind) → Does (λ s. s) old mid → Reads c (One (record { kind = kind; contextual = None; parts = kind ∷ [] })) mid new → Reads c Any old new
   unfolding read
   reads-any next p q = record { does = does-as (λ s e. ap (λ (k : ℕ). leaf k 1 s) (sym (next s e))) (does-then p q.does) }
 

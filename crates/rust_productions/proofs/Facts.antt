@@ -3,7 +3,7 @@ use Rattle.std.proofs.Common.{◌≡◌, ℕ, Bool, true, false, not, ◌&&◌, 
 use Rattle.std.proofs.lemmas.Bool.{eqb-true}
 use Rattle.parser_events.specs.View.{View}
 use Rattle.rust_productions.specs.Stands.{left}
-use Rattle.rust_grammar.specs.Rule.{Production, Look, Always, Never, Kind, Contextual, Joint, Left, InCondition, Given, Both, Either, Not, Rule, Nothing, One, Any, Then, Near, Or, Opt, Star, Node, Wrap, Want, Say, Skip, Split, When, Unless, Call, Continue, Mode, begins, there_at, shift, passes, is_silent, anew}
+use Rattle.rust_grammar.specs.Rule.{Production, Look, Always, Never, Kind, Contextual, Joint, Left, InCondition, Given, Both, Either, Not, Rule, Nothing, One, Any, Then, Near, Or, Opt, Star, Node, Wrap, Want, Say, Skip, Split, When, Unless, Call, Continue, Mode, begins, spelled_at, shift, passes, is_silent, anew}
 use Rattle.rust_grammar.specs.Meaning.{Reading, ahead, sees, fresh}
 use Rattle.rust_productions.specs.Reads.{looks, Saw}
 use Rattle.rust_grammar.proofs.Elsewhere.{anew-seen}
@@ -155,7 +155,7 @@ or_look None fs x = tells fs (anew (looks x))
 -- whether a rule begins here
 abbrev pub starts : List Fact → Rule → Option Bool
 starts fs Nothing = Some true
-starts fs (One x) = tells fs (there_at 0 x.parts)
+starts fs (One x) = tells fs (spelled_at 0 x)
 starts fs Any = of_left fs
 starts fs (Then a b) =
     let first = starts fs a in
@@ -357,7 +357,7 @@ module _ (c : Bool) (s : Reading) where
 pub is_start : (c : Bool) (s : Reading) (fs : List Fact) → HoldAll c s fs → HoldAll c (fresh s) fs → (r : Rule) → Right c s (begins looks r) (starts fs r)
 unfolding begins sees fresh
 is_start c s fs h i Nothing = refl
-is_start c s fs h i (One x) = is_told c s fs h (there_at 0 x.parts)
+is_start c s fs h i (One x) = is_told c s fs h (spelled_at 0 x)
 is_start c s fs h i Any = is_of_left c s fs h
 is_start c s fs h i (Then a b) = then_start (is_start c s fs h i a) (is_start c s fs h i b) (is_silent a) (passes a)
   where

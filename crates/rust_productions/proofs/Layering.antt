@@ -44,7 +44,8 @@ turn-begins (suc (suc (suc (suc (suc (suc (suc (suc zero)))))))) = refl
 turn-begins (suc (suc (suc (suc (suc (suc (suc (suc (suc zero))))))))) = refl
 turn-begins (suc (suc (suc (suc (suc (suc (suc (suc (suc (suc zero)))))))))) = refl
 turn-begins (suc (suc (suc (suc (suc (suc (suc (suc (suc (suc (suc zero))))))))))) = refl
-turn-begins (suc (suc (suc (suc (suc (suc (suc (suc (suc (suc (suc (suc n)))))))))))) = refl
+turn-begins (suc (suc (suc (suc (suc (suc (suc (suc (suc (suc (suc (suc zero)))))))))))) = refl
+turn-begins (suc (suc (suc (suc (suc (suc (suc (suc (suc (suc (suc (suc (suc n))))))))))))) = refl
 
 -- none begins where no token is left
 operators-end : (c : Bool) (h : ℕ) → EndsAtEnd c (operators_at h)
@@ -61,7 +62,8 @@ operators-end c (suc (suc (suc (suc (suc (suc (suc (suc zero)))))))) = ends-at-e
 operators-end c (suc (suc (suc (suc (suc (suc (suc (suc (suc zero))))))))) = ends-at-end c (operators_at 9) refl
 operators-end c (suc (suc (suc (suc (suc (suc (suc (suc (suc (suc zero)))))))))) = ends-at-end c (operators_at 10) refl
 operators-end c (suc (suc (suc (suc (suc (suc (suc (suc (suc (suc (suc zero))))))))))) = ends-at-end c (operators_at 11) refl
-operators-end c (suc (suc (suc (suc (suc (suc (suc (suc (suc (suc (suc (suc n)))))))))))) = λ t none. refl
+operators-end c (suc (suc (suc (suc (suc (suc (suc (suc (suc (suc (suc (suc zero)))))))))))) = ends-at-end c (operators_at 12) refl
+operators-end c (suc (suc (suc (suc (suc (suc (suc (suc (suc (suc (suc (suc (suc n))))))))))))) = λ t none. refl
 
 turn-ends : (c : Bool) (h : ℕ) → EndsAtEnd c (turn_at h)
 turn-ends c h = λ t none. ap (λ l. sees c t l) (turn-begins h) ∙ operators-end c h t none
@@ -128,7 +130,7 @@ parted (suc d) n low =
     (parted d n (suc low) ∙ ap (λ (m : ℕ). turns_from d (suc low) ++ (turn_at m ∷ turns_from n (suc m))) (let e : d + suc low ≡ suc d + low = omega arith in e))
 
 -- layers whose operators the next one is none of have no turn here
-no-turns : {o : Operator} {v : View} (c : Bool) → IsNext o v → (n low : ℕ) → 1 ≤ low → low + n ≤ 12 → (o.height < low) ⊎ (low + n ≤ o.height) → NoTurns c v (turns_from n low)
+no-turns : {o : Operator} {v : View} (c : Bool) → IsNext o v → (n low : ℕ) → 1 ≤ low → low + n ≤ 13 → (o.height < low) ⊎ (low + n ≤ o.height) → NoTurns c v (turns_from n low)
 unfolding turns_from
 no-turns c next zero low p q apart = tt
 no-turns {o} {v} c next (suc n) low p q apart = (

@@ -63,32 +63,32 @@ reads-leaf c r k w s e = absurd (let z : false ≡ true = e in cc)
 
 -- an operator is told by what is known
 pub operator-next :
-    {o : Operator} {fs : List Fact} {v : View} (h : ℕ) (k : SyntaxKind) (w : ℕ) → o ≡ record { height = h; kind = k; width = w } → h ≤ 11 → 1 ≤ w → w ≤ tokens v
-    → ((c : Bool) → Known c fs v) → are_told fs h 11 ≡ true → is_leaf (simple fs (operators_at h)) (raw_of k) w ≡ true → IsNext o v
+    {o : Operator} {fs : List Fact} {v : View} (h : ℕ) (k : SyntaxKind) (w : ℕ) → o ≡ record { height = h; kind = k; width = w } → h ≤ 12 → 1 ≤ w → w ≤ tokens v
+    → ((c : Bool) → Known c fs v) → are_told fs h 12 ≡ true → is_leaf (simple fs (operators_at h)) (raw_of k) w ≡ true → IsNext o v
 operator-next {o} {fs} {v} h k w is low some left known told one = subst (λ (p : Operator). IsNext p v) (sym is) (record {
   low = low;
   some = λ z. (some, left);
-  sees = λ c j p q. starts-here (operators_at j) (known c) (one-told fs h 11 told j p q);
+  sees = λ c j p q. starts-here (operators_at j) (known c) (one-told fs h 12 told j p q);
   reads = λ c s p e. sym (is_simple c v fs (known c).at (operators_at h) s e) ∙ reads-leaf c (simple fs (operators_at h)) (raw_of k) w s one;
 })
 
 -- that none is
-pub none-next : {o : Operator} {fs : List Fact} {v : View} → o.height ≡ 0 → ((c : Bool) → Known c fs v) → are_told fs 0 11 ≡ true → IsNext o v
+pub none-next : {o : Operator} {fs : List Fact} {v : View} → o.height ≡ 0 → ((c : Bool) → Known c fs v) → are_told fs 0 12 ≡ true → IsNext o v
 none-next {o} {fs} {v} none known told = record {
   low = omega (arith, none);
   some = λ z. absurd (omega (arith, none, z));
-  sees = λ c j p q. starts-here (operators_at j) (known c) (one-told fs o.height 11 (subst (λ (n : ℕ). are_told fs n 11 ≡ true) (sym none) told) j p q);
+  sees = λ c j p q. starts-here (operators_at j) (known c) (one-told fs o.height 12 (subst (λ (n : ℕ). are_told fs n 12 ≡ true) (sym none) told) j p q);
   reads = λ c s p e. absurd (omega (arith, none, p));
 }
 
 -- An operator of one token, or the assignment with an `=` joined to it.
 pub assigned-next :
     {o q : Operator} {v : View} (fs : Bool → List Fact) (joined : Bool) (h : ℕ) (k m : SyntaxKind)
-    → o ≡ (if joined then record { height = 11; kind = m; width = 2 } else q) → q ≡ record { height = h; kind = k; width = 1 } → h ≤ 11 → 1 ≤ tokens v → (joined ≡ true → 2 ≤ tokens v)
+    → o ≡ (if joined then record { height = 12; kind = m; width = 2 } else q) → q ≡ record { height = h; kind = k; width = 1 } → h ≤ 12 → 1 ≤ tokens v → (joined ≡ true → 2 ≤ tokens v)
     → ((b : Bool) → joined ≡ b → (c : Bool) → Known c (fs b) v)
-    → are_told (fs true) 11 11 ≡ true → is_leaf (simple (fs true) (operators_at 11)) (raw_of m) 2 ≡ true
-    → are_told (fs false) h 11 ≡ true → is_leaf (simple (fs false) (operators_at h)) (raw_of k) 1 ≡ true → IsNext o v
-assigned-next fs true h k m is plain low some more known told one told2 one2 = operator-next 11 m 2 is (omega arith) (omega arith) (more refl) (known true refl) told one
+    → are_told (fs true) 12 12 ≡ true → is_leaf (simple (fs true) (operators_at 12)) (raw_of m) 2 ≡ true
+    → are_told (fs false) h 12 ≡ true → is_leaf (simple (fs false) (operators_at h)) (raw_of k) 1 ≡ true → IsNext o v
+assigned-next fs true h k m is plain low some more known told one told2 one2 = operator-next 12 m 2 is (omega arith) (omega arith) (more refl) (known true refl) told one
 assigned-next fs false h k m is plain low some more known told one told2 one2 = operator-next h k 1 (is ∙ plain) low (omega arith) some (known false refl) told2 one2
 
 -- what was next is so after a look

@@ -9,7 +9,7 @@ use Rattle.rust_grammar.specs.Meaning.{begins_below, fresh, look_of}
 use Rattle.rust_grammar.specs.Notation.{◌!, any_of, is_longer, no_longer, longest, one_of, row}
 use Rattle.rust_grammar.specs.Paths.{paths}
 use Rattle.rust_grammar.specs.Patterns.{patterns}
-use Rattle.rust_grammar.specs.Rule.{Production, disjunction, expression, operation, operation_tail, prefixed, Look, Rule, Nothing, One, Then, Or, Node, Wrap, Unless, Continue, Call, begins, in_mode, anew, is_silent, passes, shift, there_at}
+use Rattle.rust_grammar.specs.Rule.{Production, disjunction, expression, operation, operation_tail, pipe_tail, prefixed, Look, Rule, Nothing, One, Then, Or, Node, Wrap, Unless, Continue, Call, begins, in_mode, anew, is_silent, passes, shift, there_at}
 use Rattle.rust_grammar.specs.Statements.{statements}
 use Rattle.rust_grammar.specs.Types.{types}
 use Rattle.rust_grammar.specs.Whole.{rule, whole}
@@ -104,9 +104,8 @@ unfolding look_of begins_below whole rule items statements expressions patterns 
 reads-range-end {c} Exclusive next near p = reads-here (next.dots_eq c and (next.dots c and (near and nothing))) p
 reads-range-end {c} Inclusive next near p = reads-here (next.dots_eq c and (next.dots c and (near and nothing))) p
 
--- Where no mark is next: an assignment, or nothing.
-unranged :
-    {c : Bool} {old new : View} → IsMark None old → Reads c (Or (Wrap BIN_EXPR (Then assignment (Operation !))) Nothing) old new → Reads c (rule operation_tail) old new
+-- Where no mark is next: operands after `|>`, and an assignment.
+pub unranged : {c : Bool} {old new : View} → IsMark None old → Reads c (Continue pipe_tail) old new → Reads c (rule operation_tail) old new
 unfolding look_of begins_below whole rule items statements expressions patterns types paths there_at shift passes is_silent begins in_mode anew row one_of any_of no_longer longest is_longer
 unranged {c} next p =
     reads-else c (starts-here (Then (Wrap RANGE_EXPR (range_to 'dots_eq')) (Continue operation_tail)) (next.dots_eq c and (next.dots c and nothing)) refl)
@@ -114,15 +113,27 @@ unranged {c} next p =
     (reads-else c (starts-here (Wrap RANGE_EXPR range_mark) (next.dots_eq c and (next.dots c and nothing)) refl) p))
 
 pub reads-assignment :
-    {c : Bool} {old new : View} → IsMark None old → Saw c (begins looks (operators_at 11)) old true
-    → Reads c (Wrap BIN_EXPR (Then (operators_at 11) (Operation !))) old new → Reads c (rule operation_tail) old new
+    {c : Bool} {old new : View} → Saw c (begins looks (operators_at 12)) old true
+    → Reads c (Wrap BIN_EXPR (Then (operators_at 12) (Operation !))) old new → Reads c (Or (Wrap BIN_EXPR (Then assignment (Operation !))) Nothing) old new
 unfolding begins passes is_silent operators_at operators
-reads-assignment {c} next saw p = unranged next (reads-or c saw p)
+reads-assignment {c} saw p = reads-or c saw p
 
-pub reads-no-tail :
-    {c : Bool} {old new : View} → IsMark None old → Saw c (begins looks (operators_at 11)) old false → Does (λ s. s) old new → Reads c (rule operation_tail) old new
+pub reads-no-assignment :
+    {c : Bool} {old new : View} → Saw c (begins looks (operators_at 12)) old false → Does (λ s. s) old new → Reads c (Or (Wrap BIN_EXPR (Then assignment (Operation !))) Nothing) old new
 unfolding begins passes is_silent operators_at operators
-reads-no-tail {c} next saw p = unranged next (reads-else c saw (reads-nothing c p))
+reads-no-assignment {c} saw p = reads-else c saw (reads-nothing c p)
+
+-- One more operand after `|>`, and what stands after that.
+pub reads-pipe :
+    {c : Bool} {old new : View} → Saw c (begins looks (operators_at 11)) old true → Reads c (Then (Wrap BIN_EXPR (Then (operators_at 11) (Disjunction !))) (Continue pipe_tail)) old new → Reads c (rule pipe_tail) old new
+unfolding rule items statements expressions patterns types paths begins passes is_silent operators_at operators
+reads-pipe {c} saw p = reads-or c saw p
+
+-- Where no `|>` is next, an assignment is the last, if one is there.
+pub reads-no-pipe :
+    {c : Bool} {old new : View} → Saw c (begins looks (operators_at 11)) old false → Reads c (Or (Wrap BIN_EXPR (Then assignment (Operation !))) Nothing) old new → Reads c (rule pipe_tail) old new
+unfolding rule items statements expressions patterns types paths begins passes is_silent operators_at operators
+reads-no-pipe {c} saw p = reads-else c saw p
 
 -- a production that is called begins where it does
 pub begins-call : {c b : Bool} {v : View} (x : Production) → Saw c (looks x) v b → Saw c (begins looks (Call x)) v b

@@ -5,7 +5,7 @@ use Rattle.parser_events.specs.Forest.{ExpectedExpression}
 use Rattle.rust_grammar.specs.Calls.{AnyType}
 use Rattle.rust_grammar.specs.Expressions.{assignment}
 use Rattle.rust_grammar.specs.Notation.{◌or◌, ◌▸◌, ◌!, ◌<⟨◌⟩, op}
-use Rattle.rust_grammar.specs.Words.{'==', '!=', '<=', '>=', '&&', '||', '<<', '>>', '<', '>', '-', '&', '|', '+', '*', '/', '^', '%', 'as'}
+use Rattle.rust_grammar.specs.Words.{'==', '!=', '<=', '>=', '&&', '||', '|>', '<<', '>>', '<', '>', '-', '&', '|', '+', '*', '/', '^', '%', 'as'}
 use Rattle.rust_grammar.specs.Rule.{Production, disjunction, conjunction, comparison, bit_or, bit_xor, bit_and, bit_shift, sum, product, cast, prefixed, Never, Rule, Nothing, One, Then, Star, Want, When, Call}
 
 -- by height: operands with their prefixes, and above them the layers, the tightest first
@@ -18,7 +18,8 @@ layer_at height = get_or layers height disjunction
 abbrev pub never : Rule
 never = When Never Nothing
 
--- The operators of each layer, by its height; above the layers stand those of assignments.
+-- The operators of each layer, by its height; above the layers stand `|>`, whose operands are those of the top layer, and above
+-- that the operators of assignments.
 unfoldable pub operators : List Rule
 operators =
     never
@@ -32,6 +33,7 @@ operators =
     ∷ (op '==' or op '!=' or op '<' or op '>' or op '<=' or op '>=')
     ∷ op '&&'
     ∷ op '||'
+    ∷ op '|>'
     ∷ assignment
     ∷ []
 

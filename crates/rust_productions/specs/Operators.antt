@@ -15,11 +15,11 @@ use Rattle.rust_productions.specs.declared.grammar.operators.Operator.{Operator}
 use Rattle.rust_productions.specs.declared.grammar.operators.RangeMark.{RangeMark}
 use Rattle.rust_productions.specs.declared.grammar.operators.RangeMark.TheVariants.{Exclusive, Inclusive}
 
--- Of the layers, and of assignments above them, the operator's own begins here and no other one; its leaf is what that reads.
+-- Of the layers, and of `|>` and assignments above them, the operator's own begins here and no other one; its leaf is what that reads.
 pub record IsNext (o : Operator) (v : View) : Type 0 where
-  pub low : o.height ≤ 11
+  pub low : o.height ≤ 12
   pub some : 1 ≤ o.height → (1 ≤ o.width) × (o.width ≤ tokens v)
-  pub sees : (c : Bool) (h : ℕ) → 1 ≤ h → h ≤ 11 → Saw c (begins looks (operators_at h)) v (o.height == h)
+  pub sees : (c : Bool) (h : ℕ) → 1 ≤ h → h ≤ 12 → Saw c (begins looks (operators_at h)) v (o.height == h)
   pub reads : (c : Bool) (s : Reading) → 1 ≤ o.height → left v ≡ s.rest → read (look_of whole) (meaning whole) c (operators_at o.height) s ≡ leaf (raw_of o.kind) o.width s
 
 -- the marks of ranges

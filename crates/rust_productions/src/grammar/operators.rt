@@ -3,21 +3,22 @@
 ghost use Rattle.std.specs.Prelude.{◌≡◌, ◌≢◌, ◌+◌, ◌≤◌, Bool, IsTrue, Some, true, if◌then◌else◌};
 ghost use Rattle.parser_input.specs.Kind.{raw_of};
 ghost use Rattle.parser_input.specs.Kinds as kinds;
-ghost use Rattle.rust_grammar.specs.Rule.{Both, Joint, Kind, One};
+ghost use Rattle.rust_grammar.specs.Rule.{Both, Joint, Kind, One, spelled_at};
+ghost use Rattle.rust_grammar.specs.Words.{'|>'};
 ghost use Rattle.rust_productions.specs.Layers.{operators_at};
 ghost use Rattle.rust_productions.specs.Looks.{tokens, spent};
 ghost use Rattle.rust_productions.specs.Operators.{IsMark, IsNext, spelling_of};
 ghost use Rattle.rust_productions.specs.Reads.{Does, Reads, Saw};
 
-use crate::grammar::{at, at_second, at_third, current};
+use crate::grammar::{at, at_contextual, at_second, at_third, current};
 use parser_events::parser::Parser;
 use parser_input::syntax_kind::SyntaxKind;
 
 /// An operator, or none.
 #[derive(Clone, Copy)]
 pub struct Operator {
-    /// The layer that it belongs to, counted from the tightest, which is 1; above the ten layers
-    /// stand assignments. None is of height 0.
+    /// The layer that it belongs to, counted from the tightest, which is 1. Above the ten layers
+    /// stand `|>`, of height 11, and assignments, of height 12. None is of height 0.
     pub height: u8,
     pub kind: SyntaxKind,
     /// How many tokens it is.
@@ -43,10 +44,10 @@ impl Operator {
 
     /// This operator, or where an `=` belongs to it the assignment of this kind.
     fn or_assignment(self, assigned: bool, kind: SyntaxKind) -> Operator
-        ensures { result ≡ if assigned then record { height = 11; kind = kind; width = 2 } else self }
+        ensures { result ≡ if assigned then record { height = 12; kind = kind; width = 2 } else self }
     {
         if assigned {
-            Operator::new(11, kind, 2)
+            Operator::new(12, kind, 2)
         } else {
             self
         }
@@ -79,6 +80,21 @@ fn at_joined_after(p: &mut Parser<'_>, kind: SyntaxKind) -> bool
         return false;
     }
     at_third(p, kind)
+}
+
+/// Returns `true` if the operator `|>` is next. The current token is `|`.
+fn at_pipe_gt(p: &mut Parser<'_>) -> bool
+    requires { (c : Bool) → Saw c (Kind 0 kinds.PIPE) p.old true }
+    ensures sees { (c : Bool) → Saw c (spelled_at 0 '|>') p.old result }
+    ensures some { IsTrue result → 2 ≤ tokens p.old }
+    ensures same { Does (λ s. s) p.old p.new }
+    ensures left { tokens p.new ≡ tokens p.old }
+    ensures looks { spent p.new ≤ spent p.old + 1 }
+{
+    if !at_contextual(p, SyntaxKind::PIPE_GT) {
+        return false;
+    }
+    at_joined(p, SyntaxKind::R_ANGLE)
 }
 
 /// Whether the next token touches the one after it.
@@ -199,10 +215,13 @@ fn after_pipe(p: &mut Parser<'_>) -> Operator
     ensures next { IsNext result p.old }
     ensures same { Does (λ s. s) p.old p.new }
     ensures left { tokens p.new ≡ tokens p.old }
-    ensures looks { spent p.new ≤ spent p.old + 2 }
+    ensures looks { spent p.new ≤ spent p.old + 3 }
 {
     if at_joined(p, SyntaxKind::PIPE) {
         return Operator::new(10, SyntaxKind::PIPE2, 2);
+    }
+    if at_pipe_gt(p) {
+        return Operator::new(11, SyntaxKind::PIPE_GT, 2);
     }
     let assigned = at_joined(p, SyntaxKind::EQ);
     Operator::new(7, SyntaxKind::PIPE, 1).or_assignment(assigned, SyntaxKind::PIPEEQ)
@@ -223,7 +242,7 @@ fn after_equals(p: &mut Parser<'_>) -> Operator
     if at_joined(p, SyntaxKind::R_ANGLE) {
         return Operator::none();
     }
-    Operator::new(11, SyntaxKind::EQ, 1)
+    Operator::new(12, SyntaxKind::EQ, 1)
 }
 
 /// The operator that begins with `!`, if one does.
@@ -260,7 +279,7 @@ fn after_left_angle(p: &mut Parser<'_>) -> Operator
         return Operator::new(8, SyntaxKind::L_ANGLE, 1);
     }
     if at_joined_after(p, SyntaxKind::EQ) {
-        return Operator::new(11, SyntaxKind::SHLEQ, 3);
+        return Operator::new(12, SyntaxKind::SHLEQ, 3);
     }
     Operator::new(4, SyntaxKind::SHL, 2)
 }
@@ -284,7 +303,7 @@ fn after_right_angle(p: &mut Parser<'_>) -> Operator
         return Operator::new(8, SyntaxKind::R_ANGLE, 1);
     }
     if at_joined_after(p, SyntaxKind::EQ) {
-        return Operator::new(11, SyntaxKind::SHREQ, 3);
+        return Operator::new(12, SyntaxKind::SHREQ, 3);
     }
     Operator::new(4, SyntaxKind::SHR, 2)
 }

@@ -31,7 +31,7 @@ returns-then-at_joined-2-clause-same c = (does-then c.at_joined.ensures.same c.a
 
 pub returns-clause-next : goal.returns-clause-next
 unfolding look_of begins_below whole rule items statements expressions patterns types paths there_at shift passes is_silent begins in_mode anew row one_of any_of no_longer longest is_longer operators_at operators
-returns-clause-next c = operator-next 11 variants.EQ 1 c.new-2.ensures (omega arith) (omega arith) c.requires.some (λ d. c.requires.first d and (saw-so (c.at_joined.ensures.sees d) c.if-at_joined.false and (saw-before c.at_joined.ensures.same (saw-so (c.at_joined-2.ensures.sees d) c.if-at_joined-2.false) and nothing))) refl refl
+returns-clause-next c = operator-next 12 variants.EQ 1 c.new-2.ensures (omega arith) (omega arith) c.requires.some (λ d. c.requires.first d and (saw-so (c.at_joined.ensures.sees d) c.if-at_joined.false and (saw-before c.at_joined.ensures.same (saw-so (c.at_joined-2.ensures.sees d) c.if-at_joined-2.false) and nothing))) refl refl
 
 pub returns-clause-same : goal.returns-clause-same
 returns-clause-same c = (does-then c.at_joined.ensures.same c.at_joined-2.ensures.same)

@@ -38,7 +38,7 @@ returns-then-not-at_second-clause-same c = (does-then c.at_joint.ensures.same (d
 
 pub returns-then-at_joined_after-clause-next : goal.returns-then-at_joined_after-clause-next
 unfolding look_of begins_below whole rule items statements expressions patterns types paths there_at shift passes is_silent begins in_mode anew row one_of any_of no_longer longest is_longer operators_at operators
-returns-then-at_joined_after-clause-next c = operator-next 11 variants.SHREQ 3 c.new-then-at_joined_after.ensures (omega arith) (omega arith) (omega (arith, c.at_joint.ensures.left, c.at_second.ensures.left, c.at_second-2.ensures.left, c.at_joined_after.ensures.some c.if-at_joined_after.true (no-end variants.EQ refl))) (λ d. c.requires.first d and (saw-so (c.at_joint.ensures.sees d) c.if-not-at_joint.false and (saw-before c.at_joint.ensures.same (saw-so (c.at_second.ensures.sees d) c.if-at_second.false) and (saw-before c.at_joint.ensures.same (saw-before c.at_second.ensures.same (saw-so (c.at_second-2.ensures.sees d) c.if-not-at_second.false)) and (saw-before c.at_joint.ensures.same (saw-before c.at_second.ensures.same (saw-before c.at_second-2.ensures.same (saw-so (c.at_joined_after.ensures.sees d) c.if-at_joined_after.true))) and nothing))))) refl refl
+returns-then-at_joined_after-clause-next c = operator-next 12 variants.SHREQ 3 c.new-then-at_joined_after.ensures (omega arith) (omega arith) (omega (arith, c.at_joint.ensures.left, c.at_second.ensures.left, c.at_second-2.ensures.left, c.at_joined_after.ensures.some c.if-at_joined_after.true (no-end variants.EQ refl))) (λ d. c.requires.first d and (saw-so (c.at_joint.ensures.sees d) c.if-not-at_joint.false and (saw-before c.at_joint.ensures.same (saw-so (c.at_second.ensures.sees d) c.if-at_second.false) and (saw-before c.at_joint.ensures.same (saw-before c.at_second.ensures.same (saw-so (c.at_second-2.ensures.sees d) c.if-not-at_second.false)) and (saw-before c.at_joint.ensures.same (saw-before c.at_second.ensures.same (saw-before c.at_second-2.ensures.same (saw-so (c.at_joined_after.ensures.sees d) c.if-at_joined_after.true))) and nothing))))) refl refl
 
 pub returns-then-at_joined_after-clause-same : goal.returns-then-at_joined_after-clause-same
 returns-then-at_joined_after-clause-same c = (does-then c.at_joint.ensures.same (does-then c.at_second.ensures.same (does-then c.at_second-2.ensures.same c.at_joined_after.ensures.same)))
