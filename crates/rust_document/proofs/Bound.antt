@@ -90,7 +90,7 @@ level-shown : (j : ℕ) (c : forest.Forest) (i : Forest) → Shows c i → told 
 unfolding level grammar.level
 level-shown j c i h t s e = whichever (j == BIN_EXPR) e
   where
-    whichever : (b : Bool) → (if b then grammar.is_operator_placed c else true) ≡ true → (if b then power (operator i) else 12) ≡ (if b then power (grammar.operator c) else 12)
+    whichever : (b : Bool) → (if b then grammar.is_operator_placed c else true) ≡ true → (if b then power (operator i) else 13) ≡ (if b then power (grammar.operator c) else 13)
     whichever true e = ap power (operator-shown c i h t s (has-operator c e))
     whichever false e = refl
 
@@ -116,7 +116,7 @@ parts j c f t s e = record {
   rest_told = omega (arith, t);
 }
 
-field-left : (i r : Forest) → left_level (node FIELD_EXPR i r) ≡ 12
+field-left : (i r : Forest) → left_level (node FIELD_EXPR i r) ≡ 13
 unfolding left_level level
 field-left i r = refl
 

@@ -1,7 +1,7 @@
 -- Trees of expressions, and whether each operator is placed in them.
 use Rattle.std.specs.Prelude.{◌≡◌, ℕ, Bool, true, false, List, [], ◌∷◌}
 use Rattle.rowan_green.specs.Forest.{Forest, empty, node, leaf}
-use Rattle.parser_input.specs.Kinds.{WHITESPACE, COMMENT, IDENT, L_PAREN, R_PAREN, PATH_EXPR, PAREN_EXPR, BIN_EXPR, PLUS, MINUS, STAR, EQ, PLUSEQ, EQ2, AMP2, PIPE2}
+use Rattle.parser_input.specs.Kinds.{WHITESPACE, COMMENT, IDENT, L_PAREN, R_PAREN, PATH_EXPR, PAREN_EXPR, BIN_EXPR, PLUS, MINUS, STAR, EQ, PLUSEQ, EQ2, AMP2, PIPE2, PIPE_GT}
 use Rattle.rust_document.specs.Shape.{kinds_in}
 use Rattle.rust_document.specs.Operators.{are_operators_placed}
 
@@ -42,12 +42,17 @@ rows =
     ∷ right (binary a EQ (binary a PLUSEQ a))
     ∷ right (binary a STAR (bracketed (binary a PLUS a)))
     ∷ right (binary (bracketed (binary a EQ a)) EQ2 a)
+    ∷ right (binary (binary (binary a PIPE2 a) PIPE_GT a) PIPE_GT a)
+    ∷ right (binary a EQ (binary a PIPE_GT a))
     ∷ wrong (binary a MINUS (binary a PLUS a))
     ∷ wrong (binary a EQ2 (binary a EQ2 a))
     ∷ wrong (binary a STAR (binary a PLUS a))
     ∷ wrong (binary (binary a PIPE2 a) AMP2 a)
     ∷ wrong (binary a PLUS (binary a EQ a))
     ∷ wrong (binary (binary a EQ a) PLUSEQ a)
+    ∷ wrong (binary a PIPE_GT (binary a PIPE_GT a))
+    ∷ wrong (binary (binary a PIPE_GT a) PIPE2 a)
+    ∷ wrong (binary a PIPE_GT (binary a EQ a))
     ∷ wrong (binary a IDENT a)
     ∷ wrong (bracketed (binary (binary a PLUS a) STAR a))
     ∷ []

@@ -12,17 +12,17 @@ operator (node k f r) = operator r
 
 -- How tightly a node holds together: a binary expression as its operator binds, any other node more tightly than each operator.
 unfoldable pub level : (kind : ℕ) → (children : Forest) → ℕ
-level kind children = if kind == BIN_EXPR then power (operator children) else 12
+level kind children = if kind == BIN_EXPR then power (operator children) else 13
 
 -- how tightly the first of these elements holds together
 unfoldable pub left_level : Forest → ℕ
-left_level empty = 12
-left_level (leaf l r) = 12
+left_level empty = 13
+left_level (leaf l r) = 13
 left_level (node k f r) = level k f
 
 -- how tightly the last of these elements holds together
 unfoldable pub right_level : Forest → ℕ
-right_level empty = 12
+right_level empty = 13
 right_level (leaf l r) = right_level r
 right_level (node k f empty) = level k f
 right_level (node k f r) = right_level r
