@@ -15,6 +15,7 @@ use std::alloc::{AllocError, Global};
 
 // The kinds of the whole language stand side by side, by their raw numbers.
 const FIRST_OF_WHOLE: u16 = SyntaxKind::EXTERN_CRATE as u16;
+
 const LAST_OF_WHOLE: u16 = SyntaxKind::UNDERSCORE_EXPR as u16;
 
 fn edition_named(word: &str) -> Option<Edition>

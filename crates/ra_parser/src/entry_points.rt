@@ -46,7 +46,7 @@ pub enum ParseError {
 impl fmt::Display for ParseError {
     ghost use Rattle.std.specs.Prelude.{Some};
     ghost use Rattle.ra_parser.specs.Core.{IsCore};
-ghost use Rattle.ra_parser.specs.Entries.{message_of};
+    ghost use Rattle.ra_parser.specs.Entries.{message_of};
 
     ghost output = { λ e. Some (message_of e) };
 

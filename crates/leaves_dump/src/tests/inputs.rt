@@ -80,10 +80,12 @@ fn sees_in(
     let lexed = LexedStr::new(alloc, edition, text)?;
     let profile = lexed.to_input(alloc)?;
     let whole = lexed.to_whole_input(alloc)?;
-    Ok(has(&profile, tokens)
-        & is_all_whole(&profile, false)
-        & has(&whole, tokens)
-        & is_all_whole(&whole, true))
+    Ok(
+        has(&profile, tokens)
+            & is_all_whole(&profile, false)
+            & has(&whole, tokens)
+            & is_all_whole(&whole, true),
+    )
 }
 
 // What the parser sees of a text, token by token.
@@ -256,10 +258,16 @@ const UNEQUAL: &[(&str, &str)] = &[
 #[test]
 fn inputs_are_equal_by_their_tokens(rt: HostRuntime) -> Result<(), AllocError> {
     for (one, other) in EQUAL {
-        assert!(rt; are_equal(rt.alloc(), Edition::EditionNext, one, other)?, "at {one}");
+        assert!(rt;
+            are_equal(rt.alloc(), Edition::EditionNext, one, other)?,
+            "at {one}"
+        );
     }
     for (one, other) in UNEQUAL {
-        assert!(rt; !are_equal(rt.alloc(), Edition::EditionNext, one, other)?, "at {one}");
+        assert!(rt;
+            !are_equal(rt.alloc(), Edition::EditionNext, one, other)?,
+            "at {one}"
+        );
     }
     Ok(())
 }

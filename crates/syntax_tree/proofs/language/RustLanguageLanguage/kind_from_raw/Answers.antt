@@ -6,12 +6,12 @@ use Rattle.parser_input.specs.KindTable.{all_kinds}
 use Rattle.syntax_tree.specs.Language.{kind_of_raw, kind_of_raw-raw_of}
 use Rattle.syntax_tree.proofs.language.RustLanguageLanguage.kind_from_raw.Goals as goal
 
-count : length all_kinds ≡ 238
+count : length all_kinds ≡ 256
 unfolding all_kinds
 count = refl
 
-from_past : (n : ℕ) → (n < 238 → false ≡ true) → 238 ≤ n
-from_past n none = let not_below : n < 238 → ⊥ = λ l. false≢true (none l) in omega (arith, not_below)
+from_past : (n : ℕ) → (n < 256 → false ≡ true) → 256 ≤ n
+from_past n none = let not_below : n < 256 → ⊥ = λ l. false≢true (none l) in omega (arith, not_below)
 
 pub returns-in-Some : goal.returns-in-Some
 returns-in-Some c = sym (kind_of_raw-raw_of c.in-Some.kind) ∙ ap kind_of_raw c.in-Some.ensures.number
