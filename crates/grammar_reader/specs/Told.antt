@@ -22,6 +22,7 @@ use Rattle.grammar_reader.specs.declared.grammar.paths.Mode.TheVariants as modes
 -- which operators an expression has outside of brackets
 abbrev pub level_of : Level → rules.Production
 level_of levels.Comparison = rules.comparison
+level_of levels.Disjunction = rules.disjunction
 level_of levels.Expression = rules.expression
 level_of levels.Operation = rules.operation
 level_of levels.Prefixed = rules.prefixed

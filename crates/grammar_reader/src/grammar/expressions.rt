@@ -1,16 +1,17 @@
-//! Expressions: operations, ranges and assignments.
+//! Expressions: operations, ranges, operands after `|>`, and assignments.
 
 ghost use Rattle.std.specs.Prelude.{◌≡◌, ◌≤◌, ◌<◌, ◌+◌, ◌*◌, ◌^◌, ℕ, Bool, IsTrue, Some, None, true, false, length};
+ghost use Rattle.parser_input.specs.Kinds.{BIN_EXPR};
 ghost use Rattle.parser_events.specs.Forest.{ExpectedExpression};
 ghost use Rattle.parser_events.specs.Stack.{IsInnermost};
 ghost use Rattle.rust_grammar.specs.Calls.{Disjunction, Operation};
-ghost use Rattle.rust_grammar.specs.Expressions.{body_begins, range_to};
-ghost use Rattle.rust_grammar.specs.Notation.{◌▸◌, ◌!, more, on};
+ghost use Rattle.rust_grammar.specs.Expressions.{assignment, body_begins, range_to};
+ghost use Rattle.rust_grammar.specs.Notation.{◌or◌, ◌▸◌, ◌!, ◌<⟨◌⟩, more, on};
 ghost use Rattle.rust_grammar.specs.Rule as rules;
-ghost use Rattle.rust_grammar.specs.Rule.{Call, One, Unless, Want, begins};
+ghost use Rattle.rust_grammar.specs.Rule.{Call, Nothing, One, Unless, Want, begins};
 ghost use Rattle.grammar_reader.specs.Told.{level_of};
 ghost use Rattle.rust_productions.specs.Looks.{tokens, spent};
-ghost use Rattle.rust_productions.specs.Operators.{IsMark, spelling_of};
+ghost use Rattle.rust_productions.specs.Operators.{IsMark, IsNext, spelling_of};
 ghost use Rattle.rust_productions.specs.Reads.{looks, Gives, Reads, Saw};
 ghost use Rattle.rust_productions.specs.Turns.{GoesFrom};
 
@@ -21,7 +22,7 @@ use parser_events::parser::{Marker, Parser};
 use parser_input::syntax_kind::SyntaxKind;
 use rust_productions::grammar::expressions::{at_expression, at_operation, at_range_operand};
 use rust_productions::grammar::operators::{
-    RangeMark, current_op, range_mark, take_mark, take_operator,
+    Operator, RangeMark, current_op, range_mark, take_mark, take_operator,
 };
 use rust_productions::grammar::{abandon, complete, error, start, wrap};
 
@@ -37,6 +38,7 @@ pub(crate) mod operand;
 #[derive(Clone, Copy)]
 pub(crate) enum Level {
     Comparison,
+    Disjunction,
     Expression,
     Operation,
     Prefixed,
@@ -52,6 +54,7 @@ pub(crate) fn expect_expression(p: &mut Parser<'_>, level: Level, condition: boo
 {
     match level {
         Level::Comparison => expect_layer(p, 8, condition),
+        Level::Disjunction => expect_layer(p, 10, condition),
         Level::Expression => expect_any(p, condition),
         Level::Operation => expect_operation(p, condition),
         Level::Prefixed => expect_layer(p, 0, condition),
@@ -189,7 +192,7 @@ fn range_end(p: &mut Parser<'_>, mark: RangeMark, condition: bool) -> bool
     false
 }
 
-/// What stands after an operand and its operators: ranges, and an assignment.
+/// Parses what follows an operand and its operators: ranges, operands after `|>`, an assignment.
 #[cycle(grammar)]
 fn operation_tail(p: &mut Parser<'_>, frame: Marker, condition: bool) -> Marker
     requires short { length p.old.input < 2 ^ 64 }
@@ -209,22 +212,44 @@ fn operation_tail(p: &mut Parser<'_>, frame: Marker, condition: bool) -> Marker
         }
         mark = range_mark(p);
     }
-    assignment(p, frame, condition)
+    pipe_tail(p, frame, condition)
 }
 
-/// An assignment to what stands before it, or nothing.
+/// Parses the operands after `|>`, and an assignment after those.
+// a |> f() |> g() = b
 #[cycle(grammar)]
-fn assignment(p: &mut Parser<'_>, frame: Marker, condition: bool) -> Marker
+fn pipe_tail(p: &mut Parser<'_>, frame: Marker, condition: bool) -> Marker
     requires short { length p.old.input < 2 ^ 64 }
-    requires unmarked { IsMark None p.old }
     requires innermost { IsInnermost frame p.old.nodes }
-    ensures reads { Reads condition (more rules.operation_tail) p.old p.new }
+    ensures reads { Reads condition (more rules.pipe_tail) p.old p.new }
     ensures marker { IsInnermost result p.new.nodes }
     ensures left { tokens p.new ≤ tokens p.old }
     ensures looks { spent p.new ≤ spent p.old + 4 }
 {
-    let operator = current_op(p);
-    if operator.height != 11 {
+    let mut frame = frame;
+    let mut operator = current_op(p);
+    'pipes: while operator.height == 11 {
+        take_operator(p, operator);
+        expect_expression(p, Level::Disjunction, condition);
+        frame = wrap(p, frame, SyntaxKind::BIN_EXPR);
+        operator = current_op(p);
+    }
+    opt_assignment(p, frame, operator, condition)
+}
+
+/// Parses the optional assignment to what stands before it. `operator` is the next one.
+#[cycle(grammar)]
+fn opt_assignment(p: &mut Parser<'_>, frame: Marker, operator: Operator, condition: bool) -> Marker
+    requires short { length p.old.input < 2 ^ 64 }
+    requires next { IsNext operator p.old }
+    requires innermost { IsInnermost frame p.old.nodes }
+    ensures reads { Reads condition
+        (BIN_EXPR <⟨ assignment ▸ Operation ! ⟩ or Nothing) p.old p.new }
+    ensures marker { IsInnermost result p.new.nodes }
+    ensures left { tokens p.new ≤ tokens p.old }
+    ensures looks { spent p.new ≤ spent p.old }
+{
+    if operator.height != 12 {
         return frame;
     }
     take_operator(p, operator);

@@ -1,7 +1,7 @@
 //! Statements.
 
 ghost use Rattle.std.specs.Prelude.{◌≡◌, ◌≤◌, ◌<◌, ◌+◌, ◌*◌, ◌^◌, Bool, IsTrue, true, false, [], ◌∷◌, length};
-ghost use Rattle.parser_input.specs.Kinds.{LET_ELSE, LET_STMT};
+ghost use Rattle.parser_input.specs.Kinds.{DEFER_STMT, LET_ELSE, LET_STMT};
 ghost use Rattle.parser_events.specs.Forest.{ExpectedStatement};
 ghost use Rattle.parser_events.specs.Stack.{IsInnermost};
 ghost use Rattle.rust_grammar.specs.Calls.{AnyType, Block, BlockLike, Expression, Pattern};
@@ -9,7 +9,7 @@ ghost use Rattle.rust_grammar.specs.Notation.{◌or◌, ◌▸◌, ⁅◌⁆, �
 ghost use Rattle.rust_grammar.specs.Rule as rules;
 ghost use Rattle.rust_grammar.specs.Rule.{One, Skip};
 ghost use Rattle.rust_grammar.specs.Statements.{goes_on, item_begins};
-ghost use Rattle.rust_grammar.specs.Words.{'semi', '#', ':', '=', '!', 'else', 'fn', 'impl', 'let', 'trait'};
+ghost use Rattle.rust_grammar.specs.Words.{'semi', '#', ':', '=', '!', 'defer', 'else', 'fn', 'impl', 'let', 'trait'};
 ghost use Rattle.grammar_reader.specs.Told.{after_block_of, listing_of};
 ghost use Rattle.rust_productions.specs.Looks.{tokens, spent};
 ghost use Rattle.rust_productions.specs.Reads.{looks, Anew, Does, Gives, Reads, Saw};
@@ -43,6 +43,7 @@ pub(crate) fn statement(p: &mut Parser<'_>, end: ListEnd)
 {
     match current(p) {
         SyntaxKind::SEMICOLON => take(p, SyntaxKind::SEMICOLON),
+        SyntaxKind::DEFER_KW => defer_stmt(p),
         SyntaxKind::LET_KW => let_stmt(p),
         _ => {
             if at_inner_attribute(p) {
@@ -109,6 +110,22 @@ fn at_item_after_unsafe(p: &mut Parser<'_>) -> bool
         SyntaxKind::FN_KW | SyntaxKind::IMPL_KW | SyntaxKind::TRAIT_KW => true,
         _ => false,
     }
+}
+
+/// Parses a `defer` statement. The current token is `defer`.
+// defer { close(file) }
+#[cycle(grammar)]
+fn defer_stmt(p: &mut Parser<'_>)
+    requires short { length p.old.input < 2 ^ 64 }
+    requires some { 1 ≤ tokens p.old }
+    ensures reads { (c : Bool) → Reads c (DEFER_STMT ⟨ One 'defer' ▸ Block ! ⟩) p.old p.new }
+    ensures left { tokens p.new + 1 ≤ tokens p.old }
+    ensures looks { spent p.new + 4090 ≤ spent p.old }
+{
+    let node = start(p);
+    take(p, SyntaxKind::DEFER_KW);
+    expect_block(p);
+    complete(p, node, SyntaxKind::DEFER_STMT);
 }
 
 /// A `let`.

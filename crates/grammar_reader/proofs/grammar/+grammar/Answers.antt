@@ -780,6 +780,12 @@ expressions::expect_expression-expect_layer-requires = expressions.expressions::
 pub expressions::expect_expression-returns-in-Comparison-clause-reads : goal.expressions::expect_expression-returns-in-Comparison-clause-reads
 expressions::expect_expression-returns-in-Comparison-clause-reads = expressions.expressions::expect_expression-returns-in-Comparison-clause-reads
 
+pub expressions::expect_expression-expect_layer-requires-in-Disjunction : goal.expressions::expect_expression-expect_layer-requires-in-Disjunction
+expressions::expect_expression-expect_layer-requires-in-Disjunction = expressions.expressions::expect_expression-expect_layer-requires-in-Disjunction
+
+pub expressions::expect_expression-returns-in-Disjunction-clause-reads : goal.expressions::expect_expression-returns-in-Disjunction-clause-reads
+expressions::expect_expression-returns-in-Disjunction-clause-reads = expressions.expressions::expect_expression-returns-in-Disjunction-clause-reads
+
 pub expressions::expect_expression-expect_any-requires : goal.expressions::expect_expression-expect_any-requires
 expressions::expect_expression-expect_any-requires = expressions.expressions::expect_expression-expect_any-requires
 
@@ -894,20 +900,38 @@ expressions::range_end-returns-clause-input = expressions.expressions::range_end
 pub expressions::range_end-returns-clause-innermost : goal.expressions::range_end-returns-clause-innermost
 expressions::range_end-returns-clause-innermost = expressions.expressions::range_end-returns-clause-innermost
 
-pub expressions::assignment-expect_operation-requires : goal.expressions::assignment-expect_operation-requires
-expressions::assignment-expect_operation-requires = expressions.expressions::assignment-expect_operation-requires
+pub expressions::opt_assignment-expect_operation-requires : goal.expressions::opt_assignment-expect_operation-requires
+expressions::opt_assignment-expect_operation-requires = expressions.expressions::opt_assignment-expect_operation-requires
 
-pub expressions::assignment-wrap-requires : goal.expressions::assignment-wrap-requires
-expressions::assignment-wrap-requires = expressions.expressions::assignment-wrap-requires
+pub expressions::opt_assignment-wrap-requires : goal.expressions::opt_assignment-wrap-requires
+expressions::opt_assignment-wrap-requires = expressions.expressions::opt_assignment-wrap-requires
 
-pub expressions::assignment-take_operator-requires-clause-next : goal.expressions::assignment-take_operator-requires-clause-next
-expressions::assignment-take_operator-requires-clause-next = expressions.expressions::assignment-take_operator-requires-clause-next
+pub expressions::opt_assignment-returns-then-operator-ne12-clause-reads : goal.expressions::opt_assignment-returns-then-operator-ne12-clause-reads
+expressions::opt_assignment-returns-then-operator-ne12-clause-reads = expressions.expressions::opt_assignment-returns-then-operator-ne12-clause-reads
 
-pub expressions::assignment-returns-then-operator-ne11-clause-reads : goal.expressions::assignment-returns-then-operator-ne11-clause-reads
-expressions::assignment-returns-then-operator-ne11-clause-reads = expressions.expressions::assignment-returns-then-operator-ne11-clause-reads
+pub expressions::opt_assignment-returns-clause-reads : goal.expressions::opt_assignment-returns-clause-reads
+expressions::opt_assignment-returns-clause-reads = expressions.expressions::opt_assignment-returns-clause-reads
 
-pub expressions::assignment-returns-clause-reads : goal.expressions::assignment-returns-clause-reads
-expressions::assignment-returns-clause-reads = expressions.expressions::assignment-returns-clause-reads
+pub expressions::pipe_tail-expect_expression-requires : goal.expressions::pipe_tail-expect_expression-requires
+expressions::pipe_tail-expect_expression-requires = expressions.expressions::pipe_tail-expect_expression-requires
+
+pub expressions::pipe_tail-wrap-frame-requires : goal.expressions::pipe_tail-wrap-frame-requires
+expressions::pipe_tail-wrap-frame-requires = expressions.expressions::pipe_tail-wrap-frame-requires
+
+pub expressions::pipe_tail-opt_assignment-requires : goal.expressions::pipe_tail-opt_assignment-requires
+expressions::pipe_tail-opt_assignment-requires = expressions.expressions::pipe_tail-opt_assignment-requires
+
+pub expressions::pipe_tail-pipes-init : goal.expressions::pipe_tail-pipes-init
+expressions::pipe_tail-pipes-init = expressions.expressions::pipe_tail-pipes-init
+
+pub expressions::pipe_tail-pipes-preserved : goal.expressions::pipe_tail-pipes-preserved
+expressions::pipe_tail-pipes-preserved = expressions.expressions::pipe_tail-pipes-preserved
+
+pub expressions::pipe_tail-returns-clause-reads : goal.expressions::pipe_tail-returns-clause-reads
+expressions::pipe_tail-returns-clause-reads = expressions.expressions::pipe_tail-returns-clause-reads
+
+pub expressions::pipe_tail-returns-clause-looks : goal.expressions::pipe_tail-returns-clause-looks
+expressions::pipe_tail-returns-clause-looks = expressions.expressions::pipe_tail-returns-clause-looks
 
 pub expressions::operation_tail-ranges-2-init : goal.expressions::operation_tail-ranges-2-init
 expressions::operation_tail-ranges-2-init = expressions.expressions::operation_tail-ranges-2-init
@@ -2463,6 +2487,12 @@ statements::statement-let_stmt-requires = statements.statements::statement-let_s
 pub statements::statement-returns-in-SEMICOLON-clause-gives : goal.statements::statement-returns-in-SEMICOLON-clause-gives
 statements::statement-returns-in-SEMICOLON-clause-gives = statements.statements::statement-returns-in-SEMICOLON-clause-gives
 
+pub statements::statement-defer_stmt-requires : goal.statements::statement-defer_stmt-requires
+statements::statement-defer_stmt-requires = statements.statements::statement-defer_stmt-requires
+
+pub statements::statement-returns-in-DEFER_KW-clause-gives : goal.statements::statement-returns-in-DEFER_KW-clause-gives
+statements::statement-returns-in-DEFER_KW-clause-gives = statements.statements::statement-returns-in-DEFER_KW-clause-gives
+
 pub statements::statement-returns-in-LET_KW-clause-gives : goal.statements::statement-returns-in-LET_KW-clause-gives
 statements::statement-returns-in-LET_KW-clause-gives = statements.statements::statement-returns-in-LET_KW-clause-gives
 
@@ -2513,6 +2543,15 @@ statements::opt_else-returns-then-at-clause-reads = statements.statements::opt_e
 
 pub statements::opt_else-returns-else-at-clause-reads : goal.statements::opt_else-returns-else-at-clause-reads
 statements::opt_else-returns-else-at-clause-reads = statements.statements::opt_else-returns-else-at-clause-reads
+
+pub statements::defer_stmt-expect_block-requires : goal.statements::defer_stmt-expect_block-requires
+statements::defer_stmt-expect_block-requires = statements.statements::defer_stmt-expect_block-requires
+
+pub statements::defer_stmt-complete-requires : goal.statements::defer_stmt-complete-requires
+statements::defer_stmt-complete-requires = statements.statements::defer_stmt-complete-requires
+
+pub statements::defer_stmt-returns-clause-reads : goal.statements::defer_stmt-returns-clause-reads
+statements::defer_stmt-returns-clause-reads = statements.statements::defer_stmt-returns-clause-reads
 
 pub statements::let_else-expect_block-requires : goal.statements::let_else-expect_block-requires
 statements::let_else-expect_block-requires = statements.statements::let_else-expect_block-requires

@@ -390,6 +390,9 @@ decreases-lists::read_element l = 512 * tokens l.p.now + 101
 abbrev pub decreases-statements::let_stmt : goal.decreases-statements::let_stmt
 decreases-statements::let_stmt l = 512 * tokens l.p.now
 
+abbrev pub decreases-statements::defer_stmt : goal.decreases-statements::defer_stmt
+decreases-statements::defer_stmt l = 512 * tokens l.p.now
+
 abbrev pub decreases-statements::let_else : goal.decreases-statements::let_else
 decreases-statements::let_else l = 512 * tokens l.p.now
 
@@ -736,8 +739,11 @@ decreases-expressions::operation_tail l = 512 * tokens l.p.now + 2
 abbrev pub decreases-expressions::range_end : goal.decreases-expressions::range_end
 decreases-expressions::range_end l = 512 * tokens l.p.now
 
-abbrev pub decreases-expressions::assignment : goal.decreases-expressions::assignment
-decreases-expressions::assignment l = 512 * tokens l.p.now
+abbrev pub decreases-expressions::pipe_tail : goal.decreases-expressions::pipe_tail
+decreases-expressions::pipe_tail l = 512 * tokens l.p.now + 1
+
+abbrev pub decreases-expressions::opt_assignment : goal.decreases-expressions::opt_assignment
+decreases-expressions::opt_assignment l = 512 * tokens l.p.now
 
 abbrev pub invariant-expressions::layers::climb-turns : goal.invariant-expressions::layers::climb-turns
 invariant-expressions::layers::climb-turns l = record {
@@ -766,6 +772,19 @@ invariant-expressions::operation_tail-ranges-2 l = record {
 
 abbrev pub decreases-expressions::operation_tail-ranges-2 : goal.decreases-expressions::operation_tail-ranges-2
 decreases-expressions::operation_tail-ranges-2 l = tokens l.p
+
+abbrev pub invariant-expressions::pipe_tail-pipes : goal.invariant-expressions::pipe_tail-pipes
+invariant-expressions::pipe_tail-pipes l = record {
+  input : l.p.input ≡ l.initial.p.input;
+  marker : IsInnermost l.frame l.p.nodes;
+  next : IsNext l.operator l.p;
+  goes : GoesFrom rules.pipe_tail l.condition l.initial.p l.p;
+  left : tokens l.p ≤ tokens l.initial.p;
+  looks : spent l.p ≤ spent l.initial.p;
+}
+
+abbrev pub decreases-expressions::pipe_tail-pipes : goal.decreases-expressions::pipe_tail-pipes
+decreases-expressions::pipe_tail-pipes l = tokens l.p
 
 -- variants and fields by hand
 abbrev pub decreases-lists::variants : goal.decreases-lists::variants

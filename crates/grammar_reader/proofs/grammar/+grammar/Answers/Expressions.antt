@@ -13,11 +13,11 @@ use Rattle.rust_productions.specs.Layers.{layer_at, layers, operators_at}
 use Rattle.rust_productions.specs.Operators.{IsMark}
 use Rattle.rust_productions.specs.Reads.{Reads}
 use Rattle.rust_productions.specs.declared.grammar.operators.RangeMark.{RangeMark}
-use Rattle.rust_productions.proofs.ByHand.{after-look, goes, reads-call, reads-missing, reads-more, reads-node, reads-then, reads-unless, reads-want, reads-wrap}
+use Rattle.rust_productions.proofs.ByHand.{after-look, does-nothing, goes, reads-call, reads-missing, reads-more, reads-node, reads-then, reads-unless, reads-want, reads-wrap}
 use Rattle.rust_productions.proofs.Choices.{anew-inside, gives-anew}
 use Rattle.rust_productions.proofs.Facts.{saw-so}
 use Rattle.rust_productions.proofs.Operators.{next-after}
-use Rattle.rust_productions.proofs.Ranges.{begins-call, gives-expression, gives-look, gives-operands, mark-after, mark-inside, operand-begun, range-near, reads-assignment, reads-no-tail, reads-range, reads-range-alone, reads-range-end, reads-range-on, reads-before-look, saw-operation, saw-outside}
+use Rattle.rust_productions.proofs.Ranges.{begins-call, gives-expression, gives-look, gives-operands, mark-after, mark-inside, operand-begun, range-near, reads-assignment, reads-no-assignment, reads-no-pipe, reads-pipe, reads-range, reads-range-alone, reads-range-end, reads-range-on, reads-before-look, saw-operation, saw-outside, unranged}
 use Rattle.rust_productions.proofs.Seen.{saw-after, saw-inside}
 use Rattle.grammar_reader.proofs.grammar.+grammar.Goals as goal
 
@@ -27,6 +27,13 @@ expressions::expect_expression-expect_layer-requires t c = (omega arith, (c.requ
 pub expressions::expect_expression-returns-in-Comparison-clause-reads : goal.expressions::expect_expression-returns-in-Comparison-clause-reads
 unfolding layer_at layers
 expressions::expect_expression-returns-in-Comparison-clause-reads t c = subst (λ (l : Level). Reads c.args.condition (Want (Call (level_of l)) ExpectedExpression) c.args.p.now c.expect_layer.new.p) (sym c.in-Comparison.is) c.expect_layer.ensures.reads
+
+pub expressions::expect_expression-expect_layer-requires-in-Disjunction : goal.expressions::expect_expression-expect_layer-requires-in-Disjunction
+expressions::expect_expression-expect_layer-requires-in-Disjunction t c = (omega arith, (c.requires.short, omega arith))
+
+pub expressions::expect_expression-returns-in-Disjunction-clause-reads : goal.expressions::expect_expression-returns-in-Disjunction-clause-reads
+unfolding layer_at layers
+expressions::expect_expression-returns-in-Disjunction-clause-reads t c = subst (λ (l : Level). Reads c.args.condition (Want (Call (level_of l)) ExpectedExpression) c.args.p.now c.expect_layer-in-Disjunction.new.p) (sym c.in-Disjunction.is) c.expect_layer-in-Disjunction.ensures.reads
 
 pub expressions::expect_expression-expect_any-requires : goal.expressions::expect_expression-expect_any-requires
 expressions::expect_expression-expect_any-requires t c = (omega arith, c.requires.short)
@@ -146,34 +153,71 @@ expressions::range_end-returns-clause-input t c = c.at_range_operand.ensures.sam
 pub expressions::range_end-returns-clause-innermost : goal.expressions::range_end-returns-clause-innermost
 expressions::range_end-returns-clause-innermost t c = λ n i. c.at_range_operand.ensures.same.innermost n ((c.take_mark.ensures.reads true).does.innermost n i)
 
-pub expressions::assignment-expect_operation-requires : goal.expressions::assignment-expect_operation-requires
-expressions::assignment-expect_operation-requires t c = (omega arith, short-still _ _ ((c.take_operator.ensures.reads true).does.input ∙ c.current_op-operator.ensures.same.input) c.requires.short)
+pub expressions::opt_assignment-expect_operation-requires : goal.expressions::opt_assignment-expect_operation-requires
+expressions::opt_assignment-expect_operation-requires t c = (omega arith, short-still _ _ (c.take_operator.ensures.reads true).does.input c.requires.short)
 
-pub expressions::assignment-wrap-requires : goal.expressions::assignment-wrap-requires
-expressions::assignment-wrap-requires t c = c.expect_operation.ensures.reads.does.innermost _ ((c.take_operator.ensures.reads true).does.innermost _ (c.current_op-operator.ensures.same.innermost _ c.requires.innermost))
+pub expressions::opt_assignment-wrap-requires : goal.expressions::opt_assignment-wrap-requires
+expressions::opt_assignment-wrap-requires t c = c.expect_operation.ensures.reads.does.innermost _ ((c.take_operator.ensures.reads true).does.innermost _ c.requires.innermost)
 
-pub expressions::assignment-take_operator-requires-clause-next : goal.expressions::assignment-take_operator-requires-clause-next
-expressions::assignment-take_operator-requires-clause-next t c = next-after c.current_op-operator.ensures.same c.current_op-operator.ensures.next
-
-not-eleven : (h : ℕ) → (h ≡ 11 → ⊥) → nat_eq h 11 ≡ false
-not-eleven h differs = which (nat_eq h 11) refl
+is-other : (n h : ℕ) → (h ≡ n → ⊥) → nat_eq h n ≡ false
+is-other n h differs = which (nat_eq h n) refl
   where
-    which : (b : Bool) → nat_eq h 11 ≡ b → nat_eq h 11 ≡ false
-    which true e = absurd (differs (eqb-true h 11 e))
+    which : (b : Bool) → nat_eq h n ≡ b → nat_eq h n ≡ false
+    which true e = absurd (differs (eqb-true h n e))
     which false e = e
 
-pub expressions::assignment-returns-then-operator-ne11-clause-reads : goal.expressions::assignment-returns-then-operator-ne11-clause-reads
-expressions::assignment-returns-then-operator-ne11-clause-reads t c =
-    reads-more _ (goes _ _ (reads-no-tail c.requires.unmarked
-    (saw-so (c.current_op-operator.ensures.next.sees _ 11 (omega arith) (omega arith)) (not-eleven c.current_op-operator.result.height (λ e. omega (arith, e))))
-    c.current_op-operator.ensures.same))
+pub expressions::opt_assignment-returns-then-operator-ne12-clause-reads : goal.expressions::opt_assignment-returns-then-operator-ne12-clause-reads
+expressions::opt_assignment-returns-then-operator-ne12-clause-reads t c =
+    reads-no-assignment (saw-so (c.requires.next.sees _ 12 (omega arith) (omega arith)) (is-other 12 c.args.operator.height (λ e. omega (arith, e)))) (does-nothing _)
 
-pub expressions::assignment-returns-clause-reads : goal.expressions::assignment-returns-clause-reads
-expressions::assignment-returns-clause-reads t c =
-    let is : c.current_op-operator.result.height ≡ 11 = omega arith in
-    reads-more _ (goes _ _ (reads-assignment c.requires.unmarked
-    (saw-so (c.current_op-operator.ensures.next.sees _ 11 (omega arith) (omega arith)) (eq-eqb c.current_op-operator.result.height 11 is))
-    (after-look _ c.current_op-operator.ensures.same (reads-wrap _ (reads-then _ (subst (λ (h : ℕ). Reads c.args.condition (operators_at h) c.current_op-operator.new.p c.take_operator.new.p) is (c.take_operator.ensures.reads _)) c.expect_operation.ensures.reads) c.wrap.ensures.wraps))))
+pub expressions::opt_assignment-returns-clause-reads : goal.expressions::opt_assignment-returns-clause-reads
+expressions::opt_assignment-returns-clause-reads t c =
+    let is : c.args.operator.height ≡ 12 = omega arith in
+    reads-assignment (saw-so (c.requires.next.sees _ 12 (omega arith) (omega arith)) (eq-eqb c.args.operator.height 12 is))
+    (reads-wrap _ (reads-then _ (subst (λ (h : ℕ). Reads c.args.condition (operators_at h) c.args.p.now c.take_operator.new.p) is (c.take_operator.ensures.reads _)) c.expect_operation.ensures.reads) c.wrap.ensures.wraps)
+
+pub expressions::pipe_tail-expect_expression-requires : goal.expressions::pipe_tail-expect_expression-requires
+expressions::pipe_tail-expect_expression-requires t c = (omega (arith, c.pipes.invariant.left, c.take_operator.ensures.left, c.current_op-operator.ensures.left), short-still _ _ ((c.take_operator.ensures.reads true).does.input ∙ c.pipes.invariant.input ∙ c.current_op-operator.ensures.same.input) c.requires.short)
+
+pub expressions::pipe_tail-wrap-frame-requires : goal.expressions::pipe_tail-wrap-frame-requires
+expressions::pipe_tail-wrap-frame-requires t c = c.expect_expression.ensures.reads.does.innermost _ ((c.take_operator.ensures.reads true).does.innermost _ c.pipes.invariant.marker)
+
+pub expressions::pipe_tail-opt_assignment-requires : goal.expressions::pipe_tail-opt_assignment-requires
+expressions::pipe_tail-opt_assignment-requires t c = (omega (arith, c.pipes.invariant.left, c.current_op-operator.ensures.left), (short-still _ _ (c.pipes.invariant.input ∙ c.current_op-operator.ensures.same.input) c.requires.short, (c.pipes.invariant.next, c.pipes.invariant.marker)))
+
+pub expressions::pipe_tail-pipes-init : goal.expressions::pipe_tail-pipes-init
+expressions::pipe_tail-pipes-init t c = record {
+  input = refl;
+  marker = c.current_op-operator.ensures.same.innermost _ c.requires.innermost;
+  next = next-after c.current_op-operator.ensures.same c.current_op-operator.ensures.next;
+  goes = record { rest = λ end p. p };
+  left = omega arith;
+  looks = omega arith;
+}
+
+pub expressions::pipe_tail-pipes-preserved : goal.expressions::pipe_tail-pipes-preserved
+expressions::pipe_tail-pipes-preserved t c =
+    let is : c.pipes.operator.height ≡ 11 = omega arith in
+    record {
+      input = c.current_op-operator-in-pipes.ensures.same.input ∙ c.wrap-frame.ensures.wraps.input ∙ c.expect_expression.ensures.reads.does.input ∙ (c.take_operator.ensures.reads true).does.input ∙ c.pipes.invariant.input;
+      marker = c.current_op-operator-in-pipes.ensures.same.innermost _ c.wrap-frame.ensures.marker;
+      next = next-after c.current_op-operator-in-pipes.ensures.same c.current_op-operator-in-pipes.ensures.next;
+      goes = record {
+        rest = λ end p.
+            c.pipes.invariant.goes.rest end (goes _ _ (reads-pipe (saw-so (c.pipes.invariant.next.sees _ 11 (omega arith) (omega arith)) (eq-eqb c.pipes.operator.height 11 is))
+            (reads-then _ (reads-wrap _ (reads-then _ (subst (λ (h : ℕ). Reads c.args.condition (operators_at h) c.pipes.p c.take_operator.new.p) is (c.take_operator.ensures.reads _)) c.expect_expression.ensures.reads) c.wrap-frame.ensures.wraps) (after-look _ c.current_op-operator-in-pipes.ensures.same (reads-more _ p)))));
+      };
+      left = omega (arith, c.pipes.invariant.left, c.take_operator.ensures.left, c.expect_expression.ensures.left, c.wrap-frame.ensures.left, c.current_op-operator-in-pipes.ensures.left);
+      looks = omega (arith, c.pipes.invariant.looks, c.take_operator.ensures.looks, c.expect_expression.ensures.looks, c.wrap-frame.ensures.looks, c.current_op-operator-in-pipes.ensures.looks);
+    }
+
+pub expressions::pipe_tail-returns-clause-reads : goal.expressions::pipe_tail-returns-clause-reads
+expressions::pipe_tail-returns-clause-reads t c =
+    after-look _ c.current_op-operator.ensures.same (reads-more _ (c.pipes.invariant.goes.rest _ (goes _ _ (reads-no-pipe
+    (saw-so (c.pipes.invariant.next.sees _ 11 (omega arith) (omega arith)) (is-other 11 c.pipes.operator.height (λ e. omega (arith, e)))) c.opt_assignment.ensures.reads))))
+
+pub expressions::pipe_tail-returns-clause-looks : goal.expressions::pipe_tail-returns-clause-looks
+expressions::pipe_tail-returns-clause-looks t c = omega (arith, c.pipes.invariant.looks, c.opt_assignment.ensures.looks, c.current_op-operator.ensures.looks)
 
 pub expressions::operation_tail-ranges-2-init : goal.expressions::operation_tail-ranges-2-init
 expressions::operation_tail-ranges-2-init t c = record {
@@ -208,7 +252,7 @@ expressions::operation_tail-returns-then-not-more-clause-reads t c =
 
 pub expressions::operation_tail-returns-clause-reads : goal.expressions::operation_tail-returns-clause-reads
 unfolding read
-expressions::operation_tail-returns-clause-reads t c = after-look _ c.range_mark-mark.ensures.same (reads-more _ (c.ranges-2.invariant.goes.rest _ (record { does = c.assignment.ensures.reads.does })))
+expressions::operation_tail-returns-clause-reads t c = after-look _ c.range_mark-mark.ensures.same (reads-more _ (c.ranges-2.invariant.goes.rest _ (goes _ _ (unranged (subst (λ (m : Option RangeMark). IsMark m c.ranges-2.p) c.in_default.is c.ranges-2.invariant.mark) c.pipe_tail.ensures.reads))))
 
 pub expressions::operation_tail-returns-clause-looks : goal.expressions::operation_tail-returns-clause-looks
-expressions::operation_tail-returns-clause-looks t c = omega (arith, c.ranges-2.invariant.looks, c.assignment.ensures.looks, c.range_mark-mark.ensures.looks)
+expressions::operation_tail-returns-clause-looks t c = omega (arith, c.ranges-2.invariant.looks, c.pipe_tail.ensures.looks, c.range_mark-mark.ensures.looks)

@@ -27,6 +27,13 @@ pub statements::statement-returns-in-SEMICOLON-clause-gives : goal.statements::s
 unfolding look_of begins_below whole rule items statements expressions patterns types paths there_at shift passes is_silent begins in_mode anew row one_of any_of no_longer longest is_longer
 statements::statement-returns-in-SEMICOLON-clause-gives t c = gives-statement c.args.end (anew-here (saw-arm c.in-SEMICOLON.is (c.current.ensures.sees false) and nothing) (anew-look c.current.ensures.same (anew-after refl (c.take.ensures.reads false))))
 
+pub statements::statement-defer_stmt-requires : goal.statements::statement-defer_stmt-requires
+statements::statement-defer_stmt-requires t c = (omega arith, (short-still _ _ c.current.ensures.same.input c.requires.short, omega arith))
+
+pub statements::statement-returns-in-DEFER_KW-clause-gives : goal.statements::statement-returns-in-DEFER_KW-clause-gives
+unfolding look_of begins_below whole rule items statements expressions patterns types paths there_at shift passes is_silent begins in_mode anew row one_of any_of no_longer longest is_longer
+statements::statement-returns-in-DEFER_KW-clause-gives t c = gives-statement c.args.end (anew-here (saw-arm c.in-DEFER_KW.is (c.current.ensures.sees false) and nothing) (anew-look c.current.ensures.same (anew-after refl (c.defer_stmt.ensures.reads false))))
+
 pub statements::statement-returns-in-LET_KW-clause-gives : goal.statements::statement-returns-in-LET_KW-clause-gives
 unfolding look_of begins_below whole rule items statements expressions patterns types paths there_at shift passes is_silent begins in_mode anew row one_of any_of no_longer longest is_longer
 statements::statement-returns-in-LET_KW-clause-gives t c = gives-statement c.args.end (anew-here (saw-arm c.in-LET_KW.is (c.current.ensures.sees false) and nothing) (anew-look c.current.ensures.same (anew-after refl c.let_stmt.ensures.reads)))
@@ -36,11 +43,11 @@ statements::statement-attribute-requires t c = (omega arith, (short-still _ _ (c
 
 pub statements::statement-returns-then-at_inner_attribute-clause-gives : goal.statements::statement-returns-then-at_inner_attribute-clause-gives
 unfolding look_of begins_below whole rule items statements expressions patterns types paths there_at shift passes is_silent begins in_mode anew row one_of any_of no_longer longest is_longer
-statements::statement-returns-then-at_inner_attribute-clause-gives t c = gives-statement c.args.end (anew-here (saw-not c.in_default.not-SEMICOLON (c.current.ensures.sees false) and saw-not c.in_default.not-LET_KW (c.current.ensures.sees false) and saw-before c.current.ensures.same (saw-so (c.at_inner_attribute.ensures.sees false) c.if-at_inner_attribute.true) and nothing) (anew-look c.current.ensures.same (anew-look c.at_inner_attribute.ensures.same (anew-after refl (reads-call false (c.attribute.ensures.gives false))))))
+statements::statement-returns-then-at_inner_attribute-clause-gives t c = gives-statement c.args.end (anew-here (saw-not c.in_default.not-SEMICOLON (c.current.ensures.sees false) and saw-not c.in_default.not-DEFER_KW (c.current.ensures.sees false) and saw-not c.in_default.not-LET_KW (c.current.ensures.sees false) and saw-before c.current.ensures.same (saw-so (c.at_inner_attribute.ensures.sees false) c.if-at_inner_attribute.true) and nothing) (anew-look c.current.ensures.same (anew-look c.at_inner_attribute.ensures.same (anew-after refl (reads-call false (c.attribute.ensures.gives false))))))
 
 pub statements::statement-returns-then-at_item-clause-gives : goal.statements::statement-returns-then-at_item-clause-gives
 unfolding look_of begins_below whole rule items statements expressions patterns types paths there_at shift passes is_silent begins in_mode anew row one_of any_of no_longer longest is_longer
-statements::statement-returns-then-at_item-clause-gives t c = gives-statement c.args.end (anew-here (saw-not c.in_default.not-SEMICOLON (c.current.ensures.sees false) and saw-not c.in_default.not-LET_KW (c.current.ensures.sees false) and saw-before c.current.ensures.same (saw-so (c.at_inner_attribute.ensures.sees false) c.if-at_inner_attribute.false) and saw-before c.current.ensures.same (saw-before c.at_inner_attribute.ensures.same (saw-so (c.at_item.ensures.sees false) c.if-at_item.true)) and nothing) (anew-look c.current.ensures.same (anew-look c.at_inner_attribute.ensures.same (anew-look c.at_item.ensures.same (anew-after refl (reads-call false c.item.ensures.gives))))))
+statements::statement-returns-then-at_item-clause-gives t c = gives-statement c.args.end (anew-here (saw-not c.in_default.not-SEMICOLON (c.current.ensures.sees false) and saw-not c.in_default.not-DEFER_KW (c.current.ensures.sees false) and saw-not c.in_default.not-LET_KW (c.current.ensures.sees false) and saw-before c.current.ensures.same (saw-so (c.at_inner_attribute.ensures.sees false) c.if-at_inner_attribute.false) and saw-before c.current.ensures.same (saw-before c.at_inner_attribute.ensures.same (saw-so (c.at_item.ensures.sees false) c.if-at_item.true)) and nothing) (anew-look c.current.ensures.same (anew-look c.at_inner_attribute.ensures.same (anew-look c.at_item.ensures.same (anew-after refl (reads-call false c.item.ensures.gives))))))
 
 pub statements::statement-item-requires : goal.statements::statement-item-requires
 statements::statement-item-requires t c = (omega arith, (short-still _ _ (c.at_item.ensures.same.input ∙ c.at_inner_attribute.ensures.same.input ∙ c.current.ensures.same.input) c.requires.short, omega (arith, c.requires.some, c.current.ensures.left, c.at_inner_attribute.ensures.left, c.at_item.ensures.left)))
@@ -50,7 +57,7 @@ statements::statement-expression_statement-requires t c = (omega arith, (short-s
 
 pub statements::statement-returns-else-at_item-clause-gives : goal.statements::statement-returns-else-at_item-clause-gives
 unfolding look_of begins_below whole rule items statements expressions patterns types paths there_at shift passes is_silent begins in_mode anew row one_of any_of no_longer longest is_longer
-statements::statement-returns-else-at_item-clause-gives t c = gives-statement c.args.end (anew-here (saw-not c.in_default.not-SEMICOLON (c.current.ensures.sees false) and saw-not c.in_default.not-LET_KW (c.current.ensures.sees false) and saw-before c.current.ensures.same (saw-so (c.at_inner_attribute.ensures.sees false) c.if-at_inner_attribute.false) and saw-before c.current.ensures.same (saw-before c.at_inner_attribute.ensures.same (saw-so (c.at_item.ensures.sees false) c.if-at_item.false)) and nothing) (anew-look c.current.ensures.same (anew-look c.at_inner_attribute.ensures.same (anew-look c.at_item.ensures.same c.expression_statement.ensures.anew))))
+statements::statement-returns-else-at_item-clause-gives t c = gives-statement c.args.end (anew-here (saw-not c.in_default.not-SEMICOLON (c.current.ensures.sees false) and saw-not c.in_default.not-DEFER_KW (c.current.ensures.sees false) and saw-not c.in_default.not-LET_KW (c.current.ensures.sees false) and saw-before c.current.ensures.same (saw-so (c.at_inner_attribute.ensures.sees false) c.if-at_inner_attribute.false) and saw-before c.current.ensures.same (saw-before c.at_inner_attribute.ensures.same (saw-so (c.at_item.ensures.sees false) c.if-at_item.false)) and nothing) (anew-look c.current.ensures.same (anew-look c.at_inner_attribute.ensures.same (anew-look c.at_item.ensures.same c.expression_statement.ensures.anew))))
 
 pub statements::statement-returns-else-at_item-clause-pays : goal.statements::statement-returns-else-at_item-clause-pays
 statements::statement-returns-else-at_item-clause-pays t c = λ e. omega (arith, c.current.ensures.looks, c.at_inner_attribute.ensures.looks, c.at_item.ensures.looks, c.expression_statement.ensures.pays (omega (arith, e, c.current.ensures.left, c.at_inner_attribute.ensures.left, c.at_item.ensures.left)))
@@ -83,6 +90,15 @@ statements::opt_else-returns-then-at-clause-reads t c = λ cond. reads-here (saw
 pub statements::opt_else-returns-else-at-clause-reads : goal.statements::opt_else-returns-else-at-clause-reads
 unfolding look_of begins_below whole rule items statements expressions patterns types paths there_at shift passes is_silent begins in_mode anew row one_of any_of no_longer longest is_longer
 statements::opt_else-returns-else-at-clause-reads t c = λ cond. reads-here (saw-so (c.at.ensures.sees cond) c.if-at.false and nothing) (reads-nothing cond c.at.ensures.same)
+
+pub statements::defer_stmt-expect_block-requires : goal.statements::defer_stmt-expect_block-requires
+statements::defer_stmt-expect_block-requires t c = (omega arith, short-still _ _ ((c.take.ensures.reads true).does.input ∙ c.start-node.ensures.opens.input) c.requires.short)
+
+pub statements::defer_stmt-complete-requires : goal.statements::defer_stmt-complete-requires
+statements::defer_stmt-complete-requires t c = (c.expect_block.ensures.reads true).does.innermost _ ((c.take.ensures.reads true).does.innermost _ c.start-node.ensures.marker)
+
+pub statements::defer_stmt-returns-clause-reads : goal.statements::defer_stmt-returns-clause-reads
+statements::defer_stmt-returns-clause-reads t c = λ cond. reads-node cond c.start-node.ensures.opens (reads-then cond (c.take.ensures.reads cond) (c.expect_block.ensures.reads cond)) c.complete.ensures.closes
 
 pub statements::let_else-expect_block-requires : goal.statements::let_else-expect_block-requires
 statements::let_else-expect_block-requires t c = (omega arith, short-still _ _ ((c.take.ensures.reads true).does.input ∙ c.start-node.ensures.opens.input) c.requires.short)
