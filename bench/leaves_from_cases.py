@@ -12,12 +12,27 @@ import sys
 import stored_run
 
 
+TRIVIA = ("WHITESPACE", "COMMENT")
+
+
+def line(leaf, tokens):
+    """Returns the line of a leaf, and takes its token from those that are left."""
+    kind, _, end = leaf
+    words = [kind, str(end)]
+    if kind not in TRIVIA:
+        of_token, contextual, joint = next(tokens)
+        words += ["input", of_token] if of_token != kind else []
+        words += [contextual] if contextual != ("IDENT" if of_token == "IDENT" else "EOF") else []
+        words += ["joint"] if joint else []
+    return " ".join(words) + "\n"
+
+
 def answer(case):
     numbers = {start: number for number, (_, start, _) in enumerate(case["leaves"])}
-    leaves = [f"{kind} {start} {end}\n" for kind, start, end in case["leaves"]]
+    tokens = iter(case["input"])
+    leaves = [line(leaf, tokens) for leaf in case["leaves"]]
     errors = [f"{numbers[start]} {message}\n" for start, message in case["messages"]]
-    tokens = [f"{kind} {word}{' joint' if joint else ''}\n" for kind, word, joint in case["input"]]
-    return "".join(leaves + ["\n"] + errors + ["\n"] + tokens + ["\n"])
+    return "".join([*leaves, f"{len(case['input'])} tokens\n", *errors, "\n"])
 
 
 def main(crate, *paths):

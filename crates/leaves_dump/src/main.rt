@@ -1,11 +1,12 @@
 //! Prints what the parser reads of texts: the leaves of each, what is wrong with them, and the tokens that the parser sees.
 //!
-//! Standard input is a list of records: the last digit of an edition's year, the text, and the character U+001E. For each text
-//! there come its leaves, a line each with kind, start and end in bytes; the numbers of those that something is wrong with, and
-//! what; and the tokens, by kind and contextual kind, with `joint` where one touches the next. An empty line ends each of the three.
+//! Standard input is a list of records: the last character of an edition's name, the text, and the character U+001E. For each text
+//! there is a line for each leaf, with its kind and its end in bytes. A leaf that the parser sees has more: the kind of its token if
+//! that is another one, its contextual kind if that is a keyword's or an operator's, and `joint`. The number of tokens follows, then the
+//! numbers of the leaves with a message and the messages, and an empty line.
 #![tactic(auto)]
 
-use parser_input::{Edition, Input, LexedStr};
+use parser_input::{Edition, Input, LexedStr, SyntaxKind};
 use std::alloc::Global;
 use std::io;
 use std::io::{BufWriter, Write};
@@ -13,18 +14,38 @@ use std::io::{BufWriter, Write};
 #[cfg(test)]
 mod tests;
 
-fn dump_leaves<W: Write>(out: &mut W, lexed: &LexedStr<'_>) -> io::Result<()> {
-    for i in 0..lexed.len() {
-        let range = lexed.text_range(i);
-        writeln!(
-            out,
-            "{} {} {}",
-            lexed.kind(i).name(),
-            range.start,
-            range.end
-        )?;
+// Writes what is particular of the token of a leaf.
+fn dump_token<W: Write>(out: &mut W, leaf: SyntaxKind, input: &Input, n: usize) -> io::Result<()> {
+    let kind = input.kind(n);
+    if kind != leaf {
+        write!(out, " input {}", kind.name())?;
     }
-    writeln!(out)
+    let usual = match kind {
+        SyntaxKind::IDENT => SyntaxKind::IDENT,
+        _ => SyntaxKind::EOF,
+    };
+    let contextual = input.contextual_kind(n);
+    if contextual != usual {
+        write!(out, " {}", contextual.name())?;
+    }
+    if input.is_joint(n) {
+        write!(out, " joint")?;
+    }
+    Ok(())
+}
+
+fn dump_leaves<W: Write>(out: &mut W, lexed: &LexedStr<'_>, input: &Input) -> io::Result<()> {
+    let mut n = 0usize;
+    for i in 0..lexed.len() {
+        let kind = lexed.kind(i);
+        write!(out, "{} {}", kind.name(), lexed.text_range(i).end)?;
+        if !kind.is_trivia() {
+            dump_token(out, kind, input, n)?;
+            n = n.saturating_add(1);
+        }
+        writeln!(out)?;
+    }
+    writeln!(out, "{} tokens", input.len())
 }
 
 fn dump_errors<W: Write>(out: &mut W, lexed: &LexedStr<'_>) -> io::Result<()> {
@@ -34,25 +55,11 @@ fn dump_errors<W: Write>(out: &mut W, lexed: &LexedStr<'_>) -> io::Result<()> {
     writeln!(out)
 }
 
-fn dump_input<W: Write>(out: &mut W, input: &Input) -> io::Result<()> {
-    for n in 0..input.len() {
-        let joint = if input.is_joint(n) { " joint" } else { "" };
-        writeln!(
-            out,
-            "{} {}{joint}",
-            input.kind(n).name(),
-            input.contextual_kind(n).name()
-        )?;
-    }
-    writeln!(out)
-}
-
 fn dump<W: Write>(alloc: Global, out: &mut W, edition: Edition, text: &str) -> io::Result<()> {
     let lexed = LexedStr::new(alloc, edition, text)?;
-    dump_leaves(out, &lexed)?;
-    dump_errors(out, &lexed)?;
     let input = lexed.to_input(alloc)?;
-    dump_input(out, &input)
+    dump_leaves(out, &lexed, &input)?;
+    dump_errors(out, &lexed)
 }
 
 // Returns an edition by the last character of its name: a year, or `next`.
