@@ -69,16 +69,20 @@ def difference(output, wanted):
     return f"its output differs from its file stdout first at byte {at + 1}, line {wanted[:at].count(10) + 1}"
 
 
-def size_below(root, lines, name):
-    """Returns the bytes of Rust in a crate and in the crates of its line, which list all below it."""
-    names = [name, *(library for library in ledger.libraries(lines[name]) if library in lines)]
-    return sum(os.path.getsize(file) for it in names for file in repository.source_files(root, it))
+def crates_below(lines, name):
+    """Returns the names of a crate and of all crates below it."""
+    return {name}.union(*(crates_below(lines, library) for library in ledger.libraries(lines[name]) if library in lines))
+
+
+def size(root, lines, name):
+    """Returns the bytes of Rust in a crate and in the crates below it."""
+    return sum(os.path.getsize(file) for it in crates_below(lines, name) for file in repository.source_files(root, it))
 
 
 def runs_of(root):
     """Returns the runs of a tree, tests first, and those over most Rust first: they take longest."""
     lines = ledger.crate_lines(root)
-    names = sorted(lines, key=lambda name: -size_below(root, lines, name))
+    names = sorted(lines, key=lambda name: -size(root, lines, name))
     tests = [name for name in names if any(UNIT_TEST.search(ledger.read(file)) for file in repository.source_files(root, name))]
     programs = [name for name in names if repository.is_program(root, name)]
     return [*(Run(root, name, True) for name in tests), *(Run(root, name, False) for name in programs)]
