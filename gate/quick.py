@@ -16,9 +16,11 @@ from progress import BEAT, minutes
 MOST_AT_ONCE = 4
 # The limit of a run, in seconds. It is far above that of 'rt ci': the compiled program of 'rt try' has checks, which make it slow. The
 # other run of 'rt try', by an interpreter, is cut off at its first step.
-LIMITS = ("--steps", "1", "--seconds", "600")
+LIMITS = ("--steps", "1", "--seconds", "1200")
 ENDED = re.compile(r"run=ended status=(\d+) .*proved=no")
 UNIT_TEST = re.compile(rb"#\s*\[\s*test\s*\]")
+# The runs that take longest, which are started first: they read texts of 16 MiB or build trees of a million tokens.
+SLOWEST = ("document_suite: tests", "requests_suite: tests", "trees_speed: stored run")
 # The lines of a failed run that are shown.
 SHOWN = 12
 
@@ -80,12 +82,13 @@ def size(root, lines, name):
 
 
 def runs_of(root):
-    """Returns the runs of a tree, tests first, and those over most Rust first: they take longest."""
+    """Returns the runs of a tree, those that take longest first: the slowest, and then those over most Rust."""
     lines = ledger.crate_lines(root)
     names = sorted(lines, key=lambda name: -size(root, lines, name))
     tests = [name for name in names if any(UNIT_TEST.search(ledger.read(file)) for file in repository.source_files(root, name))]
     programs = [name for name in names if repository.is_program(root, name)]
-    return [*(Run(root, name, True) for name in tests), *(Run(root, name, False) for name in programs)]
+    runs = [*(Run(root, name, True) for name in tests), *(Run(root, name, False) for name in programs)]
+    return sorted(runs, key=lambda run: run.name not in SLOWEST)
 
 
 class Tally:
