@@ -9,6 +9,7 @@
 gate/edits.py tries the edits that no ledger has, and records them.
 """
 import os
+import re
 import resource
 import sys
 import tempfile
@@ -21,6 +22,7 @@ from repository import fail
 from selection import Selection
 
 OUT = f"{os.path.dirname(os.path.realpath(__file__))}/out"
+COUNTS = re.compile(r"\d+ passed, \d+ failed$")
 LOG, MEASURED = f"{OUT}/ci.log", f"{OUT}/weights.txt"
 
 
@@ -68,7 +70,9 @@ def test(copied, tried):
     has_all = repository.refused_in(lines, tried) == tried
     if status or not is_whole or not has_all:
         write(f"test: not all passed; {os.path.relpath(LOG, repository.TOP)} has what 'rt ci' printed")
-    print(lines[-1], end="", flush=True)
+    write(lines[-1].rstrip("\n"))
+    if not COUNTS.match(lines[-1]):
+        write("0 passed, 1 failed")
     return status or int(not (is_whole and has_all))
 
 

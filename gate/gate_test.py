@@ -139,6 +139,10 @@ class Verdict(Repository):
         self.run_gate(MISS="1")
         self.assert_end(1, "18 passed, 1 failed")
 
+    def test_run_without_counts_fails(self):
+        self.run_gate(SILENT="1")
+        self.assert_end(1, "0 passed, 1 failed")
+
     def test_failed_proof_is_shown(self):
         self.run_gate(FAIL="1")
         self.assertIn("error of low", self.lines)
