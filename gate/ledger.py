@@ -38,7 +38,7 @@ def files_below(folder):
 
 
 def logic():
-    """Returns the hash of the kit's logic, as 'rt version' names it. Builds of the kit with one logic accept the same proofs."""
+    """Returns the hash of the kit's logic, as 'rt version' names it. Builds of the kit with one logic prove by the same rules."""
     version = subprocess.run(["rt", "version"], stdout=subprocess.PIPE, text=True, check=True).stdout
     found = re.search(r"\blogic (\w+)", version)
     if not found:

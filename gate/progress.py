@@ -19,6 +19,8 @@ BEAT = 30
 EDIT_SECONDS, RUN_SECONDS = 8, 3
 # Of a task that takes longer than its weight, the part of the weight that counts as left.
 LEAST_LEFT = 0.05
+# The processor seconds from which on the stretch of the proofs is measured.
+LEAST_MEASURED = 10
 DEAREST = 10
 
 IS_KEPT = re.compile(r"rt: (\w+) is kept: ")
@@ -91,7 +93,6 @@ class Progress:
         self.starts, self.done, self.block = {}, {}, []
         # The tasks that an earlier run did, the crates that are not proved, and the edits that an earlier run tried, by crate.
         self.kept, self.failed, self.old_edits = set(), set(), {}
-        self.wall = self.processor = 0.0
         self.alone = threading.RLock()
 
     def sample(self):
@@ -112,14 +113,19 @@ class Progress:
     def left(self):
         """Returns an estimate of the seconds left.
 
-        The work that is left takes at least its processor seconds on all cores, and its longest chain. If the checks that have
-        ended took longer than their processor seconds, as on a busy machine, so will the others."""
+        The work left takes at least its processor seconds on all cores, and at least its longest chain."""
         left = {}
         for key, weight in self.plan.tasks.items():
             if key not in self.done:
                 left[key] = max(weight - self.seconds(key), LEAST_LEFT * weight)
-        stretch = max(1.0, self.wall / self.processor) if self.processor else 1.0
-        return stretch * max(sum(left.values()) / self.cores, self.plan.longest_chain(left))
+        return self.stretch() * max(sum(left.values()) / self.cores, self.plan.longest_chain(left))
+
+    def stretch(self):
+        """Returns how many seconds a processor second of the proofs has taken so far, at least 1: more on a busy machine."""
+        keys = [key for key in self.starts if key[1] in (PROOF, TESTS)]
+        wall = sum(self.done.get(key, self.clock()) - self.starts[key] for key in keys)
+        processor = sum(map(self.seconds, keys))
+        return max(1.0, wall / processor) if processor >= LEAST_MEASURED else 1.0
 
     def say(self, text):
         """Writes a line: the number of tasks done, the time, the time left and `text`."""
@@ -136,8 +142,6 @@ class Progress:
         if key in self.starts:
             wall = self.done[key] - self.starts[key]
             timed = f" in {wall:.0f} s ({processor:.0f} processor seconds)"
-            if key[1] in (PROOF, TESTS):
-                self.wall, self.processor = self.wall + wall, self.processor + processor
         self.say(f"{key[0]}: {text}{timed}")
 
     def end_kept_tests(self):

@@ -75,6 +75,10 @@ class Progress(unittest.TestCase):
         self.feed("rt: low proved")
         self.assertEqual(self.progress.left(), 3 * (100 + 2 * progress.EDIT_SECONDS))
 
+    def test_running_checks_stretch_the_time_left(self):
+        self.run_check("low", PROOF, 100.0, 50.0)
+        self.assertEqual(self.progress.left(), 2 * (50 + 100 + 2 * progress.EDIT_SECONDS))
+
     def test_time_left_is_never_negative(self):
         for key in self.plan.tasks:
             self.checks.seconds[key] = 1e6
