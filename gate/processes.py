@@ -63,7 +63,7 @@ class Checks:
         """Adds the seconds of the checks at and below a process."""
         key = pid, stats[pid][1]
         if not self.kinds.get(key):
-            # (a process that has just begun has its parent's arguments, so that no check is asked for once more)
+            # Read again for each process that is no check: after a fork it has its parent's arguments for a moment.
             try:
                 self.kinds[key] = check_of(pid)
             except (OSError, IndexError):
