@@ -28,23 +28,25 @@ LOG, MEASURED = f"{OUT}/ci.log", f"{OUT}/weights.txt"
 
 def run_ci(at, plan):
     """Runs 'rt ci' in a folder and writes its progress; LOG has all lines, MEASURED the weights. Returns its status and its lines."""
-    lines = [""]
+    lines = []
     os.makedirs(OUT, exist_ok=True)
     with repository.start_rt(at, "ci") as ran, open(LOG, "w", encoding="utf-8") as log:
         state = progress.Progress(plan, repository.cores(), progress.checks_below(ran.pid), write=write)
         with progress.Watch(state):
             for line in ran.stdout:
                 log.write(line)
-                # (the last line is printed after the summary)
-                if lines[-1]:
+                # The last line is printed after the summary: one with counts waits for the next line.
+                if lines and COUNTS.match(lines[-1]):
                     state.line(lines[-1])
+                if not COUNTS.match(line):
+                    state.line(line)
                 lines.append(line)
     used = resource.getrusage(resource.RUSAGE_CHILDREN)
     for line in state.summary(used.ru_utime + used.ru_stime):
         write(line)
     with open(MEASURED, "w", encoding="utf-8") as file:
         file.writelines(f"{row}\n" for row in state.measured())
-    return ran.returncode, lines
+    return ran.returncode, lines or [""]
 
 
 def write(line):
@@ -70,9 +72,7 @@ def test(copied, tried):
     has_all = repository.refused_in(lines, tried) == tried
     if status or not is_whole or not has_all:
         write(f"test: not all passed; {os.path.relpath(LOG, repository.TOP)} has what 'rt ci' printed")
-    write(lines[-1].rstrip("\n"))
-    if not COUNTS.match(lines[-1]):
-        write("0 passed, 1 failed")
+    write(lines[-1].rstrip("\n") if COUNTS.match(lines[-1]) else "0 passed, 1 failed")
     return status or int(not (is_whole and has_all))
 
 

@@ -2,6 +2,7 @@
 import os
 import shutil
 import subprocess
+import sys
 import unittest
 from unittest import mock
 
@@ -208,6 +209,16 @@ class Output(Repository):
         self.assertIn("proofs of tests kept from earlier runs: apart", ended)
         self.assertIn("middle: proved", ended)
         self.assertIn("test: proofs kept from earlier runs, 2 of 4: low apart", self.lines)
+
+    def test_each_line_is_read_at_once(self):
+        with subprocess.Popen([sys.executable, "-B", "gate/gate.py"], cwd=self.top, env=self.environment(PAUSE="3"), stdout=subprocess.PIPE, text=True) as ran:
+            lines = iter(ran.stdout.readline, "")
+            shown = [line for line in iter(lambda: next(lines), "rt: paused\n")]
+            is_running = ran.poll() is None
+            ran.communicate()
+        self.assertTrue(is_running)
+        self.assertEqual(shown[-1], "9 passed, 0 failed\n")
+        self.assertTrue(any(line.endswith(" left: apart: tests passed\n") for line in shown), shown)
 
     def test_programs_lines_pass(self):
         self.run_gate()

@@ -16,7 +16,7 @@ from progress import BEAT, minutes
 MOST_AT_ONCE = 4
 # The limit of a run, in seconds. It is far above that of 'rt ci': the compiled program of 'rt try' has checks, which make it slow. The
 # other run of 'rt try', by an interpreter, is cut off at its first step.
-LIMITS = ("--steps", "1", "--seconds", "1200")
+LIMITS = ("--steps", "1", "--seconds", "3600")
 ENDED = re.compile(r"run=ended status=(\d+) .*proved=no")
 UNIT_TEST = re.compile(rb"#\s*\[\s*test\s*\]")
 # The runs that take longest, which are started first: they read texts of 16 MiB or build trees of a million tokens.
