@@ -1,244 +1,42 @@
-"""Tests of the gate over a small repository with a stand-in for 'rt', which proves nothing: which edits are tried after which change?"""
+"""Tests of the gate over a small repository with a stand-in for 'rt'."""
 import os
 import shutil
 import subprocess
 import sys
-import tempfile
 import unittest
 from unittest import mock
 
-import gate
+import repository
+from stand_in import ALL, CRATES, EDITS, Repository, of, read, write
 
-HERE = os.path.dirname(os.path.realpath(__file__))
-# Notes which edits it finds, builds a program, names the edits that are refused, and counts crates and edits as 'rt ci' does. FAIL: no
-# crate is proved. MISS: so many edits are not refused. STOP: a program fails. A check says which functions have a wrong body.
-STAND_IN = """#!/usr/bin/env bash
-if [ "$1" = check ]; then
-    for name in $(grep -rhoE 'wrong_[a-z]+' src | cut -d_ -f2); do
-        echo "./proofs/part/$name/Answers.antt:1:1: error: \`goal\`: .."
-        echo "fn ${PWD##*/}::part::$name: not proved"
-    done
-    exit 1
-fi
-ls crates/*/must-fail/*.edit > "$TRIED" 2> /dev/null
-find crates -path '*/out/*' -type f > "$TRIED.built"
-for edit in $([ -n "${FAIL:-}" ] || tail -n +$((${MISS:-0} + 1)) "$TRIED"); do
-    of=${edit#crates/}
-    echo "rt: must-fail ${of%%/*}/$(basename "$edit"): refused, as it must be: .."
-done
-[ "$1" != must-fail ] || exit "${FAIL:-0}"
-mkdir -p crates/app/out/rlib && echo new > crates/app/out/app && echo new > crates/app/out/rlib/stamp
-echo "${RT_JOBS:-none}" > "$JOBS"
-passed=$(( $(wc -l < "$TRIED") + $(grep -c '^[a-z]' crates.txt) ))
-echo "a program says: 9 passed, 0 failed"
-[ -z "${FAIL:-}${STOP:-}" ] || { echo "$((passed - 1)) passed, 1 failed"; exit 1; }
-echo "$((passed - ${MISS:-0})) passed, ${MISS:-0} failed"
-"""
-CRATES = "# lowest first\nlow: memchr\nmiddle: low\napart:\napp: middle apart\n"
-EDITS = {"low": 2, "middle": 3, "apart": 10}
-ALL = {f"crates/{crate}/must-fail/e{at}.edit" for crate, count in EDITS.items() for at in range(count)}
+PASSED = (0, "19 passed, 0 failed")
 
 
-def of(*crates):
-    return {edit for edit in ALL if edit.split("/")[1] in crates}
+class Selection(Repository):
+    """Which edits does a run try?"""
 
-
-def write(path, text, mode="w"):
-    os.makedirs(os.path.dirname(path), exist_ok=True)
-    with open(path, mode) as file:
-        file.write(text)
-
-
-class Gate(unittest.TestCase):
-    @classmethod
-    def setUpClass(cls):
-        cls.base = tempfile.mkdtemp(prefix="gate-test-")
-        for name in ("KIT-ID", "WHAT-base", "bin/rtlib.py", "bin/rattle"):
-            write(f"{cls.base}/kit/{name}", f"{name} 1\n")
-        write(f"{cls.base}/kit/bin/rt", STAND_IN)
-        os.chmod(f"{cls.base}/kit/bin/rt", 0o755)
-        top = f"{cls.base}/repository"
-        for crate, count in (*EDITS.items(), ("app", 0)):
-            for file in ("src/lib.rt", "src/part.rt", "specs/Lib.antt", "proofs/Lib.antt"):
-                write(f"{top}/crates/{crate}/{file}", f"{crate} {file}\n")
-            for at in range(count):
-                write(f"{top}/crates/{crate}/must-fail/e{at}.edit", f"file: src/lib.rt\nold: {crate}\nnew: {at}\n")
-        write(f"{top}/crates.txt", CRATES)
-        write(f"{top}/HANDLES", "Handles allowed: none.\n")
-        for name in ("gate.py", "ledger.py", "together.py"):
-            write(f"{top}/gate/{name}", "")
-            shutil.copy(f"{HERE}/{name}", f"{top}/gate/{name}")
-
-    @classmethod
-    def tearDownClass(cls):
-        shutil.rmtree(cls.base)
-
-    def setUp(self):
-        self.room = tempfile.mkdtemp(prefix="gate-test-")
-        self.addCleanup(shutil.rmtree, self.room)
-        shutil.copytree(self.base, self.room, dirs_exist_ok=True)
-        self.kit, self.top, self.ledger = f"{self.room}/kit", f"{self.room}/repository", f"{self.room}/repository/must-fail.ledger"
-
-    def run_gate(self, *words, **environment):
-        """Runs the gate; notes its status and lines. Returns the edits that 'rt' found."""
-        tried = f"{self.room}/tried"
-        write(tried, "not run\n")
-        paths = {"PATH": f"{self.kit}/bin:{os.environ['PATH']}", "TRIED": tried, "JOBS": f"{self.room}/jobs"}
-        ran = subprocess.run([sys.executable, f"{self.top}/gate/gate.py", *words], capture_output=True, text=True, env={**os.environ, **paths, **environment})
-        self.status, self.said = ran.returncode, (ran.stdout + ran.stderr).splitlines()
-        with open(tried) as file:
-            return {*file.read().splitlines()}
-
-    def record(self):
-        self.assertEqual(self.run_gate("--record"), ALL)
-        self.assertEqual((self.status, self.said[-1]), (0, "19 passed, 0 failed"))
-        with open(self.ledger) as file:
-            return file.read()
-
-    def after(self, path, text, mode="a"):
-        """Records, writes to a file, and returns the edits that are tried then. That run fails, so the ledger stays."""
-        self.record()
-        write(f"{self.room}/{path}", text, mode)
-        return self.run_gate("--record", FAIL="1")
-
-    def test_the_first_run_tries_all(self):
+    def test_first_run_tries_all_edits(self):
         self.assertEqual(self.run_gate(), ALL)
-        self.assertFalse(os.path.exists(self.ledger))
+        self.assert_end(*PASSED)
+        self.assertEqual([self.ledger(crate) for crate in EDITS], [[], [], []])
 
-    def test_a_second_run_tries_a_sample_of_one_crate(self):
+    def test_second_run_tries_sample_of_one_crate(self):
         self.record()
         tried = self.run_gate()
         self.assertTrue(0 < len(tried) <= 8 and len({edit.split("/")[1] for edit in tried}) == 1, tried)
         self.assertEqual(tried, self.run_gate())
 
-    def test_whole_tries_all_and_reads_no_ledger(self):
+    def test_rows_of_each_mark_count(self):
         self.record()
-        self.assertEqual(self.run_gate("--whole"), ALL)
+        for mark in ("together", "unknown"):
+            file = self.path("crates/apart/must-fail.ledger")
+            write(file, read(file).replace(" alone ", f" {mark} ", 3))
+        self.assertEqual({how for _, how, _ in self.ledger("apart")}, {"alone", "together", "unknown"})
+        self.assertEqual(self.unrecorded(), set())
 
-    def test_shares_are_all_edits_each_once(self):
-        shares = [self.run_gate("--whole", "--share", f"{at}/3") for at in (1, 2, 3)]
-        self.assertEqual(sorted(edit for share in shares for edit in share), sorted(ALL))
-
-    def test_shares_are_recorded_one_after_another(self):
-        for at in (1, 2, 3):
-            self.run_gate("--whole", "--record", "--share", f"{at}/3")
-        self.assertEqual(self.run_gate("--record"), set())
-
-    def test_a_source_turns_its_crate_and_those_above(self):
-        for part in ("src/lib.rt", "specs/Lib.antt", "proofs/Lib.antt"):
-            self.assertEqual(self.after(f"repository/crates/low/{part}", "x"), of("low", "middle"))
-            os.remove(self.ledger)
-        self.assertEqual(self.after("repository/crates/app/src/lib.rt", "x"), set())
-
-    def test_a_new_or_renamed_file_counts(self):
-        self.assertEqual(self.after("repository/crates/middle/src/new.rt", ""), of("middle"))
-        os.rename(f"{self.top}/crates/apart/src/part.rt", f"{self.top}/crates/apart/src/other.rt")
-        self.assertEqual(self.run_gate("--record", FAIL="1"), of("middle", "apart"))
-
-    def test_what_is_built_does_not_count(self):
-        self.assertEqual(self.after("repository/crates/low/out/low", "built"), set())
-
-    def test_a_crates_line_counts_and_no_comment(self):
-        self.assertEqual(self.after("repository/crates.txt", CRATES.replace("low: memchr", "low:  memchr").replace("# lowest", "# low\n# est"), "w"), set())
-        write(f"{self.top}/crates.txt", CRATES.replace("middle: low", "middle: low memchr"))
-        self.assertEqual(self.run_gate("--record", FAIL="1"), of("middle"))
-
-    def test_the_handles_and_the_kit_turn_all(self):
-        for path in ("repository/HANDLES", "kit/KIT-ID", "kit/WHAT-base", "kit/bin/rattle", "kit/bin/rtlib.py"):
-            self.assertEqual(self.after(path, "x"), ALL, path)
-            os.remove(self.ledger)
-
-    def test_an_edit_turns_itself(self):
-        self.assertEqual(self.after("repository/crates/apart/must-fail/e3.edit", "new: y\n"), {"crates/apart/must-fail/e3.edit"})
-
-    def test_a_copied_edit_is_another(self):
-        self.record()
-        shutil.copy(f"{self.top}/crates/apart/must-fail/e3.edit", f"{self.top}/crates/apart/must-fail/copy.edit")
-        self.assertEqual(self.run_gate("--record", FAIL="1"), {"crates/apart/must-fail/copy.edit"})
-
-    def test_a_ledger_that_was_changed(self):
-        said = self.record()
-        rows = said.splitlines(keepends=True)
-        write(self.ledger, "".join(rows[:6]))
-        self.assertEqual(len(self.run_gate("--record", FAIL="1")), len(ALL) - 5)
-        key = rows[1].split(" ")[0]
-        write(self.ledger, said.replace(rows[2].split(" ")[0], key))
-        self.assertEqual(self.run_gate("--record", FAIL="1"), {rows[2].split(" ")[1].strip()})
-
-    def test_a_failure_is_passed_on(self):
-        for turned in ({"FAIL": "1"}, {"STOP": "1"}):
-            self.run_gate(**turned)
-            self.assertEqual((self.status, self.said[-1]), (1, "18 passed, 1 failed"))
-        self.run_gate("--record", FAIL="1")
-        self.assertEqual(self.status, 1)
-        self.assertFalse(os.path.exists(self.ledger))
-
-    def test_an_edit_that_is_not_refused_is_a_failure_whatever_rt_answers(self):
-        self.run_gate(MISS="1")
-        self.assertEqual((self.status, self.said[-1]), (1, "18 passed, 1 failed"))
-
-    def test_what_was_refused_is_recorded_whatever_else_failed(self):
-        self.run_gate("--record", MISS="2")
-        self.assertNotEqual(self.status, 0)
-        self.assertEqual(len(self.run_gate("--record", STOP="1")), 2)
-        self.assertEqual(self.status, 1)
-        self.assertEqual(self.run_gate("--record"), set())
-
-    def test_what_cannot_be_read_is_a_failure(self):
-        for words in (["--share", "4/3"], ["--edits", "appart"], ["--edits", "app"]):
-            self.assertEqual(self.run_gate(*words), {"not run"})
-            self.assertEqual((self.status, self.said[-1]), (2, "0 passed, 1 failed"))
-        # (two crates that stand on each other)
-        write(f"{self.top}/crates.txt", "low: middle\nmiddle: low\n")
-        self.assertEqual(self.run_gate(), {"not run"})
-        self.assertEqual((self.status, self.said[-1]), (2, "0 passed, 1 failed"))
-
-    def test_edits_of_one_crate_alone(self):
-        shares = [self.run_gate("--edits", "apart", "--record", "--share", f"{at}/2") for at in (1, 2)]
-        self.assertEqual((self.status, self.said[-1]), (0, "5 passed, 0 failed"))
-        self.assertEqual((shares[0] | shares[1], shares[0] & shares[1]), (of("apart"), set()))
-        self.assertEqual(self.run_gate("--record"), of("low", "middle"))
-
-    def test_edits_of_one_crate_are_tried_over_built_libraries_and_all_else_is_not(self):
-        for path in ("rlib/stamp", "rlib/low.rlib/format", "incremental/mine", "low"):
-            write(f"{self.top}/crates/low/out/{path}", "built")
-        built = f"{self.room}/tried.built"
-        self.run_gate("--edits", "apart", "--record")
-        with open(built) as file:
-            self.assertEqual(sorted(file.read().split()), [f"crates/low/out/rlib/{name}" for name in ("low.rlib/format", "stamp")])
-        self.run_gate()
-        with open(built) as file:
-            self.assertEqual(file.read(), "")
-
-    def test_a_record_keeps_what_others_recorded(self):
-        self.record()
-        os.remove(f"{self.top}/crates/low/must-fail/e1.edit")
-        write(f"{self.top}/crates/apart/src/lib.rt", "x", "a")
-        self.run_gate("--edits", "apart", "--record", "--share", "1/2")
-        with open(self.ledger) as file:
-            self.assertEqual(len(file.readlines()), len(ALL))
-        self.assertEqual(len(self.run_gate("--record", FAIL="1")), 5)
-
-    def test_edits_of_different_functions_are_tried_together_and_the_others_alone(self):
-        write(f"{self.top}/crates/apart/src/part.rt", "".join(f"fn {name}() {{\n    right_{name}()\n}}\n" for name in "fgh"))
-        for at, new in enumerate(("wrong_f", "wrong_g", "other_h")):
-            write(f"{self.top}/crates/apart/must-fail/e{at}.edit", f"file: src/part.rt\nold: right_{new[-1]}\nnew: {new}\n")
-        together = {f"crates/apart/must-fail/e{at}.edit" for at in (0, 1)}
-        self.assertEqual(self.run_gate("--edits", "apart", "--record"), of("apart") - together)
-        self.assertEqual((self.status, self.said[-1]), (0, "10 passed, 0 failed"))
-        self.assertEqual(self.run_gate("--record"), of("low", "middle"))
-
-    def test_edits_that_are_not_refused_are_not_recorded(self):
-        self.run_gate("--edits", "apart", "--record", FAIL="1")
-        self.assertNotEqual(self.status, 0)
-        self.assertFalse(os.path.exists(self.ledger))
-        self.run_gate("--edits", "apart", "--record", MISS="1")
-        self.assertNotEqual(self.status, 0)
-        self.assertEqual(len(self.run_gate("--edits", "apart", "--record")), 1)
-
-    def test_past_its_time_a_run_tries_a_part_of_a_crate_which_the_commit_picks(self):
+    def test_large_run_tries_part_of_crate_that_commit_picks(self):
         for at in range(10, 150):
-            write(f"{self.top}/crates/apart/must-fail/e{at}.edit", f"file: src/lib.rt\nold: apart\nnew: {at}\n")
+            write(self.path(f"crates/apart/must-fail/e{at}.edit"), f"file: src/lib.rt\nold: apart\nnew: {at}\n")
         tried = self.run_gate()
         self.assertEqual((len(tried), of("low", "middle") <= tried), (55, True))
         git = ["git", "-C", self.top, "-c", "user.name=a", "-c", "user.email=a"]
@@ -247,44 +45,185 @@ class Gate(unittest.TestCase):
         other = self.run_gate()
         self.assertEqual((len(other), other == tried), (55, False))
 
-    def test_of_a_crate_whose_functions_call_one_another_one_edit_is_tried(self):
+    def test_crate_with_cycles_has_one_edit_tried(self):
         name = "crates/grammar_reader"
-        write(f"{self.top}/crates.txt", f"{CRATES}grammar_reader:\n")
-        write(f"{self.top}/{name}/src/lib.rt", "a\n")
-        its = {f"{name}/must-fail/e{at}.edit" for at in range(3)}
-        for edit in its:
-            write(f"{self.top}/{edit}", f"file: src/lib.rt\nold: a\nnew: {edit}\n")
-        for words in ([], ["--whole"], ["--record"]):
-            tried = self.run_gate(*words, FAIL="1")
-            self.assertEqual((ALL <= tried, len(tried & its)), (True, 1))
-        self.assertEqual(self.run_gate("--edits", "grammar_reader"), its)
+        write(self.path("crates.txt"), f"{CRATES}grammar_reader:\n")
+        write(self.path(f"{name}/src/lib.rt"), "a\n")
+        edits = {f"{name}/must-fail/e{at}.edit" for at in range(3)}
+        for edit in edits:
+            write(self.path(edit), f"file: src/lib.rt\nold: a\nnew: {edit}\n")
+        tried = self.run_gate()
+        self.assertEqual((ALL <= tried, len(tried & edits)), (True, 1))
+        self.assertEqual(self.run_edits(), ALL)
+        self.assertEqual(self.run_edits("grammar_reader"), edits)
 
-    def test_list_runs_nothing(self):
+    def test_list_counts_and_runs_nothing(self):
+        write(self.path("crates/low/must-fail/e0.edit"), "file: specs/Lib.antt\nold: low\nnew: 0\n")
+        self.run_edits("apart")
         self.assertEqual(self.run_gate("--list"), {"not run"})
-        self.assertEqual({*self.said[1:]}, ALL)
+        self.assertEqual(self.lines[0], "test: 15 must-fail edits, 10 of them recorded; 1 change specs/ or proofs/ alone, and no body")
+        self.assertRegex(self.lines[1], r"test: (13|7) tried, (8|2) of them as a sample; (2|8) left out$")
+        self.assertEqual(of("low", "middle"), {*self.lines[2:]} - of("apart"))
 
-    def test_what_is_built_comes_back(self):
-        out = f"{self.top}/crates/app/out"
-        write(f"{out}/stale", "old")
-        write(f"{out}/incremental/mine", "mine")
+
+class Sums(Repository):
+    """Which changes make a recorded edit unrecorded?"""
+
+    def after(self, path, text, mode="a"):
+        """Records all edits, writes to a file, and returns the edits that no ledger has then."""
+        self.record()
+        write(f"{self.room}/{path}", text, mode)
+        return self.unrecorded()
+
+    def forget(self):
+        for crate in EDITS:
+            os.remove(self.path(f"crates/{crate}/must-fail.ledger"))
+
+    def test_source_counts_for_crates_above(self):
+        for part in ("src/lib.rt", "specs/Lib.antt", "proofs/Lib.antt"):
+            self.assertEqual(self.after(f"repository/crates/low/{part}", "x"), of("low", "middle"))
+            self.forget()
+        self.assertEqual(self.after("repository/crates/app/src/main.rt", "x"), set())
+
+    def test_new_and_renamed_files_count(self):
+        self.assertEqual(self.after("repository/crates/middle/src/new.rt", ""), of("middle"))
+        os.rename(self.path("crates/apart/src/part.rt"), self.path("crates/apart/src/other.rt"))
+        self.assertEqual(self.unrecorded(), of("middle", "apart"))
+
+    def test_builds_do_not_count(self):
+        self.assertEqual(self.after("repository/crates/low/out/low", "built"), set())
+
+    def test_crate_line_counts_without_comments(self):
+        comments = CRATES.replace("low: memchr", "low:  memchr").replace("# lowest", "# low\n# est")
+        self.assertEqual(self.after("repository/crates.txt", comments, "w"), set())
+        write(self.path("crates.txt"), CRATES.replace("middle: low", "middle: low memchr"))
+        self.assertEqual(self.unrecorded(), of("middle"))
+
+    def test_handles_and_logic_count(self):
+        self.assertEqual(self.after("repository/HANDLES", "x"), ALL)
+        self.forget()
+        self.assertEqual(self.after("kit/KIT-ID", "kit-1 logic 00ab\n", "w"), ALL)
+
+    def test_other_build_of_the_logic_keeps_rows(self):
+        self.assertEqual(self.after("kit/KIT-ID", "kit-2 logic 00aa\n", "w"), set())
+        write(f"{self.kit}/bin/rattle", "another build\n")
+        write(f"{self.kit}/bin/rt", "# another build\n", "a")
+        self.assertEqual(self.unrecorded(), set())
+
+    def test_edit_counts_for_itself(self):
+        self.assertEqual(self.after("repository/crates/apart/must-fail/e3.edit", "new: y\n"), {"crates/apart/must-fail/e3.edit"})
+
+    def test_copied_edit_is_another(self):
+        self.record()
+        shutil.copy(self.path("crates/apart/must-fail/e3.edit"), self.path("crates/apart/must-fail/copy.edit"))
+        self.assertEqual(self.unrecorded(), {"crates/apart/must-fail/copy.edit"})
+
+    def test_rows_count_only_with_their_sums(self):
+        self.record()
+        file = self.path("crates/apart/must-fail.ledger")
+        rows = self.ledger("apart")
+        write(file, read(file).replace(rows[2][0], rows[1][0]))
+        self.assertEqual(self.unrecorded(), {f"crates/apart/must-fail/{rows[2][2]}"})
+        os.remove(file)
+        self.assertEqual(self.unrecorded(), of("apart"))
+
+
+class Verdict(Repository):
+    """When does a run fail, and what does it leave?"""
+
+    def test_failure_of_rt_fails(self):
+        for failure in ({"FAIL": "1"}, {"STOP": "1"}):
+            self.run_gate(**failure)
+            self.assert_end(1, "18 passed, 1 failed")
+
+    def test_edit_that_is_not_refused_fails_whatever_rt_returns(self):
+        self.run_gate(MISS="1")
+        self.assert_end(1, "18 passed, 1 failed")
+
+    def test_run_without_counts_fails(self):
+        self.run_gate(SILENT="1")
+        self.assert_end(1, "0 passed, 1 failed")
+
+    def test_failed_proof_is_shown(self):
+        self.run_gate(FAIL="1")
+        self.assertIn("error of low", self.lines)
+        self.assertIn("rt: low NOT PROVED", self.lines)
+        self.assertNotIn("fn low::f: proved", self.lines)
+        self.assertIn("fn low::f: proved", read(self.path("gate/out/ci.log")).splitlines())
+
+    def test_unreadable_input_fails(self):
+        for words in (["--share"], ["--quick", "low"], ["--list", "--quick"]):
+            self.assertEqual(self.run_gate(*words), {"not run"})
+            self.assert_end(2, "0 passed, 1 failed")
+        for file, text in (("crates.txt", "low: middle\nmiddle: low\n"), ("crates/low/must-fail.ledger", "00 alone\n"), ("crates/low/must-fail.ledger", "00 seen e0.edit\n")):
+            was = read(self.path(file)) if os.path.exists(self.path(file)) else ""
+            write(self.path(file), text)
+            self.assertEqual(self.run_gate(), {"not run"})
+            self.assert_end(2, "0 passed, 1 failed")
+            write(self.path(file), was)
+
+    def test_kit_without_logic_fails(self):
+        write(f"{self.kit}/KIT-ID", "kit-1\n")
+        self.assertEqual(self.run_gate(), {"not run"})
+        self.assert_end(2, "0 passed, 1 failed")
+
+    def test_builds_are_restored(self):
+        out = self.path("crates/app/out")
+        for name, text in (("stale", "old"), ("incremental/kept", "here"), ("fast/program", "here")):
+            write(f"{out}/{name}", text)
         self.run_gate()
-        found = {os.path.relpath(f"{at}/{name}", out) for at, _, names in os.walk(out) for name in names}
-        self.assertEqual(found, {"app", "incremental/mine"})
+        files = {os.path.relpath(f"{at}/{name}", out) for at, _, names in os.walk(out) for name in names}
+        self.assertEqual(files, {"app", "incremental/kept", "fast/program"})
 
     def test_help_runs_nothing(self):
         self.assertEqual(self.run_gate("--help"), {"not run"})
-        self.assertEqual((self.status, any("must-fail.ledger" in line for line in self.said)), (0, True))
+        self.assertEqual((self.status, any("--quick" in line for line in self.lines)), (0, True))
 
-    def test_jobs_that_are_given_are_kept(self):
+    def test_given_jobs_are_used(self):
         self.run_gate(RT_JOBS="7")
-        with open(f"{self.room}/jobs") as file:
-            self.assertEqual(file.read(), "7\n")
+        self.assertEqual(read(f"{self.room}/jobs"), "7\n")
 
-    def test_where_memory_is_short_each_core_has_a_job(self):
-        for bytes_a_core, jobs in ((gate.BYTES_A_CORE - 1, "2"), (gate.BYTES_A_CORE, None)):
+    def test_little_memory_sets_one_job_a_core(self):
+        for bytes_a_core, jobs in ((repository.BYTES_A_CORE - 1, "2"), (repository.BYTES_A_CORE, None)):
             with mock.patch("os.sched_getaffinity", return_value={0, 1}), mock.patch("os.sysconf", side_effect=[2, bytes_a_core]):
                 with mock.patch.dict("os.environ", clear=True):
-                    self.assertEqual(gate.environment().get("RT_JOBS"), jobs)
+                    self.assertEqual(repository.environment().get("RT_JOBS"), jobs)
+
+
+class Output(Repository):
+    """What does a run print?"""
+
+    def test_each_task_has_a_line(self):
+        self.run_gate()
+        ended = [line.partition(" left: ")[2] for line in self.lines if " done, " in line]
+        self.assertEqual([text for text in ended if text.startswith("app")], ["app: proved", "app: wrote what its file stdout has"])
+        self.assertIn("apart: its tests are proved", ended)
+        self.assertIn("apart: tests passed", ended)
+        self.assertIn("low: its edits were tried, 0 of them by an earlier run", ended)
+        self.assertTrue(any(line.startswith("test: 10 of 10 done, ") for line in self.lines), self.lines)
+
+    def test_kept_proofs_are_named(self):
+        self.run_gate(KEPT="low apart")
+        ended = [line.partition(" left: ")[2] for line in self.lines if " done, " in line]
+        self.assertIn("low: proof kept from an earlier run", ended)
+        self.assertIn("proofs of tests kept from earlier runs: apart", ended)
+        self.assertIn("middle: proved", ended)
+        self.assertIn("test: proofs kept from earlier runs, 2 of 4: low apart", self.lines)
+
+    def test_each_line_is_read_at_once(self):
+        with subprocess.Popen([sys.executable, "-B", "gate/gate.py"], cwd=self.top, env=self.environment(PAUSE="3"), stdout=subprocess.PIPE, text=True) as ran:
+            lines = iter(ran.stdout.readline, "")
+            shown = [line for line in iter(lambda: next(lines), "rt: paused\n")]
+            is_running = ran.poll() is None
+            ran.communicate()
+        self.assertTrue(is_running)
+        self.assertEqual(shown[-1], "9 passed, 0 failed\n")
+        self.assertTrue(any(line.endswith(" left: apart: tests passed\n") for line in shown), shown)
+
+    def test_programs_lines_pass(self):
+        self.run_gate()
+        self.assertIn("a program says: 9 passed, 0 failed", self.lines)
+        self.assertRegex(self.lines[-2], r"test: \d+ processor seconds in all, \d+ s$")
 
 
 if __name__ == "__main__":

@@ -1,17 +1,25 @@
-"""What decides whether the prover refuses a must-fail edit, as one sum, and the ledger of the edits that were refused before."""
+"""The sums that must-fail edits rest on, and the ledgers of the edits that the prover has refused.
+
+Each crate has its own ledger, `crates/NAME/must-fail.ledger`, beside the folder of its edits ('rt' takes each further file in that
+folder for a bad edit). A row is a sum, how the refusal was seen, and the edit's file name:
+
+    alone       by a check of the crate with this edit only
+    together    by one check with edits of other functions (together.py)
+    unknown     before ledgers recorded how
+"""
 import hashlib
 import os
-import shutil
+import re
+import subprocess
 
-LEDGER = "must-fail.ledger"
 # The folders of a crate that its check reads.
 PARTS = ("src", "specs", "proofs")
-# The kit's programs that judge. Its libraries have their sums in its files WHAT...
-JUDGES = ("bin/rt", "bin/rtlib.py", "bin/rattle")
+ALONE, TOGETHER, UNKNOWN = "alone", "together", "unknown"
+HEAD = "# The refused must-fail edits of this crate: sum, how it was seen, file. Written by gate/edits.py.\n"
 
 
 def sum_of(*parts):
-    """Returns one sum of texts and bytes. Each is summed by itself first, so that no two lists run into one."""
+    """Returns one sum of texts and bytes. Each part is summed by itself first: lists with other boundaries have other sums."""
     whole = hashlib.sha256()
     for part in parts:
         whole.update(hashlib.sha256(part if isinstance(part, bytes) else part.encode()).digest())
@@ -24,22 +32,29 @@ def read(path):
 
 
 def files_below(folder):
-    """Returns the files below a folder, in one order on every machine."""
-    found = [os.path.join(at, name) for at, _, names in os.walk(folder) for name in names]
-    return sorted(found)
+    """Returns the files below a folder, in an order that is the same on every machine."""
+    paths = [os.path.join(at, name) for at, _, names in os.walk(folder) for name in names]
+    return sorted(paths)
 
 
-def kit():
-    """Returns a sum of the kit: its identity, its list of libraries and the programs that judge."""
-    home = os.path.dirname(os.path.dirname(os.path.realpath(shutil.which("rt"))))
-    lists = sorted(name for name in os.listdir(home) if name == "KIT-ID" or name.startswith("WHAT"))
-    return sum_of(*[part for name in (*lists, *JUDGES) for part in (name, read(f"{home}/{name}"))])
+def logic():
+    """Returns the hash of the kit's logic, as 'rt version' names it. Builds of the kit with one logic prove by the same rules."""
+    version = subprocess.run(["rt", "version"], stdout=subprocess.PIPE, text=True, check=True).stdout
+    found = re.search(r"\blogic (\w+)", version)
+    if not found:
+        raise ValueError(f"'rt version' names no logic: {version.strip()}")
+    return found[1]
 
 
-def lines_of(root):
-    """Returns the line of each crate in crates.txt, without comments and spare blanks."""
+def crate_lines(root):
+    """Returns the line of each crate in crates.txt, without comments and extra blanks."""
     lines = [" ".join(line.partition("#")[0].split()) for line in read(f"{root}/crates.txt").decode().splitlines()]
     return {line.replace(":", " ").split()[0]: line for line in lines if line.strip(" :")}
+
+
+def libraries(line):
+    """Returns the libraries that a crate's line lists, those of the kit included."""
+    return line.partition(":")[2].replace(",", " ").split()
 
 
 class Sums:
@@ -47,33 +62,34 @@ class Sums:
 
     def __init__(self, root):
         self.root = root
-        self.lines = lines_of(root)
+        self.lines = crate_lines(root)
         handles = f"{root}/HANDLES"
-        self.shared = sum_of(kit(), read(handles) if os.path.isfile(handles) else b"")
-        self.made = {}
+        self.shared = sum_of(logic(), read(handles) if os.path.isfile(handles) else b"")
+        self.cache = {}
 
     def crate(self, name):
-        """Returns the sum of a crate: the kit, the handles, its line, its files and the sums of the crates below it."""
-        if name not in self.made:
-            # (a crate that stands on itself is found again here, with no sum yet)
-            self.made[name] = None
-            libraries = self.lines[name].partition(":")[2].replace(",", " ").split()
-            below = [self.crate(library) for library in libraries if library in self.lines]
+        """Returns the sum of a crate: the logic, the handles, its line, its files and the sums of the crates below it.
+
+        A library of the kit counts by its name in the crate's line."""
+        if name not in self.cache:
+            # None marks a crate whose sum is being computed: a crate below itself meets it.
+            self.cache[name] = None
+            below = [self.crate(library) for library in libraries(self.lines[name]) if library in self.lines]
             files = [file for part in PARTS for file in files_below(f"{self.root}/crates/{name}/{part}")]
-            own = [part for file in files for part in (os.path.relpath(file, self.root), read(file))]
-            self.made[name] = sum_of(self.shared, self.lines[name], *below, *own)
-        if self.made[name] is None:
-            raise ValueError(f"{name} stands on itself")
-        return self.made[name]
+            contents = [part for file in files for part in (os.path.relpath(file, self.root), read(file))]
+            self.cache[name] = sum_of(self.shared, self.lines[name], *below, *contents)
+        if self.cache[name] is None:
+            raise ValueError(f"{name} depends on itself")
+        return self.cache[name]
 
     def edits(self):
-        """Returns the sum of each must-fail edit, by its path: the crate's, its name and its text."""
-        found = {}
-        for name in sorted(self.lines):
-            for file in files_below(f"{self.root}/crates/{name}/must-fail"):
-                if file.endswith(".edit"):
-                    found[os.path.relpath(file, self.root)] = sum_of(self.crate(name), os.path.basename(file), read(file))
-        return found
+        """Returns the sum of each must-fail edit, by its path: the sum of its crate, its file name and its text."""
+        return {edit: sum_of(self.crate(crate_of(edit)), os.path.basename(edit), read(f"{self.root}/{edit}")) for edit in self.paths()}
+
+    def paths(self):
+        """Returns the paths of all must-fail edits, from the root of the tree."""
+        files = [file for name in sorted(self.lines) for file in files_below(f"{self.root}/crates/{name}/must-fail")]
+        return [os.path.relpath(file, self.root) for file in files if file.endswith(".edit")]
 
 
 def crate_of(edit):
@@ -81,17 +97,42 @@ def crate_of(edit):
     return edit.split("/")[1]
 
 
+def by_crate(edits):
+    """Returns the edits of each crate; crates and edits are sorted by name."""
+    groups = {}
+    for edit in sorted(edits):
+        groups.setdefault(crate_of(edit), []).append(edit)
+    return groups
+
+
+def ledger_of(root, name):
+    """Returns the path of a crate's ledger."""
+    return f"{root}/crates/{name}/must-fail.ledger"
+
+
+def crate_rows(root, name):
+    """Returns the rows of a crate's ledger, by the edit's path: the sum and how the refusal was seen."""
+    path = ledger_of(root, name)
+    lines = read(path).decode().splitlines() if os.path.isfile(path) else []
+    rows = [line.split() for line in lines if line and not line.startswith("#")]
+    for row in rows:
+        if len(row) != 3 or row[1] not in (ALONE, TOGETHER, UNKNOWN):
+            raise ValueError(f"{path} has a row that is no sum, mark and file: {' '.join(row)}")
+    return {f"crates/{name}/must-fail/{file}": (key, how) for key, how, file in rows}
+
+
 def recorded(root):
-    """Returns the sums that the ledger has, by the edit's path; none where there is no ledger."""
-    if not os.path.isfile(f"{root}/{LEDGER}"):
-        return {}
-    lines = read(f"{root}/{LEDGER}").decode().splitlines()
-    rows = [line.partition(" ") for line in lines if not line.startswith("#")]
-    return {path: key for key, _, path in rows}
+    """Returns the rows of all ledgers of a tree, by the edit's path."""
+    return {edit: row for name in crate_lines(root) for edit, row in crate_rows(root, name).items()}
 
 
-def record(root, sums):
-    """Writes the ledger anew: these sums, by the edit's path."""
-    with open(f"{root}/{LEDGER}", "w") as file:
-        file.write("# The must-fail edits that ./test leaves out: the sum of all that decides one, and its path. Written by ./test --record.\n")
-        file.writelines(f"{key} {path}\n" for path, key in sorted(sums.items()))
+def record(root, name, tried, refused):
+    """Writes to a crate's ledger the edits that were refused, by path, each with its sum and how that was seen.
+
+    Rows of edits that were tried and not refused go, and those of files that are gone. Other rows stay, as another run may have
+    recorded them meanwhile."""
+    others = {edit: row for edit, row in crate_rows(root, name).items() if edit not in tried and os.path.isfile(f"{root}/{edit}")}
+    rows = sorted({**others, **refused}.items())
+    with open(ledger_of(root, name), "w", encoding="utf-8") as file:
+        file.write(HEAD)
+        file.writelines(f"{key} {how} {os.path.basename(edit)}\n" for edit, (key, how) in rows)

@@ -1,25 +1,25 @@
-"""Must-fail edits of one crate that are tried together: many wrong bodies, each of another function, by one check of the crate.
+"""Tries must-fail edits of one crate together: many wrong bodies, each of another function, by one check of the crate.
 
-A function's proof reads its own body and the contracts of what it calls, so what a check finds wrong in one function is the same
-whatever stands in the bodies of others. An edit counts as refused here where it changes one function's body alone, the check says of
-this function that it is not proved, and an error at a goal stands in its own proof. All other edits have to be tried alone.
+A function's proof reads its own body and the contracts of what it calls. So the errors of a check in one function do not depend on
+the bodies of others. An edit counts as refused here if it changes one function's body alone, the check says that this function is
+not proved, and its own proof has an error at a goal. All other edits have to be tried alone.
 """
 import re
 import subprocess
 
-# The indent of a function, whether it is constant, and its name, in the line where it begins.
+# The first line of a function: its indent, `const ` if it is constant, and its name.
 FUNCTION = re.compile(r"( *)(?:pub(?:\([a-z]+\))? )?(const )?fn (\w+)")
-# The parameters of an impl, the trait, if it is one's, and the type; the name of a trait.
+# The head of an impl: its parameters, its trait, if any, and its type. The head of a trait: its name.
 IMPL = re.compile(r"impl(?:<(.*?)>)? (?:([^{]*?) for )?([^{]*?)(?: where .*)? ?\{?$")
 TRAIT = re.compile(r"(?:pub(?:\([a-z]+\))? )?trait (\w+)")
 # What a check says of a function.
 SAID = re.compile(r"fn (\S+): (.*)")
-# Where a check finds an error, and the goal that it names.
+# The file of an error and the goal that it names.
 ERROR = re.compile(r"(?:\./)?(\S+?):\d+:\d+: error: (?:`([^`]*)`)?")
-# What a check has no proof of, of a function whose goals it proves by itself; and a function of which it has not tried all goals.
+# A function without proof files with a goal that `search` did not prove; a function of which not all goals were tried.
 UNPROVED = re.compile(r"no proof: .*`search` did not prove `")
 UNTRIED = re.compile(r"note: `search` has not tried the goals of `([^`]*)`")
-# An error that says little of a contract: a proof names what an edit took away, or rests on another that is wrong.
+# An error that says little of a contract: a proof names what an edit removed, or cites another proof that has an error.
 OF_NAMES = re.compile(r"has no field|is not in scope|has no `|was not admitted")
 # The folder of a cycle of calls, below that of its module.
 CYCLE = re.compile(r"proofs/(.*?)/?\+\w+/")
@@ -36,20 +36,19 @@ def write(path, text):
 
 
 class Body:
-    """A function's body: its first character in a file and the first after it, and how a check names the function: by its path in the
-    crate, or for a method by the end of it."""
+    """A function's body: its range in a file, and the function's name in a check, a path in the crate, or for a method its end."""
 
     def __init__(self, first, end, name, is_method):
         self.first, self.end, self.name, self.is_method = first, end, name, is_method
 
 
 def opens_body(line, indent, is_first):
-    """Returns whether a line of a function's head is its last, after which the body's lines stand."""
+    """Returns `True` if a line of a function's head is its last."""
     return line == indent + "{" or (is_first or line.startswith(indent + ")")) and line.endswith("{")
 
 
 def body_lines(lines, at, indent):
-    """Returns the first line of the body of the function that begins at a line, and the one that closes it; nothing where it has none."""
+    """Returns the first line of the body of the function that begins at a line, and the line that closes it, or nothing."""
     for opening in range(at, len(lines)):
         if opening > at and FUNCTION.match(lines[opening]):
             return None
@@ -66,8 +65,8 @@ def words_of(type_or_trait, parameters):
 
 
 def name_of(file, lines, at, indent, function):
-    """Returns how a check names the function that begins at a line: by the module that the file is, or by the type and the trait of the
-    impl around it, or by the trait; nothing where something else stands around it."""
+    """Returns the name in a check of the function that begins at a line: by its module, by the type and the trait of its impl, or by
+    its trait. Returns nothing for a function inside another item."""
     if not indent:
         module = [part for part in file.removesuffix(".rt").split("/")[1:] if part not in ("lib", "main", "mod")]
         return "::".join([*module, function])
@@ -80,7 +79,7 @@ def name_of(file, lines, at, indent, function):
 
 
 def bodies(file, text):
-    """Returns the bodies of the functions in a file, but for constant ones: what such a body gives can stand in the contracts of others."""
+    """Returns the bodies of the functions in a file without constant ones: contracts of others can name their values."""
     lines, begins, found = text.split("\n"), [0], []
     for line in lines:
         begins.append(begins[-1] + len(line) + 1)
@@ -94,8 +93,8 @@ def bodies(file, text):
 
 
 def changes(folder, edit):
-    """Returns what an edit puts where in a crate: a file, the first character and the end of what it takes away, and the new text.
-    Returns nothing where a text that it takes away does not stand there once."""
+    """Returns the changes of an edit: of each the file, the range that it replaces, and the new text. Returns nothing if the file does
+    not have an old text exactly once."""
     found, file, at = [], None, None
     for line in read(edit).split("\n"):
         if line.startswith("file: "):
@@ -111,7 +110,7 @@ def changes(folder, edit):
 
 
 def body_around(folder, made):
-    """Returns the one body in which all changes of an edit stand, or nothing."""
+    """Returns the body that contains all changes of an edit, or nothing."""
     files = {file for file, *_ in made}
     if len(files) != 1 or not made[0][0].startswith("src/"):
         return None
@@ -121,7 +120,7 @@ def body_around(folder, made):
 
 
 def of_different_functions(folder, edits):
-    """Returns edits, each with its body and its changes: of those that change one body alone the first of each function."""
+    """Returns a round: of the edits that change one body alone the first of each function, with its body and its changes."""
     firsts = {}
     for edit in sorted(edits):
         made = changes(folder, edit)
@@ -132,7 +131,7 @@ def of_different_functions(folder, edits):
 
 
 def edited(folder, tried):
-    """Returns the texts of a crate's files with all edits of a round made."""
+    """Returns the texts of a crate's files after all edits of a round."""
     made = sorted((change for _, _, changes in tried for change in changes), reverse=True)
     texts = {file: read(f"{folder}/{file}") for file, *_ in made}
     for file, first, end, new in made:
@@ -141,7 +140,7 @@ def edited(folder, tried):
 
 
 def check(folder, texts):
-    """Checks a crate with these texts in the place of its own, which it has again after. Returns the lines of the check."""
+    """Checks a crate with these texts and restores its own. Returns the lines of the check."""
     own = {file: read(f"{folder}/{file}") for file in texts}
     try:
         for file, text in texts.items():
@@ -154,8 +153,8 @@ def check(folder, texts):
 
 
 def errors(lines):
-    """Returns the errors of a check, but for those of names: each line, with the file that it names, or where that is one of a cycle of
-    calls, the path of the function whose goal it names."""
+    """Returns the errors of a check without those of names: of each its line, after its file. For a file of a cycle of calls, the
+    path of the function whose goal it names replaces the file."""
     found = []
     for line in lines:
         at = None if OF_NAMES.search(line) else ERROR.match(line)
@@ -168,12 +167,12 @@ def errors(lines):
 
 
 def said_in(lines):
-    """Returns what a check says of each function, by its path."""
+    """Returns the verdict of a check on each function, by its path."""
     return {found[1].partition("::")[2]: found[2] for found in map(SAID.match, lines) if found}
 
 
 def wrong_in(lines):
-    """Returns the functions that are not proved for a goal of their own, by path, each with what a check says of that."""
+    """Returns the functions that have an unproved goal of their own, by path, each with a line of the check."""
     untried = {found[1].partition("::")[2] for found in map(UNTRIED.match, lines) if found}
     places, wrong = errors(lines), {}
     for name, said in said_in(lines).items():
@@ -187,12 +186,15 @@ def wrong_in(lines):
 
 
 def is_named(body, name):
+    """Returns `True` if a check can mean the function of `body` by `name`."""
     return name == body.name or body.is_method and name.endswith(f"::{body.name}")
 
 
 def refused_in(lines, tried):
-    """Returns the edits of a round that a check refused, each with what it says of that. Where a function is wrong that none of them
-    changes, the check tells nothing of any; so where methods of several types have one name, as many have to be wrong as were changed."""
+    """Returns the edits of a round that a check refused, each with a line of the check.
+
+    If a function is wrong that no edit changes, the check counts for no edit. If methods of several types have one name, as many of
+    them have to be wrong as were changed."""
     wrong, groups, found = wrong_in(lines), {}, {}
     if any(not any(is_named(body, name) for _, body, _ in tried) for name in wrong):
         return {}
@@ -206,13 +208,13 @@ def refused_in(lines, tried):
 
 
 def waiting_in(lines, tried):
-    """Returns the edits of a round whose functions call one that is not proved: some of their goals may not have been looked at."""
+    """Returns the edits of a round whose functions call one that is not proved: some of their goals may not have been tried."""
     calls = [name for name, said in said_in(lines).items() if "it calls" in said]
     return {edit for edit, body, _ in tried if any(is_named(body, name) for name in calls)}
 
 
 def refused(folder, edits):
-    """Tries edits of a crate in rounds, and gives those that are refused, each with what a check says of that, after each round."""
+    """Tries edits of a crate in rounds. Yields those that are refused, each with a line of the check, after each round."""
     left = {*edits}
     while True:
         tried = of_different_functions(folder, left)

@@ -1,4 +1,4 @@
-"""Tests of edits that are tried together: which are, and which a check refuses?"""
+"""Tests of the rounds of edits that are tried together."""
 import os
 import shutil
 import tempfile
@@ -122,11 +122,11 @@ class Together(unittest.TestCase):
             found = together.bodies("src/lib.rt", f"{head}\n    fn f() {{\n        1\n    }}\n}}\n")
             self.assertEqual([it.name for it in found], [f"{name}::f"])
 
-    def test_of_the_edits_of_one_function_the_first_is_tried(self):
+    def test_round_has_first_edit_of_each_function(self):
         edits = [self.edit("b", ("add(n)", "n")), self.edit("a", ("m + n", "m")), self.edit("c", ("self.0 + 1", "1"))]
         self.assertEqual(self.of_different_functions(*edits), {"a", "c"})
 
-    def test_what_changes_more_than_one_body_is_not_tried_together(self):
+    def test_round_has_no_edit_of_several_bodies(self):
         clause = self.edit("clause", ("n < 128", "n < 2"))
         constant = self.edit("constant", ("99", "98"))
         spec = self.edit("spec", ("Law", "Lie"), file="specs/Law.antt")
@@ -134,37 +134,37 @@ class Together(unittest.TestCase):
         often = self.edit("often", ("n + n", "n"), ("count", "n"))
         self.assertEqual(self.of_different_functions(clause, constant, spec, two, often), {*()})
 
-    def test_all_edits_of_a_round_are_made(self):
+    def test_round_makes_all_its_edits(self):
         edits = [self.edit("a", ("m + n", "self.0 + 1"), ("add(n)", "n")), self.edit("b", ("self.0 + 1", "add(n)"))]
         first = together.of_different_functions(self.folder, edits)
         text = PART.replace("self.0 + 1", "?").replace("m + n", "self.0 + 1").replace("    add(n)", "    n").replace("?", "add(n)")
         self.assertEqual(together.edited(self.folder, first), {"src/part.rt": text})
 
-    def test_an_error_in_a_proof_a_goal_of_a_cycle_and_one_that_search_does_not_prove_refuse(self):
+    def test_errors_in_proofs_cycles_and_searches_refuse_edits(self):
         lines = CHECK.splitlines()
         found = together.refused_in(lines, WRONG)
         self.assertEqual({*found}, {*"abcde"})
         self.assertEqual([found["a"], found["b"], found["c"]], [lines[0], lines[1], lines[4]])
 
-    def test_what_is_proved_or_only_calls_or_has_no_error_of_its_own_is_left_open(self):
+    def test_edits_without_error_of_their_own_stay_open(self):
         names = ("part::caller", "other::part::other", "part::named", "part::late", "part::lost")
         said = [*WRONG, tried("f", "CounterDisplay::fmt", True), *[tried(name, name) for name in names]]
         self.assertEqual({*together.refused_in(CHECK.splitlines(), said)}, {*"abcde"})
 
-    def test_where_a_function_is_wrong_that_no_edit_changes_all_are_left_open(self):
+    def test_error_in_unchanged_function_leaves_all_edits_open(self):
         for left_out in range(len(WRONG)):
             self.assertEqual(together.refused_in(CHECK.splitlines(), WRONG[:left_out] + WRONG[left_out + 1 :]), {})
 
-    def test_of_methods_with_one_name_as_many_are_wrong_as_were_changed(self):
+    def test_methods_with_one_name_are_all_wrong_or_stay_open(self):
         lines = CHECK.replace("One::", "a::One::").replace("Two::", "b::One::").splitlines()
         self.assertEqual({*together.refused_in(lines, WRONG)}, {*"abcde"})
         self.assertEqual({*together.refused_in(lines, [*WRONG, tried("f", "One::new", True)])}, {*"abce"})
 
-    def test_what_waits_for_a_function_that_it_calls_is_told(self):
+    def test_callers_of_unproved_functions_wait(self):
         said = [tried("a", "part::twice"), tried("b", "part::caller"), tried("c", "part::word"), tried("d", "part::late")]
         self.assertEqual(together.waiting_in(CHECK.splitlines(), said), {"b", "d"})
 
-    def test_what_waited_is_tried_again_and_what_stays_open_is_not(self):
+    def test_waiting_edits_are_tried_again_and_open_ones_are_not(self):
         edits = [self.edit("a", ("m + n", "m")), self.edit("b", ("add(n)", "n")), self.edit("c", ("self.0 + 1", "1")), self.edit("d", ("f.pad", "f.put"))]
         wrong, waits, checks = "./proofs/part/twice/Answers.antt:3:1: error: `goal`\nfn n::part::twice: not proved", "no proof: it calls `f`", []
 
@@ -180,7 +180,7 @@ class Together(unittest.TestCase):
             together.check = own
         self.assertEqual(([os.path.basename(edit) for edit in found], checks), (["a", "b"], ["acd", "bd"]))
 
-    def test_a_crate_has_its_files_again_after_a_check(self):
+    def test_check_restores_files(self):
         with self.assertRaises(OSError):
             os.environ["PATH"], path = "", os.environ["PATH"]
             try:

@@ -1,0 +1,99 @@
+"""The working tree, its copies, and calls of 'rt' in them."""
+import os
+import re
+import shutil
+import subprocess
+import sys
+
+import ledger
+
+TOP = os.path.dirname(os.path.dirname(os.path.realpath(__file__)))
+# A check takes one to four gigabytes. With fewer bytes a core than this, 'rt ci' by its own estimate leaves cores idle.
+BYTES_A_CORE = 5_000_000_000
+# What later checks, and ./run, reuse in a crate's out/. (fast_build.py names its unfinished builds fast-..)
+REUSED = re.compile(r"incremental|rlib|fast(-.*)?")
+REFUSED = re.compile(r"rt: must-fail ([^/\s]+)/(\S+): refused, as it must be")
+TEST = re.compile(r"#\s*\[[^]]*\btest\b")
+
+
+def fail(why):
+    """Prints an error and ends the process with status 2."""
+    print(f"test: {why}\n0 passed, 1 failed")
+    sys.exit(2)
+
+
+def cores():
+    """Returns the number of cores that this process may use."""
+    return len(os.sched_getaffinity(0))
+
+
+def environment():
+    """Returns the environment of 'rt ci': on a machine with little memory, one job a core."""
+    memory = os.sysconf("SC_PAGE_SIZE") * os.sysconf("SC_PHYS_PAGES")
+    is_short = memory < BYTES_A_CORE * cores()
+    return {"RT_JOBS": str(cores()), **os.environ} if is_short else dict(os.environ)
+
+
+def copy_tree(to, parts=()):
+    """Copies the working tree without what was built, so that one state is tested, whatever is edited meanwhile.
+
+    Of a crate's out/ it copies `parts`; 'rt' builds a library again if its sources differ from the stamp there."""
+
+    def ignored(at, names):
+        if os.path.basename(at) == "out" and os.path.dirname(os.path.dirname(at)) == f"{TOP}/crates":
+            return [name for name in names if name not in parts]
+        is_crate = os.path.dirname(at) == f"{TOP}/crates"
+        return [name for name in names if name == ".git" and at == TOP or name == "out" and not (is_crate and parts)]
+
+    shutil.copytree(TOP, to, symlinks=True, ignore=ignored)
+    # 'rt ci' runs only at the top of a repository.
+    os.mkdir(f"{to}/.git")
+
+
+def copy_in(room, parts=()):
+    """Copies the working tree into a new folder of `room` and returns its path; fails without 'rt'."""
+    if not shutil.which("rt"):
+        fail("the Rattle kit's command 'rt' is not on the PATH")
+    copied = f"{room}/repository"
+    copy_tree(copied, parts)
+    return copied
+
+
+def restore_builds(copied):
+    """Moves what was built, such as the program that ./run starts, from the copy to the working tree."""
+    for name in os.listdir(f"{copied}/crates"):
+        source, target = f"{copied}/crates/{name}/out", f"{TOP}/crates/{name}/out"
+        for old in os.listdir(target) if os.path.isdir(target) else []:
+            if not REUSED.fullmatch(old):
+                subprocess.run(["rm", "-rf", "--", f"{target}/{old}"], check=True)
+        for new in os.listdir(source) if os.path.isdir(source) else []:
+            if not REUSED.fullmatch(new):
+                os.makedirs(target, exist_ok=True)
+                shutil.move(f"{source}/{new}", target)
+
+
+def start_rt(at, *words):
+    """Starts 'rt' in a folder; its standard output can be read by lines."""
+    how = {"cwd": at, "env": environment(), "stdout": subprocess.PIPE, "stdin": subprocess.DEVNULL, "errors": "replace"}
+    return subprocess.Popen(["rt", *words], **how)
+
+
+def refused_in(lines, tried):
+    """Returns the edits of `tried` that these lines of 'rt' name as refused."""
+    names = {found.groups() for found in map(REFUSED.match, lines) if found}
+    return {edit for edit in tried if (ledger.crate_of(edit), os.path.basename(edit)) in names}
+
+
+def source_files(root, name):
+    """Returns the Rust files of a crate."""
+    return [file for file in ledger.files_below(f"{root}/crates/{name}/src") if file.endswith(".rt")]
+
+
+def is_program(root, name):
+    """Returns `True` if the crate is a program."""
+    return os.path.isfile(f"{root}/crates/{name}/src/main.rt")
+
+
+def has_tests(root, name):
+    """Returns `True` if 'rt ci' proves the crate a second time, with its tests."""
+    return any(TEST.search(ledger.read(file).decode(errors="replace")) for file in source_files(root, name))
