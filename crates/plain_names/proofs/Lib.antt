@@ -1,0 +1,10 @@
+pub mod Names
+pub mod Blind
+pub mod BlindLexemes
+pub mod BlindLexeme
+pub mod Renamed
+pub mod RenamedTexts
+pub mod Calm
+pub mod CalmLexemes
+pub mod CalmLexeme
+pub mod Shebangs

@@ -1,0 +1,2 @@
+pub mod TokenNames
+pub mod ClosedTokens
