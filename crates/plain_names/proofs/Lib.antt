@@ -8,3 +8,15 @@ pub mod Calm
 pub mod CalmLexemes
 pub mod CalmLexeme
 pub mod Shebangs
+pub mod Prefaces
+pub mod RenamedLeaves
+pub mod Inputs
+pub mod OneForest
+pub mod Mapped
+pub mod Followed
+pub mod Paths
+pub mod PrefaceStarts
+pub mod Numbered
+pub mod Tags
+pub mod RenamedTrees
+pub mod PlainTrees

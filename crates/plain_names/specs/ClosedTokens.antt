@@ -21,7 +21,7 @@ is_terminated (RawStr hashes) = is_some hashes
 is_terminated (RawByteStr hashes) = is_some hashes
 is_terminated (RawCStr hashes) = is_some hashes
 
--- White space after the token is no part of it.
+-- Whitespace after the token is no part of it.
 unfoldable pub is_closed : TokenKind → Bool
 is_closed (LineComment style) = false
 is_closed (BlockComment style terminated) = terminated
@@ -29,7 +29,7 @@ is_closed Whitespace = false
 is_closed (Literal kind suffix_start) = is_terminated kind
 is_closed kind = true
 
--- White space after a text whose tokens are closed starts a new token.
+-- Whitespace after a text whose tokens are closed starts a new token.
 abbrev pub SpaceEndsTokens : Type 0
 SpaceEndsTokens =
     (text : List ℕ) (space : ℕ) (rest : List ℕ) → is_whitespace space ≡ true →
