@@ -1,5 +1,5 @@
 -- A renamed leaf in the tree.
-use Rattle.std.proofs.Common.{◌≡◌, ℕ, Bool, true, false, ◌||◌, ◌==◌, List, [], ◌∷◌, ◌++◌, length, take, drop, append_assoc, append-nil, refl, sym, ◌∙◌, ap, inl, inr, if◌then◌else◌}
+use Rattle.std.proofs.Common.{arith, length-append, ◌≡◌, ℕ, Bool, true, false, ◌||◌, ◌==◌, List, [], ◌∷◌, ◌++◌, length, take, drop, append_assoc, append-nil, refl, sym, ◌∙◌, ap, inl, inr, if◌then◌else◌}
 use Rattle.std.specs.List.{flat_map, list_any}
 use Rattle.std.proofs.lemmas.Bool.{cases_Bool}
 use Rattle.std.proofs.lemmas.Bool.Decides.{Decides-eqb}
@@ -11,8 +11,9 @@ use Rattle.parser_events.specs.Dressed as dressed
 use Rattle.parser_events.specs.Dressed.{Dressed, text_of}
 use Rattle.parser_events.specs.Dress.{joined, dress_root}
 use Rattle.rowan_green.specs.Forest.{Forest, empty, node, leaf, forest_text}
+use Rattle.parser_events.specs.TextSteps.{text_steps, Exit}
 use Rattle.plain_names.specs.Forests.{mapped_texts, ReplacesText, here, past_leaf, inside, past_node}
-use Rattle.plain_names.specs.Trees.{dressed_forest, mapped_leaves, KeepsDots, KeepsTrivia, composed, has, TreesFollowNames}
+use Rattle.plain_names.specs.Trees.{dressed_forest, mapped_leaves, KeepsDots, KeepsTrivia, composed, has, TreesFollowNames, ElementsAreSteps}
 use Rattle.parser_events.proofs.Texts.{text-is-text}
 use Rattle.plain_names.proofs.Mapped.{fused, ignores-names}
 use Rattle.plain_names.proofs.OneForest as one_forest
@@ -199,6 +200,15 @@ mapped-text g (dressed.Said m p d) = mapped-text g d
 mapped-text g (dressed.Node k c d) =
     ap (λ z. z ++ forest_text (dressed_forest g d)) (mapped-text g c) ∙ ap (λ z. flat_map g (text_of c) ++ z) (mapped-text g d)
     ∙ sym (flat_map-append g (text_of c) (text_of d))
+
+-- an element has a step of its own
+pub elements-steps : ElementsAreSteps
+elements-steps g dressed.End = omega arith
+elements-steps g (dressed.Leaf k t d) = omega (arith, elements-steps g d)
+elements-steps g (dressed.Said m p d) = omega (arith, elements-steps g d)
+elements-steps g (dressed.Node k c d) =
+    let size = length-append (text_steps c) (Exit ∷ text_steps d) in
+    omega (arith, elements-steps g c, elements-steps g d, size)
 
 -- the texts of the leaves, joined
 pub dressed-text : (g : ℕ → List ℕ) (f : forest.Forest) (ls : List Leaf) → forest_text (dressed_forest g (dress_root f ls)) ≡ flat_map g (joined ls)

@@ -15,11 +15,11 @@ use Rattle.parser_input.specs.Lexed.{Lexed, lexed, leaves_of, preface, content, 
 use Rattle.parser_input.specs.Messages.{message_of}
 use Rattle.parser_input.specs.declared.edition.Edition.{Edition}
 use Rattle.plain_names.specs.TokenNames.{name_lexeme}
-use Rattle.plain_names.specs.LeafNames.{AreRenamedLeaves, IsPlain, ReplacesNames, no_leaves, one_stays, one_goes}
+use Rattle.plain_names.specs.LeafNames.{texts, AreRenamedLeaves, IsPlain, ReplacesNames, no_leaves, one_stays, one_goes}
 use Rattle.plain_names.specs.LeafNames as leaf_names
-use Rattle.plain_names.specs.Renames.{Rename, name_after, renamed_from, renamed_leaves, IsPlainRename, ArePlainRenames, PlainRenamesKeepLeaves, PlainRenamesKeepInputs}
+use Rattle.plain_names.specs.Renames.{Rename, name_after, with_text, renamed_from, renamed_leaves, IsPlainRename, ArePlainRenames, PlainRenamesKeepLeaves, PlainRenamesKeepInputs}
 use Rattle.plain_names.proofs.Renamed.{no-name}
-use Rattle.plain_names.proofs.RenamedLeaves.{texts, texts-append, cut-joined, from-name, leaves-after, leaves-renamed}
+use Rattle.plain_names.proofs.RenamedLeaves.{texts-append, cut-joined, from-name, leaves-after, leaves-renamed}
 use Rattle.plain_names.proofs.Inputs.{inputs-same}
 use Rattle.plain_names.proofs.PrefaceStarts.{in-content}
 
@@ -169,9 +169,6 @@ find-name e i l ls (r ∷ rs) a = elim (cases_Bool (r.number == i)) [
     | inr g ↦ inr (λ t. ap (λ (b : Bool). if b then r.new else name_after rs i t) n ∙ g t)
   ]
 ]
-
-abbrev with_text : Lexed → List ℕ → Lexed
-with_text l t = record { leaf = record { kind = l.leaf.kind; text = t }; message = l.message }
 
 renamed-are : (e : Edition) (rs : List Rename) (i : ℕ) (ls : List Lexed) → AllFrom e i ls rs
     → AreRenamedLeaves e ls (renamed_from rs i ls) × ReplacesNames e (leaves_of ls) (leaves_of (renamed_from rs i ls))

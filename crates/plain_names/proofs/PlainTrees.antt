@@ -19,12 +19,12 @@ use Rattle.parser_input.specs.declared.edition.Edition.{Edition}
 use Rattle.parser_input.proofs.LexedTexts.{leaves-joined}
 use Rattle.parser_events.specs.Dress.{joined, dress_root}
 use Rattle.plain_names.specs.TokenNames.{name_lexeme}
+use Rattle.plain_names.specs.LeafNames.{texts}
 use Rattle.plain_names.specs.Replacements.{Replacement, with_leaves, AreApart}
 use Rattle.plain_names.specs.Trees.{dressed_forest, has}
 use Rattle.plain_names.specs.Renames.{Rename, replacement_of, IsPlainRename, ArePlainRenames, IsInTree, AreInTree, PlainRenamesRenameTrees}
 use Rattle.plain_names.proofs.Names.{start-dot}
 use Rattle.plain_names.proofs.Renamed.{no-name}
-use Rattle.plain_names.proofs.RenamedLeaves.{texts}
 use Rattle.plain_names.proofs.Followed.{dressed-text}
 use Rattle.plain_names.proofs.Numbered.{name-at, raw-ident}
 use Rattle.plain_names.proofs.Tags.{below, low-all, renamed-leaves}
@@ -67,7 +67,8 @@ scalars-low : (t : List ℕ) → scalars t ≡ true → list_all (below 1114112)
 scalars-low [] h = refl
 scalars-low (c ∷ cs) h = let p = and_parts (scalar c) (scalars cs) h in and_from _ _ (scalar-low c p.0) (scalars-low cs p.1)
 
-encodes-flat : (t : List ℕ) → encodes t ≡ flat_map encode t
+-- the bytes of a text, as its characters mapped
+pub encodes-flat : (t : List ℕ) → encodes t ≡ flat_map encode t
 encodes-flat [] = refl
 encodes-flat (c ∷ cs) = ap (λ z. encode c ++ z) (encodes-flat cs)
 

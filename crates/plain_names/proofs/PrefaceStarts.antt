@@ -13,9 +13,9 @@ use Rattle.parser_input.specs.Lexed.{Lexed, quiet, shebang_leaf, frontmatter_lea
 use Rattle.parser_input.specs.Lines.{dash, blank_len, after_line, dashes}
 use Rattle.parser_input.specs.Preface.{piece, shebang_piece, after_shebang, opening_line, closing_line, source}
 use Rattle.parser_input.specs.declared.edition.Edition.{Edition}
+use Rattle.plain_names.specs.LeafNames.{texts}
 use Rattle.plain_names.proofs.Names.{start-hash, start-dash, white-starts-none}
 use Rattle.plain_names.proofs.Prefaces.{after-here, after-goes, after-short, closing-short, blank-ends, leaf_by, leaf-is}
-use Rattle.plain_names.proofs.RenamedLeaves.{texts}
 
 -- the leaf has a character, and starts no name
 record NoName (l : Lexed) : Type 0 where

@@ -1,6 +1,6 @@
 -- An identifier's leaf is replaced by another identifier: all other leaves stay.
 use Rattle.std.proofs.Common.{◌≡◌, ℕ, zero, suc, pred, ◌+◌, ◌-◌, ◌≤◌, Bool, true, false, not, ◌&&◌, ◌||◌, ◌==◌, List, [], ◌∷◌, ◌++◌, length, take, drop, append_assoc, length-append, length-drop, refl, sym, ◌∙◌, ap, subst, arith, inl, inr, ◌⊎◌, if◌then◌else◌}
-use Rattle.std.specs.List.{list_all, flat_map}
+use Rattle.std.specs.List.{list_all}
 use Rattle.std.proofs.lemmas.List.{drop-append-le, take-append-drop, drop-drop}
 use Rattle.std.proofs.Math.Seq.{drop-append_seam, take-append_seam, take-append-add, drop-append-add}
 use Rattle.rustc_lexer.specs.Characters.{double_quote, hash, tick, is_digit, is_id_start, is_id_continue, is_ident}
@@ -25,14 +25,11 @@ use Rattle.parser_input.specs.Kinds.{POUND}
 use Rattle.parser_input.specs.Messages.{message_of}
 use Rattle.parser_input.specs.Leaf.{leaf_of}
 use Rattle.parser_input.specs.Lexed.{Lexed, quiet, is_guard, is_split, next_leaf, cut, preface, content, lexed}
-use Rattle.plain_names.specs.LeafNames.{AreRenamedLeaves, none, same, renamed, RenamedTextsHaveTheirLeaves}
+use Rattle.plain_names.specs.LeafNames.{texts, AreRenamedLeaves, none, same, renamed, RenamedTextsHaveTheirLeaves}
 use Rattle.parser_input.specs.declared.edition.Edition.{Edition}
 use Rattle.parser_input.specs.Laws.{LeavesAreTheText}
 use Rattle.parser_input.proofs.LexedTexts.{leaves-joined}
 use Rattle.plain_names.proofs.Prefaces.{prefaces-same}
-
-abbrev pub texts : List Lexed → List ℕ
-texts ls = flat_map (λ l. l.leaf.text) ls
 
 pub texts-append : (xs ys : List Lexed) → texts (xs ++ ys) ≡ texts xs ++ texts ys
 texts-append [] ys = refl

@@ -18,7 +18,8 @@ leaf_after (r ∷ rs) up l = if pointwise nat_eq r.up up then r.leaf else leaf_a
 -- the forest with its leaves replaced: the children of the node at `up`, from index `i` on
 abbrev pub with_leaves : List Replacement → List ℕ → ℕ → Forest → Forest
 with_leaves rs up i empty = empty
-with_leaves rs up i (node k f r) = node k (with_leaves rs (i ∷ up) 0 f) (with_leaves rs up (i + 1) r)
+with_leaves rs up i (node k f r) =
+    node k (with_leaves rs (i ∷ up) 0 f) (with_leaves rs up (i + 1) r)
 with_leaves rs up i (leaf l r) = leaf (leaf_after rs (i ∷ up) l) (with_leaves rs up (i + 1) r)
 
 -- No two replacements are at one up-path.

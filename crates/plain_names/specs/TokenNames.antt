@@ -12,7 +12,7 @@ pub record StartsWithName (text : List ℕ) : Type 0 where
   pub starts : is_id_start (peek 0 text) ≡ true
   pub not_raw : (peek 0 text == letter_r && opens_raw (peek 1 text)) ≡ false
 
--- The lexeme that starts a text does not depend on the name after it.
+-- A lexeme that ends before a name does not depend on that name.
 abbrev pub LexemesIgnoreNames : Type 0
 LexemesIgnoreNames =
     (front text other : List ℕ) → StartsWithName text → StartsWithName other →
@@ -35,7 +35,9 @@ RenamingKeepsTokens =
 -- The second tokens are the first ones, some identifiers replaced by identifiers.
 pub data AreRenamedTokens : List Lexeme → List Lexeme → Type 0 where
   none : AreRenamedTokens [] []
-  same : {l : Lexeme} {ls ms : List Lexeme} → AreRenamedTokens ls ms → AreRenamedTokens (l ∷ ls) (l ∷ ms)
+  same :
+      {l : Lexeme} {ls ms : List Lexeme}
+      → AreRenamedTokens ls ms → AreRenamedTokens (l ∷ ls) (l ∷ ms)
   renamed :
       {name other : List ℕ} {ls ms : List Lexeme}
       → is_ident other ≡ true → AreRenamedTokens ls ms
@@ -46,7 +48,7 @@ abbrev pub RenamedTextsHaveTheirTokens : Type 0
 RenamedTextsHaveTheirTokens =
     (text : List ℕ) (ms : List Lexeme) → AreRenamedTokens (tokens text) ms → tokens (joined ms) ≡ ms
 
--- Whether a text opens an attribute, as `#![` after a shebang's marks, does not depend on its names.
+-- Whether a text opens an attribute, which tells `#![` from a shebang, does not depend on names.
 abbrev pub AttributesIgnoreNames : Type 0
 AttributesIgnoreNames =
     (front name other rest : List ℕ) →

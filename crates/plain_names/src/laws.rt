@@ -5,7 +5,7 @@ ghost use Rattle.plain_names.specs.Forests.{MappedForestsAreOne};
 ghost use Rattle.plain_names.specs.LeafNames.{InputsIgnoreNames, RenamedTextsHaveTheirLeaves};
 ghost use Rattle.plain_names.specs.Renames.{PlainRenamesKeepInputs, PlainRenamesKeepLeaves, PlainRenamesRenameTrees};
 ghost use Rattle.plain_names.specs.TokenNames.{AttributesIgnoreNames, LexemesIgnoreNames, RenamedTextsHaveTheirTokens, RenamingKeepsTokens};
-ghost use Rattle.plain_names.specs.Trees.{TreesFollowNames, TreesIgnoreNames};
+ghost use Rattle.plain_names.specs.Trees.{ElementsAreSteps, TreesFollowNames, TreesIgnoreNames};
 
 /// A token does not depend on the name after it.
 pub fn lexemes_ignore_names()
@@ -32,8 +32,8 @@ pub fn attributes_ignore_names()
     ensures { AttributesIgnoreNames }
 {}
 
-/// Where any identifiers of a text's content are renamed at once, the leaves are the old ones with the
-/// new names.
+/// Where any identifiers of a text's content are renamed at once, the leaves are the old ones with
+/// the new names.
 pub fn renamed_texts_have_their_leaves()
     ensures { RenamedTextsHaveTheirLeaves }
 {}
@@ -53,13 +53,18 @@ pub fn mapped_forests_are_one()
     ensures { MappedForestsAreOne }
 {}
 
+/// A dressed tree has no more elements than steps.
+pub fn elements_are_steps()
+    ensures { ElementsAreSteps }
+{}
+
 /// A renamed leaf is renamed in the tree.
 pub fn trees_follow_names()
     ensures { TreesFollowNames }
 {}
 
-/// Plain renames, any number of them at once: the leaves of the new text are the renamed leaves, the
-/// parser's input stays, and the tree is the old one with the new names.
+/// Plain renames, any number of them at once: the leaves of the new text are the renamed leaves,
+/// the parser's input stays, and the tree is the old one with the new names.
 pub fn plain_renames_are_read()
     ensures leaves { PlainRenamesKeepLeaves }
     ensures input { PlainRenamesKeepInputs }
