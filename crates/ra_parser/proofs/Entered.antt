@@ -1,5 +1,5 @@
 -- What an entry is, case by case.
-use Rattle.std.proofs.Common.{◌≡◌, ◌≤◌, Bool, true, false, List, [], ◌∷◌, length, Option, Some, None, refl, sym, ap, subst, ◌∙◌, arith}
+use Rattle.std.proofs.Common.{◌≡◌, ◌≤◌, ℕ, drop, Bool, true, false, List, [], ◌∷◌, length, Option, Some, None, refl, sym, ap, subst, ◌∙◌, arith}
 use Rattle.parser_input.specs.Input.{Token}
 use Rattle.parser_events.specs.Forest as forest
 use Rattle.parser_events.specs.Forest.{Forest, Message, UnexpectedTokens}
@@ -111,3 +111,13 @@ parsed-steps nodes f steps h are = are.walked ∙ ap marks.walk (at nodes h are.
     at : (o : Option (List Marked)) → Holds o (marked f ∷ []) → (trees : Marked) → o ≡ Some (trees ∷ []) → trees ≡ marked f
     at None h trees e = absurd (let z : None ≡ Some (trees ∷ []) = e in cc)
     at (Some ns) h trees e = let same : Some (trees ∷ []) ≡ Some (marked f ∷ []) = sym e ∙ ap (λ (ms : List Marked). Some ms) h in cc
+
+-- the steps of an input that was read from its front; a look after that changes no tree
+pub read-steps :
+    (x : Production) (tokens : List Token) (start end last : View) (steps : List Step) → start.position ≡ 0 → start.input ≡ tokens
+    → Holds end.nodes (marked (entry whole x (left start)) ∷ []) → end.nodes ≡ last.nodes → AreStepsOf last.nodes steps
+    → steps ≡ walk.steps (entry whole x tokens)
+read-steps x tokens start end last steps front same tree kept are =
+    let all : left start ≡ tokens = ap (λ (n : ℕ). drop n start.input) front ∙ same in
+    parsed-steps last.nodes (entry whole x (left start)) steps (subst (λ (n : Option (List Marked)). Holds n (marked (entry whole x (left start)) ∷ [])) kept tree) are
+    ∙ ap (λ (ts : List Token). walk.steps (entry whole x ts)) all

@@ -1,5 +1,5 @@
 -- The steps of an entry fit every text with its input.
-use Rattle.std.proofs.Common.{◌≡◌, ◌∙◌, true, false, List, refl, ap}
+use Rattle.std.proofs.Common.{◌≡◌, ◌∙◌, true, List, refl, ap}
 use Rattle.parser_input.specs.Input.{Token}
 use Rattle.parser_events.specs.Fits.{fits}
 use Rattle.parser_events.specs.Steps.{Step, steps}

@@ -26,3 +26,4 @@ pub mod After
 pub mod AnnotatedRanges
 pub mod Alike
 pub mod CoreTexts
+pub mod PlainRenamings

@@ -25,7 +25,7 @@ node-read : (k : ℕ) (a : Rule) (call : Calls) (ts : List Token) → (read (loo
 unfolding read node from
 node-read k a call ts = refl
 
-source-entry : (ts : List Token) → (c : forest.Forest) × (entry whole source_file ts ≡ forest.Node SOURCE_FILE c forest.End)
+pub source-entry : (ts : List Token) → (c : forest.Forest) × (entry whole source_file ts ≡ forest.Node SOURCE_FILE c forest.End)
 unfolding entry takes_all from
 source-entry ts = (
   (read (look_of whole) (meaning whole) false root-rule.0 (fresh (from ts))).given,

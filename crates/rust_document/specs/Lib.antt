@@ -22,3 +22,4 @@ pub mod TreeSinks
 pub mod TreeBuilt
 pub mod Seen
 pub mod Core
+pub mod Renames

@@ -14,6 +14,7 @@ ghost use Rattle.rust_document.specs.Open.{IsOpened, RefusesOpen};
 ghost use Rattle.rust_document.specs.IsReading.{IsReading};
 ghost use Rattle.rust_document.specs.Seen.{message_of_error};
 ghost use Rattle.rust_document.specs.Reading.{after_preface, messages};
+ghost use Rattle.rust_document.specs.Renames.{IsPlainRenaming, IsReadExactly};
 ghost use Rattle.rust_document.specs.Rewrite.{annotated, rewritten, changed};
 ghost use Rattle.rust_document.specs.Step.{MAX_TEXT, first_element, is_foreign, root_element, verdict, Accepted};
 ghost use Rattle.rust_document.specs.Tokens.{span_of, tokens_of};
@@ -251,14 +252,28 @@ impl Document {
             && *editor.root().cursor().green() == *self.root.cursor().green()
     }
 
-    /// Makes all changes of an editor at once, where the new text reads as the rewritten tree; the
-    /// text is the rewritten tree's, and its tree gets the next number of `ids`.
+    /// Applies all changes of `editor` if the new text reads as the rewritten tree. The text is then
+    /// the rewritten tree's, and its tree gets the next number of `ids`. The editor is consumed.
     ///
-    /// Refuses, in this order, an editor of another tree, two changes that replace one element, a
-    /// change in a replaced node that has no place in what replaces it, a new text of more than
-    /// 16,777,216 bytes (or a node of 2^32 children), and a text that does not read as the
-    /// rewritten tree, white space and comments aside; and for want of a tree number. A refusal
-    /// changes nothing. The editor is spent.
+    /// A plain renaming is always accepted, whatever messages the text has, and the new tree is
+    /// exactly the rewritten one: identifiers are replaced with identifiers, and old and new names
+    /// are plain ([`is_plain_name`](crate::is_plain_name)). Only length, memory and tree numbers can
+    /// refuse it.
+    ///
+    /// # Errors
+    ///
+    /// - [`CommitError::Foreign`] if `editor` is one of another tree.
+    /// - [`CommitError::Intersecting`] if two changes replace one element.
+    /// - [`CommitError::MissingMapping`] if a change in a replaced node has no place in what replaces
+    ///   the node.
+    /// - [`CommitError::TooLong`] if the new text has more than [`MAX_TEXT`] bytes, or a node 2^32
+    ///   children.
+    /// - [`CommitError::Unfaithful`] if the new text does not read as the rewritten tree, whitespace
+    ///   and comments aside.
+    /// - [`CommitError::NoTreeNumber`] if no tree number is left.
+    /// - [`CommitError::NoMemory`] if an allocation fails.
+    ///
+    /// On error, the document and `ids` are unchanged.
     pub fn commit(
         &mut self,
         alloc: Global,
@@ -281,6 +296,9 @@ impl Document {
             (chars (tree_text (rewritten editor)))) }
         ensures number { OnOk result (ids.new ≡ ids.old + 1) }
         ensures refused { IfErr result (RefusesCommit (verdict self.old editor) ids.old) }
+        ensures renames { IfErr result (λ error. IsPlainRenaming self.old editor
+            → length (tree_text (rewritten editor)) ≤ MAX_TEXT → RefusesCommit Accepted ids.old error) }
+        ensures renamed { IsPlainRenaming self.old editor → IsReadExactly self.old editor }
         ensures kept { IfErr result (λ _. (self.new ≡ self.old) × (ids.new ≡ ids.old)) }
     {
         if !self.is_of(&editor) {

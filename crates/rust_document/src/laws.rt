@@ -2,7 +2,9 @@
 
 ghost use Rattle.rust_document.specs.EditLaws.{EditsAreUndone};
 ghost use Rattle.rust_document.specs.Laws.{TreesHaveTheirTexts, LeavesAreSlices, TextsDecide, PointersFollowTexts, SwapsAreOne, UntouchedIsKept, KindsFollowInputs, OperatorsBindByPower, TokenTreesAreClosed};
+ghost use Rattle.rust_document.specs.Core.{CoreTextsAreRead};
 ghost use Rattle.rust_document.specs.OperatorExamples.{PlacedOperatorsAreTold};
+ghost use Rattle.rust_document.specs.Renames.{PlainRenamingsAreAccepted};
 
 use tree_rewrite::laws;
 
@@ -68,3 +70,15 @@ pub fn swaps_are_one()
 {
     laws::swaps_agree();
 }
+
+/// A text whose parser's input is a core file reads as the tree of its derivation, and only the lexer
+/// has messages.
+pub fn core_texts_are_read()
+    ensures { CoreTextsAreRead }
+{}
+
+/// A plain renaming whose text is within the limit is accepted, whatever messages the text has, and
+/// the new text reads as exactly the rewritten tree.
+pub fn plain_renamings_are_accepted()
+    ensures { PlainRenamingsAreAccepted }
+{}

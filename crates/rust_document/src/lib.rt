@@ -11,6 +11,7 @@ pub mod error;
 pub mod laws;
 mod leaf;
 pub mod payload_entry;
+pub mod plain_name;
 mod read;
 mod rewrite;
 pub mod syntax_error;
@@ -20,6 +21,7 @@ mod tree_sink;
 pub use document::{Committed, Document, Edited, MAX_TEXT};
 pub use error::{CommitError, EditError, OpenError, PayloadError};
 pub use payload_entry::{PayloadEntry, payload};
+pub use plain_name::is_plain_name;
 pub use syntax_editor::{
     Annotations, AttrsOwnerEdit, Fn, HasAttrs, IndentLevel, ItemList, MakeError, MergeError,
     RecordError, SourceFile, Space, StmtList, Struct, SyntaxAnnotation, SyntaxEditor,

@@ -1,0 +1,304 @@
+-- Plain renamings are accepted, and the new text reads as the rewritten tree.
+use Rattle.std.proofs.Common.{◌≡◌, ◌≤◌, ◌<◌, ◌+◌, ◌*◌, ◌^◌, ◌==◌, ℕ, Bool, true, false, not, ◌&&◌, ◌||◌, nat_lt, List, [], ◌∷◌, ◌++◌, length, map, chars, refl, sym, ◌∙◌, ap, subst, append-nil, length-append, eq-eqb, arith, Option, Some, None, is_some, is_none, if◌then◌else◌}
+use Rattle.std.specs.Prelude.{encode_utf8, encode_utf8_all}
+use Rattle.std.specs.List.{flat_map}
+use Rattle.std.specs.Str.{IsUtf8, all_scalars}
+use Rattle.std.proofs.Math.Utf8.{encodes}
+use Rattle.std.proofs.lemmas.Bool.{and_parts, and_from, le-ltb}
+use Rattle.std.proofs.lemmas.List.{length-map}
+use Rattle.std.proofs.lemmas.Str.{chars-encodes, scalars-chars}
+use Rattle.rustc_lexer.specs.Rows.{row, first_fit}
+use Rattle.rowan_green.specs.Forest.{Forest, empty, node, leaf, Tree, forest_text, forest_count, tree_text, same_tree}
+use Rattle.rowan_green.specs.Same.{same_tree-Decides}
+use Rattle.parser_input.specs.Input.{input}
+use Rattle.parser_input.specs.Kinds.{IDENT, SOURCE_FILE}
+use Rattle.parser_input.specs.Lexed.{Lexed, lexed, leaves_of}
+use Rattle.parser_input.proofs.LexedTexts.{leaves-joined}
+use Rattle.parser_input.specs.declared.edition.Edition.{Edition}
+use Rattle.parser_events.specs.Forest as forest
+use Rattle.parser_events.specs.Dress.{close_node, dress_root, open_node, root}
+use Rattle.parser_events.specs.Dressed as dressed
+use Rattle.parser_events.specs.Dressed.{Dressed}
+use Rattle.parser_events.specs.TextSteps.{text_steps}
+use Rattle.rust_grammar.specs.Entry.{entry}
+use Rattle.rust_grammar.specs.Laws.{is_entry}
+use Rattle.rust_grammar.specs.Rule.{source_file}
+use Rattle.rust_grammar.specs.Whole.{whole}
+use Rattle.rust_grammar.proofs.EntriesShort.{entry-short}
+use Rattle.syntax_tree.specs.Element.{Element}
+use Rattle.tree_rewrite.specs.Change.{Change, has_collision}
+use Rattle.tree_rewrite.specs.Fits.{new_fits}
+use Rattle.tree_rewrite.specs.Marked.{forest_in}
+use Rattle.tree_rewrite.specs.Rewrite.{jobs, rewrite}
+use Rattle.syntax_editor.specs.Editing.{Editing}
+use Rattle.syntax_editor.specs.Rewriting.{rewriting}
+use Rattle.plain_names.specs.Forests.{leaf_of}
+use Rattle.plain_names.specs.LeafNames.{texts}
+use Rattle.plain_names.specs.Renames as names
+use Rattle.plain_names.specs.Renames.{Rename, ArePlainRenames, AreInTree, name_after, renamed_from, renamed_leaves}
+use Rattle.plain_names.specs.Replacements.{Replacement, with_leaves, AreApart}
+use Rattle.plain_names.specs.Trees.{dressed_forest}
+use Rattle.plain_names.proofs.Followed.{elements-steps}
+use Rattle.plain_names.proofs.Numbered.{keeps-leaves, keeps-inputs}
+use Rattle.plain_names.proofs.PlainTrees.{renames-trees}
+use Rattle.plain_changes.specs.LeafChanges as changes
+use Rattle.plain_changes.specs.LeafChanges.{LeafChange, AllReplace, change_of}
+use Rattle.plain_changes.proofs.Fits.{small-fit, keeps-counts}
+use Rattle.plain_changes.proofs.Orders.{are-apart, leaves-replaced}
+use Rattle.rust_document.specs.Open.{IsOpened}
+use Rattle.rust_document.specs.Reading.{dressed_by, forest_by, leaves_in, root_of, terms_of, tree, tree_by}
+use Rattle.rust_document.specs.Renames.{AreRenames, IsPlainRenaming, IsReadExactly}
+use Rattle.rust_document.specs.Rewrite.{rewritten}
+use Rattle.rust_document.specs.Step.{State, MAX_TEXT, present, root_element, bare_tree, is_faithful, is_foreign, is_too_long, Verdict, verdict, Accepted}
+use Rattle.rust_document.specs.Commit.{RefusesCommit}
+use Rattle.rust_document.specs.declared.error.CommitError.{CommitError}
+use Rattle.rust_document.proofs.Sizes.{count-all}
+use Rattle.rust_document.proofs.SourceFiles.{source-entry}
+use Rattle.rust_document.proofs.TreeTexts.{tree-text}
+use Rattle.rust_document.proofs.Verdicts.{misses, verdict-is}
+
+-- The recorded changes, as changes of leaves and as renames.
+
+abbrev leaf_changes : (d : State) (cs : List Change) → AreRenames d cs → List LeafChange
+leaf_changes d [] h = []
+leaf_changes d (c ∷ cs) h =
+    record {
+      up = h.0.rename.up;
+      old = leaf_of IDENT (encode_utf8_all h.0.rename.old);
+      element = h.0.element;
+      new = leaf_of IDENT (encode_utf8_all h.0.rename.new);
+      single = h.0.single;
+    }
+    ∷ leaf_changes d cs h.1
+
+abbrev renames : (d : State) (cs : List Change) → AreRenames d cs → List Rename
+renames d [] h = []
+renames d (c ∷ cs) h = h.0.rename ∷ renames d cs h.1
+
+changes-are : (d : State) (cs : List Change) (h : AreRenames d cs) → map change_of (leaf_changes d cs h) ≡ cs
+changes-are d [] h = refl
+changes-are d (c ∷ cs) h =
+    ap (λ (x : Change). x ∷ map change_of (leaf_changes d cs h.1)) (sym h.0.is) ∙ ap (λ (xs : List Change). c ∷ xs) (changes-are d cs h.1)
+
+all-replace : (d : State) (cs : List Change) (h : AreRenames d cs) → AllReplace (present d) (leaf_changes d cs h)
+all-replace d [] h = tt
+all-replace d (c ∷ cs) h = (record { is_old = h.0.in_tree.stands; is_new = h.0.new_leaf }, all-replace d cs h.1)
+
+all-plain : (d : State) (cs : List Change) (h : AreRenames d cs) → ArePlainRenames d.edition (chars d.text) (renames d cs h)
+all-plain d [] h = tt
+all-plain d (c ∷ cs) h = (h.0.plain, all-plain d cs h.1)
+
+all-in-tree : (d : State) (cs : List Change) (h : AreRenames d cs) → AreInTree d.edition (chars d.text) (present d) (renames d cs h)
+all-in-tree d [] h = tt
+all-in-tree d (c ∷ cs) h = (h.0.in_tree, all-in-tree d cs h.1)
+
+same-replacements : (d : State) (cs : List Change) (h : AreRenames d cs) → map changes.replacement_of (leaf_changes d cs h) ≡ map names.replacement_of (renames d cs h)
+same-replacements d [] h = refl
+same-replacements d (c ∷ cs) h = ap (λ (rs : List Replacement). names.replacement_of h.0.rename ∷ rs) (same-replacements d cs h.1)
+
+-- The new text is a text.
+
+abbrev AreTexts : List Rename → Type 0
+AreTexts [] = Unit {0}
+AreTexts (r ∷ rs) = (all_scalars r.new ≡ true) × AreTexts rs
+
+all-texts : (d : State) (cs : List Change) (h : AreRenames d cs) → AreTexts (renames d cs h)
+all-texts d [] h = tt
+all-texts d (c ∷ cs) h = (h.0.is_text, all-texts d cs h.1)
+
+scalars-both : (xs ys : List ℕ) → all_scalars xs ≡ true → all_scalars ys ≡ true → all_scalars (xs ++ ys) ≡ true
+scalars-both [] ys x y = y
+scalars-both (c ∷ cs) ys x y = let p = and_parts _ (all_scalars cs) x in and_from _ (all_scalars (cs ++ ys)) p.0 (scalars-both cs ys p.1 y)
+
+scalars-first : (xs ys : List ℕ) → all_scalars (xs ++ ys) ≡ true → (all_scalars xs ≡ true) × (all_scalars ys ≡ true)
+scalars-first [] ys h = (refl, h)
+scalars-first (c ∷ cs) ys h =
+    let p = and_parts _ (all_scalars (cs ++ ys)) h in
+    let q = scalars-first cs ys p.1 in
+    (and_from _ (all_scalars cs) p.0 q.0, q.1)
+
+either-text : (b : Bool) (xs ys : List ℕ) → all_scalars xs ≡ true → all_scalars ys ≡ true → all_scalars (if b then xs else ys) ≡ true
+either-text true xs ys x y = x
+either-text false xs ys x y = y
+
+name-text : (rs : List Rename) (i : ℕ) (text : List ℕ) → AreTexts rs → all_scalars text ≡ true → all_scalars (name_after rs i text) ≡ true
+name-text [] i text h e = e
+name-text (r ∷ rs) i text h e = either-text (r.number == i) r.new (name_after rs i text) h.0 (name-text rs i text h.1 e)
+
+renamed-text : (rs : List Rename) (i : ℕ) (ls : List Lexed) → AreTexts rs → all_scalars (texts ls) ≡ true → all_scalars (texts (renamed_from rs i ls)) ≡ true
+renamed-text rs i [] h e = refl
+renamed-text rs i (l ∷ ls) h e =
+    let p = scalars-first l.leaf.text (texts ls) e in
+    scalars-both (name_after rs i l.leaf.text) (texts (renamed_from rs (i + 1) ls)) (name-text rs i l.leaf.text h p.0) (renamed-text rs (i + 1) ls h p.1)
+
+-- The tree of a text, as one node.
+
+encoded : (text : List ℕ) → encode_utf8_all text ≡ flat_map encode_utf8 text
+encoded [] = refl
+encoded (c ∷ cs) = ap (λ (bs : List ℕ). encode_utf8 c ++ bs) (encoded cs)
+
+terms-mapped : (d : Dressed) → terms_of d ≡ dressed_forest encode_utf8 d
+terms-mapped dressed.End = refl
+terms-mapped (dressed.Leaf k t d) =
+    ap (λ (bs : List ℕ). leaf (record { kind = k; text = bs }) (terms_of d)) (encoded t)
+    ∙ ap (λ (f : Forest). leaf (record { kind = k; text = flat_map encode_utf8 t }) f) (terms-mapped d)
+terms-mapped (dressed.Said m p d) = terms-mapped d
+terms-mapped (dressed.Node k c d) =
+    ap (λ (f : Forest). node k f (terms_of d)) (terms-mapped c) ∙ ap (λ (f : Forest). node k (dressed_forest encode_utf8 c) f) (terms-mapped d)
+
+abbrev IsOneNode : forest.Forest → List Lexed → Type 0
+IsOneNode f ls =
+    let t = root_of (terms_of (dress_root f (leaves_of ls))) in
+    terms_of (dress_root f (leaves_of ls)) ≡ node t.kind t.forest empty
+
+node-one : (k : ℕ) (c : forest.Forest) (ls : List Lexed) → IsOneNode (forest.Node k c forest.End) ls
+unfolding dress_root root close_node open_node
+node-one k c ls = refl
+
+file-one : (edition : Edition) (ls : List Lexed) → IsOneNode (forest_by source_file edition (leaves_of ls)) ls
+file-one edition ls =
+    let own = source-entry (input false edition (leaves_of ls)) in
+    subst (λ (f : forest.Forest). IsOneNode f ls) (sym own.1) (node-one SOURCE_FILE own.0 ls)
+
+-- Of a plain renaming: the new leaves, the new text, and the tree with the new names.
+
+abbrev new_leaves : (d : State) → List Rename → List Lexed
+new_leaves d rs = renamed_leaves rs d.edition (chars d.text)
+
+abbrev new_text : (d : State) → List Rename → List ℕ
+new_text d rs = texts (new_leaves d rs)
+
+abbrev new_tree : (d : State) → List Rename → Tree
+new_tree d rs = record { kind = (present d).kind; forest = with_leaves (map names.replacement_of rs) [] 0 (present d).forest }
+
+abbrev old_forest : State → forest.Forest
+old_forest d = forest_by source_file d.edition (leaves_in d.edition (chars d.text))
+
+present-one : (d : State) → dressed_forest encode_utf8 (dress_root (old_forest d) (leaves_in d.edition (chars d.text))) ≡ node (present d).kind (present d).forest empty
+unfolding tree_by dressed_by
+present-one d = sym (terms-mapped (dress_root (old_forest d) (leaves_in d.edition (chars d.text)))) ∙ file-one d.edition (lexed d.edition (chars d.text))
+
+new-dressed :
+    (d : State) (rs : List Rename) → IsUtf8 d.text → ArePlainRenames d.edition (chars d.text) rs → AreInTree d.edition (chars d.text) (present d) rs
+    → AreApart (map names.replacement_of rs) → terms_of (dress_root (old_forest d) (leaves_of (new_leaves d rs))) ≡ node (present d).kind (new_tree d rs).forest empty
+new-dressed d rs u plain here apart =
+    terms-mapped (dress_root (old_forest d) (leaves_of (new_leaves d rs)))
+    ∙ renames-trees d.edition (chars d.text) rs (old_forest d) (present d) (scalars-chars d.text u) plain here apart (present-one d)
+
+new-forest : (d : State) (rs : List Rename) → ArePlainRenames d.edition (chars d.text) rs → forest_by source_file d.edition (leaves_of (new_leaves d rs)) ≡ old_forest d
+new-forest d rs plain = ap (entry whole source_file) (keeps-inputs false d.edition (chars d.text) rs plain)
+
+-- the new text reads as the tree with the new names
+new-read :
+    (d : State) (rs : List Rename) → IsUtf8 d.text → ArePlainRenames d.edition (chars d.text) rs → AreInTree d.edition (chars d.text) (present d) rs
+    → AreApart (map names.replacement_of rs) → tree d.edition (new_text d rs) ≡ new_tree d rs
+unfolding tree_by dressed_by
+new-read d rs u plain here apart =
+    ap (λ (ls : List Lexed). root_of (terms_of (dress_root (forest_by source_file d.edition (leaves_of ls)) (leaves_of ls)))) (keeps-leaves d.edition (chars d.text) rs plain)
+    ∙ ap (λ (f : forest.Forest). root_of (terms_of (dress_root f (leaves_of (new_leaves d rs))))) (new-forest d rs plain)
+    ∙ ap root_of (new-dressed d rs u plain here apart)
+
+-- its characters are scalar values
+new-scalars : (d : State) (rs : List Rename) → IsUtf8 d.text → AreTexts rs → all_scalars (new_text d rs) ≡ true
+new-scalars d rs u h =
+    renamed-text rs 0 (lexed d.edition (chars d.text)) h (ap all_scalars (leaves-joined d.edition (chars d.text)) ∙ scalars-chars d.text u)
+
+-- What a plain renaming makes of the present tree.
+record Renamed (d : State) (e : Editing) : Type 0 where
+  placed : is_some (jobs e.top e.changes e.mapping) ≡ true
+  forest_is : forest_in (rewriting e) ≡ node (rewritten e).kind (rewritten e).forest empty
+  count_is : forest_count (forest_in (rewriting e)) ≡ forest_count (node (present d).kind (present d).forest empty)
+  reads : tree d.edition (chars (tree_text (rewritten e))) ≡ rewritten e
+
+renamed-by :
+    (d : State) (e : Editing) (rs : List Rename) → is_some (jobs e.top e.changes e.mapping) ≡ true
+    → forest_in (rewriting e) ≡ node (present d).kind (new_tree d rs).forest empty → tree d.edition (new_text d rs) ≡ new_tree d rs
+    → all_scalars (new_text d rs) ≡ true → Renamed d e
+renamed-by d e rs placed own read scalars =
+    let tree_is : rewritten e ≡ new_tree d rs = ap root_of own in
+    let text_is : chars (tree_text (rewritten e)) ≡ new_text d rs =
+    ap (λ (t : Tree). chars (tree_text t)) (tree_is ∙ sym read) ∙ ap chars (tree-text d.edition (new_text d rs)) ∙ chars-encodes (new_text d rs) scalars in
+    record {
+      placed = placed;
+      forest_is = own ∙ ap (λ (t : Tree). node t.kind t.forest empty) (sym tree_is);
+      count_is = ap forest_count own ∙ ap (λ (n : ℕ). 1 + n + 0) (keeps-counts (map names.replacement_of rs) (present d));
+      reads = ap (λ (t : List ℕ). tree d.edition t) text_is ∙ read ∙ sym tree_is;
+    }
+
+renamed : (d : State) (e : Editing) → IsUtf8 d.text → IsPlainRenaming d e → Renamed d e
+renamed d e u h =
+    let cs = leaf_changes d e.changes h.each in
+    let rs = renames d e.changes h.each in
+    let are : map change_of cs ≡ e.changes = changes-are d e.changes h.each in
+    let same : map changes.replacement_of cs ≡ map names.replacement_of rs = same-replacements d e.changes h.each in
+    let apart : has_collision (map change_of cs) ≡ false = ap has_collision are ∙ h.apart in
+    let made = leaves-replaced (root_element d) cs e.mapping refl (all-replace d e.changes h.each) apart in
+    let placed : is_some (jobs e.top e.changes e.mapping) ≡ true =
+    ap (λ (top : Element). is_some (jobs top e.changes e.mapping)) h.own ∙ ap (λ (xs : List Change). is_some (jobs (root_element d) xs e.mapping)) (sym are) ∙ made.0 in
+    let own : forest_in (rewriting e) ≡ node (present d).kind (new_tree d rs).forest empty =
+    ap (λ (top : Element). forest_in (rewrite top e.changes e.mapping)) h.own
+    ∙ ap (λ (xs : List Change). forest_in (rewrite (root_element d) xs e.mapping)) (sym are)
+    ∙ made.1
+    ∙ ap (λ (xs : List Replacement). node (present d).kind (with_leaves xs [] 0 (present d).forest) empty) same in
+    let far : AreApart (map names.replacement_of rs) = subst AreApart same (are-apart cs apart) in
+    renamed-by d e rs placed own (new-read d rs u (all-plain d e.changes h.each) (all-in-tree d e.changes h.each) far) (new-scalars d rs u (all-texts d e.changes h.each))
+
+-- The verdict.
+
+same-itself : (t : Tree) → same_tree t t ≡ true
+same-itself t = (same_tree-Decides t t).1 refl
+
+own-tree : (d : State) (e : Editing) → e.top ≡ root_element d → is_foreign d e ≡ false
+own-tree d e own =
+    ap (λ (top : Element). not (top.number == d.number) || not (same_tree top.place.root (present d))) own
+    ∙ ap (λ (b : Bool). not b || not (same_tree (present d) (present d))) (eq-eqb d.number d.number refl)
+    ∙ ap not (same-itself (present d))
+
+some-here : {A : Type 0} (o : Option A) → is_some o ≡ true → is_none o ≡ false
+some-here None h = cc
+some-here (Some x) h = refl
+
+-- the present tree has few elements
+present-few : (d : State) → IsUtf8 d.text → IsOpened d.text → forest_count (node (present d).kind (present d).forest empty) < 2 ^ 32
+unfolding is_entry
+present-few d u o =
+    let ls = leaves_in d.edition (chars d.text) in
+    let dressed_tree = dress_root (old_forest d) ls in
+    let own : forest_count (node (present d).kind (present d).forest empty) ≡ forest_count (dressed_forest encode_utf8 dressed_tree) = ap forest_count (sym (present-one d)) in
+    let steps = elements-steps encode_utf8 dressed_tree in
+    let short : length (text_steps dressed_tree) ≤ 65 * length ls + 67 = entry-short source_file d.edition ls refl in
+    let leaves = length-map (lexed d.edition (chars d.text)) (λ (l : Lexed). l.leaf) in
+    let few = count-all d.edition d.text u in
+    omega (arith, own, steps, short, leaves, few, o)
+
+whole-fits : (d : State) (e : Editing) → IsUtf8 d.text → IsOpened d.text → Renamed d e → length (tree_text (rewritten e)) ≤ MAX_TEXT → new_fits (rewriting e) ≡ true
+whole-fits d e u o r short =
+    let count = present-few d u o in
+    let text : length (forest_text (forest_in (rewriting e))) ≡ length (tree_text (rewritten e)) =
+    ap (λ (f : Forest). length (forest_text f)) r.forest_is ∙ ap (λ (bs : List ℕ). length bs) (append-nil (forest_text (rewritten e).forest)) in
+    small-fit (rewriting e) (omega (arith, count, r.count_is)) (omega (arith, text, short))
+
+within : (d : State) (e : Editing) → IsUtf8 d.text → IsOpened d.text → Renamed d e → length (tree_text (rewritten e)) ≤ MAX_TEXT → is_too_long e ≡ false
+within d e u o r short = rw (le-ltb MAX_TEXT (length (tree_text (rewritten e))) short, whole-fits d e u o r short) refl
+
+faithful : (d : State) (e : Editing) → Renamed d e → not (is_faithful d.edition (rewritten e)) ≡ false
+faithful d e r =
+    ap (λ (t : Tree). not (same_tree (bare_tree (rewritten e)) (bare_tree t))) r.reads ∙ ap not (same-itself (bare_tree (rewritten e)))
+
+-- the tree of the new text is the rewritten tree
+pub read-exactly : (d : State) (e : Editing) → IsUtf8 d.text → IsPlainRenaming d e → IsReadExactly d e
+read-exactly d e u h = (renamed d e u h).reads
+
+pub plain-renaming :
+    (d : State) (e : Editing) → IsUtf8 d.text → IsOpened d.text → IsPlainRenaming d e → length (tree_text (rewritten e)) ≤ MAX_TEXT
+    → (verdict d e ≡ Accepted) × IsReadExactly d e
+unfolding first_fit
+plain-renaming d e u o h short =
+    let r = renamed d e u h in
+    (verdict-is d e false false false false false (own-tree d e h.own) h.apart (some-here (jobs e.top e.changes e.mapping) r.placed) (within d e u o r short) (faithful d e r), r.reads)
+
+-- A refused plain renaming within the limit is refused as an accepted commit may be: out of tree numbers or of memory.
+pub renaming-refused :
+    (d : State) (e : Editing) (number : ℕ) (error : CommitError) → IsUtf8 d.text → IsOpened d.text → RefusesCommit (verdict d e) number error
+    → IsPlainRenaming d e → length (tree_text (rewritten e)) ≤ MAX_TEXT → RefusesCommit Accepted number error
+renaming-refused d e number error u o refused h short = subst (λ (v : Verdict). RefusesCommit v number error) (plain-renaming d e u o h short).0 refused

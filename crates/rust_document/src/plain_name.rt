@@ -1,0 +1,21 @@
+//! Plain names: identifiers that the parser does not tell apart.
+ghost use Rattle.std.specs.Prelude.{◌≡◌, chars};
+ghost use Rattle.rust_document.specs.Renames.{is_plain_name};
+
+use parser_input::edition::Edition;
+use parser_input::keywords::{contextual_keyword, word_kind};
+use parser_input::syntax_kind::SyntaxKind;
+use rustc_lexer::is_ident;
+
+/// Returns `true` if `name` is an identifier that is neither `_` nor a keyword of the edition, nor a
+/// contextual keyword.
+///
+/// Replacing such identifiers with such names is always accepted by
+/// [`Document::commit`](crate::Document::commit). A raw identifier, as `r#fn`, is no plain name.
+pub fn is_plain_name(edition: Edition, name: &str) -> bool
+    ensures { result ≡ is_plain_name edition (chars name.now) }
+{
+    is_ident(name)
+        && word_kind(edition, name) == SyntaxKind::IDENT
+        && contextual_keyword(edition, name).is_none()
+}
