@@ -1,8 +1,8 @@
 -- Plain renames in the tree, in UTF-8.
-use Rattle.std.proofs.Common.{◌≡◌, ℕ, zero, suc, ◌+◌, ◌/◌, ◌%◌, ◌<◌, Bool, true, false, cond, ◌&&◌, ◌||◌, ltb, List, [], ◌∷◌, ◌++◌, length, take, drop, map, Some, append-nil, refl, sym, ◌∙◌, ap, subst, arith, lit<, leb}
+use Rattle.std.proofs.Common.{◌≡◌, ℕ, zero, suc, ◌+◌, ◌/◌, ◌%◌, ◌<◌, Bool, true, false, cond, ◌&&◌, ◌||◌, ltb, List, [], ◌∷◌, ◌++◌, length, take, drop, map, Some, append-nil, refl, sym, ◌∙◌, ap, subst, arith, lit<, leb, inl, inr, if◌then◌else◌, ◌==◌}
 use Rattle.std.specs.List.{flat_map, list_all}
 use Rattle.std.proofs.Math.Utf8.{encode, encodes, scalar, scalars}
-use Rattle.std.proofs.lemmas.Bool.{ltb-true, lt-ltb, ne_eqb, and_parts, and_from}
+use Rattle.std.proofs.lemmas.Bool.{and_from, and_parts, cases_Bool, lt-ltb, ltb-true, ne_eqb}
 use Rattle.std.proofs.lemmas.Str.{len_utf8_bounds, length-encode}
 use Rattle.unicode_ident.proofs.IdentLemmas.{is_xid_continue-ascii}
 use Rattle.rustc_lexer.specs.Characters.{is_id_start, is_id_continue, is_ident, size}
@@ -22,7 +22,7 @@ use Rattle.plain_names.specs.TokenNames.{name_lexeme}
 use Rattle.plain_names.specs.LeafNames.{texts}
 use Rattle.plain_names.specs.Replacements.{Replacement, with_leaves, AreApart}
 use Rattle.plain_names.specs.Trees.{dressed_forest, has}
-use Rattle.plain_names.specs.Renames.{Rename, replacement_of, IsPlainRename, ArePlainRenames, IsInTree, AreInTree, PlainRenamesRenameTrees}
+use Rattle.plain_names.specs.Renames.{Rename, name_after, renamed_from, renamed_leaves, replacement_of, IsPlainRename, ArePlainRenames, IsInTree, AreInTree, PlainRenamesRenameTrees, PlainRenamesRenameTexts, RenamedTextsAreScalars}
 use Rattle.plain_names.proofs.Names.{start-dot}
 use Rattle.plain_names.proofs.Renamed.{no-name}
 use Rattle.plain_names.proofs.Followed.{dressed-text}
@@ -164,3 +164,42 @@ renames-trees e text rs f t good plain tree apart is =
     ap (λ (x : List Leaf). dressed_forest encode (dress_root f x)) (renamed-leaves rs 0 (lexed e text))
     ∙ all-named encode 1114112 encode-some encode-low dots ls t ls_low t_low f rs (all-fit e text t rs plain tree) (subst AreApart same apart) is
     ∙ ap (λ (x : List Replacement). node t.kind (with_leaves x [] 0 t.forest) empty) (sym same)
+
+pub renames-texts : PlainRenamesRenameTexts
+renames-texts e text rs f t good plain tree apart is =
+    let ms = renamed_leaves rs e text in
+    let new = renames-trees e text rs f t good plain tree apart is in
+    sym (append-nil (forest_text (with_leaves (map replacement_of rs) [] 0 t.forest)))
+    ∙ ap forest_text (sym new) ∙ dressed-text encode f (leaves_of ms)
+    ∙ ap (λ z. flat_map encode z) (joined-leaves ms) ∙ sym (encodes-flat (texts ms))
+
+-- ---- characters of the renamed text
+
+scalars-parts : (xs ys : List ℕ) → scalars (xs ++ ys) ≡ true → (scalars xs ≡ true) × (scalars ys ≡ true)
+scalars-parts [] ys h = (refl, h)
+scalars-parts (x ∷ xs) ys h =
+    let a = and_parts (scalar x) (scalars (xs ++ ys)) h in
+    let b = scalars-parts xs ys a.1 in
+    (and_from _ _ a.0 b.0, b.1)
+
+scalars-both : (xs ys : List ℕ) → scalars xs ≡ true → scalars ys ≡ true → scalars (xs ++ ys) ≡ true
+scalars-both [] ys a b = b
+scalars-both (x ∷ xs) ys a b = let z = and_parts (scalar x) (scalars xs) a in and_from _ _ z.0 (scalars-both xs ys z.1 b)
+
+name-scalars : (rs : List Rename) (i : ℕ) (t : List ℕ) → list_all (λ r. scalars r.new) rs ≡ true → scalars t ≡ true → scalars (name_after rs i t) ≡ true
+name-scalars [] i t a h = h
+name-scalars (r ∷ rs) i t a h =
+    let z = and_parts (scalars r.new) (list_all (λ r. scalars r.new) rs) a in
+    elim (cases_Bool (r.number == i)) [
+      | inl e ↦ ap (λ (b : Bool). scalars (if b then r.new else name_after rs i t)) e ∙ z.0
+      | inr e ↦ ap (λ (b : Bool). scalars (if b then r.new else name_after rs i t)) e ∙ name-scalars rs i t z.1 h
+    ]
+
+leaves-scalars : (rs : List Rename) (i : ℕ) (ls : List Lexed) → list_all (λ r. scalars r.new) rs ≡ true → scalars (texts ls) ≡ true → scalars (texts (renamed_from rs i ls)) ≡ true
+leaves-scalars rs i [] a h = refl
+leaves-scalars rs i (l ∷ ls) a h =
+    let z = scalars-parts l.leaf.text (texts ls) h in
+    scalars-both (name_after rs i l.leaf.text) (texts (renamed_from rs (i + 1) ls)) (name-scalars rs i l.leaf.text a z.0) (leaves-scalars rs (i + 1) ls a z.1)
+
+pub renamed-scalars : RenamedTextsAreScalars
+renamed-scalars e text rs good names = leaves-scalars rs 0 (lexed e text) names (ap scalars (leaves-joined e text) ∙ good)

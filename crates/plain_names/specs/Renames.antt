@@ -1,9 +1,10 @@
 -- Plain renames of identifiers: what they make of the leaves, the parser's input and the tree.
 use Rattle.std.specs.Prelude.{◌≡◌, ℕ, ◌+◌, ◌==◌, Bool, true, List, [], ◌∷◌, map, drop, Some, encode_utf8, encode_utf8_all, if◌then◌else◌}
+use Rattle.std.specs.List.{list_all}
 use Rattle.std.specs.Str.{all_scalars}
 use Rattle.rustc_lexer.specs.Characters.{is_ident}
 use Rattle.rustc_lexer.specs.Tokens.{first_lexeme}
-use Rattle.rowan_green.specs.Forest.{node, empty, Tree}
+use Rattle.rowan_green.specs.Forest.{node, empty, Tree, forest_text}
 use Rattle.rowan_green.specs.declared.utility_types.NodeOrToken.TheVariants.{Token}
 use Rattle.rowan.specs.Place.{term_by, start_by}
 use Rattle.parser_input.specs.Input.{input}
@@ -93,3 +94,20 @@ PlainRenamesRenameTrees =
     forest_by encode_utf8 f (leaves_of (lexed edition text)) ≡ node t.kind t.forest empty →
     forest_by encode_utf8 f (leaves_of (renamed_leaves rs edition text))
     ≡ node t.kind (with_leaves (map replacement_of rs) [] 0 t.forest) empty
+
+-- The text of the tree with the new names is the renamed text.
+abbrev pub PlainRenamesRenameTexts : Type 0
+PlainRenamesRenameTexts =
+    (edition : Edition) (text : List ℕ) (rs : List Rename) (f : forest.Forest) (t : Tree) →
+    all_scalars text ≡ true → ArePlainRenames edition text rs → AreInTree edition text t rs →
+    AreApart (map replacement_of rs) →
+    forest_by encode_utf8 f (leaves_of (lexed edition text)) ≡ node t.kind t.forest empty →
+    forest_text (with_leaves (map replacement_of rs) [] 0 t.forest)
+    ≡ encode_utf8_all (texts (renamed_leaves rs edition text))
+
+-- The characters of the renamed text are characters if those of the text and of the new names are.
+abbrev pub RenamedTextsAreScalars : Type 0
+RenamedTextsAreScalars =
+    (edition : Edition) (text : List ℕ) (rs : List Rename) → all_scalars text ≡ true →
+    list_all (λ r. all_scalars r.new) rs ≡ true →
+    all_scalars (texts (renamed_leaves rs edition text)) ≡ true

@@ -3,7 +3,7 @@
 ghost use Rattle.plain_names.specs.ClosedTokens.{SpaceEndsTokens};
 ghost use Rattle.plain_names.specs.Forests.{MappedForestsAreOne};
 ghost use Rattle.plain_names.specs.LeafNames.{InputsIgnoreNames, RenamedTextsHaveTheirLeaves};
-ghost use Rattle.plain_names.specs.Renames.{PlainRenamesKeepInputs, PlainRenamesKeepLeaves, PlainRenamesRenameTrees};
+ghost use Rattle.plain_names.specs.Renames.{PlainRenamesKeepInputs, PlainRenamesKeepLeaves, PlainRenamesRenameTexts, PlainRenamesRenameTrees, RenamedTextsAreScalars};
 ghost use Rattle.plain_names.specs.TokenNames.{AttributesIgnoreNames, LexemesIgnoreNames, RenamedTextsHaveTheirTokens, RenamingKeepsTokens};
 ghost use Rattle.plain_names.specs.Trees.{ElementsAreSteps, TreesFollowNames, TreesIgnoreNames};
 
@@ -64,9 +64,11 @@ pub fn trees_follow_names()
 {}
 
 /// Plain renames, any number of them at once: the leaves of the new text are the renamed leaves,
-/// the parser's input stays, and the tree is the old one with the new names.
+/// the parser's input stays, and the tree is the old one with the new names, with the new text.
 pub fn plain_renames_are_read()
     ensures leaves { PlainRenamesKeepLeaves }
     ensures input { PlainRenamesKeepInputs }
     ensures tree { PlainRenamesRenameTrees }
+    ensures text { PlainRenamesRenameTexts }
+    ensures scalars { RenamedTextsAreScalars }
 {}
