@@ -1,11 +1,10 @@
 -- Small rewritten trees fit.
-use Rattle.std.proofs.Common.{◌≡◌, ℕ, ◌+◌, ◌<◌, ◌≤◌, ◌^◌, Bool, true, false, ◌&&◌, ◌||◌, nat_lt, List, [], ◌∷◌, ◌++◌, length, map, length-append, refl, sym, ◌∙◌, ap, arith, lt-ltb}
+use Rattle.std.proofs.Common.{◌≡◌, ℕ, ◌+◌, ◌<◌, ◌≤◌, ◌^◌, Bool, true, false, ◌&&◌, ◌||◌, List, [], ◌∷◌, length, map, length-append, refl, ap, arith, lt-ltb}
 use Rattle.rowan_green.specs.Forest.{Forest, empty, node, leaf, forest_text, forest_count}
-use Rattle.rowan_green.specs.Term.{Term, terms, texts_of, forest_of, forest_of-terms}
-use Rattle.tree_rewrite.specs.Marked.{Marked, nothing, inner, token, forest_in}
-use Rattle.tree_rewrite.specs.Fits.{fits_node, is_tree, new_fits}
-use Rattle.syntax_tree.specs.Element.{term_of}
-use Rattle.plain_names.specs.Replacements.{Replacement, leaf_after, with_leaves}
+use Rattle.rowan_green.specs.Term.{terms, texts_of, forest_of-terms}
+use Rattle.tree_rewrite.specs.Marked.{nothing, inner, token, forest_in}
+use Rattle.tree_rewrite.specs.Fits.{fits_node}
+use Rattle.plain_names.specs.Replacements.{Replacement, with_leaves}
 use Rattle.plain_changes.specs.LeafChanges.{replacement_of, SmallTreesFit, ReplacingKeepsCounts}
 
 terms-few : (f : Forest) → length (terms f) ≤ forest_count f

@@ -1,13 +1,12 @@
 -- Replacements of leaves that are apart may be made in either order.
 use mathlib.Core.List.{reverse_aux}
-use Rattle.std.proofs.Common.{◌≡◌, ℕ, ◌+◌, Bool, true, false, ◌&&◌, ◌||◌, nat_eq, nat_le, arith, List, [], ◌∷◌, ◌++◌, reverse, map, refl, sym, ◌∙◌, ap, inl, inr, if◌then◌else◌}
+use Rattle.std.proofs.Common.{◌≡◌, ℕ, ◌+◌, Bool, true, false, ◌&&◌, ◌||◌, nat_le, arith, List, [], ◌∷◌, ◌++◌, reverse, map, refl, sym, ◌∙◌, ap, inl, inr, if◌then◌else◌}
 use Rattle.std.specs.List.{list_any}
 use Rattle.std.proofs.lemmas.Bool.{cases_Bool}
 use Rattle.rowan_green.specs.Leaf.{Leaf}
 use Rattle.rowan_green.specs.Forest.{Forest, empty, node, leaf}
-use Rattle.syntax_tree.specs.Element.{Way, same_way, Element}
-use Rattle.syntax_tree.specs.Mapping.{Mapping}
-use Rattle.tree_rewrite.specs.Change.{Change, has_collision, meets, rows_meet, covers}
+use Rattle.syntax_tree.specs.Element.{Way, same_way}
+use Rattle.tree_rewrite.specs.Change.{has_collision, meets, rows_meet}
 use Rattle.plain_names.specs.Replacements.{Replacement, leaf_after, with_leaves, AreApart}
 use Rattle.plain_changes.specs.LeafChanges.{LeafChange, change_of, replacement_of, LeavesAreReplaced}
 use Rattle.plain_changes.proofs.Rewritten.{same_way-sound, same_way-own, bool-same, covers-is, in-order}

@@ -1,20 +1,20 @@
--- Leaves that give way to leaves.
-use Rattle.std.proofs.Common.{◌≡◌, ℕ, zero, suc, ◌+◌, ◌≤◌, List, [], ◌∷◌, ◌++◌, length, drop, map, reverse, Option, Some, None, option_map, option_and_then, is_some, is_none, slice_get, Bool, true, false, not, ◌&&◌, ◌||◌, eqb, leb, refl, ap, sym, ◌∙◌, subst, arith, inl, inr, cond, if◌then◌else◌}
+-- The rewritten tree after changes that replace leaves by leaves.
+use Rattle.std.proofs.Common.{◌≡◌, ℕ, zero, suc, ◌+◌, ◌≤◌, List, [], ◌∷◌, length, drop, map, reverse, Option, Some, None, option_map, option_and_then, is_some, slice_get, Bool, true, false, not, ◌&&◌, ◌||◌, eqb, leb, refl, ap, sym, ◌∙◌, arith, inl, inr, cond, if◌then◌else◌}
 use mathlib.Core.List.{reverse_aux}
-use Rattle.std.specs.List.{filter, list_any}
+use Rattle.std.specs.List.{list_any}
 use Rattle.std.proofs.lemmas.Bool.{cases_Bool, eqb-true, eq-eqb, leb-true, le-leb, and_parts, and_from, false≢true}
 use Rattle.rowan_green.specs.Leaf.{Leaf}
 use Rattle.rowan_green.specs.Forest.{Forest, empty, node, leaf, Tree}
 use Rattle.rowan_green.specs.Term.{Term, terms}
 use Rattle.rowan_green.specs.declared.utility_types.NodeOrToken.TheVariants.{Node, Token}
-use Rattle.rowan.specs.Place.{term_by, children_in, term_at}
+use Rattle.rowan.specs.Place.{term_by, children_in}
 use Rattle.syntax_tree.specs.Element.{Way, same_way, Element, term_of, is_node}
 use Rattle.syntax_tree.specs.Mapping.{Mapping}
-use Rattle.tree_rewrite.specs.Change.{Change, insert, replace, covers, is_within, replaces, is_nested, is_node_by_node, is_dropped, holder_of, owner_of}
-use Rattle.tree_rewrite.specs.Marked.{Mark, Marked, nothing, inner, token, join, forest_in, with_put, Spot, gap, slot, Sheet, blank, or_own, origin_at, filled, read_from, reading_of, readings_of}
-use Rattle.tree_rewrite.specs.Rewrite.{Job, same_sheet, sets, set_by, Sheets, write, written, terms_of, terms_within, rewritten, change_at, own_of, job_of, jobs_from, kept_of, kept, jobs, or_no_jobs, rewrite}
-use Rattle.plain_changes.specs.LeafChanges.{LeafChange, change_of, replacement_of, IsLeafChange, AreLeafChanges, LeavesAreReplaced}
-use Rattle.plain_names.specs.Replacements.{Replacement, leaf_after, with_leaves, AreApart}
+use Rattle.tree_rewrite.specs.Change.{Change, replace, covers, is_within, replaces, is_nested, is_node_by_node, is_dropped, holder_of, owner_of}
+use Rattle.tree_rewrite.specs.Marked.{Mark, Marked, nothing, inner, token, join, forest_in, with_put, gap, slot, Sheet, blank, or_own, origin_at, filled, read_from}
+use Rattle.tree_rewrite.specs.Rewrite.{Job, written, terms_within, rewritten, change_at, own_of, job_of, jobs_from, kept_of, jobs, or_no_jobs, rewrite}
+use Rattle.plain_changes.specs.LeafChanges.{LeafChange, change_of, replacement_of, IsLeafChange, AreLeafChanges}
+use Rattle.plain_names.specs.Replacements.{leaf_after, with_leaves}
 
 pub same_way-sound : (v w : Way) → same_way v w ≡ true → v ≡ w
 same_way-sound [] [] h = refl

@@ -1,5 +1,5 @@
 -- Recorded changes that replace leaves by leaves.
-use Rattle.std.specs.Prelude.{◌≡◌, ℕ, ◌<◌, ◌^◌, List, [], ◌∷◌, Some, Bool, true, false, map, is_some, length}
+use Rattle.std.specs.Prelude.{◌≡◌, ◌<◌, ◌^◌, List, [], ◌∷◌, Some, Bool, true, false, map, is_some, length}
 use Rattle.rowan_green.specs.Leaf.{Leaf}
 use Rattle.rowan_green.specs.Forest.{Forest, node, empty, Tree, forest_text, forest_count, tree_count}
 use Rattle.rowan_green.specs.declared.utility_types.NodeOrToken.TheVariants.{Token}

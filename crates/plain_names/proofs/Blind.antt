@@ -1,4 +1,4 @@
--- A scan is blind: where what it takes ends before two texts that begin with names, or at them, it does not see which of them follows.
+-- A scan is blind if it does not depend on a name after what it takes.
 use Rattle.std.proofs.Common.{◌≡◌, ℕ, suc, zero, ◌+◌, ◌≤◌, Bool, true, false, not, ◌&&◌, ◌||◌, ◌==◌, List, [], ◌∷◌, ◌++◌, length, take, drop, length-drop, refl, sym, ◌∙◌, ap, arith, inl, inr, if◌then◌else◌}
 use Rattle.std.proofs.lemmas.List.{drop-append-le}
 use Rattle.rustc_lexer.specs.Characters.{line_feed, double_quote, hash, tick, slash, backslash, is_id_start, is_id_continue}
@@ -73,7 +73,7 @@ module _ (x y : ℕ) (xs ys : List ℕ) (sx : is_id_start x ≡ true) (sy : is_i
   blind-if true f g p q = p
   blind-if false f g p q = q
 
-  -- what a look decides, where it tells of both texts the same
+  -- a decision by a lookahead that is equal for both texts
   pub look-taken : {A B : Type 0} (tells : ℕ → ℕ → A) (g : A → Scan B) (zs : List ℕ) → (look tells ▸ g) zs ≡ g (tells (peek 0 zs) (peek 1 zs)) zs
   unfolding ◌▸◌ look
   look-taken {A} {B} tells g zs =

@@ -1,4 +1,4 @@
--- The lexeme that a text begins with is blind.
+-- The lexeme at the start of a text is blind.
 use Rattle.std.proofs.Common.{◌≡◌, ℕ, ◌≤◌, Bool, true, false, not, ◌&&◌, ◌||◌, ◌==◌, List, [], ◌∷◌, refl, sym, ◌∙◌, ap, subst, arith, inl, inr, eqb-true, if◌then◌else◌}
 use Rattle.rustc_lexer.specs.Characters.{double_quote, hash, tick, star, slash, letter_b, letter_c, letter_r, is_whitespace, is_digit, is_id_start}
 use Rattle.rustc_lexer.specs.Rows.{row, first_fit}
@@ -33,7 +33,7 @@ module _ (x y : ℕ) (xs ys : List ℕ) (sx : is_id_start x ≡ true) (sy : is_i
   guard-same : (y == hash || y == double_quote) ≡ (x == hash || x == double_quote)
   guard-same = opens-raw-same
 
-  -- before the names stands one character, no `'`
+  -- one character before the names, and no `'`
   case-one : (c : ℕ) → (c == tick) ≡ false → case_of c y (peek 0 ys) ≡ case_of c x (peek 0 xs)
   unfolding case_of is_raw of_tests
   case-one c none =

@@ -1,4 +1,4 @@
--- A scan is calm: at the end of a text it takes what it takes before white space, where what it gives is in order.
+-- A scan is calm if it takes at the end of a text what it takes before whitespace, for the results in question.
 use Rattle.std.proofs.Common.{◌≡◌, ℕ, suc, zero, ◌+◌, ◌≤◌, Bool, true, false, not, ◌&&◌, ◌||◌, ◌==◌, List, [], ◌∷◌, ◌++◌, length, take, drop, refl, sym, ◌∙◌, ap, arith, inl, inr, if◌then◌else◌}
 use Rattle.std.proofs.lemmas.List.{drop-append-le}
 use Rattle.rustc_lexer.specs.Characters.{line_feed, double_quote, hash, tick, slash, backslash, is_whitespace, is_id_start, is_id_continue}

@@ -1,4 +1,4 @@
--- A closed lexeme at the end of a text is the same before white space, and so are all tokens of a text.
+-- A closed lexeme at the end of a text does not depend on whitespace after it; so the tokens of a text do not.
 use Rattle.std.proofs.Common.{◌≡◌, ℕ, suc, zero, ◌≤◌, Bool, true, false, not, ◌&&◌, ◌||◌, ◌==◌, List, [], ◌∷◌, ◌++◌, length, drop, length-drop, refl, sym, ◌∙◌, ap, subst, arith, Option, is_some, if◌then◌else◌}
 use Rattle.std.proofs.lemmas.List.{drop-append-le}
 use Rattle.std.specs.List.{All}
@@ -289,7 +289,7 @@ module _ (w : ℕ) (rest : List ℕ) (white : is_whitespace w ≡ true) where
   guard-calm : (u : List ℕ) → 2 ≤ length u → (skip 2 ▸ λ _. give GuardedStrPrefix) (u ++ w ∷ rest) ≡ (skip 2 ▸ λ _. give GuardedStrPrefix) u
   guard-calm u le = skip-then w rest white 2 _ any (λ k. calm-give w rest white _ any) u le refl
 
-  -- what a literal tells of its end, its body told
+  -- a literal is closed if its body is
   literal-ended : (f : Scan Body) (u : List ℕ) → is_closed (literal f u).value ≡ true → ended (f u).value ≡ true
   unfolding literal is_closed ended ◌▸◌ spelled give
   literal-ended f u h = h
@@ -317,7 +317,7 @@ module _ (w : ℕ) (rest : List ℕ) (white : is_whitespace w ≡ true) where
   in-calm Guard t u le h = guard-calm u le
   in-calm Single t u le h = single-calm u le
 
-  -- the case is told by what is there
+  -- the case depends on the text alone
   opens-none : opens_raw w ≡ opens_raw 0
   opens-none = ap (λ b. b || w == double_quote) (at-hash w rest white) ∙ at-quote w rest white
 

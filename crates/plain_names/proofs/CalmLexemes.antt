@@ -1,4 +1,4 @@
--- Each lexeme that is closed is calm.
+-- The scan of each kind of closed lexeme is calm.
 use Rattle.std.proofs.Common.{◌≡◌, ℕ, suc, ◌<◌, ◌≤◌, Bool, true, false, not, ◌&&◌, ◌||◌, ◌==◌, leb, List, [], ◌∷◌, ◌++◌, length, take, refl, sym, ◌∙◌, ap, subst, arith, inl, inr, eqb-true, Option, Some, None, is_some, if◌then◌else◌}
 use Rattle.std.proofs.lemmas.Bool.{or_cases}
 use Rattle.std.proofs.lemmas.Bool.Decides.{nat_tests}
@@ -28,7 +28,7 @@ not-code p k x none is = elim (bool_cases (x == k)) [
   | inl h ↦ let w : true ≡ false = sym is ∙ ap p (eqb-true x k h) ∙ none in cc
 ]
 
--- what fails at each white space
+-- tests that fail for whitespace
 white-none : (p : ℕ → Bool) → ((c : ℕ) → (leb 9 c && leb c 13) ≡ true → p c ≡ false) → p 32 ≡ false → p 0x85 ≡ false → p 0x200E ≡ false → p 0x200F ≡ false → p 0x2028 ≡ false → p 0x2029 ≡ false
     → (c : ℕ) → is_whitespace c ≡ true → p c ≡ false
 unfolding is_whitespace

@@ -24,11 +24,11 @@ a_leaf k t r = leaf (record { kind = k; text = t }) r
 
 -- ---- symbols that stand for a text
 
--- a tag stands for a text, other symbols for themselves
+-- a tag is mapped to a text, any other character to itself
 for_tag : ℕ → List ℕ → ℕ → List ℕ
 for_tag tag text c = if c == tag then text else c ∷ []
 
--- a tag is mapped_texts by itself
+-- a tag is mapped to itself
 but_tag : (ℕ → List ℕ) → ℕ → ℕ → List ℕ
 but_tag enc tag c = if c == tag then tag ∷ [] else enc c
 
@@ -83,7 +83,7 @@ texts-put {old} {new} (past_node k f r s a b p) =
     let x = texts-put p in
     (ap (λ z. forest_text f ++ z) x.0 ∙ sym (append_assoc (forest_text f) a (old ++ b)), ap (λ z. forest_text f ++ z) x.1 ∙ sym (append_assoc (forest_text f) a (new ++ b)))
 
--- the same with another text
+-- another text in the same leaf
 retext : {old new : List ℕ} {t u : Forest} {a b : List ℕ} (other : List ℕ) → ReplacesText old new t u a b → (v : Forest) × ReplacesText old other t v a b
 retext other (here k r) = (a_leaf k other r, here k r)
 retext other (past_leaf l r s a b p) = let x = retext other p in (leaf l x.0, past_leaf l r x.0 a b x.1)
@@ -99,7 +99,7 @@ mapped-same tag text (leaf l r) n =
     let x = none-in tag l.text (forest_text r) n in
     ap (λ z. a_leaf l.kind z (mapped_texts (for_tag tag text) r)) (untagged tag text l.text x.0) ∙ ap (λ (z : Forest). leaf l z) (mapped-same tag text r x.1)
 
--- the tag in a leaf's place stands for a text there
+-- a tag in that leaf, mapped to a text
 mapped-retext : {old new : List ℕ} {t u : Forest} {a b : List ℕ} (tag : ℕ) (text : List ℕ) (p : ReplacesText old new t u a b) → has tag (forest_text t) ≡ false → mapped_texts (for_tag tag text) (retext (tag ∷ []) p).0 ≡ (retext text p).0
 unfolding retext
 mapped-retext {old} tag text (here k r) n =

@@ -63,7 +63,7 @@ other-than k x none starts = elim (bool_cases (x == k)) [
   | inl h ↦ let w : true ≡ false = sym starts ∙ ap is_id_start (eqb-true x k h) ∙ none in cc
 ]
 
--- white space begins no name
+-- whitespace starts no name
 at-code : (k c : ℕ) → (c == k) ≡ true → is_id_start k ≡ false → is_id_start c ≡ false
 at-code k c h none = ap is_id_start (eqb-true c k h) ∙ none
 

@@ -142,7 +142,7 @@ all-fit : (e : Edition) (text : List ℕ) (t : Tree) (rs : List Rename) → AreP
 all-fit e text t [] p i = tt
 all-fit e text t (r ∷ rs) p i = (one-fits e text t r p.0 i.0, all-fit e text t rs p.1 i.1)
 
--- the same new leaves
+-- the new leaf, its text by `flat_map`
 abbrev to_name : Rename → Replacement
 to_name r = record { up = r.up; leaf = record { kind = IDENT; text = flat_map encode r.new } }
 

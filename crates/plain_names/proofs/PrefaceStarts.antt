@@ -1,4 +1,4 @@
--- No leaf of a preface starts as a name does: so a name that is a token of the text stands in the content.
+-- No leaf of a preface starts as a name does: so a name's token is in the content.
 use Rattle.std.proofs.Common.{◌≡◌, ℕ, zero, suc, ◌-◌, ◌≤◌, Bool, true, false, ◌==◌, nat_lt, List, [], ◌∷◌, ◌++◌, length, take, drop, Option, Some, None, is_some, length-drop, refl, sym, ◌∙◌, ap, subst, arith, inl, inr, if◌then◌else◌}
 use Rattle.std.specs.List.{list_all}
 use Rattle.std.proofs.lemmas.Bool.{eqb-true, and_parts}

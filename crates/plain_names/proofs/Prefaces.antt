@@ -1,4 +1,4 @@
--- The preface of a text does not rest on the identifiers after it.
+-- The preface of a text does not depend on the identifiers after it.
 use Rattle.std.proofs.Common.{◌≡◌, ℕ, zero, suc, ◌+◌, ◌-◌, ◌<◌, ◌≤◌, nat_lt, Bool, true, false, not, ◌&&◌, ◌||◌, ◌==◌, List, [], ◌∷◌, ◌++◌, length, take, drop, length-append, length-drop, refl, sym, ◌∙◌, ap, subst, arith, inl, inr, ◌⊎◌, eqb-true, Option, Some, None, is_some, if◌then◌else◌}
 use Rattle.std.specs.List.{list_all}
 use Rattle.std.proofs.lemmas.List.{drop-append-le}
@@ -73,7 +73,7 @@ closing-short n starts (c ∷ cs) z e = elim (bool_cases (starts && is_fence n (
   | inr h ↦ let ih = closing-short n (c == line_feed) cs z (sym (closing-goes n starts c cs h) ∙ e) in omega (arith, ih)
 ]
 
--- one that is no tab and no space stands in it
+-- a line with a character that is no tab and no space
 not-all : (p : ℕ → Bool) (v : List ℕ) (z : ℕ) (t : List ℕ) → p z ≡ false → list_all p (v ++ z ∷ t) ≡ false
 not-all p [] z t none = ap (λ b. b && list_all p t) none
 not-all p (c ∷ v) z t none = ap (λ b. p c && b) (not-all p v z t none) ∙ and-false (p c)
@@ -277,7 +277,7 @@ module _ (x y : ℕ) (nm om s : List ℕ) (sx : is_id_start x ≡ true) (sy : is
             subst P (sym (closing-goes n starts c (u ++ (x ∷ nm ++ s)) h)) (subst Q (sym (closing-goes n starts c (u ++ (y ∷ om ++ s)) (same ∙ h))) (more (length u) (suc (length u)) (omega arith) (closing-same n (c == line_feed) u)))
       ]
 
-  -- what stands after a line
+  -- the text after a line
   record Rest (u : List ℕ) : Type 0 where
     left : List ℕ
     a_is : after_line (u ++ (x ∷ nm ++ s)) ≡ left ++ (x ∷ nm ++ s)
@@ -337,7 +337,7 @@ module _ (x y : ℕ) (nm om s : List ℕ) (sx : is_id_start x ≡ true) (sy : is
         subst P (sym r.a_is) (subst Q (sym r.b_is) (more (length r.left) (length u) r.short (closing-same n true r.left)))
   ]
 
-  -- The preface and the content, where what is left after the shebang is told.
+  -- The preface and the content, by the text after the shebang.
 
   -- the leaf of a frontmatter is the same, and the content ends with the names
   record Told (a b : List ℕ) (f g : List Lexed) : Type 0 where

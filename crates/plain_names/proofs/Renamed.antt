@@ -1,4 +1,4 @@
--- An identifier's token gives way to another identifier: all other tokens stay.
+-- An identifier's token is replaced by another identifier: all other tokens stay.
 use Rattle.std.proofs.Common.{◌≡◌, ℕ, suc, zero, ◌+◌, ◌≤◌, Bool, true, false, ◌&&◌, ◌||◌, ◌==◌, List, [], ◌∷◌, ◌++◌, length, take, drop, length-append, refl, sym, ◌∙◌, ap, subst, arith, inl, inr, eqb-true, lit<, if◌then◌else◌}
 use Rattle.std.proofs.lemmas.List.{drop-append-le, take-append-drop, drop-drop}
 use Rattle.std.proofs.Math.Seq.{drop-append_seam, take-append_seam}
@@ -58,7 +58,7 @@ unfolding opens_literal
 quiet-continue c is =
     three-false (c == hash) (c == double_quote) (c == tick) (not-code is_id_continue hash c continue-hash is) (not-code is_id_continue double_quote c continue-quote is) (not-code is_id_continue tick c continue-tick is)
 
--- what stands after a name, or within it
+-- the text after a name, or within it
 pub quiet : (w rest : List ℕ) → list_all is_id_continue w ≡ true → opens_literal (peek 0 rest) ≡ false → opens_literal (peek 0 (w ++ rest)) ≡ false
 quiet [] rest all none = none
 quiet (c ∷ w) rest all none = quiet-continue c (and_left (is_id_continue c) (list_all is_id_continue w) all)
@@ -151,7 +151,7 @@ name-first y w rest sy all e =
 pub begins : (y : ℕ) (w rest : List ℕ) → is_id_start y ≡ true → list_all is_id_continue w ≡ true → EndsName rest → StartsWithName (y ∷ w ++ rest)
 begins y w rest sy all e = record { starts = sy; not_raw = and-last (y == letter_r) _ (raw-none _ (quiet-of _ (quiet w rest all e.no_literal))) }
 
--- What stands after an identifier's token.
+-- The text after an identifier's token.
 prefix-none : (b : Bool) → kind_by b ≡ Ident → b ≡ false
 unfolding not_ident
 prefix-none false h = refl

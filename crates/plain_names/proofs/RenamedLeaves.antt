@@ -103,7 +103,7 @@ and-second : (a b : Bool) → b ≡ false → (a && b) ≡ false
 and-second true b h = h
 and-second false b h = refl
 
--- before a name stands no guarded prefix of one character
+-- one character before a name is no guarded prefix
 guard-none : (c x : ℕ) (xs : List ℕ) → is_id_start x ≡ true → is_guard (lexeme (c ∷ x ∷ xs)).value ≡ false
 unfolding lexeme begin case_of not_guard
 guard-none c x xs sx =

@@ -1,4 +1,4 @@
--- Any identifiers of a text give way to others.
+-- Any identifiers of a text are replaced by others.
 use Rattle.std.proofs.Common.{◌≡◌, ℕ, suc, ◌+◌, true, List, [], ◌∷◌, ◌++◌, length, take, drop, refl, sym, ◌∙◌, ap, arith, append_assoc}
 use Rattle.std.proofs.Math.Seq.{drop-append_seam, take-append_seam, drop-append-add}
 use Rattle.rustc_lexer.specs.Characters.{is_ident}

@@ -1,4 +1,4 @@
--- Whether a text opens an attribute does not rest on its identifiers, wherever they stand: in white space, in a comment, after these.
+-- Whether a text opens an attribute does not depend on identifiers: after trivia, or inside a comment.
 use Rattle.std.proofs.Common.{◌≡◌, ℕ, suc, zero, ◌+◌, ◌<◌, ◌≤◌, Bool, true, false, not, ◌&&◌, ◌||◌, ◌==◌, List, [], ◌∷◌, ◌++◌, length, take, drop, map, append_assoc, length-drop, refl, sym, ◌∙◌, ap, subst, arith, lit<, inl, inr, ◌⊎◌, eqb-true, Option, Some, None, if◌then◌else◌}
 use Rattle.std.proofs.lemmas.List.{drop-append-le, get_or-take}
 use Rattle.std.proofs.lemmas.List.Folds.{list_all-append}
@@ -108,7 +108,7 @@ lifetime-plain zs =
     let front = drop (length (take 1 zs)) zs in
     named-plain (is_raw (peek 0 front) (peek 1 front) (peek 2 front)) front _
 
--- the cases that are no white space and no comment
+-- the cases that are no trivia
 unfoldable is_other : Case → Bool
 is_other Blank = false
 is_other ToLineEnd = false

@@ -1,4 +1,4 @@
--- Tokens that end before white space.
+-- Tokens that end before whitespace.
 use Rattle.std.specs.Prelude.{◌≡◌, ℕ, Bool, true, false, is_some, List, ◌∷◌, ◌++◌}
 use Rattle.std.specs.List.{All}
 use Rattle.rustc_lexer.specs.Characters.{is_whitespace}
