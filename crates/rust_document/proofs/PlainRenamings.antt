@@ -42,7 +42,7 @@ use Rattle.plain_names.proofs.Followed.{elements-steps}
 use Rattle.plain_names.proofs.Numbered.{keeps-leaves, keeps-inputs}
 use Rattle.plain_names.proofs.PlainTrees.{renames-trees}
 use Rattle.plain_changes.specs.LeafChanges as changes
-use Rattle.plain_changes.specs.LeafChanges.{LeafChange, AllReplace, change_of}
+use Rattle.plain_changes.specs.LeafChanges.{LeafChange, AreLeafChanges, change_of}
 use Rattle.plain_changes.proofs.Fits.{small-fit, keeps-counts}
 use Rattle.plain_changes.proofs.Orders.{are-apart, leaves-replaced}
 use Rattle.rust_document.specs.Open.{IsOpened}
@@ -80,7 +80,7 @@ changes-are d [] h = refl
 changes-are d (c ∷ cs) h =
     ap (λ (x : Change). x ∷ map change_of (leaf_changes d cs h.1)) (sym h.0.is) ∙ ap (λ (xs : List Change). c ∷ xs) (changes-are d cs h.1)
 
-all-replace : (d : State) (cs : List Change) (h : AreRenames d cs) → AllReplace (present d) (leaf_changes d cs h)
+all-replace : (d : State) (cs : List Change) (h : AreRenames d cs) → AreLeafChanges (present d) (leaf_changes d cs h)
 all-replace d [] h = tt
 all-replace d (c ∷ cs) h = (record { is_old = h.0.in_tree.stands; is_new = h.0.new_leaf }, all-replace d cs h.1)
 
