@@ -1,16 +1,17 @@
 -- What is known of the trees that a rule gives, and that it is true.
-use Rattle.std.proofs.Common.{◌≡◌, ℕ, zero, suc, Bool, true, false, not, ◌&&◌, ◌==◌, length, nat_lt, refl, sym, subst, if◌then◌else◌, true≢false}
-use Rattle.std.proofs.lemmas.Bool.{eqb-true}
-use Rattle.parser_input.specs.Kinds.{BIN_EXPR}
+use Rattle.std.proofs.Common.{◌≡◌, ℕ, zero, suc, Bool, true, false, not, ◌&&◌, ◌==◌, length, nat_lt, nat_le, refl, ap, ◌∙◌, inl, inr, sym, subst, if◌then◌else◌, true≢false}
+use Rattle.std.proofs.lemmas.Bool.{cases_Bool, eqb-true}
+use Rattle.parser_input.specs.Kinds.{BIN_EXPR, ERROR}
 use Rattle.parser_events.specs.Forest as forest
 use Rattle.parser_events.specs.Forest.{Forest, Message, ◌then◌}
-use Rattle.rust_grammar.specs.Rule.{Production, Rule, Look, Nothing, One, Any, Then, Near, Or, Opt, Star, Node, Wrap, Want, Say, Skip, Split, When, Unless, Call, Continue, Mode, body, literal, block, statement_end, macro_statement_end, expression, operation, operation_tail, pipe_tail, disjunction, conjunction, comparison, bit_or, bit_xor, bit_and, bit_shift, sum, product, cast, prefixed, postfix, after_dot, atom, block_like, if_expr, begins}
-use Rattle.rust_grammar.specs.Meaning.{Reading, Calls, read, sees, ahead, fresh, leaf, say, skip, split, node, wrapped, after, turns}
-use Rattle.rust_grammar.specs.Powers.{power, are_operators_placed}
+use Rattle.rust_grammar.specs.Rule.{Production, Rule, Look, Nothing, One, Any, Then, Near, Or, Opt, Star, Node, Wrap, Want, Say, Skip, Split, When, Unless, Call, Continue, Mode, body, literal, block, statement_end, macro_statement_end, expression, operation, operation_tail, pipe_tail, disjunction, conjunction, comparison, bit_or, bit_xor, bit_and, bit_shift, sum, product, cast, prefixed, postfix, after_dot, atom, block_like, if_expr, begins, Lead}
+use Rattle.rust_grammar.specs.Meaning.{Reading, Calls, read, sees, ahead, fresh, leaf, say, skip, split, node, wrapped, after, turns, into, led}
+use Rattle.rust_grammar.specs.Powers.{power, are_operators_placed, operator, level, is_operator_placed}
 use Rattle.rust_grammar.proofs.Plain.{and_l, and_r}
 use Rattle.rust_grammar.proofs.Spelled.{chosen}
+use Rattle.rust_grammar.proofs.Leads.{into-cases}
 use Rattle.rust_grammar.proofs.Operators.{fits_between, Fits, fits-so, binary-is, right-there, said-bound, said-only}
-use Rattle.rust_grammar.proofs.Powers.{Standing, Empty, Operand, Placed, Unknown, is_of, is_within, join, beside, inside, weaken, empty-is, of-first, of-second, of-beside, of-node, of-float}
+use Rattle.rust_grammar.proofs.Powers.{Standing, Empty, Operand, Placed, Unknown, is_operand, is_of, is_within, join, beside, inside, weaken, empty-is, then-placed, of-first, of-second, of-beside, of-node, of-float}
 
 -- what is known of a production's trees where it begins
 unfoldable pub starts : Production → Standing
@@ -94,6 +95,50 @@ gives p Split = inside p
 gives p (Call y) = beside p (ends y)
 gives p (Continue y) = if is_within p (starts y) then ends y else Unknown
 gives p (Mode c a) = gives p a
+gives p (Lead a) = if is_within (gives Empty a) (Operand 13) && is_within p Placed then Operand 13 else Unknown
+
+-- No power is as great as the level of what is no binary expression.
+record IsBelow (n : ℕ) : Type 0 where
+  pub is : nat_le 13 n ≡ false
+
+below-or : (b : Bool) (m n : ℕ) → IsBelow m → IsBelow n → IsBelow (if b then m else n)
+below-or true m n e i = e
+below-or false m n e i = i
+
+below : (n : ℕ) → nat_le 13 n ≡ false → IsBelow n
+below n e = record { is = e }
+
+power-is-below : (k : ℕ) → IsBelow (power k)
+unfolding power
+power-is-below k =
+    below-or _ 12 _ (below 12 refl) (below-or _ 11 _ (below 11 refl) (below-or _ 10 _ (below 10 refl) (below-or _ 9 _ (below 9 refl) (below-or _ 8 _ (below 8 refl) (below-or _ 7 _ (below 7 refl)
+    (below-or _ 6 _ (below 6 refl) (below-or _ 5 _ (below 5 refl) (below-or _ 4 _ (below 4 refl) (below-or _ 2 _ (below 2 refl) (below-or _ 1 0 (below 1 refl) (below 0 refl)))))))))))
+
+power-below : (k : ℕ) → nat_le 13 (power k) ≡ false
+power-below k = (power-is-below k).is
+
+no-binary : (k : ℕ) (c : Forest) → nat_le 13 (level k c) ≡ true → (k == BIN_EXPR) ≡ false
+unfolding level
+no-binary k c e = elim (cases_Bool (k == BIN_EXPR)) [
+  | inl i ↦ absurd (true≢false (sym e ∙ ap (λ (b : Bool). nat_le 13 (if b then power (operator c) else 13)) i ∙ power-below (operator c)))
+  | inr i ↦ i
+]
+
+-- trees that stand first in an operand that is no binary expression
+into-operand : (g f : Forest) → is_of Placed g ≡ true → is_of (Operand 13) f ≡ true → is_of (Operand 13) (into g f) ≡ true
+unfolding is_of is_operand are_operators_placed inside
+into-operand g f h e =
+    into-cases (λ (t : Forest). is_of (Operand 13) t ≡ true) g f
+    (λ k c is.
+    let own : is_of (Operand 13) (forest.Node k c forest.End) ≡ true = subst (λ (t : Forest). is_of (Operand 13) t ≡ true) is e in
+    let other = no-binary k c (and_l (nat_le 13 (level k c)) (are_operators_placed (forest.Node k c forest.End)) own) in
+    let within : are_operators_placed c ≡ true = and_r (if k == BIN_EXPR then is_operator_placed c else true) (are_operators_placed c)
+    (and_l ((if k == BIN_EXPR then is_operator_placed c else true) && are_operators_placed c) true (and_r (nat_le 13 (level k c)) (are_operators_placed (forest.Node k c forest.End)) own)) in
+    of-node Placed k (g then c) other (then-placed g c h within))
+    (λ b c is.
+    let own : is_of (Operand 13) (forest.Float b c forest.End) ≡ true = subst (λ (t : Forest). is_of (Operand 13) t ≡ true) is e in
+    of-float Placed b (g then c) (then-placed g c h (and_l (are_operators_placed c) true own)))
+    (of-node Placed ERROR (g then f) refl (then-placed g f h (and_r (is_operand 13 f) (are_operators_placed f) e)))
 
 -- what is taken of calls
 abbrev pub KeepsPowers : Production → Bool → Reading → Reading → Type 0
@@ -203,7 +248,7 @@ module _ (looks : Production → Look) (call : Calls) (ok : (y : Production) (d 
 
   -- What is known of the trees after a rule is true.
   pub placed-so : (r : Rule) (p : Standing) (c : Bool) (s : Reading) → is_of p s.given ≡ true → is_of (gives p r) (read looks call c r s).given ≡ true
-  unfolding gives read leaf say skip split fresh node wrapped after
+  unfolding gives read leaf say skip split fresh node wrapped led after
   placed-so Nothing p c s h = h
   placed-so (One x) p c s h = of-beside p Placed s.given (forest.Leaf x.kind (length x.parts) forest.End) h (one-placed x.kind (length x.parts))
   placed-so Any p c s h = of-beside p Placed s.given (forest.Leaf (ahead 0 s.rest).kind 1 forest.End) h (one-placed (ahead 0 s.rest).kind 1)
@@ -241,3 +286,9 @@ module _ (looks : Production → Look) (call : Calls) (ok : (y : Production) (d 
   placed-so (Continue y) p c s h =
       chosen-standing (is_within p (starts y)) (ends y) Unknown _ (λ e. ok y c s (weaken p (starts y) s.given e h)) (λ e. unknown-is _)
   placed-so (Mode d a) p c s h = placed-so a p d s h
+  placed-so (Lead a) p c s h =
+      chosen-standing (is_within (gives Empty a) (Operand 13) && is_within p Placed) (Operand 13) Unknown _
+      (λ e. into-operand s.given _
+      (weaken p Placed s.given (and_r (is_within (gives Empty a) (Operand 13)) (is_within p Placed) e) h)
+      (weaken (gives Empty a) (Operand 13) _ (and_l (is_within (gives Empty a) (Operand 13)) (is_within p Placed) e) (placed-so a Empty c (fresh s) (empty-is Empty))))
+      (λ e. unknown-is _)

@@ -5,9 +5,10 @@ use Rattle.std.proofs.lemmas.Bool.{ltb-true, leb-true}
 use Rattle.parser_input.specs.Input.{Token}
 use Rattle.parser_events.specs.Forest as forest
 use Rattle.parser_events.specs.Forest.{Forest, ◌then◌}
-use Rattle.rust_grammar.specs.Rule.{Production, Rule, Look, Nothing, One, Any, Then, Near, Or, Opt, Star, Node, Wrap, Want, Say, Skip, Split, When, Unless, Call, Continue, Mode, begins}
-use Rattle.rust_grammar.specs.Meaning.{Reading, Calls, read, sees, ahead, fresh, leaf, say, skip, split, node, wrapped, after, turns}
+use Rattle.rust_grammar.specs.Rule.{Production, Rule, Look, Nothing, One, Any, Then, Near, Or, Opt, Star, Node, Wrap, Want, Say, Skip, Split, When, Unless, Call, Continue, Mode, Lead, begins}
+use Rattle.rust_grammar.specs.Meaning.{Reading, Calls, read, sees, ahead, fresh, leaf, say, skip, split, node, wrapped, into, led, after, turns}
 use Rattle.rust_grammar.proofs.Fine.{takes}
+use Rattle.rust_grammar.proofs.Leads.{into-cases}
 use Rattle.rust_grammar.proofs.Plain.{and_l, and_r}
 use Rattle.rust_grammar.proofs.Spelled.{chosen}
 
@@ -77,6 +78,7 @@ idle g Split = 0
 idle g (Call y) = if g.sure y then 0 else g.idle_of y
 idle g (Continue y) = if g.sure y then 0 else g.idle_of y
 idle g (Mode c a) = idle g a
+idle g (Lead a) = if takes g.sure a then 0 else 2 + idle g a
 
 -- the most with a leaf
 unfoldable pub debt : Prices → Rule → ℕ
@@ -99,6 +101,7 @@ debt g Split = 11
 debt g (Call y) = g.debt_of y
 debt g (Continue y) = g.debt_of y
 debt g (Mode c a) = debt g a
+debt g (Lead a) = 2 + debt g a
 
 -- a further leaf pays for what is given with it
 unfoldable pub is_paid : Prices → Rule → Bool
@@ -113,6 +116,7 @@ is_paid g (Node k a) = is_paid g a
 is_paid g (Wrap k a) = is_paid g a
 is_paid g (Want a m) = is_paid g a
 is_paid g (Mode c a) = is_paid g a
+is_paid g (Lead a) = is_paid g a
 is_paid g r = true
 
 -- no leaf was given, no token was taken, and so many steps
@@ -212,6 +216,33 @@ in-wrap k i d a s t (inl h) =
     inl (record { leaves = omega (arith, h.leaves); rest = h.rest; few = omega (arith, h.few, most); unsure = h.unsure })
 in-wrap k i d a s t (inr h) = inr (record { more = h.more; leaves = omega (arith, h.leaves); few = omega (arith, h.few) })
 
+-- what was given, in the one tree that follows
+leaves-into : (g f : Forest) → leaf_count (into g f) ≡ leaf_count g + leaf_count f
+leaves-into g f =
+    into-cases (λ (h : Forest). leaf_count h ≡ leaf_count g + leaf_count f) g f
+    (λ k c is. omega (arith, leaves-then g c, ap (λ (h : Forest). leaf_count h) is))
+    (λ e c is. omega (arith, leaves-then g c, ap (λ (h : Forest). leaf_count h) is))
+    (omega (arith, leaves-then g f))
+
+steps-into : (g f : Forest) → step_count (into g f) ≤ 2 + (step_count g + step_count f)
+steps-into g f =
+    into-cases (λ (h : Forest). step_count h ≤ 2 + (step_count g + step_count f)) g f
+    (λ k c is. omega (arith, steps-then g c, ap (λ (h : Forest). step_count h) is))
+    (λ e c is. omega (arith, steps-then g c, ap (λ (h : Forest). step_count h) is))
+    (omega (arith, steps-then g f))
+
+in-lead : (i d : ℕ) (a : Bool) (s t : Reading) → Costs i d a (fresh s) t → Costs (if a then 0 else 2 + i) (2 + d) a s (led s t)
+unfolding fresh led
+in-lead i d a s t (inl h) =
+    let leaves = leaves-into s.given t.given in
+    let steps = steps-into s.given t.given in
+    let most = if-unsure a (2 + i) h.unsure in
+    inl (record { leaves = omega (arith, leaves, h.leaves); rest = h.rest; few = omega (arith, steps, h.few, most); unsure = h.unsure })
+in-lead i d a s t (inr h) =
+    let leaves = leaves-into s.given t.given in
+    let steps = steps-into s.given t.given in
+    inr (record { more = h.more; leaves = omega (arith, leaves, h.leaves); few = omega (arith, steps, h.few) })
+
 -- a call, after what was given
 in-call : (i d : ℕ) (a : Bool) (s t : Reading) → Costs i d a (fresh s) t → Costs (if a then 0 else i) d a s (after s t)
 unfolding fresh after
@@ -305,3 +336,4 @@ module _ (g : Prices) (call : Calls) (ok : IsPriced g call) where
   costs (Call y) c s e = in-call (g.idle_of y) (g.debt_of y) (g.sure y) s (call y c (fresh s)) (ok y c (fresh s))
   costs (Continue y) c s e = in-place (g.idle_of y) (g.debt_of y) (g.sure y) s (call y c s) (ok y c s)
   costs (Mode d a) c s e = costs a d s e
+  costs (Lead a) c s e = in-lead (idle g a) (debt g a) (takes g.sure a) s (read g.looks call c a (fresh s)) (costs a c (fresh s) e)

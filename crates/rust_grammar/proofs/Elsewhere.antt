@@ -2,7 +2,7 @@
 use Rattle.std.proofs.Common.{◌≡◌, ℕ, ◌-◌, Bool, true, false, not, ◌&&◌, ◌==◌, List, length, drop, nat_lt, Option, Some, None, refl, sym, ap, ◌∙◌, inl, inr, if◌then◌else◌, true≢false}
 use Rattle.std.proofs.lemmas.Bool.{cases_Bool}
 use Rattle.parser_input.specs.Input.{Token}
-use Rattle.rust_grammar.specs.Rule.{Look, Always, Never, Kind, Contextual, Joint, Left, InCondition, Given, Both, Either, Not, shift, in_mode, anew}
+use Rattle.rust_grammar.specs.Rule.{Look, Always, Never, Kind, Contextual, Joint, Whole, Left, InCondition, Given, Both, Either, Not, shift, in_mode, anew}
 use Rattle.rust_grammar.specs.Meaning.{Reading, ahead, sees, fresh, is_end}
 use Rattle.rust_grammar.proofs.Plain.{and_l, and_r}
 use Rattle.rust_grammar.proofs.Parts.{asks_tokens, shifted}
@@ -31,6 +31,7 @@ unfoldable pub down : ℕ → Look → Look
 down n (Kind m k) = Kind (m - n) k
 down n (Contextual m k) = Contextual (m - n) k
 down n (Joint m) = Joint (m - n)
+down n (Whole m) = Whole (m - n)
 down n (Both a b) = Both (down n a) (down n b)
 down n (Either a b) = Either (down n a) (down n b)
 down n (Not a) = Not (down n a)
@@ -66,6 +67,7 @@ module _ (c : Bool) (s : Reading) where
   anew-seen (Kind n k) = refl
   anew-seen (Contextual n k) = refl
   anew-seen (Joint n) = refl
+  anew-seen (Whole n) = refl
   anew-seen Left = refl
   anew-seen InCondition = refl
 
@@ -84,6 +86,7 @@ module _ (c : Bool) (s : Reading) where
   mode-seen (Kind n k) = refl
   mode-seen (Contextual n k) = refl
   mode-seen (Joint n) = refl
+  mode-seen (Whole n) = refl
   mode-seen Left = refl
   mode-seen Given = refl
 
@@ -106,6 +109,7 @@ module _ (c d : Bool) (s t : Reading) (rest : t.rest ≡ s.rest) (g b : Bool) (g
   unasked (Kind n k) e = ap (λ (ts : List Token). (ahead n ts).kind == k) rest
   unasked (Contextual n k) e = ap (λ (ts : List Token). (ahead n ts).contextual == k) rest
   unasked (Joint n) e = ap (λ (ts : List Token). (ahead n ts).joint) rest
+  unasked (Whole n) e = ap (λ (ts : List Token). (ahead n ts).whole) rest
   unasked Left e = ap (λ (ts : List Token). nat_lt 0 (length ts)) rest
 
   unless-dropped : (a : Bool) (l : Look) → (a ≡ false → sees d t l ≡ sees c s l) → sees c s l ≡ true → sees d t (if a then Always else l) ≡ true
@@ -128,6 +132,7 @@ module _ (c d : Bool) (s t : Reading) (rest : t.rest ≡ s.rest) (g b : Bool) (g
   without-seen (Kind n k) h = unasked (Kind n k) refl ∙ h
   without-seen (Contextual n k) h = unasked (Contextual n k) refl ∙ h
   without-seen (Joint n) h = unasked (Joint n) refl ∙ h
+  without-seen (Whole n) h = unasked (Whole n) refl ∙ h
   without-seen Left h = unasked Left refl ∙ h
 
 -- From a place to the one so many tokens further on.
@@ -139,6 +144,7 @@ module _ (c : Bool) (s t : Reading) (n : ℕ) (rest : t.rest ≡ drop n s.rest) 
   further (Kind m k) e = ap (λ (ts : List Token). (ahead m ts).kind == k) rest
   further (Contextual m k) e = ap (λ (ts : List Token). (ahead m ts).contextual == k) rest
   further (Joint m) e = ap (λ (ts : List Token). (ahead m ts).joint) rest
+  further (Whole m) e = ap (λ (ts : List Token). (ahead m ts).whole) rest
   further Left e = absurd (true≢false (sym e))
   further Given e = absurd (true≢false (sym e))
   further InCondition e = refl
@@ -168,6 +174,7 @@ module _ (c : Bool) (s t : Reading) (n : ℕ) (rest : t.rest ≡ drop n s.rest) 
   back-seen (Kind m k) h = down-seen (Kind m k) h
   back-seen (Contextual m k) h = down-seen (Contextual m k) h
   back-seen (Joint m) h = down-seen (Joint m) h
+  back-seen (Whole m) h = down-seen (Whole m) h
   back-seen Left h = down-seen Left h
   back-seen InCondition h = down-seen InCondition h
   back-seen Given h = down-seen Given h

@@ -20,7 +20,7 @@ use Rattle.rust_grammar.proofs.Shapes.{Single, HasShape, Rooted, shape, has-shap
 use Rattle.rust_grammar.proofs.ShapesTable.{gives_one, starts_with, rooting, is_root, all_roots}
 use Rattle.rust_grammar.proofs.Induction.{HoldOf, meaning-holds}
 
-abbrev Roots : Production → Bool → Reading → Reading → Type 0
+abbrev pub Roots : Production → Bool → Reading → Reading → Type 0
 Roots y d t u = gives_one y ≡ true → HasShape (starts_with y) t.given → IsRooted u.given
 
 abbrev Anything : Production → Bool → Reading → Reading → Type 0
@@ -34,7 +34,7 @@ closed-roots : HoldOf Roots closed
 unfolding closed wrapped
 closed-roots y d t e h = tt
 
-as-claimed : (call : Calls) → HoldOf Roots call → Rooted rooting call
+pub as-claimed : (call : Calls) → HoldOf Roots call → Rooted rooting call
 unfolding rooting
 as-claimed call p = record { one_node = p }
 

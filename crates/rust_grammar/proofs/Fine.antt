@@ -1,7 +1,7 @@
 -- A test of a table: no production comes back to itself before it takes a token.
 use Rattle.std.specs.Prelude.{◌==◌, nat_lt, Bool, true, false, not, ◌&&◌, ◌||◌, length}
 use Rattle.parser_input.specs.Kinds.{EOF}
-use Rattle.rust_grammar.specs.Rule.{Production, Look, Always, Never, Kind, Contextual, Joint, Left, InCondition, Given, Both, Either, Not, Rule, Nothing, One, Any, Then, Near, Or, Opt, Star, Node, Wrap, Want, Say, Skip, Split, When, Unless, Call, Continue, Mode, begins}
+use Rattle.rust_grammar.specs.Rule.{Production, Look, Always, Never, Kind, Contextual, Joint, Whole, Left, InCondition, Given, Both, Either, Not, Rule, Nothing, One, Any, Then, Near, Or, Opt, Star, Node, Wrap, Want, Say, Skip, Split, When, Unless, Call, Continue, Mode, Lead, begins}
 use Rattle.rust_grammar.specs.Meaning.{Table, look_of}
 
 -- a rule that surely takes a token where one is left
@@ -25,6 +25,7 @@ takes f (Unless l a) = takes f a
 takes f (Call x) = f x
 takes f (Continue x) = f x
 takes f (Mode c a) = takes f a
+takes f (Lead a) = takes f a
 
 -- each production that is called before a token was taken has a lower rank
 unfoldable pub ranked : (takes_one is_lower : Production → Bool) → (taken : Bool) → Rule → Bool
@@ -47,6 +48,7 @@ ranked f low t (Unless l a) = ranked f low t a
 ranked f low t (Call x) = t || low x
 ranked f low t (Continue x) = t || low x
 ranked f low t (Mode c a) = ranked f low t a
+ranked f low t (Lead a) = ranked f low t a
 
 -- a look that fails where no token is left
 unfoldable pub fails : Look → Bool
@@ -55,6 +57,7 @@ fails Never = true
 fails (Kind n k) = not (EOF == k)
 fails (Contextual n k) = not (EOF == k)
 fails (Joint n) = true
+fails (Whole n) = true
 fails Left = true
 fails InCondition = false
 fails Given = false
@@ -83,6 +86,7 @@ ranked_at_end l low (Unless k a) = ranked_at_end l low a
 ranked_at_end l low (Call x) = low x
 ranked_at_end l low (Continue x) = low x
 ranked_at_end l low (Mode c a) = ranked_at_end l low a
+ranked_at_end l low (Lead a) = ranked_at_end l low a
 
 -- The test, for one production: its rank is one, its claim is true, and its calls go down.
 unfoldable pub fine : Table → (Production → Bool) → Production → Bool

@@ -3,7 +3,7 @@ use Rattle.std.proofs.Common.{◌≡◌, ℕ, zero, suc, arith, Bool, true, fals
 use Rattle.std.proofs.lemmas.Bool.{cases_Bool, eqb-true, lt-ltb}
 use Rattle.parser_input.specs.Kinds.{EOF}
 use Rattle.parser_input.specs.Input.{Token}
-use Rattle.rust_grammar.specs.Rule.{Look, Always, Never, Kind, Contextual, Joint, Left, InCondition, Given, Both, Either, Not}
+use Rattle.rust_grammar.specs.Rule.{Look, Always, Never, Kind, Contextual, Joint, Whole, Left, InCondition, Given, Both, Either, Not}
 use Rattle.rust_grammar.specs.Meaning.{Reading, ahead, sees}
 use Rattle.rust_grammar.proofs.Plain.{and_l, and_r}
 
@@ -55,6 +55,7 @@ same_look Never Never = true
 same_look (Kind n k) (Kind m j) = nat_eq n m && nat_eq k j
 same_look (Contextual n k) (Contextual m j) = nat_eq n m && nat_eq k j
 same_look (Joint n) (Joint m) = nat_eq n m
+same_look (Whole n) (Whole m) = nat_eq n m
 same_look Left Left = true
 same_look InCondition InCondition = true
 same_look Given Given = true
@@ -70,6 +71,7 @@ same-look Never Never e = refl
 same-look (Kind n k) (Kind m j) e = let f = eqb-true n m (and_l (nat_eq n m) (nat_eq k j) e) in let g = eqb-true k j (and_r (nat_eq n m) (nat_eq k j) e) in cc
 same-look (Contextual n k) (Contextual m j) e = let f = eqb-true n m (and_l (nat_eq n m) (nat_eq k j) e) in let g = eqb-true k j (and_r (nat_eq n m) (nat_eq k j) e) in cc
 same-look (Joint n) (Joint m) e = ap Joint (eqb-true n m e)
+same-look (Whole n) (Whole m) e = ap Whole (eqb-true n m e)
 same-look Left Left e = refl
 same-look InCondition InCondition e = refl
 same-look Given Given e = refl
@@ -82,6 +84,11 @@ same-look a b e = absurd (true≢false (sym e))
 unfoldable pub is_left : ℕ → ℕ → Look → Bool
 is_left zero k Left = not (EOF == k)
 is_left n k m = false
+
+-- a token is left where the next one says something
+unfoldable pub is_first : ℕ → Look → Bool
+is_first zero Left = true
+is_first n m = false
 
 -- that the first look is seen, or that it is not, tells that the second is
 unfoldable pub tells : Bool → Look → Look → Bool
@@ -99,6 +106,9 @@ tells true (Not a) m =
 tells true (Kind n k) m =
     let left = is_left n k m in
     if same_look (Kind n k) m then true else left
+tells true (Whole n) m =
+    let left = is_first n m in
+    if same_look (Whole n) m then true else left
 tells true Never m = true
 tells true l m = same_look l m
 tells false (Not a) m = tells true a m
@@ -156,6 +166,11 @@ unfolding ahead
 token-left k [] e h = absurd (true≢false (sym h ∙ is-false (EOF == k) e))
 token-left k (t ∷ ts) e h = lt-ltb 0 (suc (length ts)) (omega arith)
 
+whole-left : (ts : List Token) → (ahead 0 ts).whole ≡ true → nat_lt 0 (length ts) ≡ true
+unfolding ahead
+whole-left [] h = absurd (true≢false (sym h))
+whole-left (t ∷ ts) h = lt-ltb 0 (suc (length ts)) (omega arith)
+
 module _ (c : Bool) (s : Reading) where
   same-seen : (b : Bool) (l m : Look) → same_look l m ≡ true → sees c s l ≡ b → sees c s m ≡ b
   same-seen b l m e h = subst (λ (k : Look). sees c s k ≡ b) (same-look l m e) h
@@ -168,12 +183,18 @@ module _ (c : Bool) (s : Reading) where
   left-seen zero k (Kind m j) e h = absurd (true≢false (sym e))
   left-seen zero k (Contextual m j) e h = absurd (true≢false (sym e))
   left-seen zero k (Joint m) e h = absurd (true≢false (sym e))
+  left-seen zero k (Whole m) e h = absurd (true≢false (sym e))
   left-seen zero k InCondition e h = absurd (true≢false (sym e))
   left-seen zero k Given e h = absurd (true≢false (sym e))
   left-seen zero k (Both a b) e h = absurd (true≢false (sym e))
   left-seen zero k (Either a b) e h = absurd (true≢false (sym e))
   left-seen zero k (Not a) e h = absurd (true≢false (sym e))
   left-seen (suc n) k m e h = absurd (true≢false (sym e))
+
+  first-seen : (n : ℕ) (m : Look) → is_first n m ≡ true → sees c s (Whole n) ≡ true → sees c s m ≡ true
+  unfolding sees is_first
+  first-seen zero Left e h = whole-left s.rest h
+  first-seen n m e h = absurd (true≢false (sym e))
 
   follows : (b : Bool) (l m : Look) → tells b l m ≡ true → sees c s l ≡ b → sees c s m ≡ true
   unfolding tells sees
@@ -203,6 +224,10 @@ module _ (c : Bool) (s : Reading) where
   follows true Always m e h = same-seen true Always m e h
   follows true (Contextual n k) m e h = same-seen true (Contextual n k) m e h
   follows true (Joint n) m e h = same-seen true (Joint n) m e h
+  follows true (Whole n) m e h = elim (either-if (same_look (Whole n) m) (is_first n m) e) [
+    | inl i ↦ same-seen true (Whole n) m i h
+    | inr i ↦ first-seen n m i h
+  ]
   follows true Left m e h = same-seen true Left m e h
   follows true InCondition m e h = same-seen true InCondition m e h
   follows true Given m e h = same-seen true Given m e h
@@ -216,6 +241,7 @@ module _ (c : Bool) (s : Reading) where
   follows false (Kind n k) m e h = absurd (true≢false (sym e))
   follows false (Contextual n k) m e h = absurd (true≢false (sym e))
   follows false (Joint n) m e h = absurd (true≢false (sym e))
+  follows false (Whole n) m e h = absurd (true≢false (sym e))
   follows false Left m e h = absurd (true≢false (sym e))
   follows false InCondition m e h = absurd (true≢false (sym e))
   follows false Given m e h = absurd (true≢false (sym e))
@@ -228,6 +254,7 @@ module _ (c : Bool) (s : Reading) where
   never-seen (Kind n k) e = absurd (true≢false (sym e))
   never-seen (Contextual n k) e = absurd (true≢false (sym e))
   never-seen (Joint n) e = absurd (true≢false (sym e))
+  never-seen (Whole n) e = absurd (true≢false (sym e))
   never-seen Left e = absurd (true≢false (sym e))
   never-seen InCondition e = absurd (true≢false (sym e))
   never-seen Given e = absurd (true≢false (sym e))
@@ -253,6 +280,7 @@ module _ (c : Bool) (s : Reading) where
   weakened l (Kind n k) e h = follows true l (Kind n k) e h
   weakened l (Contextual n k) e h = follows true l (Contextual n k) e h
   weakened l (Joint n) e h = follows true l (Joint n) e h
+  weakened l (Whole n) e h = follows true l (Whole n) e h
   weakened l Left e h = follows true l Left e h
   weakened l InCondition e h = follows true l InCondition e h
   weakened l Given e h = follows true l Given e h
@@ -285,6 +313,7 @@ module _ (c : Bool) (s : Reading) where
   implied (Kind n k) m e h = weakened (Kind n k) m e h
   implied (Contextual n k) m e h = weakened (Contextual n k) m e h
   implied (Joint n) m e h = weakened (Joint n) m e h
+  implied (Whole n) m e h = weakened (Whole n) m e h
   implied Left m e h = weakened Left m e h
   implied InCondition m e h = weakened InCondition m e h
   implied Given m e h = weakened Given m e h
@@ -312,6 +341,7 @@ module _ (c : Bool) (s : Reading) where
   cut-seen (Kind n k) l unseen h = chosen-cut (Kind n k) l (Kind n k) unseen h h
   cut-seen (Contextual n k) l unseen h = chosen-cut (Contextual n k) l (Contextual n k) unseen h h
   cut-seen (Joint n) l unseen h = chosen-cut (Joint n) l (Joint n) unseen h h
+  cut-seen (Whole n) l unseen h = chosen-cut (Whole n) l (Whole n) unseen h h
   cut-seen Left l unseen h = chosen-cut Left l Left unseen h h
   cut-seen InCondition l unseen h = chosen-cut InCondition l InCondition unseen h h
   cut-seen Given l unseen h = chosen-cut Given l Given unseen h h
@@ -333,6 +363,7 @@ module _ (c : Bool) (s : Reading) where
   sift-seen (Kind n k) l own h = h
   sift-seen (Contextual n k) l own h = h
   sift-seen (Joint n) l own h = h
+  sift-seen (Whole n) l own h = h
   sift-seen Left l own h = h
   sift-seen InCondition l own h = h
   sift-seen Given l own h = h

@@ -11,6 +11,7 @@ pub mod PartsOfWhole
 pub mod Examples
 pub mod Productions
 pub mod Known
+pub mod Leads
 pub mod Elsewhere
 pub mod Spelling
 pub mod Spelled
@@ -39,3 +40,8 @@ pub mod Operators
 pub mod Binding
 pub mod PowersTable
 pub mod Misplaced
+pub mod ProfileTable
+pub mod Quiet
+pub mod KeptRules
+pub mod Kept
+pub mod Leading

@@ -16,9 +16,10 @@ use Rattle.rust_grammar.specs.Items.{items}
 use Rattle.rust_grammar.specs.Whole.{rule, rank, whole}
 use Rattle.rust_grammar.specs.Entry.{takes_all}
 use Rattle.rust_grammar.proofs.Plain.{all_facts}
+use Rattle.rust_grammar.proofs.Fine.{takes}
 use Rattle.rust_grammar.proofs.WholeTable.{claim, all_fine, whole-means}
 use Rattle.rust_grammar.proofs.Parts.{asks_tokens}
-use Rattle.rust_grammar.proofs.Known.{same_look, is_left, is_never, tells, weakens, implies, implied, never-seen, either-if, cut, sift}
+use Rattle.rust_grammar.proofs.Known.{same_look, is_left, is_first, is_never, tells, weakens, implies, implied, never-seen, either-if, cut, sift}
 use Rattle.rust_grammar.proofs.Elsewhere.{asks, without, down, all_down, back, asked}
 use Rattle.rust_grammar.proofs.Spelling.{at}
 use Rattle.rust_grammar.proofs.WordPaths.{gives, star-ends}
@@ -106,19 +107,19 @@ abbrev list_item : Rule
 list_item = When ('#' before '!') Attribute or Item
 
 items-begun : implies Left (begins (look_of whole) list_item) ≡ true
-unfolding same_look is_left is_never tells weakens implies look_of begins_below begins passes is_silent shift in_mode anew there_at rule rank whole row one_of any_of is_longer no_longer longest paths types patterns expressions statements items
+unfolding same_look is_left is_first is_never tells weakens implies look_of begins_below begins passes is_silent shift in_mode anew there_at rule rank whole row one_of any_of is_longer no_longer longest paths types patterns expressions statements items
 items-begun = refl
 
 items-move : moves movers None (begins (look_of whole) (Unless at_end list_item)) (Unless at_end list_item) ≡ true
-unfolding movers moves_where claim unmoved_calls unmoved_option unmoved moves at same_look is_left is_never tells weakens implies cut sift anew asks without down all_down back asked asks_tokens look_of begins_below begins passes is_silent shift in_mode there_at rule rank whole row one_of any_of is_longer no_longer longest paths types patterns expressions statements items
+unfolding movers moves_where claim unmoved_calls unmoved_option takes unmoved moves at same_look is_left is_first is_never tells weakens implies cut sift anew asks without down all_down back asked asks_tokens look_of begins_below begins passes is_silent shift in_mode there_at rule rank whole row one_of any_of is_longer no_longer longest paths types patterns expressions statements items
 items-move = refl
 
 statements-begun : implies Left (begins (look_of whole) MacroStatement) ≡ true
-unfolding same_look is_left is_never tells weakens implies look_of begins_below begins passes is_silent shift in_mode anew there_at rule rank whole row one_of any_of is_longer no_longer longest paths types patterns expressions statements items
+unfolding same_look is_left is_first is_never tells weakens implies look_of begins_below begins passes is_silent shift in_mode anew there_at rule rank whole row one_of any_of is_longer no_longer longest paths types patterns expressions statements items
 statements-begun = refl
 
 statements-move : moves movers None (begins (look_of whole) (Unless at_end MacroStatement)) (Unless at_end MacroStatement) ≡ true
-unfolding movers moves_where claim unmoved_calls unmoved_option unmoved moves at same_look is_left is_never tells weakens implies cut sift anew asks without down all_down back asked asks_tokens look_of begins_below begins passes is_silent shift in_mode there_at rule rank whole row one_of any_of is_longer no_longer longest paths types patterns expressions statements items
+unfolding movers moves_where claim unmoved_calls unmoved_option takes unmoved moves at same_look is_left is_first is_never tells weakens implies cut sift anew asks without down all_down back asked asks_tokens look_of begins_below begins passes is_silent shift in_mode there_at rule rank whole row one_of any_of is_longer no_longer longest paths types patterns expressions statements items
 statements-move = refl
 
 node-rest : (k : ℕ) (a : Rule) (c : Bool) (s : Reading) → (gives c (Node k a) s).rest ≡ (gives c a (fresh s)).rest

@@ -11,8 +11,9 @@ use Rattle.rust_grammar.specs.Statements.{statements}
 use Rattle.rust_grammar.specs.Items.{items}
 use Rattle.rust_grammar.specs.Whole.{rule, rank, whole}
 use Rattle.rust_grammar.proofs.Parts.{asks_tokens}
-use Rattle.rust_grammar.proofs.Known.{same_look, is_left, is_never, tells, weakens, implies, cut, sift}
+use Rattle.rust_grammar.proofs.Known.{same_look, is_left, is_first, is_never, tells, weakens, implies, cut, sift}
 use Rattle.rust_grammar.proofs.Elsewhere.{asks, without, down, all_down, back, asked}
+use Rattle.rust_grammar.proofs.Fine.{takes}
 use Rattle.rust_grammar.proofs.WholeTable.{claim}
 use Rattle.rust_grammar.proofs.Spelling.{at}
 use Rattle.rust_grammar.proofs.Moving.{Movers, unmoved_calls, unmoved_option, unmoved, moves}
@@ -48,7 +49,7 @@ unfoldable pub is_mover : Production → Bool
 is_mover x = let part = moves movers None (moves_where x) (rule x) in if is_never (moves_where x) then true else part
 
 pub all_move : (x : Production) → is_mover x ≡ true
-unfolding is_mover movers moves_where claim unmoved_calls unmoved_option unmoved moves at same_look is_left is_never tells weakens implies cut sift anew asks without down all_down back asked asks_tokens look_of begins_below begins passes is_silent shift in_mode there_at rule rank whole row one_of any_of is_longer no_longer longest paths types patterns expressions statements items
+unfolding is_mover movers moves_where claim unmoved_calls unmoved_option takes unmoved moves at same_look is_left is_first is_never tells weakens implies cut sift anew asks without down all_down back asked asks_tokens look_of begins_below begins passes is_silent shift in_mode there_at rule rank whole row one_of any_of is_longer no_longer longest paths types patterns expressions statements items
 all_move source_file = refl
 all_move macro_items = refl
 all_move macro_statements = refl

@@ -1,11 +1,12 @@
 -- A test of a table: where this is known, a rule takes a token.
-use Rattle.std.proofs.Common.{◌≡◌, ℕ, zero, suc, ◌<◌, ◌≤◌, Bool, true, false, ◌&&◌, List, length, drop, nat_lt, Option, Some, refl, sym, subst, ◌∙◌, arith, ◌⊎◌, inl, inr, if◌then◌else◌, true≢false}
-use Rattle.std.proofs.lemmas.Bool.{cases_Bool, ltb-true, lt-ltb}
+use Rattle.std.proofs.Common.{◌≡◌, ℕ, zero, suc, ◌<◌, ◌≤◌, Bool, true, false, ◌&&◌, ◌||◌, List, length, drop, nat_lt, Option, Some, refl, sym, subst, ◌∙◌, arith, ◌⊎◌, inl, inr, if◌then◌else◌, true≢false}
+use Rattle.std.proofs.lemmas.Bool.{cases_Bool, ltb-true, lt-ltb, or_cases}
 use Rattle.std.proofs.lemmas.List.{length-drop}
 use Rattle.parser_input.specs.Input.{Token}
-use Rattle.rust_grammar.specs.Rule.{Production, Rule, Look, Always, Never, Nothing, One, Any, Then, Near, Or, Opt, Star, Node, Wrap, Want, Say, Skip, Split, When, Unless, Call, Continue, Mode, begins, spelled_at, anew}
-use Rattle.rust_grammar.specs.Meaning.{Reading, Calls, read, sees, fresh, leaf, say, skip, split, node, wrapped, after, turns}
-use Rattle.rust_grammar.proofs.Plain.{and_l, and_r}
+use Rattle.rust_grammar.specs.Rule.{Production, Rule, Look, Always, Never, Nothing, One, Any, Then, Near, Or, Opt, Star, Node, Wrap, Want, Say, Skip, Split, When, Unless, Call, Continue, Mode, begins, anew, Lead}
+use Rattle.rust_grammar.specs.Meaning.{Reading, Calls, read, sees, fresh, leaf, say, skip, split, node, wrapped, after, turns, led}
+use Rattle.rust_grammar.proofs.Plain.{and_l, and_r, some_or_none}
+use Rattle.rust_grammar.proofs.Fine.{takes}
 use Rattle.rust_grammar.proofs.Known.{either-if, implies, implied, cut, cut-seen}
 use Rattle.rust_grammar.proofs.Elsewhere.{anew-seen, without, without-seen, asked, asked-seen, IsMode}
 use Rattle.rust_grammar.proofs.Spelling.{at}
@@ -27,8 +28,7 @@ unmoved_calls g m k (Call y) = if g.always y then cut k (asked m (anew (g.looks 
 unmoved_calls g m k a = Always
 
 unfoldable pub unmoved_option : Movers → Option Bool → Look → Rule → Look
-unmoved_option g m k (One x) = if nat_lt 0 (length x.parts) then cut k (asked m (spelled_at 0 x)) else Always
-unmoved_option g m k a = unmoved_calls g m k a
+unmoved_option g m k a = if takes g.always a then cut k (asked m (begins g.looks a)) else Always
 
 unfoldable pub unmoved : Movers → Option Bool → Look → Rule → Look
 unmoved g m k (Opt a) = unmoved_option g m k a
@@ -49,12 +49,13 @@ moves g m k (Star a) = let l = asked m (begins g.looks a) in implies k l && move
 moves g m k (Node kind a) = moves g m (without true false k) a
 moves g m k (Wrap kind a) = moves g m k a
 moves g m k (Want a message) = let l = asked m (begins g.looks a) in implies k l && moves g m (at k l) a
-moves g m k (Say message) = false
+moves g m k (Say message) = implies k Never
 moves g m k (Skip message) = true
 moves g m k Split = true
 moves g m k (Call y) = let begun = implies k (anew (asked m (g.where_seen y))) in if g.always y then true else begun
 moves g m k (Continue y) = let begun = implies k (asked m (g.where_seen y)) in if g.always y then true else begun
 moves g m k (Mode d a) = moves g (Some d) (without false true k) a
+moves g m k (Lead a) = moves g m (without true false k) a
 
 -- These calls are as it is claimed.
 pub record Moved (g : Movers) (call : Calls) : Type 0 where
@@ -100,13 +101,49 @@ module _ (g : Movers) (call : Calls) (ok : Moved g call) where
   unfolding after fresh
   call-moves y c s e some = ok.always y c (fresh s) e some
 
+  two-move : (a b : Rule) (c : Bool) (s : Reading) → (takes g.always a || takes g.always b) ≡ true → 0 < length s.rest → (takes g.always a ≡ true → length (read g.looks call c a s).rest < length s.rest) → (takes g.always b ≡ true → 0 < length (read g.looks call c a s).rest → length (read g.looks call c b (read g.looks call c a s)).rest < length (read g.looks call c a s).rest) → length (read g.looks call c b (read g.looks call c a s)).rest < length s.rest
+  two-move a b c s e some one two =
+      let t = read g.looks call c a s in
+      let first = less a c s in
+      let second = less b c t in
+      elim (or_cases (takes g.always a) (takes g.always b) e) [
+        | inl i ↦ let move = one i in omega (arith, move, second)
+        | inr i ↦ elim (some_or_none (length t.rest)) [
+          | inl z ↦ let move = two i z in omega (arith, move, first)
+          | inr z ↦ omega (arith, z, second, some)
+        ]
+      ]
+
+  -- what surely takes a token does
+  surely-moves : (r : Rule) (c : Bool) (s : Reading) → takes g.always r ≡ true → 0 < length s.rest → length (read g.looks call c r s).rest < length s.rest
+  unfolding takes read leaf say skip split fresh node wrapped led after
+  surely-moves Nothing c s e some = absurd (true≢false (sym e))
+  surely-moves (One x) c s e some = fewer (length x.parts) s.rest (ltb-true _ _ e) some
+  surely-moves Any c s e some = fewer 1 s.rest (omega arith) some
+  surely-moves (Then a b) c s e some = two-move a b c s e some (λ i. surely-moves a c s i some) (λ i z. surely-moves b c (read g.looks call c a s) i z)
+  surely-moves (Near w a b) c s e some = two-move a b c s e some (λ i. surely-moves a c s i some) (λ i z. surely-moves b c (read g.looks call c a s) i z)
+  surely-moves (Or a b) c s e some =
+      chosen (λ (u : Reading). length u.rest < length s.rest) (sees c s (begins g.looks a)) _ _
+      (λ i. surely-moves a c s (and_l (takes g.always a) (takes g.always b) e) some) (λ i. surely-moves b c s (and_r (takes g.always a) (takes g.always b) e) some)
+  surely-moves (Opt a) c s e some = absurd (true≢false (sym e))
+  surely-moves (Star a) c s e some = absurd (true≢false (sym e))
+  surely-moves (Node kind a) c s e some = surely-moves a c (fresh s) e some
+  surely-moves (Wrap kind a) c s e some = surely-moves a c s e some
+  surely-moves (Want a m) c s e some = absurd (true≢false (sym e))
+  surely-moves (Say m) c s e some = absurd (true≢false (sym e))
+  surely-moves (Skip m) c s e some = fewer 1 s.rest (omega arith) some
+  surely-moves Split c s e some = fewer 1 s.rest (omega arith) some
+  surely-moves (When l a) c s e some = surely-moves a c s e some
+  surely-moves (Unless l a) c s e some = surely-moves a c s e some
+  surely-moves (Call y) c s e some = ok.always y c (fresh s) e some
+  surely-moves (Continue y) c s e some = ok.always y c s e some
+  surely-moves (Mode d a) c s e some = surely-moves a d s e some
+  surely-moves (Lead a) c s e some = surely-moves a c (fresh s) e some
+
   option-kept : (a : Rule) (m : Option Bool) (k : Look) (c : Bool) (s : Reading) → IsMode m c → sees c s k ≡ true → 0 < length s.rest → Unmoved (unmoved_option g m k a) c s (read g.looks call c (Opt a) s)
-  unfolding unmoved_option unmoved_calls read begins leaf sees
-  option-kept (One x) m k c s mode h some = claimed (nat_lt 0 (length x.parts)) _ c s _ (λ e.
-      kept k (spelled_at 0 x) m c s s (leaf x.kind (length x.parts) s) (sees c s (spelled_at 0 x)) mode h (λ f. fewer (length x.parts) s.rest (ltb-true _ _ e) some) refl)
-  option-kept (Call y) m k c s mode h some = claimed (g.always y) _ c s _ (λ e.
-      kept k (anew (g.looks y)) m c s s (after s (call y c (fresh s))) (sees c s (anew (g.looks y))) mode h (λ f. call-moves y c s e some) refl)
-  option-kept a m k c s mode h some = λ same. refl
+  unfolding unmoved_option read
+  option-kept a m k c s mode h some = claimed (takes g.always a) _ c s _ (λ e.
+      kept k (begins g.looks a) m c s s (read g.looks call c a s) (sees c s (begins g.looks a)) mode h (λ f. surely-moves a c s e some) refl)
 
   star-kept : (a : Rule) (m : Option Bool) (k : Look) (c : Bool) (s : Reading) → IsMode m c → sees c s k ≡ true → 0 < length s.rest → Unmoved (unmoved_calls g m k a) c s (read g.looks call c (Star a) s)
   unfolding unmoved_calls read begins sees
@@ -134,7 +171,7 @@ module _ (g : Movers) (call : Calls) (ok : Moved g call) where
       ]
 
   pub takes-token : (r : Rule) (m : Option Bool) (k : Look) (c : Bool) (s : Reading) → moves g m k r ≡ true → IsMode m c → sees c s k ≡ true → 0 < length s.rest → length (read g.looks call c r s).rest < length s.rest
-  unfolding moves read leaf say skip split fresh node wrapped after sees
+  unfolding moves read leaf say skip split fresh node wrapped led after sees
   takes-token Nothing m k c s e mode h some = absurd (true≢false (sym e))
   takes-token (One x) m k c s e mode h some = fewer (length x.parts) s.rest (ltb-true _ _ e) some
   takes-token Any m k c s e mode h some = fewer 1 s.rest (omega arith) some
@@ -172,7 +209,7 @@ module _ (g : Movers) (call : Calls) (ok : Moved g call) where
   takes-token (Node kind a) m k c s e mode h some =
       takes-token a m (without true false k) c (fresh s) e mode (without-seen c c s (fresh s) refl true false (λ f. absurd (true≢false f)) (λ f. refl) k h) some
   takes-token (Wrap kind a) m k c s e mode h some = takes-token a m k c s e mode h some
-  takes-token (Say message) m k c s e mode h some = absurd (true≢false (sym e))
+  takes-token (Say message) m k c s e mode h some = absurd (true≢false (sym (implied c s k Never e h)))
   takes-token (Skip message) m k c s e mode h some = fewer 1 s.rest (omega arith) some
   takes-token Split m k c s e mode h some = fewer 1 s.rest (omega arith) some
   takes-token (Call y) m k c s e mode h some = elim (either-if (g.always y) (implies k (anew (asked m (g.where_seen y)))) e) [
@@ -184,3 +221,5 @@ module _ (g : Movers) (call : Calls) (ok : Moved g call) where
     | inr i ↦ ok.where_seen y c s (sym (asked-seen c s m (g.where_seen y) mode) ∙ implied c s k (asked m (g.where_seen y)) i h) some
   ]
   takes-token (Mode d a) m k c s e mode h some = takes-token a (Some d) (without false true k) d s e refl (without-seen c d s s refl false true (λ f. refl) (λ f. absurd (true≢false f)) k h) some
+  takes-token (Lead a) m k c s e mode h some =
+      takes-token a m (without true false k) c (fresh s) e mode (without-seen c c s (fresh s) refl true false (λ f. absurd (true≢false f)) (λ f. refl) k h) some

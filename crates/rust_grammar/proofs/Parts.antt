@@ -5,7 +5,7 @@ use Rattle.std.proofs.lemmas.List.Elements.{All-nil, All-cons}
 use Rattle.parser_input.specs.Kinds.{EOF}
 use Rattle.parser_input.specs.Input.{Token}
 use Rattle.parser_events.specs.Forest.{Forest}
-use Rattle.rust_grammar.specs.Rule.{Rule, Look, Always, Never, Kind, Contextual, Joint, Left, InCondition, Given, Both, Either, Not, shift}
+use Rattle.rust_grammar.specs.Rule.{Rule, Look, Always, Never, Kind, Contextual, Joint, Whole, Left, InCondition, Given, Both, Either, Not, shift}
 use Rattle.rust_grammar.specs.Meaning.{Reading, ahead, sees, fresh, turns}
 use Rattle.rust_grammar.proofs.Plain.{and_l, and_r}
 
@@ -31,6 +31,7 @@ at_end false Never = true
 at_end false (Kind n k) = not (EOF == k)
 at_end false (Contextual n k) = not (EOF == k)
 at_end false (Joint n) = true
+at_end false (Whole n) = true
 at_end false Left = true
 at_end false (Both a b) = at_end false a || at_end false b
 at_end false (Either a b) = at_end false a && at_end false b
@@ -56,6 +57,7 @@ seen true Never c v e = absurd (true≢false (sym e))
 seen true (Kind n k) c v e = e
 seen true (Contextual n k) c v e = e
 seen true (Joint n) c v e = absurd (true≢false (sym e))
+seen true (Whole n) c v e = absurd (true≢false (sym e))
 seen true Left c v e = absurd (true≢false (sym e))
 seen true InCondition c v e = absurd (true≢false (sym e))
 seen true Given c v e = absurd (true≢false (sym e))
@@ -70,6 +72,7 @@ seen false Never c v e = refl
 seen false (Kind n k) c v e = is_not (EOF == k) e
 seen false (Contextual n k) c v e = is_not (EOF == k) e
 seen false (Joint n) c v e = refl
+seen false (Whole n) c v e = refl
 seen false Left c v e = refl
 seen false InCondition c v e = absurd (true≢false (sym e))
 seen false Given c v e = absurd (true≢false (sym e))
@@ -147,6 +150,7 @@ shifted c m Never s e = refl
 shifted c m (Kind n k) s e = ap (λ (u : Token). u.kind == k) (sym (past m n s.rest))
 shifted c m (Contextual n k) s e = ap (λ (u : Token). u.contextual == k) (sym (past m n s.rest))
 shifted c m (Joint n) s e = ap (λ (u : Token). u.joint) (sym (past m n s.rest))
+shifted c m (Whole n) s e = ap (λ (u : Token). u.whole) (sym (past m n s.rest))
 shifted c m Left s e = absurd (true≢false (sym e))
 shifted c m InCondition s e = refl
 shifted c m Given s e = absurd (true≢false (sym e))
@@ -181,6 +185,7 @@ sure c s some Never e = absurd (true≢false (sym e))
 sure c s some (Kind n k) e = absurd (true≢false (sym e))
 sure c s some (Contextual n k) e = absurd (true≢false (sym e))
 sure c s some (Joint n) e = absurd (true≢false (sym e))
+sure c s some (Whole n) e = absurd (true≢false (sym e))
 sure c s some InCondition e = absurd (true≢false (sym e))
 sure c s some Given e = absurd (true≢false (sym e))
 sure c s some (Both a b) e = absurd (true≢false (sym e))
@@ -193,6 +198,7 @@ given-ignored c s some Never e = refl
 given-ignored c s some (Kind n k) e = refl
 given-ignored c s some (Contextual n k) e = refl
 given-ignored c s some (Joint n) e = refl
+given-ignored c s some (Whole n) e = refl
 given-ignored c s some Left e = refl
 given-ignored c s some InCondition e = refl
 given-ignored c s some Given e = absurd (true≢false (sym e))

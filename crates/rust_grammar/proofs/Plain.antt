@@ -5,8 +5,8 @@ use Rattle.std.proofs.lemmas.List.{length-drop}
 use Rattle.parser_input.specs.Kinds.{EOF}
 use Rattle.parser_events.specs.Forest.{Forest}
 use Rattle.parser_input.specs.Input.{Token}
-use Rattle.rust_grammar.specs.Rule.{Production, Rule, Look, Always, Never, Kind, Contextual, Joint, Left, InCondition, Given, Both, Either, Not, Nothing, One, Any, Then, Near, Or, Opt, Star, Node, Wrap, Want, Say, Skip, Split, When, Unless, Call, Continue, Mode, begins}
-use Rattle.rust_grammar.specs.Meaning.{Reading, Table, read, look_of, Calls, meaning, calls, sees, fresh, after, node, wrapped, say, skip, split, leaf, turns, ahead}
+use Rattle.rust_grammar.specs.Rule.{Production, Rule, Look, Always, Never, Kind, Contextual, Joint, Whole, Left, InCondition, Given, Both, Either, Not, Nothing, One, Any, Then, Near, Or, Opt, Star, Node, Wrap, Want, Say, Skip, Split, When, Unless, Call, Continue, Mode, Lead, begins}
+use Rattle.rust_grammar.specs.Meaning.{Reading, Table, read, look_of, Calls, meaning, calls, sees, fresh, after, node, wrapped, led, say, skip, split, leaf, turns, ahead}
 use Rattle.rust_grammar.proofs.Fine.{takes, ranked, fails, ranked_at_end, fine}
 use Rattle.rust_grammar.proofs.Unfolds.{meaning_unfolds}
 use Rattle.rust_grammar.proofs.Followed.{call_followed}
@@ -171,7 +171,7 @@ module _ (g : Table) (f : Production → Bool) (x : Production) (n : ℕ) (call 
   }
 
   pub agrees : Known → 0 < n → (r : Rule) (t c : Bool) (s : Reading) → ranked f low t r ≡ true → length s.rest ≤ n → (t ≡ true → length s.rest < n) → Same c r s
-  unfolding read ranked takes fresh node wrapped after say skip split leaf
+  unfolding read ranked takes fresh node wrapped led after say skip split leaf
   agrees k z Nothing t c s e le lt = record { same = refl; shrinks = omega arith; took = λ p q. absurd (true≢false (sym p)) }
   agrees k z (One y) t c s e le lt = record { same = refl; shrinks = drops (length y.parts) s.rest; took = λ p q. drops_some (length y.parts) s.rest (ltb-true _ _ p) q }
   agrees k z Any t c s e le lt = record { same = refl; shrinks = drops 1 s.rest; took = λ p q. drops_some 1 s.rest (omega arith) q }
@@ -219,6 +219,9 @@ module _ (g : Table) (f : Production → Bool) (x : Production) (n : ℕ) (call 
       let h = k y c s i in
       record { same = agreed y c s i; shrinks = h.shrinks; took = h.took }
   agrees k z (Mode d a) t c s e le lt = let p = agrees k z a t d s e le lt in record { same = p.same; shrinks = p.shrinks; took = p.took }
+  agrees k z (Lead a) t c s e le lt =
+      let p = agrees k z a t c (fresh s) e le lt in
+      record { same = ap (λ (u : Reading). led s u) p.same; shrinks = p.shrinks; took = p.took }
 
   turns-none : (k : ℕ) (test : Reading → Bool) (turn : Reading → Reading) (s : Reading) → k ≤ 0 → turns k test turn s ≡ s
   unfolding turns
@@ -232,6 +235,7 @@ module _ (g : Table) (f : Production → Bool) (x : Production) (n : ℕ) (call 
   fails-nil (Kind m k) c v e = not_true (EOF == k) e
   fails-nil (Contextual m k) c v e = not_true (EOF == k) e
   fails-nil (Joint m) c v e = refl
+  fails-nil (Whole m) c v e = refl
   fails-nil Left c v e = refl
   fails-nil InCondition c v e = absurd (true≢false (sym e))
   fails-nil Given c v e = absurd (true≢false (sym e))
@@ -256,7 +260,7 @@ module _ (g : Table) (f : Production → Bool) (x : Production) (n : ℕ) (call 
       through p q = omega arith
 
   pub ends : Known → (r : Rule) (c : Bool) (s : Reading) → ranked_at_end (look_of g) low r ≡ true → length s.rest ≤ 0 → Same c r s
-  unfolding read ranked_at_end takes fresh node wrapped after say skip split leaf low
+  unfolding read ranked_at_end takes fresh node wrapped led after say skip split leaf low
   ends k Nothing c s e z = record { same = refl; shrinks = omega arith; took = λ p q. absurd (true≢false (sym p)) }
   ends k (One y) c s e z = record { same = refl; shrinks = drops (length y.parts) s.rest; took = λ p q. absurd (omega arith) }
   ends k Any c s e z = record { same = refl; shrinks = drops 1 s.rest; took = λ p q. absurd (omega arith) }
@@ -305,6 +309,7 @@ module _ (g : Table) (f : Production → Bool) (x : Production) (n : ℕ) (call 
       let h = k y c s i in
       record { same = agreed y c s i; shrinks = h.shrinks; took = h.took }
   ends k (Mode d a) c s e z = let p = ends k a d s e z in record { same = p.same; shrinks = p.shrinks; took = p.took }
+  ends k (Lead a) c s e z = let p = ends k a c (fresh s) e z in record { same = ap (λ (u : Reading). led s u) p.same; shrinks = p.shrinks; took = p.took }
 
 -- the test, taken apart
 abbrev pub IsFine : Table → (Production → Bool) → Type 0

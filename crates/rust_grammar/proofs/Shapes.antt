@@ -3,9 +3,10 @@ use Rattle.std.proofs.Common.{◌≡◌, ℕ, zero, suc, Bool, true, false, not,
 use Rattle.parser_events.specs.Fits.{IsRooted}
 use Rattle.parser_events.specs.Forest as forest
 use Rattle.parser_events.specs.Forest.{Forest, ◌then◌}
-use Rattle.rust_grammar.specs.Rule.{Production, Rule, Look, Joint, Nothing, One, Any, Then, Near, Or, Opt, Star, Node, Wrap, Want, Say, Skip, Split, When, Unless, Call, Continue, Mode, begins}
-use Rattle.rust_grammar.specs.Meaning.{Reading, Calls, read, sees, ahead, fresh, leaf, say, skip, split, node, wrapped, after, turns}
+use Rattle.rust_grammar.specs.Rule.{Production, Rule, Look, Joint, Nothing, One, Any, Then, Near, Or, Opt, Star, Node, Wrap, Want, Say, Skip, Split, When, Unless, Call, Continue, Mode, Lead, begins}
+use Rattle.rust_grammar.specs.Meaning.{Reading, Calls, read, sees, ahead, fresh, leaf, say, skip, split, node, wrapped, into, led, after, turns}
 use Rattle.rust_grammar.proofs.Known.{implies, implied}
+use Rattle.rust_grammar.proofs.Leads.{into-cases}
 use Rattle.rust_grammar.proofs.Spelled.{chosen}
 
 -- what is given: nothing, one node, or anything
@@ -69,6 +70,7 @@ shape g j p Split = if j then Single else Several
 shape g j p (Call y) = call_shape g p y
 shape g j p (Continue y) = continued_shape g p y
 shape g j p (Mode d a) = shape g j p a
+shape g j p (Lead a) = if is_within (shape g false Blank a) Single then Single else Several
 
 pub within-holds : (p q : Shape) (f : Forest) → is_within p q ≡ true → HasShape p f → HasShape q f
 unfolding is_within
@@ -111,6 +113,14 @@ node-holds Several f h e r = tt
 pub record Rooted (g : Rooting) (call : Calls) : Type 0 where
   pub one_node : (y : Production) (d : Bool) (t : Reading) → g.is_one y ≡ true → HasShape (g.start y) t.given → IsRooted (call y d t).given
 
+-- trees that stand first in one node
+into-rooted : (g f : Forest) → IsRooted f → IsRooted (into g f)
+into-rooted g f r = into-cases IsRooted g f (λ k c is. tt) (λ e c is. of e c (subst (λ (h : Forest). IsRooted h) is r)) tt
+  where
+    of : (e : Bool) (c : Forest) → IsRooted (forest.Float e c forest.End) → IsRooted (forest.Float e (g then c) forest.End)
+    of true c h = h
+    of false c h = h
+
 if-shape : (b : Bool) (p : Shape) (f : Forest) → (b ≡ true → HasShape p f) → HasShape (if b then p else Several) f
 if-shape true p f h = h refl
 if-shape false p f h = tt
@@ -125,7 +135,7 @@ turns-keep p (suc n) test turn s each h =
 
 module _ (g : Rooting) (call : Calls) (ok : Rooted g call) where
   pub has-shape : (r : Rule) (j : Bool) (p : Shape) (c : Bool) (s : Reading) → (j ≡ true → (ahead 0 s.rest).joint ≡ true) → HasShape p s.given → HasShape (shape g j p r) (read g.looks call c r s).given
-  unfolding shape read call_shape continued_shape leaf say skip split fresh node wrapped after sees
+  unfolding shape read call_shape continued_shape leaf say skip split fresh node wrapped led after sees
   has-shape Nothing j p c s joint h = h
   has-shape (One x) j p c s joint h = tt
   has-shape Any j p c s joint h = tt
@@ -157,3 +167,6 @@ module _ (g : Rooting) (call : Calls) (ok : Rooted g call) where
   has-shape (Continue y) j p c s joint h = if-shape (is_within p (g.start y)) _ _ (λ e. if-shape (g.is_one y) Single _ (λ i.
       ok.one_node y c s i (within-holds p (g.start y) s.given e h)))
   has-shape (Mode d a) j p c s joint h = has-shape a j p d s joint h
+  has-shape (Lead a) j p c s joint h = if-shape (is_within (shape g false Blank a) Single) Single _ (λ e.
+      into-rooted s.given (read g.looks call c a (fresh s)).given
+      (within-holds (shape g false Blank a) Single (read g.looks call c a (fresh s)).given e (has-shape a false Blank c (fresh s) (λ i. absurd (true≢false (sym i))) refl)))

@@ -10,7 +10,7 @@ use Rattle.rust_grammar.specs.Expressions.{expressions}
 use Rattle.rust_grammar.specs.Statements.{statements}
 use Rattle.rust_grammar.specs.Items.{items}
 use Rattle.rust_grammar.specs.Whole.{rule, rank, whole}
-use Rattle.rust_grammar.proofs.Known.{same_look, is_left, is_never, tells, weakens, implies}
+use Rattle.rust_grammar.proofs.Known.{same_look, is_left, is_first, is_never, tells, weakens, implies}
 use Rattle.rust_grammar.proofs.Shapes.{Shape, Blank, Single, Several, is_within, join, node_shape, Rooting, call_shape, continued_shape, shape}
 
 -- the productions that give one node
@@ -67,7 +67,7 @@ unfoldable pub is_root : Production → Bool
 is_root x = let part = is_within (shape rooting false (starts_with x) (rule x)) Single in if gives_one x then part else true
 
 pub all_roots : (x : Production) → is_root x ≡ true
-unfolding is_root rooting gives_one starts_with shape is_within join node_shape call_shape continued_shape same_look is_left is_never tells weakens implies look_of begins_below begins passes is_silent shift in_mode anew there_at rule rank whole row one_of any_of is_longer no_longer longest paths types patterns expressions statements items
+unfolding is_root rooting gives_one starts_with shape is_within join node_shape call_shape continued_shape same_look is_left is_first is_never tells weakens implies look_of begins_below begins passes is_silent shift in_mode anew there_at rule rank whole row one_of any_of is_longer no_longer longest paths types patterns expressions statements items
 all_roots source_file = refl
 all_roots macro_items = refl
 all_roots macro_statements = refl

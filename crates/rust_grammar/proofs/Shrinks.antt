@@ -3,8 +3,8 @@ use Rattle.std.proofs.Common.{◌≡◌, ℕ, zero, suc, ◌<◌, ◌≤◌, Boo
 use Rattle.std.proofs.lemmas.Bool.{cases_Bool, lt-ltb}
 use Rattle.std.proofs.lemmas.List.{length-drop}
 use Rattle.parser_input.specs.Input.{Token}
-use Rattle.rust_grammar.specs.Rule.{Production, Look, Rule, Nothing, One, Any, Then, Near, Or, Opt, Star, Node, Wrap, Want, Say, Skip, Split, When, Unless, Call, Continue, Mode, begins}
-use Rattle.rust_grammar.specs.Meaning.{Reading, Calls, read, meaning, sees, look_of, leaf, say, skip, split, fresh, node, wrapped, after, turns}
+use Rattle.rust_grammar.specs.Rule.{Production, Look, Rule, Nothing, One, Any, Then, Near, Or, Opt, Star, Node, Wrap, Want, Say, Skip, Split, When, Unless, Call, Continue, Mode, Lead, begins}
+use Rattle.rust_grammar.specs.Meaning.{Reading, Calls, read, meaning, sees, look_of, leaf, say, skip, split, fresh, node, wrapped, led, after, turns}
 use Rattle.rust_grammar.specs.Whole.{whole}
 use Rattle.rust_grammar.proofs.Plain.{all_facts}
 use Rattle.rust_grammar.proofs.WholeTable.{claim, all_fine}
@@ -24,7 +24,7 @@ turns-shrink (suc n) test turn m s each h =
 
 module _ (looks : Production → Look) (call : Calls) (less : (y : Production) (d : Bool) (t : Reading) → length (call y d t).rest ≤ length t.rest) where
   pub shorter-after : (r : Rule) (c : Bool) (s : Reading) → length (read looks call c r s).rest ≤ length s.rest
-  unfolding read leaf say skip split fresh node wrapped after
+  unfolding read leaf say skip split fresh node wrapped led after
   shorter-after Nothing c s = omega arith
   shorter-after (One x) c s = shorter (length x.parts) s.rest
   shorter-after Any c s = shorter 1 s.rest
@@ -44,6 +44,7 @@ module _ (looks : Production → Look) (call : Calls) (less : (y : Production) (
   shorter-after (Call y) c s = less y c (fresh s)
   shorter-after (Continue y) c s = less y c s
   shorter-after (Mode d a) c s = shorter-after a d s
+  shorter-after (Lead a) c s = shorter-after a c (fresh s)
 
 pub shrinks : (r : Rule) (c : Bool) (s : Reading) → length (read (look_of whole) (meaning whole) c r s).rest ≤ length s.rest
 shrinks r c s = shorter-after (look_of whole) (meaning whole) (λ y d t. (all_facts whole claim all_fine y d t).shrinks) r c s

@@ -5,13 +5,14 @@ use Rattle.parser_input.specs.Kinds.{EOF, FLOAT_NUMBER, PIPE_GT}
 use Rattle.parser_input.specs.Input.{Token}
 use Rattle.parser_events.specs.Forest as forest
 use Rattle.parser_events.specs.Forest.{Forest, ◌then◌}
-use Rattle.rust_grammar.specs.Rule.{Production, Rule, Spelling, Look, Always, Never, Kind, Contextual, Joint, Left, InCondition, Given, Both, Either, Not, Nothing, One, Any, Then, Near, Or, Opt, Star, Node, Wrap, Want, Say, Skip, Split, When, Unless, Call, Continue, Mode, begins, there_at, with_contextual, spelled_at, anew}
-use Rattle.rust_grammar.specs.Meaning.{Reading, Calls, read, sees, ahead, fresh, is_end, leaf, say, skip, split, node, wrapped, after, turns}
-use Rattle.rust_grammar.specs.Spelled.{marks, are_next, is_token, is_contextual, is_contextual_word, has_contextual, is_one_of, is_spelled, drop_if, then_after, tokens_after}
+use Rattle.rust_grammar.specs.Rule.{Production, Rule, Spelling, Look, Always, Never, Kind, Contextual, Joint, Left, InCondition, Given, Both, Either, Not, Nothing, One, Any, Then, Near, Or, Opt, Star, Node, Wrap, Want, Say, Skip, Split, When, Unless, Call, Continue, Mode, begins, there_at, with_contextual, spelled_at, anew, Whole, Lead}
+use Rattle.rust_grammar.specs.Meaning.{Reading, Calls, read, sees, ahead, fresh, is_end, leaf, say, skip, split, node, wrapped, after, turns, into, led}
+use Rattle.rust_grammar.specs.Spelled.{marks, are_next, is_token, is_contextual, is_contextual_word, has_contextual, is_one_of, is_spelled, drop_if, then_after, tokens_after, is_float}
 use Rattle.rust_grammar.proofs.Plain.{and_l, and_r}
+use Rattle.rust_grammar.proofs.Leads.{into-cases}
 use Rattle.rust_grammar.proofs.Known.{either-if, both-if-l, both-if-r, if-first, if-second, if-both, implies, implied, cut, cut-seen, sift, sift-seen}
 use Rattle.rust_grammar.proofs.Elsewhere.{anew-seen, without, without-seen, back-seen, asked, asked-seen, IsMode}
-use Rattle.rust_grammar.proofs.Spelling.{first_width, Claims, Sound, IsInOrder, counts, denies, denies_first, decided, past, after_call, after_calls, after_option, after_other, look_after, at, no_end, no_end_there, is_among, is_word, is_mark, safe, more-in-order, or-first, or-second, token-seen, contextual-seen, contextual-there, both-true, own-token, float-seen, spelling-seen, among-marks, unlike}
+use Rattle.rust_grammar.proofs.Spelling.{first_width, Claims, Sound, IsInOrder, counts, denies, denies_first, decided, past, after_call, after_calls, after_option, after_other, look_after, at, no_end, no_end_there, is_among, is_word, is_mark, safe, more-in-order, or-first, or-second, token-seen, contextual-seen, contextual-there, both-true, own-token, float-seen, spelling-seen, among-marks, unlike, after-then}
 
 -- one of two readings
 pub chosen : (P : Reading → Type 0) (b : Bool) (u v : Reading) → (b ≡ true → P u) → (b ≡ false → P v) → P (if b then u else v)
@@ -73,6 +74,7 @@ denied Always j c s e h = absurd (true≢false (sym e))
 denied Never j c s e h = absurd (true≢false (sym e))
 denied (Contextual n i) j c s e h = absurd (true≢false (sym e))
 denied (Joint n) j c s e h = absurd (true≢false (sym e))
+denied (Whole n) j c s e h = absurd (true≢false (sym e))
 denied Left j c s e h = absurd (true≢false (sym e))
 denied InCondition j c s e h = absurd (true≢false (sym e))
 denied Given j c s e h = absurd (true≢false (sym e))
@@ -122,6 +124,7 @@ module _ (c : Bool) (s t : Reading) (x : Spelling) (taken : sees c s (spelled_at
   past-seen (Kind n k) h = decided-seen (Kind n k) Always h refl
   past-seen (Contextual n k) h = decided-seen (Contextual n k) Always h refl
   past-seen (Joint n) h = decided-seen (Joint n) Always h refl
+  past-seen (Whole n) h = decided-seen (Whole n) Always h refl
   past-seen Left h = decided-seen Left Always h refl
   past-seen InCondition h = decided-seen InCondition Always h refl
   past-seen Given h = decided-seen Given Always h refl
@@ -160,6 +163,18 @@ turns-in-order (suc n) test turn ts s each i =
     (λ e. chosen (IsInOrder ts) (nat_lt (length (turn s).rest) (length s.rest)) _ _ (λ f. turns-in-order n test turn ts (turn s) each (each s e i)) (λ f. each s e i))
     (λ e. i)
 
+-- trees that stand first in the one that follows them
+into-in-order : (s : Reading) (f : Forest) (ts us : List Token) → IsInOrder ts s → tokens_after f s.rest ≡ Some us → tokens_after (into s.given f) ts ≡ Some us
+unfolding tokens_after then_after
+into-in-order s f ts us i e =
+    into-cases (λ (h : Forest). tokens_after h ts ≡ Some us) s.given f
+    (λ k c is. ap (λ (o : Option (List Token)). then_after o (tokens_after forest.End)) (inside c) ∙ ap (λ (h : Forest). tokens_after h s.rest) (sym is) ∙ e)
+    (λ b c is. ap (λ (o : Option (List Token)). then_after o (λ vs. then_after (drop_if (is_float b vs) 1 vs) (tokens_after forest.End))) (inside c) ∙ ap (λ (h : Forest). tokens_after h s.rest) (sym is) ∙ e)
+    (ap (λ (o : Option (List Token)). then_after o (tokens_after forest.End)) (more-in-order s f ts us i e))
+  where
+    inside : (c : Forest) → tokens_after (s.given then c) ts ≡ tokens_after c s.rest
+    inside c = after-then s.given c ts ∙ ap (λ (o : Option (List Token)). then_after o (tokens_after c)) i
+
 -- where this is seen, too
 pub at-seen : (k l : Look) (m : Option Bool) (c : Bool) (s : Reading) → IsMode m c → sees c s k ≡ true → sees c s l ≡ true → sees c s (at k (asked m l)) ≡ true
 unfolding at sees
@@ -182,7 +197,7 @@ module _ (looks : Production → Look) (call : Calls) where
   counted (Node k a) n c s e = counted a n c (fresh s) e
   counted (Wrap k a) n c s e = counted a n c s e
   counted (Mode d a) n c s e = counted a n d s e
-  counted Nothing n c s e = absurd (true≢false (sym e))
+  counted Nothing n c s e = ap (λ (m : ℕ). drop m s.rest) (eqb-true 0 n e)
   counted (Then a b) n c s e = absurd (true≢false (sym e))
   counted (Near w a b) n c s e = absurd (true≢false (sym e))
   counted (Opt a) n c s e = absurd (true≢false (sym e))
@@ -193,14 +208,22 @@ module _ (looks : Production → Look) (call : Calls) where
   counted Split n c s e = absurd (true≢false (sym e))
   counted (Call y) n c s e = absurd (true≢false (sym e))
   counted (Continue y) n c s e = absurd (true≢false (sym e))
+  counted (Lead a) n c s e = absurd (true≢false (sym e))
 
 module _ (g : Claims) (call : Calls) (ok : Sound g call) where
+  gave-given : (y : Production) (c : Bool) (s : Reading) → g.gives y ≡ true → sees c (after s (call y c (fresh s))) Given ≡ true
+  unfolding sees after
+  gave-given y c s e = ap not (then-some s.given (call y c (fresh s)).given (ok.gives_some y c (fresh s) e))
+
   -- after a call
   call-seen : (k : Look) (y : Production) (c : Bool) (s : Reading) → sees c s k ≡ true → sees c (after s (call y c (fresh s))) (after_call g k y) ≡ true
   unfolding after_call after fresh
   call-seen k y c s h = elim (cases_Bool (implies k (anew (g.one y)))) [
     | inl e ↦ rw e (back-seen c s (after s (call y c (fresh s))) 1 (ok.takes_one y c (fresh s) (sym (anew-seen c s (g.one y)) ∙ implied c s k (anew (g.one y)) e h)) k h)
-    | inr e ↦ rw e (ok.ends_so y c (fresh s) (s.given then (call y c (fresh s)).given))
+    | inr e ↦ rw e (elim (cases_Bool (g.gives y)) [
+      | inl i ↦ rw i (gave-given y c s i)
+      | inr i ↦ rw i (ok.ends_so y c (fresh s) (s.given then (call y c (fresh s)).given))
+    ])
   ]
 
   given-too : (k : Look) (c : Bool) (t : Reading) → is_end t.given ≡ false → sees c t (Either k Given) ≡ true
@@ -246,6 +269,7 @@ module _ (g : Claims) (call : Calls) (ok : Sound g call) where
   option-seen Split k c s h = refl
   option-seen (Continue y) k c s h = refl
   option-seen (Mode d a) k c s h = refl
+  option-seen (Lead a) k c s h = refl
 
   star-seen : (a : Rule) (k : Look) (c : Bool) (s : Reading) → sees c s k ≡ true → sees c (read g.looks call c (Star a) s) (after_calls g k a) ≡ true
   unfolding after_calls read begins sees
@@ -272,6 +296,7 @@ module _ (g : Claims) (call : Calls) (ok : Sound g call) where
   star-seen Split k c s h = refl
   star-seen (Continue y) k c s h = refl
   star-seen (Mode d a) k c s h = refl
+  star-seen (Lead a) k c s h = refl
 
   other-seen : (a : Rule) (k : Look) (c : Bool) (s : Reading) → sees c s k ≡ true → sees c (read g.looks call c a s) (after_other g k a) ≡ true
   unfolding after_other read sees
@@ -294,6 +319,7 @@ module _ (g : Claims) (call : Calls) (ok : Sound g call) where
   other-seen Split k c s h = refl
   other-seen (Continue y) k c s h = refl
   other-seen (Mode d a) k c s h = refl
+  other-seen (Lead a) k c s h = refl
 
   pub after-seen : (a : Rule) (k : Look) (c : Bool) (s : Reading) → sees c s k ≡ true → sees c (read g.looks call c a s) (look_after g k a) ≡ true
   unfolding look_after
@@ -309,7 +335,7 @@ module _ (g : Claims) (call : Calls) (ok : Sound g call) where
   ]
 
   pub in-order : (r : Rule) (m : Option Bool) (k : Look) (c : Bool) (s : Reading) (ts : List Token) → safe g m k r ≡ true → IsMode m c → sees c s k ≡ true → IsInOrder ts s → IsInOrder ts (read g.looks call c r s)
-  unfolding safe read tokens_after then_after drop_if leaf node wrapped fresh after say skip split sees
+  unfolding safe read tokens_after then_after drop_if leaf node wrapped led fresh after say skip split sees
   in-order Nothing m k c s ts e mode h i = i
   in-order (One x) m k c s ts e mode h i = more-in-order s (forest.Leaf x.kind (length x.parts) forest.End) ts (drop (length x.parts) s.rest) i (rw (spelled-there k x c s e h) refl)
   in-order Any m k c s ts e mode h i = more-in-order s (forest.Leaf (ahead 0 s.rest).kind 1 forest.End) ts (drop 1 s.rest) i (rw (any-there s.rest (implied c s k Left e h)) refl)
@@ -353,3 +379,7 @@ module _ (g : Claims) (call : Calls) (ok : Sound g call) where
       let free = begun y k (asked m (g.looks y)) c s s e h (λ f. sym (asked-seen c s m (g.looks y) mode) ∙ f) in
       ok.in_order y c s ts free i
   in-order (Mode d a) m k c s ts e mode h i = in-order a (Some d) (without false true k) d s ts e refl (without-seen c d s s refl false true (λ f. refl) (λ f. absurd (true≢false f)) k h) i
+  in-order (Lead a) m k c s ts e mode h i =
+      let t = read g.looks call c a (fresh s) in
+      let inner = in-order a m (without true false k) c (fresh s) s.rest e mode (without-seen c c s (fresh s) refl true false (λ f. absurd (true≢false f)) (λ f. refl) k h) refl in
+      into-in-order s t.given ts t.rest i inner

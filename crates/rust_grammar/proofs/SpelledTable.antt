@@ -15,7 +15,7 @@ use Rattle.rust_grammar.specs.Items.{items}
 use Rattle.rust_grammar.specs.Whole.{rule, rank, whole}
 use Rattle.rust_grammar.specs.Begun.{asks_nothing}
 use Rattle.rust_grammar.proofs.Parts.{asks_tokens}
-use Rattle.rust_grammar.proofs.Known.{same_look, is_left, is_never, tells, weakens, implies, cut, sift}
+use Rattle.rust_grammar.proofs.Known.{same_look, is_left, is_first, is_never, tells, weakens, implies, cut, sift}
 use Rattle.rust_grammar.proofs.Elsewhere.{asks, without, down, all_down, back, asked}
 use Rattle.rust_grammar.proofs.Spelling.{first_width, Claims, counts, denies, denies_first, decided, past, after_call, after_calls, after_option, after_other, look_after, at, no_end, no_end_there, same_contextual, same_parts, is_among, is_word, is_mark, safe}
 
@@ -43,7 +43,7 @@ unfoldable pub known : Production → Look
 known x = if asks_nothing x then Always else look_of whole x
 
 pub all_safe : (x : Production) → safe claims None (known x) (rule x) ≡ true
-unfolding known claims asks_nothing gives_something is_one_word ends_before safe counts denies denies_first decided past after_call after_calls after_option after_other look_after at no_end no_end_there same_contextual same_parts is_among is_word is_mark marks same_look is_left is_never tells weakens implies cut sift anew asks without down all_down back asked asks_tokens look_of begins_below begins passes is_silent first_width shift in_mode there_at rule rank whole row one_of any_of is_longer no_longer longest paths types patterns expressions statements items
+unfolding known claims asks_nothing gives_something is_one_word ends_before safe counts denies denies_first decided past after_call after_calls after_option after_other look_after at no_end no_end_there same_contextual same_parts is_among is_word is_mark marks same_look is_left is_first is_never tells weakens implies cut sift anew asks without down all_down back asked asks_tokens look_of begins_below begins passes is_silent first_width shift in_mode there_at rule rank whole row one_of any_of is_longer no_longer longest paths types patterns expressions statements items
 all_safe source_file = refl
 all_safe macro_items = refl
 all_safe macro_statements = refl

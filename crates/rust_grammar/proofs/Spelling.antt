@@ -5,7 +5,7 @@ use Rattle.parser_input.specs.Kinds.{EOF, FLOAT_NUMBER, PIPE_GT}
 use Rattle.parser_input.specs.Input.{Token}
 use Rattle.parser_events.specs.Forest as forest
 use Rattle.parser_events.specs.Forest.{Forest, ◌then◌}
-use Rattle.rust_grammar.specs.Rule.{Production, Rule, Spelling, Look, Always, Kind, Contextual, Left, Given, Both, Either, Nothing, One, Any, Then, Near, Or, Opt, Star, Node, Wrap, Want, Say, Skip, Split, When, Unless, Call, Continue, Mode, begins, there_at, with_contextual, spelled_at, anew}
+use Rattle.rust_grammar.specs.Rule.{Production, Rule, Spelling, Look, Always, Kind, Contextual, Left, Given, Both, Either, Nothing, One, Any, Then, Near, Or, Opt, Star, Node, Wrap, Want, Say, Skip, Split, When, Unless, Call, Continue, Mode, begins, there_at, with_contextual, spelled_at, anew, Lead}
 use Rattle.rust_grammar.specs.Meaning.{Reading, Calls, sees, ahead, is_end}
 use Rattle.rust_grammar.specs.Spelled.{marks, are_next, is_token, is_contextual, has_contextual, is_one_of, is_spelled, is_float, drop_if, then_after, tokens_after}
 use Rattle.rust_grammar.proofs.Plain.{and_l, and_r}
@@ -27,6 +27,7 @@ pub record Claims : Type 0 where
 
 -- a rule that takes so many tokens
 unfoldable pub counts : ℕ → Rule → Bool
+counts n Nothing = nat_eq 0 n
 counts n (One x) = nat_eq (length x.parts) n
 counts n Any = nat_eq 1 n
 counts n (Or a b) = counts n a && counts n b
@@ -61,15 +62,17 @@ past k x = decided k x Always
 
 -- how many tokens a rule takes, if it is one leaf: as many as its first alternative
 unfoldable pub first_width : Rule → ℕ
+first_width Nothing = 0
 first_width (One x) = length x.parts
 first_width (When l a) = first_width a
 first_width (Node k a) = first_width a
+first_width (Wrap k a) = first_width a
 first_width (Or a b) = first_width a
 first_width r = 1
 
 -- What is known after a rule.
 unfoldable pub after_call : Claims → Look → Production → Look
-after_call g k y = if implies k (anew (g.one y)) then back 1 k else g.ends y
+after_call g k y = if implies k (anew (g.one y)) then back 1 k else (if g.gives y then Given else g.ends y)
 
 unfoldable pub after_calls : Claims → Look → Rule → Look
 after_calls g k (Call y) = if g.gives y then Either k Given else Always
@@ -146,6 +149,7 @@ safe g m k Split = implies k (Kind 0 FLOAT_NUMBER)
 safe g m k (Call y) = let begun = implies k (anew (asked m (g.looks y))) in if g.free y then true else begun
 safe g m k (Continue y) = let begun = implies k (asked m (g.looks y)) in if g.free y then true else begun
 safe g m k (Mode d a) = safe g (Some d) (without false true k) a
+safe g m k (Lead a) = safe g m (without true false k) a
 
 -- The trees of a reading stand over the tokens from these on, in order, and each leaf as it is spelled.
 abbrev pub IsInOrder : List Token → Reading → Type 0
@@ -164,7 +168,7 @@ unfolding then_after
 one-more None p q h e = refl
 one-more (Some us) p q h e = e us
 
-after-then : (f h : Forest) (ts : List Token) → tokens_after (f then h) ts ≡ then_after (tokens_after f ts) (tokens_after h)
+pub after-then : (f h : Forest) (ts : List Token) → tokens_after (f then h) ts ≡ then_after (tokens_after f ts) (tokens_after h)
 unfolding tokens_after then_after
 after-then forest.End h ts = refl
 after-then (forest.Leaf k n f) h ts = one-more (drop_if (is_spelled k n ts) n ts) (tokens_after (f then h)) (tokens_after f) (tokens_after h) (λ us. after-then f h us)
@@ -254,7 +258,7 @@ module _ (c : Bool) (s : Reading) where
       let joint : u.joint ≡ true = ap (λ (t : Token). t.joint) (sym at.0) ∙ both-if-l (ahead n s.rest).joint _ more in
       rw (kind, joint) (spelling-seen (l ∷ ks) (n + 1) us at.1 (and_r (not (EOF == k)) (no_end (l ∷ ks)) e) (both-if-r (ahead n s.rest).joint _ more))
 
-same-parts : (ks ls : List ℕ) → same_parts ks ls ≡ true → ks ≡ ls
+pub same-parts : (ks ls : List ℕ) → same_parts ks ls ≡ true → ks ≡ ls
 unfolding same_parts
 same-parts [] [] e = refl
 same-parts (k ∷ ks) (l ∷ ls) e = let f = eqb-true k l (and_l (nat_eq k l) (same_parts ks ls) e) in let g = same-parts ks ls (and_r (nat_eq k l) (same_parts ks ls) e) in cc

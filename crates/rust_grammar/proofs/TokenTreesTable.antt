@@ -1,5 +1,5 @@
 -- The token trees of the whole grammar are bracketed.
-use Rattle.std.proofs.Common.{◌≡◌, Bool, true, false, List, [], ◌∷◌, refl}
+use Rattle.std.proofs.Common.{◌≡◌, Bool, true, false, List, [], ◌∷◌, refl, sym, ap, ◌∙◌, if◌then◌else◌}
 use Rattle.parser_input.specs.Input.{Token}
 use Rattle.parser_input.specs.Kinds.{ERROR}
 use Rattle.parser_events.specs.Forest as forest
@@ -17,12 +17,12 @@ use Rattle.rust_grammar.specs.Whole.{rule, whole}
 use Rattle.rust_grammar.specs.Entry.{leaves, is_used_up, takes_all, entry}
 use Rattle.rust_grammar.specs.TokenTrees.{partner, is_opening, is_missing, are_token_trees_bracketed}
 use Rattle.rust_grammar.specs.Laws.{TokenTreesAreBracketed}
-use Rattle.rust_grammar.proofs.TokenTrees.{adds, ends_in, is_tree, brackets, then-bracketed, KeepsBrackets, bracketed}
+use Rattle.rust_grammar.proofs.TokenTrees.{adds, ends_in, is_tree, is_free, clears, brackets, then-bracketed, KeepsFree, cleared, KeepsBrackets, bracketed}
 use Rattle.rust_grammar.proofs.EntriesInOrder.{chosen-forest, with-message}
 use Rattle.rust_grammar.proofs.Induction.{HoldOf, meaning-holds}
 
 all_bracketed : (x : Production) → brackets (rule x) ≡ true
-unfolding brackets is_tree ends_in adds partner is_opening is_missing rule paths types patterns expressions statements items
+unfolding brackets clears is_free is_tree ends_in adds partner is_opening is_missing rule paths types patterns expressions statements items
 all_bracketed source_file = refl
 all_bracketed macro_items = refl
 all_bracketed macro_statements = refl
@@ -93,6 +93,78 @@ all_bracketed if_expr = refl
 all_bracketed match_arms = refl
 all_bracketed match_arm = refl
 
+all_clear : (x : Production) → (if is_free x then clears true (rule x) else true) ≡ true
+unfolding clears is_free rule paths types patterns expressions statements items
+all_clear source_file = refl
+all_clear macro_items = refl
+all_clear macro_statements = refl
+all_clear item = refl
+all_clear body = refl
+all_clear assoc_items = refl
+all_clear variants = refl
+all_clear record_fields = refl
+all_clear tuple_fields = refl
+all_clear visibility = refl
+all_clear attribute = refl
+all_clear meta = refl
+all_clear token_tree = refl
+all_clear use_tree = refl
+all_clear use_list = refl
+all_clear params = refl
+all_clear param = refl
+all_clear name = refl
+all_clear lifetime = refl
+all_clear name_ref = refl
+all_clear path = refl
+all_clear type_path = refl
+all_clear expr_path = refl
+all_clear generic_args = refl
+all_clear generic_arg = refl
+all_clear generic_params = refl
+all_clear generic_param = refl
+all_clear bounds = refl
+all_clear bound = refl
+all_clear where_clause = refl
+all_clear where_pred = refl
+all_clear any_type = refl
+all_clear ret_type = refl
+all_clear pattern = refl
+all_clear single_pattern = refl
+all_clear pattern_fields = refl
+all_clear pattern_field = refl
+all_clear literal = refl
+all_clear statement_list = refl
+all_clear block = refl
+all_clear statement = refl
+all_clear macro_statement = refl
+all_clear statement_end = refl
+all_clear macro_statement_end = refl
+all_clear expression = refl
+all_clear operation = refl
+all_clear operation_tail = refl
+all_clear pipe_tail = refl
+all_clear disjunction = refl
+all_clear conjunction = refl
+all_clear comparison = refl
+all_clear bit_or = refl
+all_clear bit_xor = refl
+all_clear bit_and = refl
+all_clear bit_shift = refl
+all_clear sum = refl
+all_clear product = refl
+all_clear cast = refl
+all_clear prefixed = refl
+all_clear postfix = refl
+all_clear after_dot = refl
+all_clear arguments = refl
+all_clear atom = refl
+all_clear field_values = refl
+all_clear field_value = refl
+all_clear block_like = refl
+all_clear if_expr = refl
+all_clear match_arms = refl
+all_clear match_arm = refl
+
 abbrev Anything : Production → Bool → Reading → Reading → Type 0
 Anything y d t u = Unit {0}
 
@@ -104,10 +176,22 @@ unmade-keeps : HoldOf KeepsBrackets unmade
 unfolding unmade
 unmade-keeps y d t h = h
 
+unmade-free : HoldOf KeepsFree unmade
+unfolding unmade
+unmade-free y d t e h = h
+
+is-clear : (x : Production) → is_free x ≡ true → clears true (rule x) ≡ true
+is-clear x e = ap (λ (b : Bool). if b then clears true (rule x) else true) (sym e) ∙ all_clear x
+
+productions-free : HoldOf KeepsFree (meaning whole)
+productions-free =
+    meaning-holds KeepsFree Anything unmade unmade-free (λ y d t. tt) (λ y d t. tt)
+    (λ call p q x c s e h. cleared (look_of whole) call p (rule x) true c s (λ i. h) (is-clear x e))
+
 productions-keep : HoldOf KeepsBrackets (meaning whole)
 productions-keep =
-    meaning-holds KeepsBrackets Anything unmade unmade-keeps (λ y d t. tt) (λ y d t. tt)
-    (λ call p q x c s h. bracketed (look_of whole) call p (rule x) c s (all_bracketed x) h)
+    meaning-holds KeepsBrackets KeepsFree unmade unmade-keeps unmade-free productions-free
+    (λ call p q x c s h. bracketed (look_of whole) call p q (rule x) c s (all_bracketed x) h)
 
 leaves-bracketed : (ts : List Token) → are_token_trees_bracketed (leaves ts) ≡ true
 unfolding leaves are_token_trees_bracketed

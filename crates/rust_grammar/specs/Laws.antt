@@ -8,7 +8,7 @@ use Rattle.parser_events.specs.Forest.{Forest, End}
 use Rattle.parser_events.specs.Steps.{steps}
 use Rattle.rust_grammar.specs.Rule.{Production, source_file, macro_items, macro_statements, meta, any_type, pattern, expression, Look, Rule, Nothing, Star, Node, Call, begins, shift}
 use Rattle.rust_grammar.specs.Meaning.{Reading, Calls, read, sees, fresh, look_of, meaning}
-use Rattle.rust_grammar.specs.Parts.{repeated, nearby}
+use Rattle.rust_grammar.specs.Parts.{repeated, nearby, leads}
 use Rattle.rust_grammar.specs.Entry.{entry}
 use Rattle.rust_grammar.specs.Spelled.{tokens_after}
 use Rattle.rust_grammar.specs.TokenTrees.{are_token_trees_bracketed}
@@ -150,3 +150,7 @@ OperatorsOfProductionsBindByPower =
 -- So it is in the tree of an entry.
 abbrev pub OperatorsOfEntriesBindByPower : Type 0
 OperatorsOfEntriesBindByPower = (x : Production) (tokens : List Token) → are_operators_placed (entry all.whole x tokens) ≡ true
+
+-- What a lead reads is one node, whether it begins there or not.
+abbrev pub LeadsGiveOneNode : Type 0
+LeadsGiveOneNode = (x : Production) → All (λ a. (in_condition : Bool) (s : Reading) → IsRooted (reads in_condition a (fresh s)).given) (leads (all.rule x))

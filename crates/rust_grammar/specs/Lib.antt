@@ -20,3 +20,5 @@ pub mod TokenTrees
 pub mod Powers
 pub mod Misplaced
 pub mod Laws
+pub mod Profile
+pub mod Kept

@@ -1,17 +1,17 @@
 -- What a rule gives: trees, and the tokens left.
 use Rattle.std.specs.Prelude.{ℕ, zero, suc, ◌==◌, Bool, true, false, not, ◌&&◌, List, [], ◌∷◌, length, drop, nat_lt, nat_le, if◌then◌else◌}
-use Rattle.parser_input.specs.Kinds.{EOF}
+use Rattle.parser_input.specs.Kinds.{EOF, ERROR}
 use Rattle.parser_input.specs.Input.{Token}
 use Rattle.parser_events.specs.Forest as forest
 use Rattle.parser_events.specs.Forest.{Forest, Message, ◌then◌}
-use Rattle.rust_grammar.specs.Rule.{Production, Look, Always, Never, Kind, Contextual, Joint, Left, InCondition, Given, Both, Either, Not, Rule, Nothing, One, Any, Then, Near, Or, Opt, Star, Node, Wrap, Want, Say, Skip, Split, When, Unless, Call, Continue, Mode, begins}
+use Rattle.rust_grammar.specs.Rule.{Production, Look, Always, Never, Kind, Contextual, Joint, Whole, Left, InCondition, Given, Both, Either, Not, Rule, Nothing, One, Any, Then, Near, Or, Opt, Star, Node, Wrap, Want, Say, Skip, Split, When, Unless, Call, Continue, Mode, Lead, begins}
 
 -- What the present production gave so far, and the tokens left.
 pub record Reading : Type 0 where
   pub given : Forest
   pub rest : List Token
 
--- the n-th token ahead; past the last one stands the end of the input
+-- the n-th token ahead; past the last one stands the end of the input, which says nothing of the whole language
 unfoldable pub ahead : ℕ → List Token → Token
 ahead n [] = record { kind = EOF; contextual = EOF; joint = false; whole = false }
 ahead zero (t ∷ ts) = t
@@ -32,6 +32,7 @@ sees c s Never = false
 sees c s (Kind n k) = (ahead n s.rest).kind == k
 sees c s (Contextual n k) = (ahead n s.rest).contextual == k
 sees c s (Joint n) = (ahead n s.rest).joint
+sees c s (Whole n) = (ahead n s.rest).whole
 sees c s Left = nat_lt 0 (length s.rest)
 sees c s InCondition = c
 sees c s Given = not (is_end s.given)
@@ -60,6 +61,16 @@ node kind s t = record { given = s.given then forest.Node kind t.given forest.En
 
 unfoldable pub wrapped : ℕ → Reading → Reading
 wrapped kind t = record { given = forest.Node kind t.given forest.End; rest = t.rest }
+
+-- Trees put first into the one node, or the float, that stands alone. What is no such one tree stands with them in an error; in
+-- the grammar it always is one, as a law says.
+unfoldable pub into : Forest → Forest → Forest
+into g (forest.Node k c forest.End) = forest.Node k (g then c) forest.End
+into g (forest.Float e c forest.End) = forest.Float e (g then c) forest.End
+into g f = forest.Node ERROR (g then f) forest.End
+
+unfoldable pub led : Reading → Reading → Reading
+led s t = record { given = into s.given t.given; rest = t.rest }
 
 unfoldable pub after : Reading → Reading → Reading
 after s t = record { given = s.given then t.given; rest = t.rest }
@@ -106,6 +117,7 @@ read f call c (Unless l a) s = read f call c a s
 read f call c (Call x) s = after s (call x c (fresh s))
 read f call c (Continue x) s = call x c s
 read f call c (Mode d a) s = read f call d a s
+read f call c (Lead a) s = led s (read f call c a (fresh s))
 
 -- A table: the rule of each production, and its rank. Ranks, and all that follows, serve to say by recursion where productions
 -- begin and what they give; that each does so as its rule says, and that nothing else does, are laws.

@@ -6,7 +6,7 @@
 use Rattle.std.specs.Prelude.{ℕ, ◌+◌, ◌==◌, Bool, true, false, ◌&&◌, List, [], ◌∷◌, length, Option, Some, None, if◌then◌else◌}
 use Rattle.parser_input.specs.Kinds.{COMMA, ASSOC_ITEM_LIST, VARIANT_LIST, META, TOKEN_TREE, USE_TREE, PARAM_LIST, NAME, NAME_REF, PATH, LITERAL, STMT_LIST, BLOCK_EXPR, ARG_LIST, MATCH_ARM_LIST}
 use Rattle.parser_events.specs.Forest.{Message, Expected, UnexpectedIn, ExpectedType, ExpectedPattern, ExpectedExpression}
-use Rattle.rust_grammar.specs.Rule.{assoc_items, variants, meta, token_tree, use_tree, params, name, name_ref, path, any_type, pattern, single_pattern, literal, statement_list, block, expression, operation, disjunction, comparison, prefixed, arguments, match_arms, Production, Look, Always, Never, Left, Both, Either, Not, Spelling, Rule, Nothing, One, Then, Near, Or, Opt, Star, Node, Wrap, Want, Say, Skip, When, Unless, Call, Continue, Mode, spelled_at}
+use Rattle.rust_grammar.specs.Rule.{assoc_items, variants, meta, token_tree, use_tree, params, name, name_ref, path, any_type, pattern, single_pattern, literal, statement_list, block, expression, operation, disjunction, comparison, prefixed, arguments, match_arms, Production, Look, Always, Never, Left, Both, Either, Not, Spelling, Rule, Nothing, One, Then, Near, Or, Opt, Star, Node, Wrap, Want, Say, Skip, When, Unless, Call, Continue, Mode, spelled_at, Whole, Lead}
 use Rattle.rust_grammar.specs.Words.{'dots', 'dots_eq', '==', '=>', '!=', '<=', '>=', '&&', '||', '|>', '<<', '>>', '+=', '-=', '*=', '/=', '%=', '&=', '|=', '^=', '<<=', '>>=', 'semi', 'comma', 'r_paren', 'l_curly', 'r_curly', ']', '=', '<', '>', '-', '&', '|', '+', '*', '/', '^', '%'}
 
 infixr 40 ◌or◌
@@ -64,6 +64,10 @@ k <⟨ a ⟩ = Wrap k a
 
 abbrev pub more : Production → Rule
 more x = Continue x
+
+-- what was given goes into the one node that a gives
+abbrev pub lead : Rule → Rule
+lead a = Lead a
 
 -- out of condition mode, and in it
 abbrev pub off : Rule → Rule
@@ -139,6 +143,10 @@ any_of (l ∷ ls) = Either l (any_of ls)
 
 abbrev pub next : Spelling → Look
 next x = row 0 (x ∷ [])
+
+-- a look where the whole language is read
+abbrev pub wide : Look → Look
+wide l = Both (Whole 0) l
 
 -- x is next, and y after it; and one of these is; and none of these is
 infix 68 ◌before◌

@@ -1,6 +1,6 @@
 -- Parts of rules that laws speak of.
 use Rattle.std.specs.Prelude.{List, [], ◌∷◌, ◌++◌}
-use Rattle.rust_grammar.specs.Rule.{Rule, Nothing, One, Any, Then, Near, Or, When, Unless, Opt, Star, Node, Wrap, Want, Say, Skip, Split, Call, Continue, Mode}
+use Rattle.rust_grammar.specs.Rule.{Rule, Nothing, One, Any, Then, Near, Or, When, Unless, Opt, Star, Node, Wrap, Want, Say, Skip, Split, Call, Continue, Mode, Lead}
 
 -- what a rule repeats
 unfoldable pub repeated : Rule → List Rule
@@ -15,6 +15,7 @@ repeated (Node k a) = repeated a
 repeated (Wrap k a) = repeated a
 repeated (Want a m) = repeated a
 repeated (Mode c a) = repeated a
+repeated (Lead a) = repeated a
 repeated Nothing = []
 repeated (One x) = []
 repeated Any = []
@@ -37,6 +38,7 @@ nearby (Node k a) = nearby a
 nearby (Wrap k a) = nearby a
 nearby (Want a m) = nearby a
 nearby (Mode c a) = nearby a
+nearby (Lead a) = nearby a
 nearby Nothing = []
 nearby (One x) = []
 nearby Any = []
@@ -45,3 +47,26 @@ nearby (Skip m) = []
 nearby Split = []
 nearby (Call x) = []
 nearby (Continue x) = []
+
+-- what a rule reads as if anew and puts what was given before into
+unfoldable pub leads : Rule → List Rule
+leads (Then a b) = leads a ++ leads b
+leads (Near w a b) = leads a ++ leads b
+leads (Or a b) = leads a ++ leads b
+leads (When l a) = leads a
+leads (Unless l a) = leads a
+leads (Opt a) = leads a
+leads (Star a) = leads a
+leads (Node k a) = leads a
+leads (Wrap k a) = leads a
+leads (Want a m) = leads a
+leads (Mode c a) = leads a
+leads (Lead a) = a ∷ leads a
+leads Nothing = []
+leads (One x) = []
+leads Any = []
+leads (Say m) = []
+leads (Skip m) = []
+leads Split = []
+leads (Call x) = []
+leads (Continue x) = []

@@ -74,14 +74,15 @@ pub data Production : Type 0 where
   match_arms : Production
   match_arm : Production
 
--- What a choice asks of the place: the n-th token ahead is of a kind, of a contextual kind, touches the next; a token is
--- left; condition mode is on; the present production has given something.
+-- What a choice asks of the place: the n-th token ahead is of a kind, of a contextual kind, touches the next, says that the
+-- whole language is read; a token is left; condition mode is on; the present production has given something.
 pub data Look : Type 0 where
   Always : Look
   Never : Look
   Kind : (n kind : ℕ) → Look
   Contextual : (n kind : ℕ) → Look
   Joint : (n : ℕ) → Look
+  Whole : (n : ℕ) → Look
   Left : Look
   InCondition : Look
   Given : Look
@@ -96,10 +97,11 @@ pub record Spelling : Type 0 where
   pub contextual : Option ℕ
   pub parts : List ℕ
 
--- The nine forms are: one leaf (One, Any); a sequence (Nothing, Then, Near, which asks the looks of both parts, those of the
+-- The ten forms are: one leaf (One, Any); a sequence (Nothing, Then, Near, which asks the looks of both parts, those of the
 -- second so many tokens further on); a choice by looks (Or, When, Unless); an option; a repetition; a node; a wrap around all
 -- that the present production gave so far; an expected part (Want: it, or a message); an error (Say: a message; Skip: a message
--- about the next token, which is taken; Split: a float after a dot). Call begins a production anew, Continue goes on in the
+-- about the next token, which is taken; Split: a float after a dot); a lead (what the present production gave so far stands first in
+-- the one node that a rule gives, which is read as if anew). Call begins a production anew, Continue goes on in the
 -- present one, Mode reads a rule in condition mode or out of it.
 -- A choice reads its first part where that begins, and else its second, of which it asks nothing: where all looks of a chain of
 -- choices fail, its last part is read. When puts its look in the place of those of its rule, Unless asks besides those of its
@@ -124,6 +126,7 @@ pub data Rule : Type 0 where
   Call : Production → Rule
   Continue : Production → Rule
   Mode : (condition : Bool) → Rule → Rule
+  Lead : Rule → Rule
 
 -- tokens of these kinds from the n-th on, all but the last joint
 unfoldable pub there_at : ℕ → List ℕ → Look
@@ -148,6 +151,7 @@ shift m Never = Never
 shift m (Kind n k) = Kind (n + m) k
 shift m (Contextual n k) = Contextual (n + m) k
 shift m (Joint n) = Joint (n + m)
+shift m (Whole n) = Whole (n + m)
 shift m Left = Left
 shift m InCondition = InCondition
 shift m Given = Given
@@ -184,8 +188,8 @@ is_silent Nothing = true
 is_silent (Say m) = true
 is_silent r = false
 
--- Where a rule begins, given where the productions begin. A part that is wanted begins where the part itself does. In a node, and
--- in a production that is called anew, nothing has been given yet.
+-- Where a rule begins, given where the productions begin. A part that is wanted begins where the part itself does. In a node, in
+-- a lead, and in a production that is called anew, nothing has been given yet.
 unfoldable pub begins : (Production → Look) → Rule → Look
 begins f Nothing = Always
 begins f (One x) = spelled_at 0 x
@@ -211,3 +215,4 @@ begins f Split = Left
 begins f (Call x) = anew (f x)
 begins f (Continue x) = f x
 begins f (Mode c a) = in_mode c (begins f a)
+begins f (Lead a) = anew (begins f a)

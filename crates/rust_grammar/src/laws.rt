@@ -1,7 +1,8 @@
 //! Laws of the definitions. Each is the contract of a function that makes no call.
 
 ghost use Rattle.rust_grammar.specs.Examples.{ExamplesAreRight};
-ghost use Rattle.rust_grammar.specs.Laws.{CallsBeginAnew, CallsHaveGivenNothing, EachProductionHasARule, EntriesAreRooted, EntriesFit, EntriesTakeAllInOrder, NodesHaveGivenNothing, OnlyOneBeginning, OnlyOneReading, OperatorsOfEntriesBindByPower, OperatorsOfProductionsBindByPower, PartsLookAhead, ProductionsTakeInOrder, RepetitionsAreReadTurnByTurn, TokenTreesAreBracketed, WholeProductionsBeginAsTheirRules, WholeProductionsMeanTheirRules};
+ghost use Rattle.rust_grammar.specs.Kept.{ProfileBeginsAsBefore, ProfileEntriesAreKept, ProfileReadsAsBefore};
+ghost use Rattle.rust_grammar.specs.Laws.{CallsBeginAnew, CallsHaveGivenNothing, EachProductionHasARule, EntriesAreRooted, EntriesFit, EntriesTakeAllInOrder, LeadsGiveOneNode, NodesHaveGivenNothing, OnlyOneBeginning, OnlyOneReading, OperatorsOfEntriesBindByPower, OperatorsOfProductionsBindByPower, PartsLookAhead, ProductionsTakeInOrder, RepetitionsAreReadTurnByTurn, TokenTreesAreBracketed, WholeProductionsBeginAsTheirRules, WholeProductionsMeanTheirRules};
 ghost use Rattle.rust_grammar.specs.Misplaced.{MisplacedOperatorsAreTold};
 
 /// A production gives what its rule gives, where each production that the rule calls gives what it
@@ -46,6 +47,11 @@ pub fn entries_fit()
     ensures fit { EntriesFit }
 {}
 
+/// What is read as a lead, into which what was given before goes, is one node.
+pub fn leads_give_one_node()
+    ensures { LeadsGiveOneNode }
+{}
+
 /// Each token tree begins with an opening bracket, and ends with its partner or the message that it
 /// is missing.
 pub fn token_trees_are_bracketed()
@@ -59,6 +65,14 @@ pub fn operators_bind_by_power()
     ensures productions { OperatorsOfProductionsBindByPower }
     ensures entries { OperatorsOfEntriesBindByPower }
     ensures misplaced { MisplacedOperatorsAreTold }
+{}
+
+/// Over tokens none of which says that the whole language is read, each production of the profile begins
+/// where it does in the table that the profile had alone, and gives the same; so does each entry.
+pub fn profile_is_kept()
+    ensures begin { ProfileBeginsAsBefore }
+    ensures read { ProfileReadsAsBefore }
+    ensures entries { ProfileEntriesAreKept }
 {}
 
 /// Some inputs, with the trees that the grammar gives them.

@@ -4,7 +4,7 @@ use Rattle.parser_events.specs.Marked.{Marked, marked}
 use Rattle.parser_events.specs.View.{View}
 use Rattle.parser_events.proofs.Forests.{marked-then}
 use Rattle.rust_productions.specs.Stands.{left, Holds}
-use Rattle.rust_grammar.specs.Rule.{Production, Rule, Nothing, One, Any, Then, Near, Or, Opt, Star, Node, Wrap, Want, Say, Skip, Split, When, Unless, Call, Continue, Mode, begins}
+use Rattle.rust_grammar.specs.Rule.{Production, Rule, Nothing, One, Any, Then, Near, Or, Opt, Star, Node, Wrap, Want, Say, Skip, Split, When, Unless, Call, Continue, Mode, Lead, begins}
 use Rattle.rust_grammar.specs.Meaning.{Reading, sees, fresh, after, node, wrapped, say, turns, read, meaning}
 use Rattle.rust_grammar.specs.Whole.{rule, whole}
 use Rattle.rust_productions.specs.Reads.{looks, Opens, Leaves, Does, Gives, Reads, Anew, Completes}
@@ -64,6 +64,7 @@ module _ (c : Bool) where
   chained (Call x) b d s e = refl
   chained (Continue x) b d s e = refl
   chained (Mode m x) b d s e = refl
+  chained (Lead x) b d s e = refl
 
   picked : (t : Bool) (o : Option Bool) (a b r : Rule) (s x y : Reading) → IfSome o (λ z. t ≡ z) → does a s ≡ x → does b s ≡ y → does r s ≡ (if t then x else y) → does (pick o a b r) s ≡ (if t then x else y)
   picked t (Some true) a b r s x y is p q h = p ∙ sym (ap (λ (z : Bool). if z then x else y) is)
@@ -110,6 +111,7 @@ module _ (c : Bool) where
     is_simple (Call x) s e = refl
     is_simple (Continue x) s e = refl
     is_simple (Mode d a) s e = refl
+    is_simple (Lead a) s e = refl
 
 -- a rule is read as what it comes to here
 pub reads-here : {c : Bool} {fs : List Fact} {r : Rule} {old new : View} → Known c fs old → Reads c (simple fs r) old new → Reads c r old new

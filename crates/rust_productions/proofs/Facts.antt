@@ -3,7 +3,7 @@ use Rattle.std.proofs.Common.{◌≡◌, ℕ, Bool, true, false, not, ◌&&◌, 
 use Rattle.std.proofs.lemmas.Bool.{eqb-true}
 use Rattle.parser_events.specs.View.{View}
 use Rattle.rust_productions.specs.Stands.{left}
-use Rattle.rust_grammar.specs.Rule.{Production, Look, Always, Never, Kind, Contextual, Joint, Left, InCondition, Given, Both, Either, Not, Rule, Nothing, One, Any, Then, Near, Or, Opt, Star, Node, Wrap, Want, Say, Skip, Split, When, Unless, Call, Continue, Mode, begins, spelled_at, shift, passes, is_silent, anew}
+use Rattle.rust_grammar.specs.Rule.{Production, Look, Always, Never, Kind, Contextual, Joint, Whole, Left, InCondition, Given, Both, Either, Not, Rule, Nothing, One, Any, Then, Near, Or, Opt, Star, Node, Wrap, Want, Say, Skip, Split, When, Unless, Call, Continue, Mode, Lead, begins, spelled_at, shift, passes, is_silent, anew}
 use Rattle.rust_grammar.specs.Meaning.{Reading, ahead, sees, fresh}
 use Rattle.rust_productions.specs.Reads.{looks, Saw}
 use Rattle.rust_grammar.proofs.Elsewhere.{anew-seen}
@@ -71,6 +71,11 @@ of_joint [] n = None
 of_joint (Answers (Joint m) b ∷ fs) n = if nat_eq m n then Some b else of_joint fs n
 of_joint (f ∷ fs) n = of_joint fs n
 
+abbrev of_whole : List Fact → ℕ → Option Bool
+of_whole [] n = None
+of_whole (Answers (Whole m) b ∷ fs) n = if nat_eq m n then Some b else of_whole fs n
+of_whole (f ∷ fs) n = of_whole fs n
+
 abbrev of_contextual : List Fact → ℕ → ℕ → Option Bool
 of_contextual [] n k = None
 of_contextual (Answers (Contextual m j) b ∷ fs) n k = if nat_eq m n && nat_eq j k then Some b else of_contextual fs n k
@@ -93,6 +98,7 @@ same_look Never Never = true
 same_look (Kind n k) (Kind m j) = nat_eq n m && nat_eq k j
 same_look (Contextual n k) (Contextual m j) = nat_eq n m && nat_eq k j
 same_look (Joint n) (Joint m) = nat_eq n m
+same_look (Whole n) (Whole m) = nat_eq n m
 same_look Left Left = true
 same_look InCondition InCondition = true
 same_look Given Given = true
@@ -115,6 +121,7 @@ same_look-true Never Never e = refl
 same_look-true (Kind n k) (Kind m j) e = let f = eqb-true n m (and_l (nat_eq n m) (nat_eq k j) e) in let g = eqb-true k j (and_r (nat_eq n m) (nat_eq k j) e) in cc
 same_look-true (Contextual n k) (Contextual m j) e = let f = eqb-true n m (and_l (nat_eq n m) (nat_eq k j) e) in let g = eqb-true k j (and_r (nat_eq n m) (nat_eq k j) e) in cc
 same_look-true (Joint n) (Joint m) e = ap Joint (eqb-true n m e)
+same_look-true (Whole n) (Whole m) e = ap Whole (eqb-true n m e)
 same_look-true Left Left e = refl
 same_look-true InCondition InCondition e = refl
 same_look-true Given Given e = refl
@@ -135,6 +142,7 @@ tells fs Never = Some false
 tells fs (Kind n k) = of_kind fs n k
 tells fs (Contextual n k) = of_contextual fs n k
 tells fs (Joint n) = of_joint fs n
+tells fs (Whole n) = of_whole fs n
 tells fs Left = of_left fs
 tells fs InCondition = of_condition fs
 tells fs Given = None
@@ -177,6 +185,7 @@ starts fs Split = of_left fs
 starts fs (Call x) = or_look (of_production fs x) fs x
 starts fs (Continue x) = tells fs (looks x)
 starts fs (Mode c a) = None
+starts fs (Lead a) = starts fs a
 
 abbrev pub Right : Bool → Reading → Look → Option Bool → Type 0
 Right c s l b = IfSome b (λ a. sees c s l ≡ a)
@@ -199,6 +208,7 @@ module _ (c : Bool) (s : Reading) where
       no i true false e f = i
       no i false d e f = i
   is_of_kind (Answers Always b ∷ fs) h n k = is_of_kind fs h.1 n k
+  is_of_kind (Answers (Whole m) b ∷ fs) h n k = is_of_kind fs h.1 n k
   is_of_kind (Answers Never b ∷ fs) h n k = is_of_kind fs h.1 n k
   is_of_kind (Answers (Contextual m j) b ∷ fs) h n k = is_of_kind fs h.1 n k
   is_of_kind (Answers (Joint m) b ∷ fs) h n k = is_of_kind fs h.1 n k
@@ -220,6 +230,7 @@ module _ (c : Bool) (s : Reading) where
       yes i false e = i
   is_of_joint (Answers (Kind m j) b ∷ fs) h n = is_of_joint fs h.1 n
   is_of_joint (Answers Always b ∷ fs) h n = is_of_joint fs h.1 n
+  is_of_joint (Answers (Whole m) b ∷ fs) h n = is_of_joint fs h.1 n
   is_of_joint (Answers Never b ∷ fs) h n = is_of_joint fs h.1 n
   is_of_joint (Answers (Contextual m j) b ∷ fs) h n = is_of_joint fs h.1 n
   is_of_joint (Answers Left b ∷ fs) h n = is_of_joint fs h.1 n
@@ -229,6 +240,27 @@ module _ (c : Bool) (s : Reading) where
   is_of_joint (Answers (Either x y) b ∷ fs) h n = is_of_joint fs h.1 n
   is_of_joint (Answers (Not x) b ∷ fs) h n = is_of_joint fs h.1 n
   is_of_joint (Begins x b ∷ fs) h n = is_of_joint fs h.1 n
+
+  is_of_whole : (fs : List Fact) → HoldAll c s fs → (n : ℕ) → Right c s (Whole n) (of_whole fs n)
+  unfolding sees
+  is_of_whole [] h n = tt
+  is_of_whole (Answers (Whole m) d ∷ fs) h n = yes (is_of_whole fs h.1 n) (nat_eq m n) refl
+    where
+      yes : Right c s (Whole n) (of_whole fs n) → (b : Bool) → nat_eq m n ≡ b → Right c s (Whole n) (if b then Some d else of_whole fs n)
+      yes i true e = ap (λ (i : ℕ). (ahead i s.rest).whole) (sym (eqb-true m n e)) ∙ h.0
+      yes i false e = i
+  is_of_whole (Answers (Joint m) b ∷ fs) h n = is_of_whole fs h.1 n
+  is_of_whole (Answers (Kind m j) b ∷ fs) h n = is_of_whole fs h.1 n
+  is_of_whole (Answers Always b ∷ fs) h n = is_of_whole fs h.1 n
+  is_of_whole (Answers Never b ∷ fs) h n = is_of_whole fs h.1 n
+  is_of_whole (Answers (Contextual m j) b ∷ fs) h n = is_of_whole fs h.1 n
+  is_of_whole (Answers Left b ∷ fs) h n = is_of_whole fs h.1 n
+  is_of_whole (Answers InCondition b ∷ fs) h n = is_of_whole fs h.1 n
+  is_of_whole (Answers Given b ∷ fs) h n = is_of_whole fs h.1 n
+  is_of_whole (Answers (Both x y) b ∷ fs) h n = is_of_whole fs h.1 n
+  is_of_whole (Answers (Either x y) b ∷ fs) h n = is_of_whole fs h.1 n
+  is_of_whole (Answers (Not x) b ∷ fs) h n = is_of_whole fs h.1 n
+  is_of_whole (Begins x b ∷ fs) h n = is_of_whole fs h.1 n
 
   is_of_contextual : (fs : List Fact) → HoldAll c s fs → (n k : ℕ) → Right c s (Contextual n k) (of_contextual fs n k)
   unfolding sees
@@ -242,6 +274,7 @@ module _ (c : Bool) (s : Reading) where
   is_of_contextual (Answers (Kind m j) b ∷ fs) h n k = is_of_contextual fs h.1 n k
   is_of_contextual (Answers (Joint m) b ∷ fs) h n k = is_of_contextual fs h.1 n k
   is_of_contextual (Answers Always b ∷ fs) h n k = is_of_contextual fs h.1 n k
+  is_of_contextual (Answers (Whole m) b ∷ fs) h n k = is_of_contextual fs h.1 n k
   is_of_contextual (Answers Never b ∷ fs) h n k = is_of_contextual fs h.1 n k
   is_of_contextual (Answers Left b ∷ fs) h n k = is_of_contextual fs h.1 n k
   is_of_contextual (Answers InCondition b ∷ fs) h n k = is_of_contextual fs h.1 n k
@@ -257,6 +290,7 @@ module _ (c : Bool) (s : Reading) where
   is_of_left (Answers (Kind m j) b ∷ fs) h = is_of_left fs h.1
   is_of_left (Answers (Joint m) b ∷ fs) h = is_of_left fs h.1
   is_of_left (Answers Always b ∷ fs) h = is_of_left fs h.1
+  is_of_left (Answers (Whole m) b ∷ fs) h = is_of_left fs h.1
   is_of_left (Answers Never b ∷ fs) h = is_of_left fs h.1
   is_of_left (Answers (Contextual m j) b ∷ fs) h = is_of_left fs h.1
   is_of_left (Answers InCondition b ∷ fs) h = is_of_left fs h.1
@@ -273,6 +307,7 @@ module _ (c : Bool) (s : Reading) where
   is_of_condition (Answers (Kind m j) b ∷ fs) h = is_of_condition fs h.1
   is_of_condition (Answers (Joint m) b ∷ fs) h = is_of_condition fs h.1
   is_of_condition (Answers Always b ∷ fs) h = is_of_condition fs h.1
+  is_of_condition (Answers (Whole m) b ∷ fs) h = is_of_condition fs h.1
   is_of_condition (Answers Never b ∷ fs) h = is_of_condition fs h.1
   is_of_condition (Answers (Contextual m j) b ∷ fs) h = is_of_condition fs h.1
   is_of_condition (Answers Given b ∷ fs) h = is_of_condition fs h.1
@@ -328,6 +363,7 @@ module _ (c : Bool) (s : Reading) where
   is_told fs h (Kind n k) = is_of_kind fs h n k
   is_told fs h (Contextual n k) = is_of_contextual fs h n k
   is_told fs h (Joint n) = is_of_joint fs h n
+  is_told fs h (Whole n) = is_of_whole fs h n
   is_told fs h Left = is_of_left fs h
   is_told fs h InCondition = is_of_condition fs h
   is_told fs h Given = tt
@@ -384,3 +420,4 @@ is_start c s fs h i Split = is_of_left c s fs h
 is_start c s fs h i (Call x) = is_or_look c s (of_production fs x) fs h x (is_of_production c s fs h x)
 is_start c s fs h i (Continue x) = is_told c s fs h (looks x)
 is_start c s fs h i (Mode d a) = tt
+is_start c s fs h i (Lead a) = is_anew c s (begins looks a) (starts fs a) (is_start c (fresh s) fs i i a)

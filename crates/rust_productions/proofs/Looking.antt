@@ -13,7 +13,7 @@ use Rattle.parser_events.specs.Marked.{Marked}
 use Rattle.parser_events.specs.View.{View}
 use Rattle.rust_productions.specs.Stands.{left}
 use Rattle.rust_productions.specs.Looks.{tokens, spent}
-use Rattle.rust_grammar.specs.Rule.{Kind, Contextual, Joint, Left}
+use Rattle.rust_grammar.specs.Rule.{Kind, Contextual, Joint, Whole, Left}
 use Rattle.rust_grammar.specs.Meaning.{Reading, sees, ahead}
 use Rattle.rust_productions.specs.Reads.{Saw}
 
@@ -46,6 +46,21 @@ unfolding sees
 saw-joint c n v answer is = record {
   at = λ s e. ap (λ (ts : List Token). (ahead n ts).joint) (sym e) ∙ ap (λ (t : Token). t.joint) (sym (seen-token v n)) ∙ sym is;
 }
+
+pub saw-whole : (c : Bool) (n : ℕ) (v : View) (answer : Bool) → answer ≡ (token_at v.input (v.position + n)).whole → Saw c (Whole n) v answer
+unfolding sees
+saw-whole c n v answer is = record {
+  at = λ s e. ap (λ (ts : List Token). (ahead n ts).whole) (sym e) ∙ ap (λ (t : Token). t.whole) (sym (seen-token v n)) ∙ sym is;
+}
+
+-- a token that says so is left
+pub some-whole : (v : View) (answer : Bool) → answer ≡ (token_at v.input (v.position + 0)).whole → answer ≡ true → 1 ≤ tokens v
+unfolding tokens ahead
+some-whole v answer is e = some-left (left v) (ap (λ (t : Token). t.whole) (sym (seen-token v 0)) ∙ sym is ∙ e)
+  where
+    some-left : (ts : List Token) → (ahead 0 ts).whole ≡ true → 1 ≤ length ts
+    some-left [] h = absurd (let z : false ≡ true = h in cc)
+    some-left (t ∷ ts) h = omega arith
 
 pub saw-contextual : (c : Bool) (n : ℕ) (v : View) (seen_kind raw kind : ℕ) → seen_kind ≡ (token_at v.input (v.position + n)).contextual → raw ≡ kind → Saw c (Contextual n kind) v (nat_eq seen_kind raw)
 unfolding sees

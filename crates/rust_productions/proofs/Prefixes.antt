@@ -3,7 +3,7 @@ use Rattle.std.proofs.Common.{◌≡◌, ℕ, zero, suc, Bool, true, false, ◌&
 use Rattle.parser_input.specs.Input.{Token}
 use Rattle.parser_events.specs.Forest as forest
 use Rattle.parser_events.specs.Forest.{Forest, End, ◌then◌}
-use Rattle.rust_grammar.specs.Rule.{Production, Look, Always, Never, Kind, Contextual, Joint, Left, InCondition, Given, Both, Either, Not, Rule, Nothing, One, Any, Then, Near, Or, Opt, Star, Node, Wrap, Want, Say, Skip, Split, When, Unless, Call, Continue, Mode, begins}
+use Rattle.rust_grammar.specs.Rule.{Production, Look, Always, Never, Kind, Contextual, Joint, Whole, Left, InCondition, Given, Both, Either, Not, Rule, Nothing, One, Any, Then, Near, Or, Opt, Star, Node, Wrap, Want, Say, Skip, Split, When, Unless, Call, Continue, Mode, Lead, begins}
 use Rattle.rust_grammar.specs.Meaning.{Reading, Calls, ahead, sees, fresh, after, node, say, skip, leaf, turns, read, look_of, meaning}
 use Rattle.rust_grammar.specs.Whole.{whole}
 use Rattle.rust_productions.specs.Reads.{looks}
@@ -38,6 +38,7 @@ is_after f Split = false
 is_after f (Call x) = true
 is_after f (Continue x) = false
 is_after f (Mode c a) = is_after f a
+is_after f (Lead a) = false
 
 and_l : (x y : Bool) → (x && y) ≡ true → x ≡ true
 and_l true y e = refl
@@ -58,6 +59,7 @@ sees-after c g s Never e = refl
 sees-after c g s (Kind n k) e = refl
 sees-after c g s (Contextual n k) e = refl
 sees-after c g s (Joint n) e = refl
+sees-after c g s (Whole n) e = refl
 sees-after c g s Left e = refl
 sees-after c g s InCondition e = refl
 sees-after c g s Given e = absurd (let z : false ≡ true = e in cc)
@@ -116,6 +118,7 @@ read-after f call c Split g s e = absurd (let z : false ≡ true = e in cc)
 read-after f call c (Call x) g s e = let t = call x c (fresh s) in grown g s.given t.given t.rest
 read-after f call c (Continue x) g s e = absurd (let z : false ≡ true = e in cc)
 read-after f call c (Mode d a) g s e = read-after f call d a g s e
+read-after f call c (Lead a) g s e = absurd (let z : false ≡ true = e in cc)
 
 -- such a rule reads the same after what was given
 pub reads-anew : (c : Bool) (r : Rule) (s : Reading) → is_after looks r ≡ true → read (look_of whole) (meaning whole) c r s ≡ after s (read (look_of whole) (meaning whole) c r (fresh s))

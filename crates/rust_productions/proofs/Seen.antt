@@ -6,7 +6,7 @@ use Rattle.parser_events.specs.Forest as forest
 use Rattle.parser_events.specs.Forest.{Message}
 use Rattle.parser_events.specs.View.{View}
 use Rattle.rust_productions.specs.Stands.{left}
-use Rattle.rust_grammar.specs.Rule.{Production, Spelling, Look, Always, Never, Kind, Contextual, Joint, Left, InCondition, Given, Both, Either, Not, Rule, One, Call, begins, shift, anew}
+use Rattle.rust_grammar.specs.Rule.{Production, Spelling, Look, Always, Never, Kind, Contextual, Joint, Whole, Left, InCondition, Given, Both, Either, Not, Rule, One, Call, begins, shift, anew}
 use Rattle.rust_grammar.specs.Meaning.{Reading, ahead, sees, fresh, leaf, read}
 use Rattle.rust_grammar.specs.Whole.{rule}
 use Rattle.rust_productions.specs.Reads.{looks, Opens, Leaves, Does, Reads, Saw}
@@ -157,6 +157,7 @@ sees-ahead c m Never s t a e = refl
 sees-ahead c m (Kind n k) s t a e = ap (λ (ts : List Token). (ahead n ts).kind == k) e ∙ ap (λ (u : Token). u.kind == k) (ahead-drop m n s.rest)
 sees-ahead c m (Contextual n k) s t a e = ap (λ (ts : List Token). (ahead n ts).contextual == k) e ∙ ap (λ (u : Token). u.contextual == k) (ahead-drop m n s.rest)
 sees-ahead c m (Joint n) s t a e = ap (λ (ts : List Token). (ahead n ts).joint) e ∙ ap (λ (u : Token). u.joint) (ahead-drop m n s.rest)
+sees-ahead c m (Whole n) s t a e = ap (λ (ts : List Token). (ahead n ts).whole) e ∙ ap (λ (u : Token). u.whole) (ahead-drop m n s.rest)
 sees-ahead c m Left s t a e = absurd (let z : false ≡ true = a in cc)
 sees-ahead c m InCondition s t a e = refl
 sees-ahead c m Given s t a e = absurd (let z : false ≡ true = a in cc)

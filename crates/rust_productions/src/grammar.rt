@@ -10,7 +10,7 @@ ghost use Rattle.parser_events.specs.Forest.{Expected};
 ghost use Rattle.parser_events.specs.Seen.{message_of};
 ghost use Rattle.parser_events.specs.Stack.{IsInnermost};
 ghost use Rattle.rust_productions.specs.Looks.{tokens, spent};
-ghost use Rattle.rust_grammar.specs.Rule.{Kind, Contextual, Left, Say, Skip, Any, Want, Opt, there_at, One};
+ghost use Rattle.rust_grammar.specs.Rule.{Kind, Contextual, Whole, Left, Say, Skip, Any, Want, Opt, there_at, One};
 ghost use Rattle.rust_grammar.specs.Meaning.{wrapped};
 ghost use Rattle.rust_grammar.specs.Words.{one, joined};
 ghost use Rattle.rust_productions.specs.Reads.{Opens, Closes, Leaves, Does, Reads, Saw};
@@ -106,6 +106,18 @@ fn at_contextual(p: &mut Parser<'_>, kind: SyntaxKind) -> bool
     ensures looks { spent p.new ≡ spent p.old }
 {
     p.contextual_at(0).to_raw() == kind.to_raw()
+}
+
+/// Returns `true` if the next token is read by the grammar of the whole language; `false` past the
+/// end. It counts no lookahead.
+pub fn at_whole(p: &mut Parser<'_>) -> bool
+    ensures sees { (c : Bool) → Saw c (Whole 0) p.old result }
+    ensures some { IsTrue result → 1 ≤ tokens p.old }
+    ensures same { Does (λ s. s) p.old p.new }
+    ensures left { tokens p.new ≡ tokens p.old }
+    ensures looks { spent p.new ≡ spent p.old }
+{
+    p.whole_at(0)
 }
 
 /// Whether tokens of these kinds are next, which touch each other.
