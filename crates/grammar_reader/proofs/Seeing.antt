@@ -15,7 +15,7 @@ use Rattle.rust_grammar.specs.Statements.{statements}
 use Rattle.rust_grammar.specs.Types.{types}
 use Rattle.parser_events.specs.Forest.{Message}
 use Rattle.rust_grammar.specs.Rule as rules
-use Rattle.rust_grammar.specs.Rule.{single_pattern, Production, Rule, Look, Always, Never, InCondition, Joint, Given, Both, Either, Not, Contextual, Kind, Left, Mode, Spelling, Want, begins, in_mode, is_silent, passes, shift, there_at, anew}
+use Rattle.rust_grammar.specs.Rule.{single_pattern, Production, Rule, Look, Always, Never, InCondition, Joint, Whole, Given, Both, Either, Not, Contextual, Kind, Left, Mode, Spelling, Want, begins, in_mode, is_silent, passes, shift, there_at, anew}
 use Rattle.rust_grammar.specs.Laws.{reads}
 use Rattle.rust_grammar.specs.Meaning.{Reading, ahead, fresh, look_of, read, say, sees}
 use Rattle.rust_grammar.specs.Whole.{rule, whole}
@@ -35,6 +35,7 @@ mode-seen c d s Never = refl
 mode-seen c d s (Kind k j) = refl
 mode-seen c d s (Contextual k j) = refl
 mode-seen c d s (Joint k) = refl
+mode-seen c d s (Whole k) = refl
 mode-seen c d s Left = refl
 mode-seen c d s InCondition = set d
   where
