@@ -1,5 +1,5 @@
 -- Editors whose changes end alike have one verdict, and one tree where that is acceptance.
-use Rattle.std.proofs.Common.{◌≡◌, Option, Some, None, is_none, is_some, Bool, true, false, not, ◌&&◌, ◌||◌, ℕ, nat_lt, List, length, chars, refl, sym, ◌∙◌, ap}
+use Rattle.std.proofs.Common.{◌≡◌, Option, Some, None, is_none, is_some, Bool, true, false, not, ◌&&◌, ◌||◌, nat_lt, List, length, refl, sym, ◌∙◌, ap}
 use Rattle.rustc_lexer.specs.Rows.{first_fit}
 use Rattle.rowan_green.specs.Forest.{tree_text}
 use Rattle.tree_rewrite.specs.Change.{Change, has_collision}
@@ -13,7 +13,7 @@ use Rattle.syntax_editor.specs.Rewriting.{rewriting}
 use Rattle.rust_document.specs.Laws.{CommitsAlike}
 use Rattle.rust_document.specs.Reading.{root_of}
 use Rattle.rust_document.specs.Rewrite.{rewritten}
-use Rattle.rust_document.specs.Step.{State, is_foreign, is_too_long, is_faithful, MAX_TEXT, Verdict, verdict, Accepted}
+use Rattle.rust_document.specs.Step.{State, is_foreign, is_too_long, is_faithful, MAX_TEXT, verdict, Accepted}
 use Rattle.rust_document.proofs.Verdicts.{chosen, misses, verdict-is}
 
 abbrev is_long : Marked → Bool

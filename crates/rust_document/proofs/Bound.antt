@@ -331,4 +331,4 @@ document-bound edition text none =
 -- Rows are told by computing.
 pub placed-told : PlacedOperatorsAreTold
 unfolding is_among power operator level left_level right_level is_operator_placed are_operators_placed
-placed-told = (refl, (refl, (refl, (refl, (refl, (refl, (refl, (refl, (refl, (refl, (refl, (refl, (refl, (refl, tt))))))))))))))
+placed-told = (refl, (refl, (refl, (refl, (refl, (refl, (refl, (refl, (refl, (refl, (refl, (refl, (refl, (refl, (refl, (refl, (refl, (refl, (refl, tt)))))))))))))))))))

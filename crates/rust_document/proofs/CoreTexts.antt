@@ -1,5 +1,5 @@
 -- The reading of a text whose input is a core file.
-use Rattle.std.proofs.Common.{◌≡◌, ◌∙◌, ℕ, ◌+◌, ◌-◌, false, true, ◌&&◌, List, [], ◌∷◌, ◌++◌, map, length, refl, ap, arith}
+use Rattle.std.proofs.Common.{◌≡◌, ◌∙◌, ℕ, ◌-◌, false, true, List, [], ◌++◌, map, length, refl, ap, arith}
 use Rattle.std.proofs.lemmas.Bool.{and_parts}
 use Rattle.parser_input.specs.Input.{input}
 use Rattle.parser_input.specs.Leaf.{Leaf}
@@ -16,8 +16,8 @@ use Rattle.core_language.specs.Laws.{is_clean}
 use Rattle.core_language.proofs.Clean.{files-clean}
 use Rattle.core_language.proofs.Read.{files-read}
 use Rattle.rust_document.specs.Core.{ReadsAs}
-use Rattle.rust_document.specs.Reading.{Message, dressed_by, forest_by, leaves_in, messages, messages_by, of_grammar, of_leaves, root_of, terms_of, tree, tree_by}
-use Rattle.rust_document.proofs.Silent.{said, said-close, said-each, said-leaf, said-leaves, said-pending, said-put}
+use Rattle.rust_document.specs.Reading.{dressed_by, forest_by, leaves_in, messages_by, of_grammar, of_leaves, root_of, terms_of, tree_by}
+use Rattle.rust_document.proofs.Silent.{said, said-close, said-each, said-leaf, said-open, said-pending}
 
 clean-said : (f : forest.Forest) (s : Dressing) → is_clean f ≡ true → said (dress f s).given ≡ said s.given
 unfolding dress is_clean

@@ -1,19 +1,18 @@
 -- Plain renamings are accepted, and the new text reads as the rewritten tree.
-use Rattle.std.proofs.Common.{◌≡◌, ◌≤◌, ◌<◌, ◌+◌, ◌*◌, ◌^◌, ◌==◌, ℕ, Bool, true, false, not, ◌&&◌, ◌||◌, nat_lt, List, [], ◌∷◌, ◌++◌, length, map, chars, refl, sym, ◌∙◌, ap, subst, append-nil, length-append, eq-eqb, arith, Option, Some, None, is_some, is_none, if◌then◌else◌}
+use Rattle.std.proofs.Common.{◌≡◌, ◌≤◌, ◌<◌, ◌+◌, ◌*◌, ◌^◌, ◌==◌, ℕ, Bool, true, false, not, ◌||◌, List, [], ◌∷◌, length, map, chars, refl, sym, ◌∙◌, ap, subst, append-nil, eq-eqb, arith, Option, Some, None, is_some, is_none}
 use Rattle.std.specs.Prelude.{encode_utf8, encode_utf8_all}
-use Rattle.std.specs.List.{flat_map}
+use Rattle.std.specs.List.{flat_map, list_all}
 use Rattle.std.specs.Str.{IsUtf8, all_scalars}
 use Rattle.std.proofs.Math.Utf8.{encodes}
-use Rattle.std.proofs.lemmas.Bool.{and_parts, and_from, le-ltb}
+use Rattle.std.proofs.lemmas.Bool.{and_from, le-ltb}
 use Rattle.std.proofs.lemmas.List.{length-map}
 use Rattle.std.proofs.lemmas.Str.{chars-encodes, scalars-chars}
-use Rattle.rustc_lexer.specs.Rows.{row, first_fit}
-use Rattle.rowan_green.specs.Forest.{Forest, empty, node, leaf, Tree, forest_text, forest_count, tree_text, same_tree}
+use Rattle.rustc_lexer.specs.Rows.{first_fit}
+use Rattle.rowan_green.specs.Forest.{Forest, empty, node, leaf, Tree, forest_text, forest_count, tree_count, tree_text, same_tree}
 use Rattle.rowan_green.specs.Same.{same_tree-Decides}
 use Rattle.parser_input.specs.Input.{input}
 use Rattle.parser_input.specs.Kinds.{IDENT, SOURCE_FILE}
 use Rattle.parser_input.specs.Lexed.{Lexed, lexed, leaves_of}
-use Rattle.parser_input.proofs.LexedTexts.{leaves-joined}
 use Rattle.parser_input.specs.declared.edition.Edition.{Edition}
 use Rattle.parser_events.specs.Forest as forest
 use Rattle.parser_events.specs.Dress.{close_node, dress_root, open_node, root}
@@ -35,12 +34,12 @@ use Rattle.syntax_editor.specs.Rewriting.{rewriting}
 use Rattle.plain_names.specs.Forests.{leaf_of}
 use Rattle.plain_names.specs.LeafNames.{texts}
 use Rattle.plain_names.specs.Renames as names
-use Rattle.plain_names.specs.Renames.{Rename, ArePlainRenames, AreInTree, name_after, renamed_from, renamed_leaves}
+use Rattle.plain_names.specs.Renames.{Rename, ArePlainRenames, AreInTree, renamed_leaves}
 use Rattle.plain_names.specs.Replacements.{Replacement, with_leaves, AreApart}
 use Rattle.plain_names.specs.Trees.{dressed_forest}
 use Rattle.plain_names.proofs.Followed.{elements-steps}
 use Rattle.plain_names.proofs.Numbered.{keeps-leaves, keeps-inputs}
-use Rattle.plain_names.proofs.PlainTrees.{renames-trees}
+use Rattle.plain_names.proofs.PlainTrees.{encodes-flat, renamed-scalars, renames-trees}
 use Rattle.plain_changes.specs.LeafChanges as changes
 use Rattle.plain_changes.specs.LeafChanges.{LeafChange, AreLeafChanges, change_of}
 use Rattle.plain_changes.proofs.Fits.{small-fit, keeps-counts}
@@ -55,7 +54,7 @@ use Rattle.rust_document.specs.declared.error.CommitError.{CommitError}
 use Rattle.rust_document.proofs.Sizes.{count-all}
 use Rattle.rust_document.proofs.SourceFiles.{source-entry}
 use Rattle.rust_document.proofs.TreeTexts.{tree-text}
-use Rattle.rust_document.proofs.Verdicts.{misses, verdict-is}
+use Rattle.rust_document.proofs.Verdicts.{verdict-is}
 
 -- The recorded changes, as changes of leaves and as renames.
 
@@ -96,51 +95,16 @@ same-replacements : (d : State) (cs : List Change) (h : AreRenames d cs) → map
 same-replacements d [] h = refl
 same-replacements d (c ∷ cs) h = ap (λ (rs : List Replacement). names.replacement_of h.0.rename ∷ rs) (same-replacements d cs h.1)
 
--- The new text is a text.
-
-abbrev AreTexts : List Rename → Type 0
-AreTexts [] = Unit {0}
-AreTexts (r ∷ rs) = (all_scalars r.new ≡ true) × AreTexts rs
-
-all-texts : (d : State) (cs : List Change) (h : AreRenames d cs) → AreTexts (renames d cs h)
-all-texts d [] h = tt
-all-texts d (c ∷ cs) h = (h.0.is_text, all-texts d cs h.1)
-
-scalars-both : (xs ys : List ℕ) → all_scalars xs ≡ true → all_scalars ys ≡ true → all_scalars (xs ++ ys) ≡ true
-scalars-both [] ys x y = y
-scalars-both (c ∷ cs) ys x y = let p = and_parts _ (all_scalars cs) x in and_from _ (all_scalars (cs ++ ys)) p.0 (scalars-both cs ys p.1 y)
-
-scalars-first : (xs ys : List ℕ) → all_scalars (xs ++ ys) ≡ true → (all_scalars xs ≡ true) × (all_scalars ys ≡ true)
-scalars-first [] ys h = (refl, h)
-scalars-first (c ∷ cs) ys h =
-    let p = and_parts _ (all_scalars (cs ++ ys)) h in
-    let q = scalars-first cs ys p.1 in
-    (and_from _ (all_scalars cs) p.0 q.0, q.1)
-
-either-text : (b : Bool) (xs ys : List ℕ) → all_scalars xs ≡ true → all_scalars ys ≡ true → all_scalars (if b then xs else ys) ≡ true
-either-text true xs ys x y = x
-either-text false xs ys x y = y
-
-name-text : (rs : List Rename) (i : ℕ) (text : List ℕ) → AreTexts rs → all_scalars text ≡ true → all_scalars (name_after rs i text) ≡ true
-name-text [] i text h e = e
-name-text (r ∷ rs) i text h e = either-text (r.number == i) r.new (name_after rs i text) h.0 (name-text rs i text h.1 e)
-
-renamed-text : (rs : List Rename) (i : ℕ) (ls : List Lexed) → AreTexts rs → all_scalars (texts ls) ≡ true → all_scalars (texts (renamed_from rs i ls)) ≡ true
-renamed-text rs i [] h e = refl
-renamed-text rs i (l ∷ ls) h e =
-    let p = scalars-first l.leaf.text (texts ls) e in
-    scalars-both (name_after rs i l.leaf.text) (texts (renamed_from rs (i + 1) ls)) (name-text rs i l.leaf.text h p.0) (renamed-text rs (i + 1) ls h p.1)
+all-texts : (d : State) (cs : List Change) (h : AreRenames d cs) → list_all (λ r. all_scalars r.new) (renames d cs h) ≡ true
+all-texts d [] h = refl
+all-texts d (c ∷ cs) h = and_from _ _ h.0.is_text (all-texts d cs h.1)
 
 -- The tree of a text, as one node.
-
-encoded : (text : List ℕ) → encode_utf8_all text ≡ flat_map encode_utf8 text
-encoded [] = refl
-encoded (c ∷ cs) = ap (λ (bs : List ℕ). encode_utf8 c ++ bs) (encoded cs)
 
 terms-mapped : (d : Dressed) → terms_of d ≡ dressed_forest encode_utf8 d
 terms-mapped dressed.End = refl
 terms-mapped (dressed.Leaf k t d) =
-    ap (λ (bs : List ℕ). leaf (record { kind = k; text = bs }) (terms_of d)) (encoded t)
+    ap (λ (bs : List ℕ). leaf (record { kind = k; text = bs }) (terms_of d)) (encodes-flat t)
     ∙ ap (λ (f : Forest). leaf (record { kind = k; text = flat_map encode_utf8 t }) f) (terms-mapped d)
 terms-mapped (dressed.Said m p d) = terms-mapped d
 terms-mapped (dressed.Node k c d) =
@@ -198,11 +162,6 @@ new-read d rs u plain here apart =
     ∙ ap (λ (f : forest.Forest). root_of (terms_of (dress_root f (leaves_of (new_leaves d rs))))) (new-forest d rs plain)
     ∙ ap root_of (new-dressed d rs u plain here apart)
 
--- its characters are scalar values
-new-scalars : (d : State) (rs : List Rename) → IsUtf8 d.text → AreTexts rs → all_scalars (new_text d rs) ≡ true
-new-scalars d rs u h =
-    renamed-text rs 0 (lexed d.edition (chars d.text)) h (ap all_scalars (leaves-joined d.edition (chars d.text)) ∙ scalars-chars d.text u)
-
 -- What a plain renaming makes of the present tree.
 record Renamed (d : State) (e : Editing) : Type 0 where
   placed : is_some (jobs e.top e.changes e.mapping) ≡ true
@@ -213,15 +172,15 @@ record Renamed (d : State) (e : Editing) : Type 0 where
 renamed-by :
     (d : State) (e : Editing) (rs : List Rename) → is_some (jobs e.top e.changes e.mapping) ≡ true
     → forest_in (rewriting e) ≡ node (present d).kind (new_tree d rs).forest empty → tree d.edition (new_text d rs) ≡ new_tree d rs
-    → all_scalars (new_text d rs) ≡ true → Renamed d e
-renamed-by d e rs placed own read scalars =
+    → all_scalars (new_text d rs) ≡ true → tree_count (new_tree d rs) ≡ tree_count (present d) → Renamed d e
+renamed-by d e rs placed own read scalars count =
     let tree_is : rewritten e ≡ new_tree d rs = ap root_of own in
     let text_is : chars (tree_text (rewritten e)) ≡ new_text d rs =
     ap (λ (t : Tree). chars (tree_text t)) (tree_is ∙ sym read) ∙ ap chars (tree-text d.edition (new_text d rs)) ∙ chars-encodes (new_text d rs) scalars in
     record {
       placed = placed;
       forest_is = own ∙ ap (λ (t : Tree). node t.kind t.forest empty) (sym tree_is);
-      count_is = ap forest_count own ∙ ap (λ (n : ℕ). 1 + n + 0) (keeps-counts (map names.replacement_of rs) (present d));
+      count_is = let all = ap forest_count own in omega (arith, all, count);
       reads = ap (λ (t : List ℕ). tree d.edition t) text_is ∙ read ∙ sym tree_is;
     }
 
@@ -241,7 +200,8 @@ renamed d e u h =
     ∙ made.1
     ∙ ap (λ (xs : List Replacement). node (present d).kind (with_leaves xs [] 0 (present d).forest) empty) same in
     let far : AreApart (map names.replacement_of rs) = subst AreApart same (are-apart cs apart) in
-    renamed-by d e rs placed own (new-read d rs u (all-plain d e.changes h.each) (all-in-tree d e.changes h.each) far) (new-scalars d rs u (all-texts d e.changes h.each))
+    renamed-by d e rs placed own (new-read d rs u (all-plain d e.changes h.each) (all-in-tree d e.changes h.each) far) (renamed-scalars d.edition (chars d.text) rs (scalars-chars d.text u) (all-texts d e.changes h.each))
+    (ap (λ (xs : List Replacement). tree_count (record { kind = (present d).kind; forest = with_leaves xs [] 0 (present d).forest })) (sym same) ∙ keeps-counts cs (present d))
 
 -- The verdict.
 

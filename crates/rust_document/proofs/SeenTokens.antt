@@ -1,5 +1,5 @@
 -- Tokens of a text's leaves, which stand apart from white space and comments.
-use Rattle.std.proofs.Common.{◌≡◌, ℕ, zero, suc, ◌+◌, ◌-◌, ◌≤◌, Bool, true, false, ◌==◌, List, [], ◌∷◌, length, take, drop, refl, sym, ap, ◌∙◌, arith, inl, inr, if◌then◌else◌}
+use Rattle.std.proofs.Common.{◌≡◌, ℕ, zero, suc, ◌+◌, ◌≤◌, Bool, true, false, ◌==◌, List, [], ◌∷◌, length, take, drop, refl, sym, ap, ◌∙◌, arith, inl, inr, if◌then◌else◌}
 use Rattle.std.specs.List.{prefix_len}
 use Rattle.std.proofs.lemmas.Bool.{cases_Bool, eqb-true, or_cases}
 use Rattle.parser_input.specs.Kinds.{FLOAT_NUMBER, WHITESPACE, COMMENT}
@@ -20,7 +20,7 @@ dot_of l = if l.kind == FLOAT_NUMBER then has_dot l.text else false
 
 unfoldable pub seen : Edition → List Leaf → List Seen
 seen e [] = []
-seen e (l ∷ ls) = let rest = seen e ls in if is_trivia l then rest else record { token = token_of e l ls; dot = dot_of l } ∷ rest
+seen e (l ∷ ls) = let rest = seen e ls in if is_trivia l then rest else record { token = token_of false e l ls; dot = dot_of l } ∷ rest
 
 unfoldable pub tokens : List Seen → List Token
 tokens [] = []
@@ -42,7 +42,7 @@ no-float l e = elim (or_cases (l.kind == WHITESPACE) (l.kind == COMMENT) e) [
   | inr i ↦ ap (λ (k : ℕ). k == FLOAT_NUMBER) (eqb-true l.kind COMMENT i)
 ]
 
-pub token-kind : (e : Edition) (l : Leaf) (ls : List Leaf) → (token_of e l ls).kind ≡ l.kind
+pub token-kind : (e : Edition) (l : Leaf) (ls : List Leaf) → (token_of false e l ls).kind ≡ l.kind
 unfolding token_of
 token-kind e l ls = refl
 
@@ -55,23 +55,23 @@ with-dot : (t : Token) (ts : List Token) (b : Bool) (bs : List Bool) → (t.kind
 unfolding together
 with-dot t ts b bs e = rw e refl
 
-pub seen-together : (e : Edition) (ls : List Leaf) → seen e ls ≡ together (input e ls) (dots ls)
+pub seen-together : (e : Edition) (ls : List Leaf) → seen e ls ≡ together (input false e ls) (dots ls)
 unfolding seen input dots dot_of together
 seen-together e [] = refl
 seen-together e (l ∷ ls) = elim (cases_Bool (is_trivia l)) [
   | inl i ↦ rw (i, no-float l i) (seen-together e ls)
   | inr i ↦ elim (cases_Bool (l.kind == FLOAT_NUMBER)) [
-    | inl j ↦ rw (i, j) (ap (λ (ss : List Seen). record { token = token_of e l ls; dot = has_dot l.text } ∷ ss) (seen-together e ls) ∙ sym (with-dot (token_of e l ls) (input e ls) (has_dot l.text) (dots ls) (ap (λ (k : ℕ). k == FLOAT_NUMBER) (token-kind e l ls) ∙ j)))
-    | inr j ↦ rw (i, j) (ap (λ (ss : List Seen). record { token = token_of e l ls; dot = false } ∷ ss) (seen-together e ls) ∙ sym (without (token_of e l ls) (input e ls) (dots ls) (ap (λ (k : ℕ). k == FLOAT_NUMBER) (token-kind e l ls) ∙ j)))
+    | inl j ↦ rw (i, j) (ap (λ (ss : List Seen). record { token = token_of false e l ls; dot = has_dot l.text } ∷ ss) (seen-together e ls) ∙ sym (with-dot (token_of false e l ls) (input false e ls) (has_dot l.text) (dots ls) (ap (λ (k : ℕ). k == FLOAT_NUMBER) (token-kind e l ls) ∙ j)))
+    | inr j ↦ rw (i, j) (ap (λ (ss : List Seen). record { token = token_of false e l ls; dot = false } ∷ ss) (seen-together e ls) ∙ sym (without (token_of false e l ls) (input false e ls) (dots ls) (ap (λ (k : ℕ). k == FLOAT_NUMBER) (token-kind e l ls) ∙ j)))
   ]
 ]
 
-pub tokens-seen : (e : Edition) (ls : List Leaf) → tokens (seen e ls) ≡ input e ls
+pub tokens-seen : (e : Edition) (ls : List Leaf) → tokens (seen e ls) ≡ input false e ls
 unfolding seen input tokens
 tokens-seen e [] = refl
 tokens-seen e (l ∷ ls) = elim (cases_Bool (is_trivia l)) [
   | inl i ↦ rw i (tokens-seen e ls)
-  | inr i ↦ rw i (ap (λ (ts : List Token). token_of e l ls ∷ ts) (tokens-seen e ls))
+  | inr i ↦ rw i (ap (λ (ts : List Token). token_of false e l ls ∷ ts) (tokens-seen e ls))
 ]
 
 pub tokens-drop : (n : ℕ) (ss : List Seen) → tokens (drop n ss) ≡ drop n (tokens ss)

@@ -75,8 +75,8 @@ pub all-pending : (e : Edition) (ls : List Leaf) → seen e ls ≡ [] → length
 unfolding seen
 all-pending e [] none = empty-pending
 all-pending e (l ∷ ls) none = elim (cases_Bool (is_trivia l)) [
-  | inl i ↦ let more = all-pending e ls (subst (λ (b : Bool). (if b then seen e ls else record { token = token_of e l ls; dot = dot_of l } ∷ seen e ls) ≡ []) i none) in let one = one-more l ls i in omega (arith, more, one)
-  | inr i ↦ absurd (let z : record { token = token_of e l ls; dot = dot_of l } ∷ seen e ls ≡ [] = subst (λ (b : Bool). (if b then seen e ls else record { token = token_of e l ls; dot = dot_of l } ∷ seen e ls) ≡ []) i none in cc)
+  | inl i ↦ let more = all-pending e ls (subst (λ (b : Bool). (if b then seen e ls else record { token = token_of false e l ls; dot = dot_of l } ∷ seen e ls) ≡ []) i none) in let one = one-more l ls i in omega (arith, more, one)
+  | inr i ↦ absurd (let z : record { token = token_of false e l ls; dot = dot_of l } ∷ seen e ls ≡ [] = subst (λ (b : Bool). (if b then seen e ls else record { token = token_of false e l ls; dot = dot_of l } ∷ seen e ls) ≡ []) i none in cc)
 ]
 
 -- the next leaf, where no white space or comment is next
@@ -86,7 +86,7 @@ solid-next l ls none = elim (cases_Bool (is_trivia l)) [
   | inl i ↦ absurd (let z : l ∷ pending ls ≡ [] = sym (pending-more l ls i) ∙ none in cc)
 ]
 
-seen-solid : (e : Edition) (l : Leaf) (ls : List Leaf) → is_trivia l ≡ false → seen e (l ∷ ls) ≡ record { token = token_of e l ls; dot = dot_of l } ∷ seen e ls
+seen-solid : (e : Edition) (l : Leaf) (ls : List Leaf) → is_trivia l ≡ false → seen e (l ∷ ls) ≡ record { token = token_of false e l ls; dot = dot_of l } ∷ seen e ls
 unfolding seen
 seen-solid e l ls i = rw i refl
 
@@ -100,8 +100,8 @@ float-dot : (e : Edition) (ls : List Leaf) (b : Bool) → pending ls ≡ [] → 
 unfolding seen is_float tokens next_text dot_of
 float-dot e [] b none f x xs is = absurd (true≢false (sym f))
 float-dot e (l ∷ ls) b none f x xs is =
-    let at : record { token = token_of e l ls; dot = dot_of l } ∷ seen e ls ≡ x ∷ xs = sym (seen-solid e l ls (solid-next l ls none)) ∙ is in
-    let own : dot_of l ≡ x.dot = let same : record { token = token_of e l ls; dot = dot_of l } ≡ x = cc in ap (λ (y : Seen). y.dot) same in
+    let at : record { token = token_of false e l ls; dot = dot_of l } ∷ seen e ls ≡ x ∷ xs = sym (seen-solid e l ls (solid-next l ls none)) ∙ is in
+    let own : dot_of l ≡ x.dot = let same : record { token = token_of false e l ls; dot = dot_of l } ≡ x = cc in ap (λ (y : Seen). y.dot) same in
     let kind : (l.kind == FLOAT_NUMBER) ≡ true = ap (λ (k : ℕ). k == FLOAT_NUMBER) (sym (token-kind e l ls)) ∙ and_l _ _ (subst (λ (ss : List Seen). is_float b (tokens ss) ≡ true) (seen-solid e l ls (solid-next l ls none)) f) in
     of-float l kind ∙ own
   where
@@ -394,14 +394,14 @@ module _ (e g : Edition) where
 
 pub kinds-follow :
     (x : Production) (first second : Edition) (a b : List ℕ)
-    → is_entry x ≡ true → input first (leaves_in first a) ≡ input second (leaves_in second b) → dots (leaves_in first a) ≡ dots (leaves_in second b)
+    → is_entry x ≡ true → input false first (leaves_in first a) ≡ input false second (leaves_in second b) → dots (leaves_in first a) ≡ dots (leaves_in second b)
     → kinds_of (tree_by x first a) ≡ kinds_of (tree_by x second b)
 unfolding tree_by dressed_by
 kinds-follow x first second a b entered same alike =
     let own = leaves_in first a in
     let other = leaves_in second b in
     let seen_same : seen first own ≡ seen second other =
-    seen-together first own ∙ ap (λ (ts : List Token). together ts (dots own)) same ∙ ap (λ (bs : List Bool). together (input second other) bs) alike ∙ sym (seen-together second other) in
-    rooted-alike first second (entry whole x (input first own)) own other (entry-rooted x (input first own) entered) seen_same
-    (subst (λ (ts : List Token). tokens_after (entry whole x (input first own)) ts ≡ Some []) (sym (tokens-seen first own)) (entries-in-order x (input first own)))
+    seen-together first own ∙ ap (λ (ts : List Token). together ts (dots own)) same ∙ ap (λ (bs : List Bool). together (input false second other) bs) alike ∙ sym (seen-together second other) in
+    rooted-alike first second (entry whole x (input false first own)) own other (entry-rooted x (input false first own) entered) seen_same
+    (subst (λ (ts : List Token). tokens_after (entry whole x (input false first own)) ts ≡ Some []) (sym (tokens-seen first own)) (entries-in-order x (input false first own)))
     ∙ ap (λ (ts : List Token). kinds_of (root_of (terms_of (dress_root (entry whole x ts) other)))) same

@@ -1,15 +1,17 @@
 -- No leaf of an entry's tree is white space or a comment.
 use Rattle.std.proofs.Common.{◌≡◌, ℕ, zero, suc, Bool, true, false, not, ◌&&◌, ◌||◌, ◌==◌, List, [], ◌∷◌, length, drop, Option, Some, None, unwrap_or, find, option_and_then, refl, sym, subst, inl, inr, if◌then◌else◌, true≢false}
 use Rattle.std.proofs.lemmas.Bool.{cases_Bool, eqb-true, or_cases}
-use Rattle.parser_input.specs.Kinds.{EOF, IDENT, WHITESPACE, COMMENT}
+use Rattle.parser_input.specs.Kinds.{EOF, IDENT, WHITESPACE, COMMENT, PIPE, PIPE_GT}
 use Rattle.parser_input.specs.Keywords.{Word, words, word_of, contextual_kind, is_contextual_in}
 use Rattle.parser_input.specs.Leaf.{Leaf, is_trivia}
-use Rattle.parser_input.specs.Input.{Token, input, token_of}
+use Rattle.parser_input.specs.Input.{Token, input, is_before_angle, token_of}
 use Rattle.parser_input.specs.declared.edition.Edition.{Edition}
+use Rattle.parser_input.specs.declared.edition.Edition.TheVariants.{EditionNext}
+use Rattle.parser_input.specs.Edition.{is_from}
 use Rattle.parser_events.specs.Forest as forest
 use Rattle.rust_grammar.specs.Rule.{Production, Spelling}
 use Rattle.rust_grammar.specs.Entry.{entry}
-use Rattle.rust_grammar.specs.Spelled.{marks, is_token, is_contextual, is_one_of, is_spelled, is_float, are_next, drop_if, then_after, tokens_after}
+use Rattle.rust_grammar.specs.Spelled.{marks, is_token, has_contextual, is_contextual, is_contextual_word, is_one_of, is_spelled, is_float, are_next, drop_if, then_after, tokens_after}
 use Rattle.rust_grammar.specs.Whole.{whole}
 use Rattle.rust_grammar.proofs.Covering.{after-some, dropped}
 use Rattle.rust_grammar.proofs.EntriesInOrder.{entries-in-order}
@@ -78,11 +80,15 @@ contextual-solid edition text = of (word_of text) refl
 
 token-solid : (edition : Edition) (l : Leaf) (ls : List Leaf) → is_trivia l ≡ false → (is_solid (token_of false edition l ls).kind && is_solid (token_of false edition l ls).contextual) ≡ true
 unfolding token_of is_solid is_trivia
-token-solid edition l ls own = both-true (is_solid l.kind) _ (rw own refl) (of (l.kind == IDENT))
+token-solid edition l ls own = both-true (is_solid l.kind) _ (rw own refl) (of (l.kind == IDENT) (l.kind == PIPE && (is_before_angle ls && is_from EditionNext edition)))
   where
-    of : (b : Bool) → is_solid (if b then unwrap_or (contextual_kind edition l.text) IDENT else EOF) ≡ true
-    of true = contextual-solid edition l.text
-    of false = plain-solid.1
+    mark : (b : Bool) → is_solid (if b then PIPE_GT else EOF) ≡ true
+    mark true = refl
+    mark false = plain-solid.1
+
+    of : (b c : Bool) → is_solid (if b then unwrap_or (contextual_kind edition l.text) IDENT else (if c then PIPE_GT else EOF)) ≡ true
+    of true c = contextual-solid edition l.text
+    of false c = mark c
 
 input-solid : (edition : Edition) (ls : List Leaf) → are_solid (input false edition ls) ≡ true
 unfolding input are_solid
@@ -101,27 +107,27 @@ drop-solid (suc n) (t ∷ ts) s = drop-solid n ts (and_r (is_solid t.kind && is_
 same-kind : (j k : ℕ) → (j == k) ≡ true → is_solid j ≡ true → is_solid k ≡ true
 same-kind j k e s = subst (λ (n : ℕ). is_solid n ≡ true) (eqb-true j k e) s
 
-word-solid : (k : ℕ) (ts : List Token) → are_solid ts ≡ true → (is_token k ts || is_contextual k ts) ≡ true → is_solid k ≡ true
-unfolding are_solid is_token is_contextual
+word-solid : (k : ℕ) (ts : List Token) → are_solid ts ≡ true → (is_token k ts || is_contextual_word k ts) ≡ true → is_solid k ≡ true
+unfolding are_solid is_token is_contextual is_contextual_word
 word-solid k [] s e = absurd (true≢false (sym e))
 word-solid k (t ∷ ts) s e =
     let own = and_l (is_solid t.kind && is_solid t.contextual) (are_solid ts) s in
-    elim (or_cases (t.kind == k) (t.contextual == k) e) [
+    elim (or_cases (t.kind == k) ((t.contextual == k) && not (k == PIPE_GT)) e) [
       | inl i ↦ same-kind t.kind k i (and_l (is_solid t.kind) (is_solid t.contextual) own)
-      | inr i ↦ same-kind t.contextual k i (and_r (is_solid t.kind) (is_solid t.contextual) own)
+      | inr i ↦ same-kind t.contextual k (and_l (t.contextual == k) (not (k == PIPE_GT)) i) (and_r (is_solid t.kind) (is_solid t.contextual) own)
     ]
 
 mark-solid : (rs : List Spelling) (k n : ℕ) (ts : List Token) → are_solid_marks rs ≡ true → is_one_of rs k n ts ≡ true → is_solid k ≡ true
 unfolding are_solid_marks is_one_of
 mark-solid [] k n ts s e = absurd (true≢false (sym e))
-mark-solid (x ∷ rs) k n ts s e = elim (or_cases ((x.kind == k) && (length x.parts == n) && are_next x.parts ts) (is_one_of rs k n ts) e) [
-  | inl i ↦ same-kind x.kind k (and_l (x.kind == k) (length x.parts == n) (and_l _ (are_next x.parts ts) i)) (and_l (is_solid x.kind) (are_solid_marks rs) s)
+mark-solid (x ∷ rs) k n ts s e = elim (or_cases ((x.kind == k) && (length x.parts == n) && (has_contextual x.contextual ts && are_next x.parts ts)) (is_one_of rs k n ts) e) [
+  | inl i ↦ same-kind x.kind k (and_l (x.kind == k) (length x.parts == n) (and_l _ (has_contextual x.contextual ts && are_next x.parts ts) i)) (and_l (is_solid x.kind) (are_solid_marks rs) s)
   | inr i ↦ mark-solid rs k n ts (and_r (is_solid x.kind) (are_solid_marks rs) s) i
 ]
 
 spelled-solid : (k n : ℕ) (ts : List Token) → are_solid ts ≡ true → is_spelled k n ts ≡ true → is_solid k ≡ true
 unfolding is_spelled
-spelled-solid k n ts s e = elim (or_cases ((n == 1) && (is_token k ts || is_contextual k ts)) (is_one_of marks k n ts) e) [
+spelled-solid k n ts s e = elim (or_cases ((n == 1) && (is_token k ts || is_contextual_word k ts)) (is_one_of marks k n ts) e) [
   | inl i ↦ word-solid k ts s (and_r (n == 1) _ i)
   | inr i ↦ mark-solid marks k n ts marks-solid i
 ]

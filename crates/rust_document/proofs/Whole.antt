@@ -26,7 +26,7 @@ use Rattle.rust_document.specs.declared.syntax_error.SyntaxError.{SyntaxError}
 
 -- an input has no more tokens than there are leaves
 pub tokens-within : (edition : Edition) (ls : List Lexed) → length (input false edition (leaves_of ls)) ≤ length ls
-tokens-within edition ls = omega (arith, input-most edition (leaves_of ls), length-map ls (λ (l : Lexed). l.leaf))
+tokens-within edition ls = omega (arith, input-most false edition (leaves_of ls), length-map ls (λ (l : Lexed). l.leaf))
 
 is-top : (top : TopEntryPoint) → is_entry (production_of top) ≡ true
 unfolding is_entry

@@ -65,7 +65,7 @@ abbrev pub KindsFollowInputs : Type 0
 KindsFollowInputs =
     (x : Production) (first second : Edition) (a b : List ℕ)
     → is_entry x ≡ true
-    → input first (leaves_in first a) ≡ input second (leaves_in second b)
+    → input false first (leaves_in first a) ≡ input false second (leaves_in second b)
     → dots (leaves_in first a) ≡ dots (leaves_in second b)
     → kinds_of (tree_by x first a) ≡ kinds_of (tree_by x second b)
 

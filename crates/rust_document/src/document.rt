@@ -298,7 +298,8 @@ impl Document {
         ensures refused { IfErr result (RefusesCommit (verdict self.old editor) ids.old) }
         ensures renames { IfErr result (λ error. IsPlainRenaming self.old editor
             → length (tree_text (rewritten editor)) ≤ MAX_TEXT → RefusesCommit Accepted ids.old error) }
-        ensures renamed { IsPlainRenaming self.old editor → IsReadExactly self.old editor }
+        ensures renamed { OnOk result (IsPlainRenaming self.old editor
+            → IsReadExactly self.old editor) }
         ensures kept { IfErr result (λ _. (self.new ≡ self.old) × (ids.new ≡ ids.old)) }
     {
         if !self.is_of(&editor) {

@@ -15,7 +15,11 @@ use rustc_lexer::is_ident;
 pub fn is_plain_name(edition: Edition, name: &str) -> bool
     ensures { result ≡ is_plain_name edition (chars name.now) }
 {
-    is_ident(name)
-        && word_kind(edition, name) == SyntaxKind::IDENT
-        && contextual_keyword(edition, name).is_none()
+    if !is_ident(name) {
+        return false;
+    }
+    match word_kind(edition, name) {
+        SyntaxKind::IDENT => contextual_keyword(edition, name).is_none(),
+        _ => false,
+    }
 }

@@ -1,5 +1,5 @@
 //! Reads a text.
-ghost use Rattle.std.specs.Prelude.{◌≡◌, ◌<◌, ◌≤◌, ◌++◌, length, map, chars, encode_utf8_all, IfOk, OnOk};
+ghost use Rattle.std.specs.Prelude.{◌≡◌, false, ◌<◌, ◌≤◌, ◌++◌, length, map, chars, encode_utf8_all, IfOk, OnOk};
 ghost use Rattle.parser_input.specs.Lexed.{frontmatter_leaf, leaves_of, shebang_leaf};
 ghost use Rattle.parser_input.specs.Preface.{shebang_piece, source};
 ghost use Rattle.parser_input.specs.Stored.{whole_of};
@@ -54,7 +54,7 @@ fn parsed(
         (steps (forest_by (production_of entry) lexed.now.edition (leaves_of lexed.now.leaves)))
         (leaves_of lexed.now.leaves) p.built.root p.built.errors.items) }
     ensures steps { IfOk result (λ p. p.steps ≤ steps_for
-        (input lexed.now.edition (leaves_of lexed.now.leaves))) }
+        (input false lexed.now.edition (leaves_of lexed.now.leaves))) }
 {
     let input = lexed.to_input(alloc)?;
     let output = match entry.parse(alloc, &input) {

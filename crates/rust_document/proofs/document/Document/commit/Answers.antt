@@ -7,6 +7,7 @@ use Rattle.std.proofs.lemmas.Result.{err_from_is_err_and}
 use Rattle.rust_document.proofs.Verdicts.{foreign, refused, accepted, without_tree}
 use Rattle.rust_document.proofs.PlainRenamings.{read-exactly, renaming-refused}
 use Rattle.rust_document.specs.Open.{IsOpened}
+use Rattle.rust_document.specs.declared.error.CommitError.TheVariants.{Foreign}
 use Rattle.rust_document.proofs.document.Document.commit.Goals as goal
 
 pub returns-then-not-is_of-clause-refused : goal.returns-then-not-is_of-clause-refused
@@ -31,7 +32,7 @@ returns-in_err-renew-clause-refused c =
 pub returns-then-not-is_of-clause-renames : goal.returns-then-not-is_of-clause-renames
 returns-then-not-is_of-clause-renames c =
     let same = ap (λ (s : State). s.text) c.self.view_is in
-    renaming-refused c.args.self.now c.args.editor _ _ (subst IsUtf8 same (IsUtf8-string_bytes c.self.inside.text)) (subst IsOpened same c.self.invariant.0)
+    renaming-refused c.args.self.now c.args.editor c.args.ids.now Foreign (subst IsUtf8 same (IsUtf8-string_bytes c.self.inside.text)) (subst IsOpened same c.self.invariant.0)
     (foreign c.args.self.now c.args.editor _ c.is_of.ensures c.if-not-is_of.true)
 
 pub returns-in_err-text-clause-renames : goal.returns-in_err-text-clause-renames
@@ -51,3 +52,8 @@ returns-in_err-renew-clause-renames c =
     (without_tree _ c.args.ids.now c.in_err-renew.field-0.0
     (accepted c.args.self.now c.args.editor _ _ _ _ _ c.is_of.ensures c.if-not-is_of.false (ap (λ (s : State). s.edition) c.self.view_is) c.in_ok-text.ensures.ok)
     c.in_err-renew.ensures.refused))
+
+pub returns-clause-renamed : goal.returns-clause-renamed
+returns-clause-renamed c =
+    let same = ap (λ (s : State). s.text) c.self.view_is in
+    read-exactly c.args.self.now c.args.editor (subst IsUtf8 same (IsUtf8-string_bytes c.self.inside.text))
