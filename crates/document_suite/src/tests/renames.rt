@@ -61,7 +61,7 @@ const PLAIN: &[Rename] = &[
         errors: &[
             (0, "expected an item"),
             (1, "expected an item"),
-            (2, "expected an item"),
+            (4, "expected an item"),
         ],
     },
 ];
@@ -178,7 +178,7 @@ fn several_names_are_renamed_at_once(rt: HostRuntime) -> Result<(), Fail> {
     Ok(())
 }
 
-/// Renames the name after so many spaces to one of two bytes.
+/// Renames the name after `count` spaces to one of two bytes.
 fn renamed_at_the_limit(alloc: Global, count: usize) -> Result<Option<CommitError>, Fail> {
     let mut ids = TreeIds::starting_at(2);
     let mut text = spaces(alloc, count)?;
