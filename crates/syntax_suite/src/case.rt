@@ -378,9 +378,22 @@ fn is_made_in_each(
     Ok(true)
 }
 
-/// Whether it does so in each order that the case names, and in the plan's own.
+/// Returns `true` if the plan admits none of the orders that the case says are refused.
+fn are_refused(alloc: Global, case: &Value, plan: &Plan) -> anyhow::Result<bool> {
+    let Some(orders) = case.get("refused_orders") else {
+        return Ok(true);
+    };
+    for order in list(orders)? {
+        if plan.is_order(&numbers(alloc, order)?) {
+            return Ok(false);
+        }
+    }
+    Ok(true)
+}
+
+/// Whether it does so in each order that the case names, and in the plan's own, and refuses the orders that the case refuses.
 fn is_executed(alloc: Global, case: &Value, plan: &Plan) -> anyhow::Result<bool> {
-    if plan.len() != number(case, "kept")? {
+    if plan.len() != number(case, "kept")? || !are_refused(alloc, case, plan)? {
         return Ok(false);
     }
     let in_each = match case.get("orders") {
