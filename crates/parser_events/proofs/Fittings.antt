@@ -1,5 +1,5 @@
 -- Steps that fit the leaves of a text, one after another.
-use Rattle.std.proofs.Common.{◌≡◌, ◌≤◌, ◌<◌, ◌==◌, ℕ, zero, suc, ◌+◌, ◌-◌, Bool, true, false, not, ◌&&◌, List, [], ◌∷◌, Option, Some, None, MatchOption, length, get_or, drop, map, reverse, if◌then◌else◌, refl, ap, sym, ◌∙◌, arith}
+use Rattle.std.proofs.Common.{◌≡◌, ◌≤◌, ◌<◌, ◌==◌, ℕ, zero, suc, ◌+◌, ◌-◌, Bool, true, false, not, ◌&&◌, List, [], ◌∷◌, Option, Some, None, MatchOption, length, drop, map, if◌then◌else◌, refl, ap, sym, ◌∙◌, arith}
 use Rattle.std.proofs.lemmas.Bool.Decides.{Decides-eqb}
 use Rattle.std.proofs.lemmas.List.{drop-drop, drop_all, length-drop, length-map}
 use Rattle.parser_input.specs.Input.{ends_in_dot}
@@ -16,7 +16,6 @@ use Rattle.parser_events.specs.Steps as walk
 use Rattle.parser_events.specs.declared.step.Step.{Step}
 use Rattle.parser_events.proofs.Comments.{same}
 use Rattle.parser_events.proofs.Coverings.{both}
-use Rattle.parser_events.proofs.Insides.{steps_left, left-step, left-all}
 use Rattle.parser_events.proofs.Places.{is-trivia, leaf-next, pending_at}
 
 own-length : (ls : List Lexed) → length (leaves_of ls) ≡ length ls
@@ -85,29 +84,26 @@ split-misfits ls expected start first e u ss =
 
 -- All steps.
 
--- those before a number fit, and those from there on fit the leaves that are left just where all fit
-pub record Covering (ls : List Lexed) (ss : List Step) (left next : ℕ) : Type 0 where
+-- the steps before these fit, and these fit the leaves that are left just where all fit
+pub record Covering (ls : List Lexed) (all rest : List Step) (next : ℕ) : Type 0 where
   pub within : next ≤ length ls
-  pub some : left ≤ length ss
-  pub same : covers (steps_left ss left) (drop next (leaves_of ls)) ≡ covers (map step_of (reverse ss)) (leaves_of ls)
+  pub same : covers (map step_of rest) (drop next (leaves_of ls)) ≡ covers (map step_of all) (leaves_of ls)
 
-pub covering-begins : (ls : List Lexed) (ss : List Step) (n : ℕ) → n ≡ length ss → Covering ls ss n 0
-covering-begins ls ss n e =
-    record { within = omega arith; some = omega (arith, e); same = ap (λ (r : List walk.Step). covers r (leaves_of ls)) (left-all ss n e) }
+pub covering-begins : (ls : List Lexed) (all : List Step) → Covering ls all all 0
+covering-begins ls all = record { within = omega arith; same = refl }
 
-pub covering-goes : (ls : List Lexed) (ss : List Step) (left next place : ℕ) (d : Step) → Covering ls ss left next → 0 < left →
-    Leads ls (step_of (get_or ss (left - 1) d)) next place → Covering ls ss (left - 1) place
-covering-goes ls ss left next place d c some l =
+pub covering-goes : (ls : List Lexed) (all rest after : List Step) (step : Step) (next place : ℕ) → Covering ls all rest next → rest ≡ step ∷ after →
+    Leads ls (step_of step) next place → Covering ls all after place
+covering-goes ls all rest after step next place c is l =
     record {
       within = l.within;
-      some = omega (arith, c.some);
-      same = sym (l.rest (steps_left ss (left - 1))) ∙ ap (λ (r : List walk.Step). covers r (drop next (leaves_of ls))) (sym (left-step ss left d some c.some)) ∙ c.same;
+      same = sym (l.rest (map step_of after)) ∙ ap (λ (r : List Step). covers (map step_of r) (drop next (leaves_of ls))) (sym is) ∙ c.same;
     }
 
-pub covering-fails : (ls : List Lexed) (ss : List Step) (left next : ℕ) (d : Step) → Covering ls ss left next → 0 < left →
-    Misfits ls (step_of (get_or ss (left - 1) d)) next → false ≡ covers (map step_of (reverse ss)) (leaves_of ls)
-covering-fails ls ss left next d c some m =
-    sym (m (steps_left ss (left - 1))) ∙ ap (λ (r : List walk.Step). covers r (drop next (leaves_of ls))) (sym (left-step ss left d some c.some)) ∙ c.same
+pub covering-fails : (ls : List Lexed) (all rest after : List Step) (step : Step) (next : ℕ) → Covering ls all rest next → rest ≡ step ∷ after →
+    Misfits ls (step_of step) next → false ≡ covers (map step_of all) (leaves_of ls)
+covering-fails ls all rest after step next c is m =
+    sym (m (map step_of after)) ∙ ap (λ (r : List Step). covers (map step_of r) (drop next (leaves_of ls))) (sym is) ∙ c.same
 
 none-length : (xs : List leaves.Leaf) → is_none_left xs ≡ true → length xs ≡ 0
 none-length [] h = refl
@@ -123,14 +119,14 @@ none-left n xs h =
     (λ e. length-none (drop n xs) (let is = (Decides-eqb n (length xs)).0 e in omega (arith, is, length-drop n xs)))
     (λ e. (Decides-eqb n (length xs)).1 (omega (arith, h, none-length (drop n xs) e, length-drop n xs)))
 
-pub covering-ends : (ls : List Lexed) (ss : List Step) (left next first : ℕ) → Covering ls ss left next → left ≤ 0 →
-    first ≡ next + pending_at ls next → first ≤ length ls → (first == length ls) ≡ covers (map step_of (reverse ss)) (leaves_of ls)
-covering-ends ls ss left next first c last e within =
+pub covering-ends : (ls : List Lexed) (all rest : List Step) (next first : ℕ) → Covering ls all rest next → rest ≡ [] →
+    first ≡ next + pending_at ls next → first ≤ length ls → (first == length ls) ≡ covers (map step_of all) (leaves_of ls)
+covering-ends ls all rest next first c is e within =
     let own = leaves_of ls in
     ap (λ (k : ℕ). first == k) (sym (own-length ls))
     ∙ none-left first own (omega (arith, within, own-length ls))
     ∙ ap is_none_left (sym (from-at ls next first e))
-    ∙ ap (λ (k : ℕ). covers (steps_left ss k) (drop next own)) (let z : 0 ≡ left = omega (arith, last) in z)
+    ∙ ap (λ (r : List Step). covers (map step_of r) (drop next own)) (sym is)
     ∙ c.same
 
 -- Leaves that a leaf of several tokens stands over.

@@ -17,3 +17,4 @@ pub mod Walks
 pub mod Dots
 pub mod Insides
 pub mod Roots
+pub mod Packings

@@ -8,6 +8,7 @@ pub mod Nodes
 pub mod Stack
 pub mod Unwinding
 pub mod Seen
+pub mod PackedSteps
 pub mod View
 pub mod Codes
 pub mod Laws

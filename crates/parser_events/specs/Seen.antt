@@ -45,4 +45,4 @@ pending_of p = record { kind = raw_of p.kind; start = p.start }
 
 -- the steps from front to end, and the nodes from the innermost on
 abbrev pub state_of : Unwinding → unwinding.Unwound
-state_of u = record { pending = map pending_of (reverse u.pending.items); laid = map step_of (reverse u.steps.items) }
+state_of u = record { pending = map pending_of (reverse u.pending.items); laid = map step_of u.steps }

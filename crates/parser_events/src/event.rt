@@ -9,7 +9,7 @@ use parser_input::syntax_kind::SyntaxKind;
 pub(crate) enum Event {
     Token {
         kind: SyntaxKind,
-        n_input_tokens: u8,
+        n_input_tokens: usize,
     },
     Error {
         msg: Message,

@@ -1,6 +1,6 @@
 //! Whether a parser's steps are those of one tree over the leaves of a text.
 
-ghost use Rattle.std.specs.Prelude.{◌≡◌, ◌≤◌, ◌<◌, ◌+◌, ◌==◌, ◌&&◌, ℕ, List, ◌∷◌, MatchOption, false, true, chars, drop, length, map, reverse};
+ghost use Rattle.std.specs.Prelude.{◌≡◌, ◌≤◌, ◌<◌, ◌+◌, ◌==◌, ◌&&◌, ℕ, List, ◌∷◌, MatchOption, false, true, chars, drop, length, map};
 ghost use Rattle.parser_input.specs.Input.{ends_in_dot};
 ghost use Rattle.parser_input.specs.Kind.{raw_of};
 ghost use Rattle.parser_input.specs.Kinds.{FLOAT_NUMBER};
@@ -11,6 +11,7 @@ ghost use Rattle.parser_events.specs.Seen.{step_of};
 ghost use Rattle.parser_events.specs.Steps as steps;
 
 use crate::step::Step;
+use crate::step_list::Steps;
 use crate::trivia::pending_end;
 use parser_input::lexed_str::LexedStr;
 use parser_input::syntax_kind::SyntaxKind;
@@ -32,18 +33,19 @@ fn is_enter(step: Step) -> bool
     }
 }
 
-/// Whether the steps inside a root, which are given last one first, leave it by the last one alone.
-fn leaves_root(backwards: &[Step]) -> bool
-    ensures { result ≡ leaves_root 0 (map step_of (reverse backwards.now)) }
+/// Returns `true` if the steps inside a root leave it by the last of them alone.
+fn leaves_root(mut steps: Steps<'_>) -> bool
+    ensures { result ≡ leaves_root 0 (map step_of steps.entry) }
 {
+    // There are no more levels than steps.
+    let _most = steps.len();
     let mut level = 0usize;
-    let mut left = backwards.len();
-    'steps: while 0 < left {
-        match backwards[left - 1] {
+    'steps: while let Some(step) = steps.take_first() {
+        match step {
             Step::Enter { kind: _ } => level += 1,
             Step::Exit => {
                 if level == 0 {
-                    return left == 1;
+                    return steps.len() == 0;
                 }
                 level -= 1;
             }
@@ -59,28 +61,28 @@ fn leaves_root(backwards: &[Step]) -> bool
             } => {}
             Step::Error { msg: _ } => {}
         }
-        left -= 1;
     }
     false
 }
 
-/// Whether one node stands around all steps, which are given last one first.
-pub(crate) fn has_one_root(backwards: &[Step]) -> bool
-    ensures { result ≡ has_one_root (map step_of (reverse backwards.now)) }
+/// Returns `true` if one node is around all steps.
+pub(crate) fn has_one_root(mut steps: Steps<'_>) -> bool
+    ensures { result ≡ has_one_root (map step_of steps.entry) }
 {
-    let last = backwards.len();
-    if last == 0 {
-        return false;
+    match steps.take_first() {
+        Some(first) => {
+            if !is_enter(first) {
+                return false;
+            }
+            leaves_root(steps)
+        }
+        None => false,
     }
-    if !is_enter(backwards[last - 1]) {
-        return false;
-    }
-    leaves_root(&backwards[..last - 1])
 }
 
 /// The number of the leaf after so many, from one on; none where one of them is white space or a
 /// comment, or the end comes before that.
-fn unbroken_end(lexed: &LexedStr<'_>, start: usize, n: u8) -> Option<usize>
+fn unbroken_end(lexed: &LexedStr<'_>, start: usize, n: usize) -> Option<usize>
     requires { start ≤ length lexed.now.leaves }
     ensures { MatchOption result (is_unbroken n (drop start (leaves_of lexed.now.leaves)) ≡ false)
         (λ end. (end ≡ start + n) × (is_unbroken n (drop start (leaves_of lexed.now.leaves)) ≡ true)) }
@@ -128,7 +130,7 @@ fn is_split_at(lexed: &LexedStr<'_>, expected: bool, i: usize) -> bool
 
 /// The leaf that a step over so many tokens leads to, from one on; none where white space, a
 /// comment or the end stands between the tokens.
-fn after_token(lexed: &LexedStr<'_>, n: u8, start: usize) -> Option<usize>
+fn after_token(lexed: &LexedStr<'_>, n: usize, start: usize) -> Option<usize>
     requires { start ≤ length lexed.now.leaves }
     ensures { MatchOption result ((kind : ℕ) → Misfits lexed.now.leaves (steps.Token kind n) start)
         (λ next. (kind : ℕ) → Leads lexed.now.leaves (steps.Token kind n) start next) }
@@ -175,20 +177,17 @@ fn after_step(lexed: &LexedStr<'_>, step: Step, start: usize) -> Option<usize>
     }
 }
 
-/// Whether the steps, which are given last one first, take the tokens of a text one after another,
-/// all of them, with no white space or comment inside a leaf, and split each float as its text
-/// says.
-pub(crate) fn covers(backwards: &[Step], lexed: &LexedStr<'_>) -> bool
-    ensures { result ≡ covers (map step_of (reverse backwards.now)) (leaves_of lexed.now.leaves) }
+/// Returns `true` if the steps take the tokens of a text one after another, all of them, with no
+/// whitespace or comment inside a leaf, and split each float as its text says.
+pub(crate) fn covers(mut steps: Steps<'_>, lexed: &LexedStr<'_>) -> bool
+    ensures { result ≡ covers (map step_of steps.entry) (leaves_of lexed.now.leaves) }
 {
     let mut next = 0;
-    let mut left = backwards.len();
-    'steps: while 0 < left {
-        match after_step(lexed, backwards[left - 1], next) {
+    'steps: while let Some(step) = steps.take_first() {
+        match after_step(lexed, step, next) {
             Some(place) => next = place,
             None => return false,
         }
-        left -= 1;
     }
     pending_end(lexed, next) == lexed.len()
 }

@@ -17,6 +17,7 @@ mod recorder;
 mod room;
 pub mod shortcuts;
 pub mod step;
+mod step_list;
 pub mod str_sink;
 pub mod str_step;
 mod trivia;

@@ -1,7 +1,6 @@
 //! What a parser gives: the steps of its trees.
 
-ghost use Rattle.std.specs.Prelude.{◌≡◌, IfOk, map, reverse};
-ghost use Rattle.std.specs.Iterator.{YieldsFirst, item_count};
+ghost use Rattle.std.specs.Prelude.{◌≡◌, IfOk, map};
 ghost use Rattle.parser_input.specs.Lexed.{leaves_of};
 ghost use Rattle.parser_events.specs.Fits.{fits};
 ghost use Rattle.parser_events.specs.Seen.{step_of};
@@ -9,6 +8,8 @@ ghost use Rattle.parser_events.specs.View.{Parsed};
 
 use crate::fits::{covers, has_one_root};
 use crate::step::Step;
+use crate::step_list::StepList;
+pub use crate::step_list::Steps;
 use parser_input::lexed_str::LexedStr;
 use std::alloc::{AllocError, Global};
 use std::marker::Model;
@@ -16,26 +17,25 @@ use std::marker::Model;
 /// The steps of a parser's trees, and how many looks the parser made.
 #[derive(Drop)]
 pub struct Output {
-    /// The last one first.
-    steps: Vec<Step>,
+    steps: StepList,
     looks: u64,
 }
 
 impl Model for Output {
-    ghost use Rattle.std.specs.Prelude.{map, reverse};
+    ghost use Rattle.std.specs.Prelude.{map};
     ghost use Rattle.parser_events.specs.View.{Parsed};
 
     ghost Value = { Parsed };
 
     ghost use Rattle.parser_events.specs.Seen.{step_of};
 
-    ghost view = { λ o. record { steps = map step_of (reverse o.steps.items); looks = o.looks } };
+    ghost view = { λ o. record { steps = map step_of o.steps; looks = o.looks } };
 }
 
 impl Output {
-    /// The steps that are given here last one first, after so many looks.
-    pub(crate) fn from_backwards(steps: Vec<Step>, looks: u64) -> Output
-        ensures { result ≡ record { steps = map step_of (reverse steps.items); looks = looks } }
+    /// Returns an output of these steps, after so many looks.
+    pub(crate) fn new(steps: StepList, looks: u64) -> Output
+        ensures { result ≡ record { steps = map step_of steps; looks = looks } }
     {
         Output { steps, looks }
     }
@@ -44,23 +44,15 @@ impl Output {
     pub fn from_steps(alloc: Global, steps: &[Step]) -> Result<Output, AllocError>
         ensures { IfOk result (λ output. output ≡ record { steps = map step_of steps.now; looks = 0 }) }
     {
-        let mut backwards = Vec::from_slice(alloc, steps)?;
-        backwards.reverse();
-        Ok(Output::from_backwards(backwards, 0))
-    }
-
-    /// The steps of the trees, the last one first.
-    pub(crate) fn backwards(&self) -> &[Step]
-        ensures { map step_of (reverse result.now) ≡ self.now.steps }
-    {
-        &self.steps
+        let steps = StepList::from_slice(alloc, steps)?;
+        Ok(Output::new(steps, 0))
     }
 
     /// The steps of the trees, in order.
     pub fn iter(&self) -> Steps<'_>
         ensures { map step_of result ≡ self.now.steps }
     {
-        Steps { rest: &self.steps }
+        self.steps.iter()
     }
 
     /// How many looks at kinds of the input were made. It stays at 2^64 - 1.
@@ -77,36 +69,6 @@ impl Output {
     pub fn fits(&self, lexed: &LexedStr<'_>) -> bool
         ensures { result ≡ fits self.now.steps (leaves_of lexed.now.leaves) }
     {
-        has_one_root(&self.steps) && covers(&self.steps, lexed)
-    }
-}
-
-/// The steps of an output that are left. Contracts see it as the list of them.
-#[derive(Drop)]
-pub struct Steps<'a> {
-    /// The last one first.
-    rest: &'a [Step],
-}
-
-impl<'a> Model for Steps<'a> {
-    ghost use Rattle.std.specs.Prelude.{List, reverse};
-    ghost use Rattle.parser_events.specs.declared.step.Step.{Step};
-
-    ghost Value = { List Step };
-
-    ghost view = { λ s. reverse s.rest.now };
-}
-
-impl<'a> Iterator for Steps<'a> {
-    type Item = Step;
-
-    ghost next_gives = { YieldsFirst (λ s. s) };
-
-    ghost remaining = { item_count (λ s. s) };
-
-    fn next(&mut self) -> Option<Step> {
-        let (step, rest) = self.rest.split_last()?;
-        self.rest = rest;
-        Some(*step)
+        has_one_root(self.iter()) && covers(self.iter(), lexed)
     }
 }

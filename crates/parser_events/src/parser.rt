@@ -96,8 +96,8 @@ impl<'t> Parser<'t> {
         SyntaxKind::EOF
     }
 
-    /// Adds a leaf over the next tokens.
-    pub fn token(&mut self, kind: SyntaxKind, n: u8)
+    /// Adds a leaf over the next `n` tokens.
+    pub fn token(&mut self, kind: SyntaxKind, n: usize)
         requires some { 1 ≤ n }
         requires left { self.old.position + n ≤ length self.old.input }
         ensures nodes { Becomes (with_tree (Leaf (raw_of kind) n End)) self.old.nodes self.new.nodes }
@@ -107,7 +107,7 @@ impl<'t> Parser<'t> {
             kind,
             n_input_tokens: n,
         });
-        self.left -= usize::from(n);
+        self.left -= n;
     }
 
     /// Adds a message.
@@ -118,8 +118,10 @@ impl<'t> Parser<'t> {
         self.recorder.record(Event::Error { msg });
     }
 
-    /// The kind that the word of the identifier so far ahead has as a contextual keyword, or
-    /// `IDENT`; `EOF` at any other token and past the end. This is no look.
+    /// Returns the contextual kind of the token `n` tokens ahead: of an identifier, its kind as a
+    /// contextual keyword, or `IDENT` if it is none; in edition next, `PIPE_GT` of a `PIPE` that a
+    /// `R_ANGLE` directly follows; `EOF` of any other token and past the end. It counts no
+    /// lookahead.
     pub fn contextual_at(&self, n: usize) -> SyntaxKind
         ensures { raw_of result ≡ (token_at self.now.input (self.now.position + n)).contextual }
     {
@@ -210,8 +212,8 @@ impl<'t> Parser<'t> {
             looks,
             recorder,
         } = self;
-        let steps = recorder.steps_backwards()?;
-        Ok(Output::from_backwards(steps, looks))
+        let steps = recorder.steps()?;
+        Ok(Output::new(steps, looks))
     }
 }
 

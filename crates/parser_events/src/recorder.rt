@@ -1,6 +1,6 @@
 //! The record of a parser: flat lists, in which nothing is written twice.
 
-ghost use Rattle.std.specs.Prelude.{◌≡◌, ◌-◌, ◌≤◌, ◌↔◌, List, ◌∷◌, [], true, length, map, reverse, Some, None, IfOk, IsErr};
+ghost use Rattle.std.specs.Prelude.{◌≡◌, ◌-◌, ◌≤◌, ◌↔◌, List, ◌∷◌, [], true, length, map, Some, None, IfOk, IsErr};
 ghost use Rattle.parser_events.specs.Marked.{Marked, walk};
 ghost use Rattle.parser_events.specs.Nodes.{Kept, record_of, all_entries, begins, IsClosing, with_entry, opened_at, opened_here, innermost, left_out, closed_as, split_as};
 ghost use Rattle.parser_events.specs.Stack.{Becomes, IsAmong, total_size};
@@ -9,8 +9,8 @@ ghost use Rattle.parser_input.specs.Kind.{raw_of};
 
 use crate::event::Event;
 use crate::room::with_room;
-use crate::step::Step;
-use crate::unwinding::steps_backwards;
+use crate::step_list::StepList;
+use crate::unwinding::unwind;
 use parser_input::syntax_kind::SyntaxKind;
 use std::alloc::{AllocError, Global};
 use std::marker::Model;
@@ -123,16 +123,16 @@ impl Recorder {
         self.record(Event::Split { ends_in_dot, start });
     }
 
-    /// The steps of the recorded trees, the last one first.
-    pub(crate) fn steps_backwards(self) -> Result<Vec<Step>, AllocError>
+    /// Returns the steps of the recorded trees.
+    pub(crate) fn steps(self) -> Result<StepList, AllocError>
         ensures steps { IfOk result (λ steps. (f : Marked) → self ≡ Some (record_of (f ∷ []))
-            → map step_of (reverse steps.items) ≡ walk f) }
+            → map step_of steps ≡ walk f) }
         ensures refused { self ≡ None → IsErr result }
     {
         if self.refused {
             return Err(AllocError);
         }
-        steps_backwards(self.alloc, &self.events)
+        unwind(self.alloc, &self.events)
     }
 
     /// Whether a node that was closed is one of the trees of the innermost open node: by the number

@@ -1,6 +1,6 @@
 //! A parser's trees with their text: what a sink is given of it.
 
-ghost use Rattle.std.specs.Prelude.{◌≡◌, ◌≤◌, ◌+◌, ◌++◌, List, [], ◌∷◌, MatchOption, true, chars, length, drop, map, reverse, slice_range, OnOk, IfOk, IfErr};
+ghost use Rattle.std.specs.Prelude.{◌≡◌, ◌≤◌, ◌+◌, ◌++◌, List, [], ◌∷◌, MatchOption, true, chars, length, drop, map, slice_range, OnOk, IfOk, IfErr};
 ghost use Rattle.parser_input.specs.Kind.{raw_of};
 ghost use Rattle.parser_input.specs.Leaf.{Leaf};
 ghost use Rattle.parser_input.specs.Lexed.{leaves_of};
@@ -18,6 +18,7 @@ use crate::float_parts::put_float;
 use crate::message::Message;
 use crate::output::Output;
 use crate::step::Step;
+use crate::step_list::Steps;
 use crate::str_sink::StrSink;
 use crate::str_step::StrStep;
 use crate::trivia::{attached_from, pending_end};
@@ -107,7 +108,7 @@ pub(crate) fn start_of(lexed: &LexedStr<'_>, i: usize) -> usize
 }
 
 /// The number of the leaf after so many tokens of the input, from a leaf on.
-pub(crate) fn token_end(lexed: &LexedStr<'_>, start: usize, n: u8) -> usize
+pub(crate) fn token_end(lexed: &LexedStr<'_>, start: usize, n: usize) -> usize
     requires { start ≤ length lexed.now.leaves }
     ensures end { result ≡ start + reach n (drop start (leaves_of lexed.now.leaves)) }
     ensures within { result ≤ length lexed.now.leaves }
@@ -130,7 +131,7 @@ pub(crate) fn token_end(lexed: &LexedStr<'_>, start: usize, n: u8) -> usize
 pub(crate) fn put_token<S: StrSink>(
     lexed: &LexedStr<'_>,
     kind: SyntaxKind,
-    n: u8,
+    n: usize,
     start: usize,
     sink: &mut S,
 ) -> Result<usize, S::Error>
@@ -307,28 +308,28 @@ fn put_end<S: StrSink>(lexed: &LexedStr<'_>, start: usize, sink: &mut S) -> Resu
     }
 }
 
-/// Puts what the steps after the root's first one put, which are given last one first.
+/// Puts what the steps after the root's first one put.
 fn put_inside<S: StrSink>(
     lexed: &LexedStr<'_>,
-    backwards: &[Step],
+    mut steps: Steps<'_>,
     sink: &mut S,
 ) -> Result<(), S::Error>
     ensures taken { OnOk result (TakesAll S.takes sink.old
-        (put_inside (map step_of (reverse backwards.now)) (place_at lexed.now.leaves 0)) sink.new) }
+        (put_inside (map step_of steps.entry) (place_at lexed.now.leaves 0)) sink.new) }
     ensures refused { IfErr result (λ error. RefusesOne S.takes S.refuses sink.old
-        (put_inside (map step_of (reverse backwards.now)) (place_at lexed.now.leaves 0)) error sink.new) }
+        (put_inside (map step_of steps.entry) (place_at lexed.now.leaves 0)) error sink.new) }
 {
-    let mut left = backwards.len();
-    if left == 0 {
-        return Ok(());
-    }
+    let mut step = match steps.take_first() {
+        Some(first) => first,
+        None => return Ok(()),
+    };
     let mut next = 0;
-    'steps: while 1 < left {
-        match put_step(lexed, backwards[left - 1], next, sink) {
+    'steps: while let Some(following) = steps.take_first() {
+        match put_step(lexed, step, next, sink) {
             Ok(place) => next = place,
             Err(error) => return Err(error),
         }
-        left -= 1;
+        step = following;
     }
     match put_end(lexed, next, sink) {
         Ok(()) => Ok(()),
@@ -365,12 +366,12 @@ fn put_output<S: StrSink>(
     ensures refused { IfErr result (λ error. RefusesOne S.takes S.refuses sink.old
         (put_around output.now.steps (leaves_of lexed.now.leaves)) error sink.new) }
 {
-    let backwards = output.backwards();
-    let last = backwards.len();
-    if last == 0 {
-        return Ok(());
-    }
-    let kind = match entered(backwards[last - 1]) {
+    let mut steps = output.iter();
+    let first = match steps.take_first() {
+        Some(first) => first,
+        None => return Ok(()),
+    };
+    let kind = match entered(first) {
         Some(kind) => kind,
         None => return Ok(()),
     };
@@ -378,7 +379,7 @@ fn put_output<S: StrSink>(
         Ok(()) => {}
         Err(error) => return Err(error),
     }
-    match put_inside(lexed, &backwards[..last - 1], sink) {
+    match put_inside(lexed, steps, sink) {
         Ok(()) => Ok(()),
         Err(error) => Err(error),
     }

@@ -9,8 +9,8 @@ pub enum Step {
     /// A leaf over the next tokens of the input.
     Token {
         kind: SyntaxKind,
-        /// How many tokens of the input it stands over.
-        n_input_tokens: u8,
+        /// The number of tokens of the input that it consists of.
+        n_input_tokens: usize,
     },
     /// A float after a dot. It ends the field access that was entered last, which is left, and what
     /// the float has after its first dot follows.

@@ -1,6 +1,6 @@
 //! From the record of a parser to steps, from the last entry to the first.
 
-ghost use Rattle.std.specs.Prelude.{◌≡◌, ◌≤◌, ◌<◌, length, map, reverse, IfOk, OnOk, OnSome, MatchOption, ◌∷◌};
+ghost use Rattle.std.specs.Prelude.{◌≡◌, ◌≤◌, ◌<◌, length, map, IfOk, OnOk, OnSome, MatchOption, ◌∷◌};
 ghost use Rattle.parser_events.specs.Marked.{Marked, walk};
 ghost use Rattle.parser_events.specs.Nodes.{entries};
 ghost use Rattle.parser_events.specs.Seen.{event_of, state_of, step_of};
@@ -8,8 +8,8 @@ ghost use Rattle.parser_events.specs.Unwinding.{begun, passed};
 ghost use Rattle.parser_input.specs.Kind.{raw_of};
 
 use crate::event::Event;
-use crate::room::with_room;
 use crate::step::Step;
+use crate::step_list::StepList;
 use parser_input::syntax_kind::SyntaxKind;
 use std::alloc::{AllocError, Global};
 
@@ -20,18 +20,17 @@ pub(crate) struct Pending {
     start: usize,
 }
 
-/// The steps after a place, the last one first, and the nodes that go on before it, the outermost
-/// first.
+/// The steps after a place, and the nodes that go on before it, the outermost first.
 #[derive(Drop)]
 pub(crate) struct Unwinding {
-    steps: Vec<Step>,
+    steps: StepList,
     pending: Vec<Pending>,
 }
 
 impl Unwinding {
     // Takes the innermost pending node, if it begins here.
     fn begun_at(&mut self, index: usize) -> Option<SyntaxKind>
-        ensures steps { self.new.steps.items ≡ self.old.steps.items }
+        ensures steps { self.new.steps ≡ self.old.steps }
         ensures cases { MatchOption result (begun index (state_of self.old).pending
             (state_of self.old).laid ≡ state_of self.new) (λ kind. (state_of self.old).pending ≡
             record { kind = raw_of kind; start = index } ∷ (state_of self.new).pending) }
@@ -107,15 +106,15 @@ impl Unwinding {
     }
 }
 
-/// The steps of the recorded trees, the last one first.
-pub(crate) fn steps_backwards(alloc: Global, events: &[Event]) -> Result<Vec<Step>, AllocError>
+/// Returns the steps of the recorded trees.
+pub(crate) fn unwind(alloc: Global, events: &[Event]) -> Result<StepList, AllocError>
     ensures { IfOk result (λ steps. (f : Marked) → map event_of events.now ≡ entries 0 f
-        → map step_of (reverse steps.items) ≡ walk f) }
+        → map step_of steps ≡ walk f) }
 {
     // A closed node has two steps, any other entry one.
     let most = events.len().saturating_mul(2);
     let mut unwinding = Unwinding {
-        steps: with_room(alloc, most),
+        steps: StepList::new(alloc, most),
         pending: Vec::new(alloc),
     };
     let mut index = events.len();

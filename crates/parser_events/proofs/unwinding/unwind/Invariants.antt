@@ -1,7 +1,7 @@
 use Rattle.std.proofs.Common.{◌≡◌, ◌≤◌, [], length, map, reverse, take}
 use Rattle.parser_events.specs.Seen.{event_of, state_of}
 use Rattle.parser_events.specs.Unwinding.{unwind}
-use Rattle.parser_events.proofs.unwinding.steps_backwards.Given as goal
+use Rattle.parser_events.proofs.unwinding.unwind.Given as goal
 
 abbrev pub invariant-entries : goal.invariant-entries
 invariant-entries l =

@@ -4,7 +4,7 @@ use Rattle.parser_events.specs.Nodes.{Entry}
 use Rattle.parser_events.specs.Seen.{state_of}
 use Rattle.parser_events.specs.Unwinding.{Unwound, unwind}
 use Rattle.parser_events.proofs.Unwound.{unwind-end, unwind-all, state}
-use Rattle.parser_events.proofs.unwinding.steps_backwards.Goals as goal
+use Rattle.parser_events.proofs.unwinding.unwind.Goals as goal
 
 pub returns : goal.returns
 returns c f is =
