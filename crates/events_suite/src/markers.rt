@@ -77,6 +77,24 @@ fn tokens_and_a_message_in_a_node(rt: HostRuntime) -> Result<(), AllocError> {
 }
 
 #[test]
+fn leaf_over_300_tokens(rt: HostRuntime) -> Result<(), AllocError> {
+    let mut input = Input::with_capacity(rt.alloc(), 300)?;
+    for _ in 0..300 {
+        input.push_ident(SyntaxKind::IDENT)?;
+    }
+    assert!(rt; input.len() == 300);
+    let mut parser = Parser::new(rt.alloc(), &input);
+    parser.token(SyntaxKind::IDENT, 300);
+    let output = parser.finish()?;
+    let leaf = Step::Token {
+        kind: SyntaxKind::IDENT,
+        n_input_tokens: 300,
+    };
+    assert!(rt; has_steps(&output, &[leaf]));
+    Ok(())
+}
+
+#[test]
 fn an_empty_node_beside_an_abandoned_one(rt: HostRuntime) -> Result<(), AllocError> {
     let input = three_words(rt.alloc())?;
     let mut parser = Parser::new(rt.alloc(), &input);

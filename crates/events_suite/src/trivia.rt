@@ -375,6 +375,33 @@ fn steps_that_fit(rt: HostRuntime) -> Result<(), AllocError> {
     Ok(())
 }
 
+/// Returns the steps of a file with one leaf over `n_input_tokens` tokens.
+fn one_leaf(n_input_tokens: usize) -> [Step; 3] {
+    [
+        FILE,
+        Step::Token {
+            kind: SyntaxKind::SEMICOLON,
+            n_input_tokens,
+        },
+        Step::Exit,
+    ]
+}
+
+#[test]
+fn only_leaf_over_all_300_tokens_fits(rt: HostRuntime) -> Result<(), AllocError> {
+    let text = ";".repeat(rt.alloc(), 300)?;
+    for (n, fit) in [
+        (44, false),
+        (255, false),
+        (299, false),
+        (300, true),
+        (301, false),
+    ] {
+        assert!(rt; do_fit(rt.alloc(), &text, &one_leaf(n))? == fit, "{n}");
+    }
+    Ok(())
+}
+
 #[test]
 fn texts_of_messages(rt: HostRuntime) -> Result<(), AllocError> {
     for (message, want) in [
