@@ -390,7 +390,13 @@ fn one_leaf(n_input_tokens: usize) -> [Step; 3] {
 #[test]
 fn only_leaf_over_all_300_tokens_fits(rt: HostRuntime) -> Result<(), AllocError> {
     let text = ";".repeat(rt.alloc(), 300)?;
-    for (n, fit) in [(44, false), (255, false), (299, false), (300, true), (301, false)] {
+    for (n, fit) in [
+        (44, false),
+        (255, false),
+        (299, false),
+        (300, true),
+        (301, false),
+    ] {
         assert!(rt; do_fit(rt.alloc(), &text, &one_leaf(n))? == fit, "{n}");
     }
     Ok(())

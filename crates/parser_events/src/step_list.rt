@@ -1,7 +1,7 @@
 //! Lists of steps, each in eight bytes at most.
 //!
-//! A step as such would be three times as long, since the length of a leaf is a `usize`. Nearly all
-//! lengths fit into one byte, so that the others are in a list of their own.
+//! A [`Step`] takes more, since the length of a leaf is a `usize`. Nearly all lengths fit into one
+//! byte; the others are in a list of their own.
 
 ghost use Rattle.std.specs.Prelude.{◌≡◌, [], ◌∷◌, ◌++◌, MatchOption, IfErr, IfOk, OnOk, length, reverse};
 ghost use Rattle.parser_events.specs.PackedSteps.{Packs, lengths_after, unpacked};
@@ -15,7 +15,7 @@ use parser_input::syntax_kind::SyntaxKind;
 use std::alloc::{AllocError, Global};
 use std::marker::Model;
 
-/// A step whose length, if it has one, is a byte or in the list of long lengths.
+/// A step. The length of a leaf is a byte, or is in the list of long lengths.
 #[derive(Clone, Copy)]
 enum Entry {
     Token {
@@ -120,7 +120,7 @@ fn unpack(entry: Entry, long: &[usize]) -> (Step, &[usize])
     }
 }
 
-/// Appends an entry and its long length, or neither.
+/// Appends `entry` and its long length. On error, both lists are unchanged.
 fn push_both(
     entries: &mut Vec<Entry>,
     long: &mut Vec<usize>,
@@ -142,7 +142,7 @@ fn push_both(
     }
 }
 
-/// Steps that are put together from the last one to the first. Contracts see the list of them.
+/// A list of steps, built from the last one to the first. Model: the steps, in order.
 #[derive(Drop)]
 pub(crate) struct StepList {
     /// The last one first.
@@ -163,7 +163,7 @@ impl Model for StepList {
 }
 
 impl StepList {
-    /// Returns an empty list, with room for `count` steps unless that is refused.
+    /// Returns an empty list, with room for `count` steps unless that allocation fails.
     pub(crate) fn new(alloc: Global, count: usize) -> StepList
         ensures { result ≡ [] }
     {
@@ -186,11 +186,11 @@ impl StepList {
         Ok(list)
     }
 
-    /// Puts `step` before the others.
+    /// Inserts `step` before the others.
     ///
     /// # Errors
     ///
-    /// `AllocError` if a growth is refused. The list is unchanged.
+    /// `AllocError` if an allocation fails. On error, the list is unchanged.
     pub(crate) fn push(&mut self, step: Step) -> Result<(), AllocError>
         ensures pushed { OnOk result (self.new ≡ step ∷ self.old) }
         ensures unchanged { IfErr result (λ _. self.new ≡ self.old) }
@@ -216,7 +216,7 @@ impl StepList {
     }
 }
 
-/// The steps of an output that are left. Contracts see it as the list of them.
+/// An iterator over the steps of an output. Model: the remaining steps, in order.
 #[derive(Drop)]
 pub struct Steps<'a> {
     /// The last one first.
@@ -237,14 +237,14 @@ impl<'a> Model for Steps<'a> {
 }
 
 impl<'a> Steps<'a> {
-    /// Returns the number of steps that are left.
+    /// Returns the number of remaining steps.
     pub(crate) fn len(&self) -> usize
         ensures { result ≡ length self.now }
     {
         self.entries.len()
     }
 
-    /// Returns the next step, which is no longer left.
+    /// Removes and returns the next step.
     pub(crate) fn take_first(&mut self) -> Option<Step>
         ensures { MatchOption result ((self.old ≡ []) × (self.new ≡ []))
             (λ step. self.old ≡ step ∷ self.new) }

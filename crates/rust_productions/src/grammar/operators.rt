@@ -316,5 +316,5 @@ pub fn take_operator(p: &mut Parser<'_>, operator: Operator)
     ensures left { tokens p.new + 1 ≤ tokens p.old }
     ensures looks { spent p.new + 4096 ≤ spent p.old }
 {
-    p.token(operator.kind, usize::from(operator.width));
+    p.token(operator.kind, operator.width as usize);
 }
