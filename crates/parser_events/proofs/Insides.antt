@@ -1,5 +1,5 @@
 -- What the steps inside a root put.
-use Rattle.std.proofs.Common.{◌≡◌, ◌≤◌, ℕ, List, [], ◌∷◌, ◌++◌, length, drop, map, refl, ap, sym, subst, ◌∙◌, append_assoc, arith}
+use Rattle.std.proofs.Common.{◌≡◌, ◌≤◌, ◌<◌, ℕ, List, [], ◌∷◌, ◌++◌, length, drop, map, refl, ap, sym, subst, ◌∙◌, append_assoc, arith}
 use Rattle.parser_input.specs.Lexed.{Lexed, leaves_of}
 use Rattle.parser_events.specs.Dress.{joined}
 use Rattle.parser_events.specs.Laying.{Lays, Place, after_step, place_at, put_around, put_by, put_inside}
@@ -10,67 +10,74 @@ use Rattle.parser_events.specs.TextSteps.{TextStep, Enter, Exit, leaf_steps}
 use Rattle.parser_events.specs.declared.step.Step.{Step}
 use Rattle.parser_events.proofs.Sinks.{takes-then, refuses-in, refuses-after}
 
--- The steps before this one were put: they put what all do, with this one and those after it.
-pub record Inside {S : Type 0} (takes : S → TextStep → S → Type 0) (ls : List Lexed) (all : List Step) (old : S) (step : Step) (rest : List Step) (next : ℕ) (new : S) : Type 0 where
+inside-more : (step : Step) (after : List Step) (s : Place) → 0 < length after →
+    put_inside (step_of step ∷ map step_of after) s ≡ put_by (step_of step) s ++ put_inside (map step_of after) (after_step (step_of step) s)
+inside-more step [] s some = absurd (omega (arith, some))
+inside-more step (x ∷ after) s some = refl
+
+inside-last : (step : Step) (after : List Step) (s : Place) → length after ≡ 0 → put_inside (step_of step ∷ map step_of after) s ≡ leaf_steps s.left ++ Exit ∷ []
+inside-last step [] s none = refl
+inside-last step (x ∷ after) s none = absurd (omega (arith, none))
+
+-- The steps before the rest were put: they and the rest put what all do.
+pub record Inside {S : Type 0} (takes : S → TextStep → S → Type 0) (ls : List Lexed) (all : List Step) (old : S) (rest : List Step) (next : ℕ) (new : S) : Type 0 where
   pub at : next ≤ length ls
   pub done : List TextStep
   pub taken : TakesAll takes old done new
-  pub are : put_inside (map step_of all) (place_at ls 0) ≡ done ++ put_inside (step_of step ∷ map step_of rest) (place_at ls next)
+  pub are : put_inside (map step_of all) (place_at ls 0) ≡ done ++ put_inside (map step_of rest) (place_at ls next)
 
-pub inside-begins : {S : Type 0} (takes : S → TextStep → S → Type 0) (ls : List Lexed) (all rest : List Step) (old : S) (step : Step) → all ≡ step ∷ rest → Inside takes ls all old step rest 0 old
-inside-begins takes ls all rest old step is =
-    record {
-      at = omega arith;
-      done = [];
-      taken = refl;
-      are = ap (λ (r : List Step). put_inside (map step_of r) (place_at ls 0)) is;
-    }
+pub inside-begins : {S : Type 0} (takes : S → TextStep → S → Type 0) (ls : List Lexed) (all : List Step) (old : S) → Inside takes ls all old all 0 old
+inside-begins takes ls all old = record { at = omega arith; done = []; taken = refl; are = refl }
 
-inside-next : {S : Type 0} (takes : S → TextStep → S → Type 0) (ls : List Lexed) (all rest after : List Step) (old mid : S) (step following : Step) (next : ℕ) →
-    (i : Inside takes ls all old step rest next mid) → rest ≡ following ∷ after →
+inside-next : {S : Type 0} (takes : S → TextStep → S → Type 0) (ls : List Lexed) (all rest after : List Step) (old mid : S) (step : Step) (next : ℕ) →
+    (i : Inside takes ls all old rest next mid) → rest ≡ step ∷ after → 0 < length after →
     put_inside (map step_of all) (place_at ls 0)
-    ≡ (i.done ++ put_by (step_of step) (place_at ls next)) ++ put_inside (step_of following ∷ map step_of after) (after_step (step_of step) (place_at ls next))
-inside-next takes ls all rest after old mid step following next i is =
-    i.are ∙ ap (λ (r : List Step). i.done ++ put_inside (step_of step ∷ map step_of r) (place_at ls next)) is ∙ sym (append_assoc i.done _ _)
+    ≡ (i.done ++ put_by (step_of step) (place_at ls next)) ++ put_inside (map step_of after) (after_step (step_of step) (place_at ls next))
+inside-next takes ls all rest after old mid step next i is some =
+    i.are
+    ∙ ap (λ (r : List Step). i.done ++ put_inside (map step_of r) (place_at ls next)) is
+    ∙ ap (λ (r : List TextStep). i.done ++ r) (inside-more step after (place_at ls next) some)
+    ∙ sym (append_assoc i.done _ _)
 
-pub inside-goes : {S : Type 0} (takes : S → TextStep → S → Type 0) (ls : List Lexed) (all rest after : List Step) (old mid new : S) (step following : Step) (next place : ℕ) →
-    Inside takes ls all old step rest next mid → rest ≡ following ∷ after → Lays takes ls (step_of step) next mid place new → Inside takes ls all old following after place new
-inside-goes takes ls all rest after old mid new step following next place i is l =
+pub inside-goes : {S : Type 0} (takes : S → TextStep → S → Type 0) (ls : List Lexed) (all rest after : List Step) (old mid new : S) (step : Step) (next place : ℕ) →
+    Inside takes ls all old rest next mid → rest ≡ step ∷ after → 0 < length after → Lays takes ls (step_of step) next mid place new → Inside takes ls all old after place new
+inside-goes takes ls all rest after old mid new step next place i is some l =
     let done : List TextStep = i.done ++ put_by (step_of step) (place_at ls next) in
     record {
       at = l.within;
       done = done;
       taken = takes-then takes old mid new i.done (put_by (step_of step) (place_at ls next)) i.taken l.taken;
-      are = inside-next takes ls all rest after old mid step following next i is
-          ∙ ap (λ (p : Place). done ++ put_inside (step_of following ∷ map step_of after) p) (sym l.at);
+      are = inside-next takes ls all rest after old mid step next i is some ∙ ap (λ (p : Place). done ++ put_inside (map step_of after) p) (sym l.at);
     }
 
-pub inside-refused : {S E : Type 0} (takes : S → TextStep → S → Type 0) (refuses : S → TextStep → E → S → Type 0) (ls : List Lexed) (all rest after : List Step) (old mid new : S) (e : E) (step following : Step) (next : ℕ) →
-    Inside takes ls all old step rest next mid → rest ≡ following ∷ after → RefusesOne takes refuses mid (put_by (step_of step) (place_at ls next)) e new →
+pub inside-refused : {S E : Type 0} (takes : S → TextStep → S → Type 0) (refuses : S → TextStep → E → S → Type 0) (ls : List Lexed) (all rest after : List Step) (old mid new : S) (e : E) (step : Step) (next : ℕ) →
+    Inside takes ls all old rest next mid → rest ≡ step ∷ after → 0 < length after → RefusesOne takes refuses mid (put_by (step_of step) (place_at ls next)) e new →
     RefusesOne takes refuses old (put_inside (map step_of all) (place_at ls 0)) e new
-inside-refused takes refuses ls all rest after old mid new e step following next i is r =
+inside-refused takes refuses ls all rest after old mid new e step next i is some r =
     let own = put_by (step_of step) (place_at ls next) in
-    subst (λ (x : List TextStep). RefusesOne takes refuses old x e new) (sym (inside-next takes ls all rest after old mid step following next i is))
+    subst (λ (x : List TextStep). RefusesOne takes refuses old x e new) (sym (inside-next takes ls all rest after old mid step next i is some))
     (refuses-in takes refuses old new e (i.done ++ own) _ (refuses-after takes refuses old mid new e i.done own i.taken r))
 
-inside-all : {S : Type 0} (takes : S → TextStep → S → Type 0) (ls : List Lexed) (all rest : List Step) (old mid : S) (step : Step) (next : ℕ) →
-    (i : Inside takes ls all old step rest next mid) → rest ≡ [] →
+inside-all : {S : Type 0} (takes : S → TextStep → S → Type 0) (ls : List Lexed) (all rest after : List Step) (old mid : S) (step : Step) (next : ℕ) →
+    (i : Inside takes ls all old rest next mid) → rest ≡ step ∷ after → length after ≡ 0 →
     put_inside (map step_of all) (place_at ls 0) ≡ i.done ++ (leaf_steps (drop next (leaves_of ls)) ++ Exit ∷ [])
-inside-all takes ls all rest old mid step next i is =
-    i.are ∙ ap (λ (r : List Step). i.done ++ put_inside (step_of step ∷ map step_of r) (place_at ls next)) is
+inside-all takes ls all rest after old mid step next i is none =
+    i.are
+    ∙ ap (λ (r : List Step). i.done ++ put_inside (map step_of r) (place_at ls next)) is
+    ∙ ap (λ (r : List TextStep). i.done ++ r) (inside-last step after (place_at ls next) none)
 
-pub inside-ends : {S : Type 0} (takes : S → TextStep → S → Type 0) (ls : List Lexed) (all rest : List Step) (old mid new : S) (step : Step) (next : ℕ) →
-    Inside takes ls all old step rest next mid → rest ≡ [] → TakesAll takes mid (leaf_steps (drop next (leaves_of ls)) ++ Exit ∷ []) new →
+pub inside-ends : {S : Type 0} (takes : S → TextStep → S → Type 0) (ls : List Lexed) (all rest after : List Step) (old mid new : S) (step : Step) (next : ℕ) →
+    Inside takes ls all old rest next mid → rest ≡ step ∷ after → length after ≡ 0 → TakesAll takes mid (leaf_steps (drop next (leaves_of ls)) ++ Exit ∷ []) new →
     TakesAll takes old (put_inside (map step_of all) (place_at ls 0)) new
-inside-ends takes ls all rest old mid new step next i is t =
-    subst (λ (x : List TextStep). TakesAll takes old x new) (sym (inside-all takes ls all rest old mid step next i is))
+inside-ends takes ls all rest after old mid new step next i is none t =
+    subst (λ (x : List TextStep). TakesAll takes old x new) (sym (inside-all takes ls all rest after old mid step next i is none))
     (takes-then takes old mid new i.done (leaf_steps (drop next (leaves_of ls)) ++ Exit ∷ []) i.taken t)
 
-pub inside-end-refused : {S E : Type 0} (takes : S → TextStep → S → Type 0) (refuses : S → TextStep → E → S → Type 0) (ls : List Lexed) (all rest : List Step) (old mid new : S) (e : E) (step : Step) (next : ℕ) →
-    Inside takes ls all old step rest next mid → rest ≡ [] → RefusesOne takes refuses mid (leaf_steps (drop next (leaves_of ls)) ++ Exit ∷ []) e new →
+pub inside-end-refused : {S E : Type 0} (takes : S → TextStep → S → Type 0) (refuses : S → TextStep → E → S → Type 0) (ls : List Lexed) (all rest after : List Step) (old mid new : S) (e : E) (step : Step) (next : ℕ) →
+    Inside takes ls all old rest next mid → rest ≡ step ∷ after → length after ≡ 0 → RefusesOne takes refuses mid (leaf_steps (drop next (leaves_of ls)) ++ Exit ∷ []) e new →
     RefusesOne takes refuses old (put_inside (map step_of all) (place_at ls 0)) e new
-inside-end-refused takes refuses ls all rest old mid new e step next i is r =
-    subst (λ (x : List TextStep). RefusesOne takes refuses old x e new) (sym (inside-all takes ls all rest old mid step next i is))
+inside-end-refused takes refuses ls all rest after old mid new e step next i is none r =
+    subst (λ (x : List TextStep). RefusesOne takes refuses old x e new) (sym (inside-all takes ls all rest after old mid step next i is none))
     (refuses-after takes refuses old mid new e i.done (leaf_steps (drop next (leaves_of ls)) ++ Exit ∷ []) i.taken r)
 
 -- the whole: a root's first step, and those inside it

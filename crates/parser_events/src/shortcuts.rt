@@ -319,22 +319,17 @@ fn put_inside<S: StrSink>(
     ensures refused { IfErr result (λ error. RefusesOne S.takes S.refuses sink.old
         (put_inside (map step_of steps.entry) (place_at lexed.now.leaves 0)) error sink.new) }
 {
-    let mut step = match steps.take_first() {
-        Some(first) => first,
-        None => return Ok(()),
-    };
     let mut next = 0;
-    'steps: while let Some(following) = steps.take_first() {
+    'steps: while let Some(step) = steps.take_first() {
+        if steps.len() == 0 {
+            return put_end(lexed, next, sink);
+        }
         match put_step(lexed, step, next, sink) {
             Ok(place) => next = place,
             Err(error) => return Err(error),
         }
-        step = following;
     }
-    match put_end(lexed, next, sink) {
-        Ok(()) => Ok(()),
-        Err(error) => Err(error),
-    }
+    Ok(())
 }
 
 /// The kind of the node that a step enters.

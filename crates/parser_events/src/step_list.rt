@@ -121,6 +121,7 @@ fn unpack(entry: Entry, long: &[usize]) -> (Step, &[usize])
 }
 
 /// Appends `entry` and its long length. On error, both lists are unchanged.
+#[cold]
 fn push_both(
     entries: &mut Vec<Entry>,
     long: &mut Vec<usize>,
@@ -191,6 +192,7 @@ impl StepList {
     /// # Errors
     ///
     /// `AllocError` if an allocation fails. On error, the list is unchanged.
+    #[inline(always)]
     pub(crate) fn push(&mut self, step: Step) -> Result<(), AllocError>
         ensures pushed { OnOk result (self.new ≡ step ∷ self.old) }
         ensures unchanged { IfErr result (λ _. self.new ≡ self.old) }
