@@ -1,8 +1,10 @@
--- What was written where a run stopped.
-use Rattle.std.proofs.Common.{◌≡◌, ℕ, List, ap, ◌∙◌, subst, Option, Some, None, Result, Ok, Err}
-use Rattle.std.specs.Prelude.{OnErr, IfSome}
+-- What was written where a run stopped, and calls that did not fail.
+use Rattle.std.proofs.Common.{◌≡◌, ℕ, List, refl, ap, ◌∙◌, subst, Option, Some, None, Result, Ok, Err}
+use Rattle.std.specs.Prelude.{Bool, false, OnErr, IfSome}
+use Rattle.std.proofs.lemmas.Bool.{ne_eqb}
 use Rattle.document_requests.specs.Device.{AppendsFront}
 use Rattle.document_requests.specs.Output.{Output, replies}
+use Rattle.document_requests.specs.Watched.{first_call, is_failed_write}
 
 -- what holds in any case holds of a refusal
 pub of_refusal : {T E : Type 0} (r : Result T E) (P : Type 0) → P → OnErr r P
@@ -21,3 +23,15 @@ pub front_of_input :
 front_of_input (Ok x) known old new read o front is all = tt
 front_of_input (Err e) None old new read o front is all = tt
 front_of_input (Err e) (Some input) old new read o front is all = subst (λ (o : Output). AppendsFront old new o.written) (is ∙ ap replies all) front
+
+same-first : (first : Option ℕ) (call : ℕ) → first_call first false call ≡ first
+same-first None call = refl
+same-first (Some n) call = refl
+
+-- a write that takes something is not the first call that failed
+pub no-failure :
+    {E : Type 0} (r : Result ℕ E) (n : ℕ) (first now : Option ℕ) (call : ℕ)
+    → now ≡ first_call first (is_failed_write r) call → r ≡ Ok n → (n ≡ 0 → ⊥) → now ≡ first
+no-failure r n first now call is done some =
+    let failed : is_failed_write r ≡ false = ap is_failed_write done ∙ ne_eqb n 0 some in
+    is ∙ ap (λ (b : Bool). first_call first b call) failed ∙ same-first first call

@@ -7,5 +7,6 @@ pub mod Runs
 pub mod Requests
 pub mod Fronts
 pub mod Named
+pub mod Numbers
 pub mod Rows
 pub mod Ranges

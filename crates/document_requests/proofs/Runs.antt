@@ -1,7 +1,7 @@
 -- Commands one after another.
 use Rattle.std.proofs.Common.{◌≡◌, ℕ, zero, suc, ◌+◌, ◌<◌, List, [], ◌∷◌, ◌++◌, length, get_or, take, map, refl, sym, ap, ◌∙◌, arith, append_assoc}
 use Rattle.std.proofs.lemmas.List.{append-nil, take_all}
-use Rattle.document_requests.specs.Applied.{Runs}
+use Rattle.document_requests.specs.Applied.{Runs, RunsFront, TakesSome}
 use Rattle.document_requests.specs.Answered.{reply as answered}
 use Rattle.document_requests.specs.Asked.{command}
 use Rattle.document_requests.specs.Reply.{Reply}
@@ -58,3 +58,26 @@ map_last (x ∷ replies) r = ap (λ rs. answered x ∷ rs) (map_last replies r)
 -- a reply more
 pub pushed : (old mid new : List ReplyCode) (r : ReplyCode) → mid ≡ old → new ≡ mid ++ r ∷ [] → map answered new ≡ map answered old ++ answered r ∷ []
 pushed old mid new r same more = ap (map answered) (more ∙ ap (λ rs. rs ++ r ∷ []) same) ∙ map_last old r
+
+-- the command after those that were run was stopped
+pub stopped :
+    (commands : List Command) (i : ℕ) (c : Command) (s : Session) (earlier told : List Reply) (now after : Session)
+    → i < length commands → c ≡ get_or commands i c
+    → Runs (take i (map command commands)) s earlier told now
+    → after.document ≡ now.document → TakesSome now.next after.next (answer (command c) now).after.next
+    → RunsFront (map command commands) s earlier told after
+stopped commands i c s earlier told now after within is before same took =
+    let r = run (take i (map command commands)) s in
+    let more : run (take (i + 1) (map command commands)) s ≡ ended r (answer (command c) r.after) = run_last commands i c s within is in
+    let next : (run (take (i + 1) (map command commands)) s).after.next ≡ (answer (command c) now).after.next =
+    ap (λ (x : Run). x.after.next) more ∙ ap (λ (x : Session). (answer (command c) x).after.next) (sym before.1) in
+    let now_is : now.next ≡ r.after.next = ap (λ (x : Session). x.next) before.1 in
+    let least = took.0 in
+    let most = took.1 in
+    record {
+      count = i;
+      fewer = omega (arith, within, length-commands commands);
+      told = before.0;
+      same = same ∙ ap (λ (x : Session). x.document) before.1;
+      numbers = (omega (arith, least, now_is), omega (arith, most, next));
+    }

@@ -1,5 +1,5 @@
 -- What code tells of commands.
-use Rattle.std.specs.Prelude.{◌≡◌, ℕ, List, ◌++◌, take}
+use Rattle.std.specs.Prelude.{◌≡◌, ◌<◌, ◌≤◌, ℕ, ◌+◌, List, ◌++◌, length, take}
 use Rattle.rust_document.specs.Step.{State}
 use Rattle.rust_document.specs.declared.error.CommitError.{CommitError}
 use Rattle.rust_document.specs.declared.error.CommitError.TheVariants as commits
@@ -39,9 +39,18 @@ IsStopped a after NoMemory = Unit {0}
 abbrev pub Runs : List Command → Session → List answered.Reply → List answered.Reply → Session → Type 0
 Runs commands s earlier replies after = let r = run commands s in (replies ≡ earlier ++ r.replies) × (after ≡ r.after)
 
--- The first of the commands were run. Numbers of trees may have been taken since.
-abbrev pub RunsFront : List Command → Session → List answered.Reply → List answered.Reply → State → Type 0
-RunsFront commands s earlier replies document = (n : ℕ) × (let r = run (take n commands) s in (replies ≡ earlier ++ r.replies) × (document ≡ r.after.document))
+-- A command was stopped: of the tree numbers that it takes, some were taken.
+abbrev pub TakesSome : ℕ → ℕ → ℕ → Type 0
+TakesSome before next after = (before ≤ next) × (next ≤ after)
+
+-- The first `count` of the commands were run, which are not all, and the one after them was stopped: the document is as they left it,
+-- and of the tree numbers that this one takes, some were taken.
+pub record RunsFront (commands : List Command) (s : Session) (earlier replies : List answered.Reply) (after : Session) : Type 0 where
+  pub count : ℕ
+  pub fewer : count < length commands
+  pub told : replies ≡ earlier ++ (run (take count commands) s).replies
+  pub same : after.document ≡ (run (take count commands) s).after.document
+  pub numbers : TakesSome (run (take count commands) s).after.next after.next (run (take (count + 1) commands) s).after.next
 
 abbrev pub stop_of_payload : PayloadError → Stop
 stop_of_payload payloads.NotOneToken = Refused refusals.Payload

@@ -4,7 +4,7 @@ use Rattle.std.specs.Io.KnownBytes.{Appends}
 use Rattle.document_requests.specs.declared.fault.Fault.{Fault}
 use Rattle.document_requests.specs.declared.fault.Fault.TheVariants.{Reading, Writing, Memory}
 use Rattle.document_requests.specs.declared.watched.Watched.{Watched}
-use Rattle.document_requests.specs.Watched.{calls_of, failures_of, end_of, counted}
+use Rattle.document_requests.specs.Watched.{calls_of, failures_of, failure_of, end_of, counted}
 
 -- the most reads of one run
 abbrev pub max_reads : ℕ
@@ -12,11 +12,11 @@ max_reads = 2 ^ 26
 
 -- none of the calls failed
 abbrev pub NoneFailed : {D : Type 0} → Watched D → Watched D → Type 0
-NoneFailed old new = failures_of new ≡ failures_of old
+NoneFailed old new = (failures_of new ≡ failures_of old) × (failure_of new ≡ failure_of old)
 
--- one of the calls failed
+-- One of the calls failed: the last one.
 abbrev pub OneFailed : {D : Type 0} → Watched D → Watched D → Type 0
-OneFailed old new = failures_of new ≡ failures_of old + 1
+OneFailed old new = (failures_of new ≡ failures_of old + 1) × (failure_of old ≡ None → failure_of new ≡ Some (calls_of new))
 
 -- no more calls than reads of one run
 abbrev pub BoundsReads : {D : Type 0} → Watched D → Watched D → Type 0
@@ -50,9 +50,9 @@ StopsWriting old new Reading = ⊥
 StopsWriting old new Writing = OneFailed old new
 StopsWriting old new Memory = NoneFailed old new
 
--- A run stops at the first call that fails, or where all reads were made and there may be more, or out of memory. Where reading
+-- A run stops at the first call that fails, or where all reads were made and none met the end, or out of memory. Where reading
 -- failed, nothing was written.
 abbrev pub StopsRun : {R W : Type 0} → Watched R → Watched R → Watched W → Watched W → Fault → Type 0
-StopsRun read read' written written' Reading = StopsReading read read' Reading × (written' ≡ written)
+StopsRun read read' written written' Reading = StopsReading read read' Reading × MeetsNoEnd read read' × (written' ≡ written)
 StopsRun read read' written written' Writing = NoneFailed read read' × OneFailed written written'
 StopsRun read read' written written' Memory = NoneFailed read read' × NoneFailed written written'

@@ -109,6 +109,11 @@ pub data Taken : Type 0 where
   Given : Element → ℕ → Taken
   Withheld : Refusal → ℕ → Taken
 
+-- the number that the next tree gets then
+abbrev pub number_after_taking : Taken → ℕ
+number_after_taking (Given e next) = next
+number_after_taking (Withheld refusal next) = next
+
 abbrev pub if_any : Option Element → ℕ → Taken
 if_any None next = Withheld refusals.Payload next
 if_any (Some e) next = Given e next
@@ -130,6 +135,11 @@ taken entry edition text next = taken_of entry (numbered_payload next (payload_o
 pub data Prepared : Type 0 where
   Ready : Editing → ℕ → Prepared
   Stopped : Refusal → ℕ → Prepared
+
+-- the number that the next tree gets then
+abbrev pub number_after_preparing : Prepared → ℕ
+number_after_preparing (Ready e next) = next
+number_after_preparing (Stopped refusal next) = next
 
 abbrev pub recorded : Editing → ℕ → Recording → Prepared
 recorded e next records.Foreign = Stopped refusals.NoTarget next

@@ -3,9 +3,9 @@ ghost use Rattle.std.specs.Prelude.{◌≡◌, ℕ, map, option_map, is_some, If
 ghost use Rattle.syntax_tree.specs.Handle.{element_of};
 ghost use Rattle.rust_document.specs.Edit.{can_edit};
 ghost use Rattle.document_requests.specs.Answered.{reply as answered};
-ghost use Rattle.document_requests.specs.Applied.{session, IsStopped, IsUnprepared, IsWithheld, Runs, RunsFront};
+ghost use Rattle.document_requests.specs.Applied.{session, IsStopped, IsUnprepared, IsWithheld, Runs, RunsFront, TakesSome};
 ghost use Rattle.document_requests.specs.Asked.{change as change_in, command as command_in};
-ghost use Rattle.document_requests.specs.Session.{Given, Ready, answer, committed, edited_by, found, is_only_child, only_child, payload_entry, prepared, prepared_by, put_element, run, taken};
+ghost use Rattle.document_requests.specs.Session.{Given, Ready, answer, committed, edited_by, found, is_only_child, number_after_preparing, number_after_taking, only_child, payload_entry, prepared, prepared_by, put_element, run, taken};
 
 use crate::lines::tree_lines;
 use crate::reply::{Refusal, Reply};
@@ -91,6 +91,8 @@ fn taken(
     ensures given { IfOk result (λ element. taken entry document.now.edition text.now ids.old
         ≡ Given (element_of element) ids.new) }
     ensures stopped { IfErr result (IsWithheld (taken entry document.now.edition text.now ids.old) ids.new) }
+    ensures numbers { OnErr result (TakesSome ids.old ids.new
+        (number_after_taking (taken entry document.now.edition text.now ids.old))) }
 {
     let payload = payload(alloc, payload_entry(entry), document.edition(), text, ids)?;
     prove!(payload.tree() <= u32::MAX);
@@ -136,6 +138,8 @@ fn prepare(
         ≡ Ready editor.new ids.new) }
     ensures stopped { IfErr result (IsUnprepared
         (prepared_by (change_in change.entry) document.now editor.old ids.old) ids.new) }
+    ensures numbers { OnErr result (TakesSome ids.old ids.new (number_after_preparing
+        (prepared_by (change_in change.entry) document.now editor.old ids.old))) }
 {
     match change {
         Change::Put {
@@ -172,6 +176,8 @@ fn prepare_all(
         ≡ Ready editor.new ids.new) }
     ensures stopped { IfErr result (IsUnprepared
         (prepared (map change_in changes.now) document.now editor.old ids.old) ids.new) }
+    ensures numbers { OnErr result (TakesSome ids.old ids.new (number_after_preparing
+        (prepared (map change_in changes.now) document.now editor.old ids.old))) }
 {
     for change in changes {
         prepare(alloc, document, editor, *change, ids)?;
@@ -191,6 +197,8 @@ fn commit(
     ensures stopped { IfErr result (IsStopped
         (committed (map change_in changes.now) (session document.old ids.old))
         (session document.new ids.new)) }
+    ensures numbers { OnErr result (TakesSome ids.old ids.new
+        (committed (map change_in changes.now) (session document.old ids.old)).after.next) }
     ensures kept { OnErr result (document.new ≡ document.old) }
 {
     let mut editor = document.editor(alloc)?;
@@ -229,6 +237,8 @@ fn edit(
     ensures stopped { IfErr result (IsStopped
         (edited_by start stop text.now (session document.old ids.old))
         (session document.new ids.new)) }
+    ensures numbers { OnErr result (TakesSome ids.old ids.new
+        (edited_by start stop text.now (session document.old ids.old)).after.next) }
     ensures kept { OnErr result (document.new ≡ document.old) }
 {
     let Some(range) = range_of(document, start, stop) else {
@@ -251,6 +261,8 @@ fn done(
     ensures stopped { IfErr result (IsStopped
         (answer (command_in command.now) (session document.old ids.old))
         (session document.new ids.new)) }
+    ensures numbers { OnErr result (TakesSome ids.old ids.new
+        (answer (command_in command.now) (session document.old ids.old)).after.next) }
     ensures kept { OnErr result (document.new ≡ document.old) }
 {
     match command {
@@ -277,6 +289,8 @@ fn answer(
     ensures done { IfOk result (λ reply. answer (command_in command.now)
         (session document.old ids.old) ≡
         record { reply = answered reply; after = session document.new ids.new }) }
+    ensures numbers { OnErr result (TakesSome ids.old ids.new
+        (answer (command_in command.now) (session document.old ids.old)).after.next) }
     ensures kept { OnErr result (document.new ≡ document.old) }
 {
     match done(alloc, document, command, ids) {
@@ -286,8 +300,13 @@ fn answer(
     }
 }
 
-/// Does commands in order, and appends a reply for each. Where memory is refused, the document is
-/// after the commands whose replies stand.
+/// Does commands in order, and appends a reply for each.
+///
+/// # Errors
+///
+/// [`AllocError`] if an allocation fails. Then not all commands were done: the document is as after
+/// those whose replies were appended, and the next command may have taken some of the tree numbers
+/// that it takes.
 pub fn apply(
     alloc: Global,
     document: &mut Document,
@@ -300,7 +319,7 @@ pub fn apply(
         (session document.new ids.new)) }
     ensures stopped { OnErr result (RunsFront (map command_in commands.now)
         (session document.old ids.old) (map answered replies.old.items)
-        (map answered replies.new.items) document.new) }
+        (map answered replies.new.items) (session document.new ids.new)) }
 {
     for command in commands {
         replies.reserve(1)?;
