@@ -31,3 +31,4 @@ pub mod AnnotatedRanges
 pub mod Alike
 pub mod CoreTexts
 pub mod PlainRenamings
+pub mod Histories

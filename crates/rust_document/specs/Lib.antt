@@ -26,3 +26,4 @@ pub mod Renames
 pub mod NextReading
 pub mod KeptTokens
 pub mod ContentEdit
+pub mod Histories

@@ -81,13 +81,16 @@ pub(crate) fn edit_content(
     }
     let start = usize::from(edit.range.start()) - preface;
     let end = usize::from(edit.range.end()) - preface;
-    let mut kept = kept.try_clone(alloc)?;
-    let counts = kept.edit(start..end, edit.put)?;
-    if has_split(edition, kept.tokens()) {
-        return Ok(EditedContent { kept, counts: None });
+    let mut edited = kept.try_clone(alloc)?;
+    let counts = edited.edit(start..end, edit.put)?;
+    if has_split(edition, edited.tokens()) {
+        return Ok(EditedContent {
+            kept: edited,
+            counts: None,
+        });
     }
     Ok(EditedContent {
-        kept,
+        kept: edited,
         counts: Some(counts),
     })
 }

@@ -18,7 +18,7 @@ edit-requires c =
     let to : c.from-2.result ≡ e.range.end.0 = cc in
     let fits : length (edited e.before.now e.range.start.0 e.range.end.0 e.put.now) ≤ 16777216 =
     omega (arith, c.requires.edit.fits, ap (λ (z : List ℕ). length z) c.requires.edit.after_is) in
-    can-edit-at c.args.kept.now c.in_ok-kept-3.kept _ _ _ _ (length e.put.now) c.in_ok-kept-3.ensures (less _ _ _ _ at c.in-Some.ensures.1)
+    can-edit-at c.args.kept.now c.in_ok-edited.edited _ _ _ _ (length e.put.now) c.in_ok-edited.ensures (less _ _ _ _ at c.in-Some.ensures.1)
     (less _ _ _ _ to c.in-Some.ensures.1)
     (can-edit-behind e.before.now c.args.kept.now c.requires.edit.before_text u c.requires.kept e.range.start.0 e.range.end.0 e.put.now
     c.requires.edit.can_be c.in-Some.ensures.0.behind fits)
@@ -29,8 +29,8 @@ returns-then-has_split-2-clause-content c =
     let u = subst IsUtf8 c.text.ensures c.text.utf8 in
     let at : c.from.result ≡ e.range.start.0 = cc in
     let to : c.from-2.result ≡ e.range.end.0 = cc in
-    kept-content e.before.now c.args.kept.now c.in_ok-kept-3.kept e.put.now e.after.now _ e.range.start.0 e.range.end.0 _ _ c.requires.edit.before_text u
-    c.requires.kept c.requires.edit.can_be c.requires.edit.after_is c.in-Some.ensures.0 c.in_ok-kept-3.ensures (less _ _ _ _ at c.in-Some.ensures.1)
+    kept-content e.before.now c.args.kept.now c.in_ok-edited.edited e.put.now e.after.now _ e.range.start.0 e.range.end.0 _ _ c.requires.edit.before_text u
+    c.requires.kept c.requires.edit.can_be c.requires.edit.after_is c.in-Some.ensures.0 c.in_ok-edited.ensures (less _ _ _ _ at c.in-Some.ensures.1)
     (less _ _ _ _ to c.in-Some.ensures.1) c.in_ok-counts.ensures.text
 
 pub returns-clause-content : goal.returns-clause-content
@@ -39,8 +39,8 @@ returns-clause-content c =
     let u = subst IsUtf8 c.text.ensures c.text.utf8 in
     let at : c.from.result ≡ e.range.start.0 = cc in
     let to : c.from-2.result ≡ e.range.end.0 = cc in
-    kept-content e.before.now c.args.kept.now c.in_ok-kept-3.kept e.put.now e.after.now _ e.range.start.0 e.range.end.0 _ _ c.requires.edit.before_text u
-    c.requires.kept c.requires.edit.can_be c.requires.edit.after_is c.in-Some.ensures.0 c.in_ok-kept-3.ensures (less _ _ _ _ at c.in-Some.ensures.1)
+    kept-content e.before.now c.args.kept.now c.in_ok-edited.edited e.put.now e.after.now _ e.range.start.0 e.range.end.0 _ _ c.requires.edit.before_text u
+    c.requires.kept c.requires.edit.can_be c.requires.edit.after_is c.in-Some.ensures.0 c.in_ok-edited.ensures (less _ _ _ _ at c.in-Some.ensures.1)
     (less _ _ _ _ to c.in-Some.ensures.1) c.in_ok-counts.ensures.text
 
 pub returns-then-has_split-2-clause-counts : goal.returns-then-has_split-2-clause-counts
@@ -60,12 +60,12 @@ returns-clause-counts c =
     let at : c.from.result ≡ e.range.start.0 = cc in
     let to : c.from-2.result ≡ e.range.end.0 = cc in
     let own = returns-clause-content c in
-    let same = c.in_ok-kept-3.ensures ∙ sym (behind e.before.now ks c.requires.edit.before_text u c.requires.kept) in (
+    let same = c.in_ok-edited.ensures ∙ sym (behind e.before.now ks c.requires.edit.before_text u c.requires.kept) in (
       record {
         keeps_preface = c.in-Some.ensures.0;
         old_tokens = leaves-told c.args.edition c.tokens.result.now (content (chars e.before.now)) _ c.tokens.ensures c.requires.kept (c.has_split.ensures.0 c.if-has_split.false);
         new_tokens = leaves-told c.args.edition c.tokens-2.result.now (content (chars e.after.now)) _ c.tokens-2.ensures own (c.has_split-2.ensures.0 c.if-has_split-2.false);
       },
-      kept-at (drop p e.before.now) c.in_ok-kept-3.kept e.put.now (e.range.start.0 - p) (e.range.end.0 - p) _ _ c.in_ok-counts.counts same
+      kept-at (drop p e.before.now) c.in_ok-edited.edited e.put.now (e.range.start.0 - p) (e.range.end.0 - p) _ _ c.in_ok-counts.counts same
           (less _ _ _ _ at c.in-Some.ensures.1) (less _ _ _ _ to c.in-Some.ensures.1) c.in_ok-counts.ensures.kept,
     )
