@@ -6,6 +6,7 @@ mod annotated;
 mod comments;
 mod commits;
 mod edits;
+mod kept;
 mod merged;
 mod no_text;
 mod opening;

@@ -1,5 +1,7 @@
 pub mod Sizes
+pub mod Prefaces
 pub mod Boundaries
+pub mod ContentEdits
 pub mod Undone
 pub mod Whole
 pub mod Bares
@@ -23,7 +25,10 @@ pub mod Closed
 pub mod Solid
 pub mod Bound
 pub mod After
+pub mod Readings
+pub mod Counts
 pub mod AnnotatedRanges
 pub mod Alike
 pub mod CoreTexts
 pub mod PlainRenamings
+pub mod Histories

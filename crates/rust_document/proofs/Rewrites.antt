@@ -3,6 +3,7 @@ use Rattle.std.proofs.Common.{◌≡◌, ℕ, Bool, true, false, not, ◌||◌, 
 use Rattle.std.proofs.lemmas.Bool.{lt-ltb, le-ltb}
 use Rattle.rowan_green.specs.Forest.{Tree, tree_text}
 use Rattle.rowan_green.specs.declared.text_range.TextRange.{TextRange}
+use Rattle.parser_input.specs.Input.{Token}
 use Rattle.parser_input.specs.declared.edition.Edition.{Edition}
 use Rattle.tree_rewrite.specs.Changed.{AreChanged}
 use Rattle.tree_rewrite.specs.Fits.{IsNode, new_fits}
@@ -15,7 +16,7 @@ use Rattle.rust_document.specs.Reading.{root_of}
 use Rattle.rust_document.specs.Rewrite.{rewritten}
 use Rattle.rust_document.specs.Rewritten.{IsReadBack, RefusesReadBack, IsRewritten, RefusesRewritten}
 use Rattle.rust_document.specs.Step.{MAX_TEXT, is_too_long}
-use Rattle.rust_document.specs.declared.read.Reading.{Reading}
+use Rattle.rust_document.specs.declared.read.NextReading.{NextReading}
 use Rattle.rust_document.specs.declared.error.CommitError.{CommitError}
 use Rattle.rust_document.specs.declared.error.CommitError.TheVariants as refusals
 
@@ -30,11 +31,11 @@ within e b long fits = either-or _ _ b long fits
     either-or a c false p q = rw (p, q) refl
 
 -- a tree that is read back
-pub read : (edition : Edition) (e : Editing) (t : Tree) (text : List ℕ) (reading : Reading) (ranges : List TextRange) → IsPlaceable e → IsNode (rewriting e) t → new_fits (rewriting e) ≡ true
-    → AreChanged ranges (rewriting e) → IsReadBack edition t text reading → IsRewritten edition e text reading ranges
-read edition e t text reading ranges placeable is fits ranges-are back =
+pub read : (edition : Edition) (e : Editing) (t : Tree) (before : List Token) (text : List ℕ) (next : NextReading) (ranges : List TextRange) → IsPlaceable e → IsNode (rewriting e) t → new_fits (rewriting e) ≡ true
+    → AreChanged ranges (rewriting e) → IsReadBack edition t before text next → IsRewritten edition e before text next ranges
+read edition e t before text next ranges placeable is fits ranges-are back =
     let same = rewritten-is e t is in
-    let own = subst (λ (u : Tree). IsReadBack edition u text reading) (sym same) back in
+    let own = subst (λ (u : Tree). IsReadBack edition u before text next) (sym same) back in
     record { placeable = placeable; within = within e false (le-ltb MAX_TEXT (length (tree_text (rewritten e))) own.fits) fits; read_back = own; changed_are = ranges-are }
 
 -- a tree that is not

@@ -1,6 +1,7 @@
 -- The verdict, by what was tested.
 use Rattle.std.proofs.Common.{◌≡◌, ℕ, Option, Some, None, is_none, is_some, Bool, true, false, not, ◌&&◌, List, [], ◌∷◌, refl, sym, ◌∙◌, ap, subst}
 use Rattle.rustc_lexer.specs.Rows.{row, first_fit}
+use Rattle.parser_input.specs.Input.{Token}
 use Rattle.parser_input.specs.declared.edition.Edition.{Edition}
 use Rattle.rowan_green.specs.declared.text_range.TextRange.{TextRange}
 use Rattle.tree_rewrite.specs.Change.{has_collision}
@@ -14,7 +15,7 @@ use Rattle.syntax_tree.specs.declared.error.TreeError.{TreeError}
 use Rattle.syntax_tree.specs.declared.error.TreeError.TheVariants as trees
 use Rattle.rust_document.specs.Commit.{RefusesCommit, commit_error_of}
 use Rattle.rust_document.specs.Rewritten.{IsRewritten, RefusesRewritten}
-use Rattle.rust_document.specs.declared.read.Reading.{Reading}
+use Rattle.rust_document.specs.declared.read.NextReading.{NextReading}
 use Rattle.rust_document.specs.declared.error.CommitError.{CommitError}
 use Rattle.rust_document.specs.declared.error.CommitError.TheVariants as refusals
 
@@ -65,9 +66,9 @@ by-refusal d e number refusals.Unfaithful own h =
 by-refusal d e number refusals.NoTreeNumber own h = absurd h
 by-refusal d e number refusals.NoMemory own h = tt
 
-by-reading : (d : State) (e : Editing) (text : List ℕ) (reading : Reading) (ranges : List TextRange) → is_foreign d e ≡ false → IsRewritten d.edition e text reading ranges → verdict d e ≡ Accepted
+by-reading : (d : State) (e : Editing) (before : List Token) (text : List ℕ) (next : NextReading) (ranges : List TextRange) → is_foreign d e ≡ false → IsRewritten d.edition e before text next ranges → verdict d e ≡ Accepted
 unfolding first_fit
-by-reading d e text reading ranges own h =
+by-reading d e before text next ranges own h =
     let has = parts e h.placeable in
     verdict-is d e false false false false false own has.0 has.1 h.within (ap not h.read_back.faithful)
 
@@ -78,10 +79,10 @@ refused d e b number error edition is own same h =
     by-refusal d e number error (present-own (is_foreign d e) b is own) (subst P same h)
 
 -- a rewrite that is read
-pub accepted : (d : State) (e : Editing) (b : Bool) (text : List ℕ) (reading : Reading) (ranges : List TextRange) (edition : Edition) → b ≡ not (is_foreign d e) → b ≡ true → edition ≡ d.edition → IsRewritten edition e text reading ranges → verdict d e ≡ Accepted
-accepted d e b text reading ranges edition is own same h =
-    let P : Edition → Type 0 = λ x. IsRewritten x e text reading ranges in
-    by-reading d e text reading ranges (present-own (is_foreign d e) b is own) (subst P same h)
+pub accepted : (d : State) (e : Editing) (b : Bool) (before : List Token) (text : List ℕ) (next : NextReading) (ranges : List TextRange) (edition : Edition) → b ≡ not (is_foreign d e) → b ≡ true → edition ≡ d.edition → IsRewritten edition e before text next ranges → verdict d e ≡ Accepted
+accepted d e b before text next ranges edition is own same h =
+    let P : Edition → Type 0 = λ x. IsRewritten x e before text next ranges in
+    by-reading d e before text next ranges (present-own (is_foreign d e) b is own) (subst P same h)
 
 -- a rewrite that is accepted, and a tree that could not be made
 pub without_tree : (v : Verdict) (number : ℕ) (e : TreeError) → v ≡ Accepted → RefusesTree number e → RefusesCommit v number (commit_error_of e)

@@ -23,3 +23,7 @@ pub mod TreeBuilt
 pub mod Seen
 pub mod Core
 pub mod Renames
+pub mod NextReading
+pub mod KeptTokens
+pub mod ContentEdit
+pub mod Histories

@@ -2,25 +2,24 @@
 use Rattle.std.specs.Prelude.{◌≡◌, ◌<◌, ◌≤◌, ℕ, true, false, List, length, map, chars}
 use Rattle.rowan_green.specs.Forest.{Tree, tree_text}
 use Rattle.rowan_green.specs.declared.text_range.TextRange.{TextRange}
+use Rattle.parser_input.specs.Input.{Token}
 use Rattle.parser_input.specs.declared.edition.Edition.{Edition}
 use Rattle.syntax_editor.specs.Editing.{Editing}
 use Rattle.syntax_editor.specs.Rewriting.{IsIntersecting, MissesMapping, IsPlaceable}
 use Rattle.rust_document.specs.Committed.{ends_of}
-use Rattle.rust_document.specs.Costs.{most_steps}
-use Rattle.rust_document.specs.IsReading.{IsReading}
+use Rattle.rust_document.specs.NextReading.{IsNextReading}
 use Rattle.rust_document.specs.Rewrite.{rewritten, changed}
 use Rattle.rust_document.specs.Step.{MAX_TEXT, is_faithful, is_too_long}
-use Rattle.rust_document.specs.declared.read.Reading.{Reading}
+use Rattle.rust_document.specs.declared.read.NextReading.{NextReading}
 use Rattle.rust_document.specs.declared.error.CommitError.{CommitError}
 use Rattle.rust_document.specs.declared.error.CommitError.TheVariants.{Foreign, Intersecting, MissingMapping, TooLong, Unfaithful, NoTreeNumber, NoMemory}
 
--- the text is the tree's and within the limit, the reading is the text's, the tree is faithful to it, and looks were few
-pub record IsReadBack (edition : Edition) (t : Tree) (text : List ℕ) (reading : Reading) : Type 0 where
+-- the text is the tree's and within the limit, the reading is the text's after one with an input, and the tree is faithful to it
+pub record IsReadBack (edition : Edition) (t : Tree) (before : List Token) (text : List ℕ) (next : NextReading) : Type 0 where
   pub text_is : text ≡ tree_text t
   pub fits : length (tree_text t) ≤ MAX_TEXT
-  pub reading_is : IsReading edition (chars (tree_text t)) reading.tokens.items reading.root reading.errors.items
+  pub next_is : IsNextReading edition (chars (tree_text t)) before next
   pub faithful : is_faithful edition t ≡ true
-  pub steps_within : reading.steps ≤ most_steps edition (chars (tree_text t))
 
 -- the first case that fits; out of memory at any point
 abbrev pub RefusesReadBack : Edition → Tree → CommitError → Type 0
@@ -30,10 +29,10 @@ RefusesReadBack edition t NoMemory = Unit {0}
 RefusesReadBack edition t error = ⊥
 
 -- the changes have places, the rewritten tree is within the limits, and this is its text with its reading, and what was put in
-pub record IsRewritten (edition : Edition) (e : Editing) (text : List ℕ) (reading : Reading) (ranges : List TextRange) : Type 0 where
+pub record IsRewritten (edition : Edition) (e : Editing) (before : List Token) (text : List ℕ) (next : NextReading) (ranges : List TextRange) : Type 0 where
   pub placeable : IsPlaceable e
   pub within : is_too_long e ≡ false
-  pub read_back : IsReadBack edition (rewritten e) text reading
+  pub read_back : IsReadBack edition (rewritten e) before text next
   pub changed_are : map ends_of ranges ≡ changed e
 
 -- the first case that fits; out of memory at any point

@@ -1,34 +1,41 @@
 //! A text that is read.
-ghost use Rattle.std.specs.Prelude.{◌≡◌, ◌≤◌, ◌+◌, [], true, not, chars, length, map, option_map, string_bytes, IfOk, IfErr, OnOk};
+ghost use Rattle.std.specs.Prelude.{◌≡◌, ◌≤◌, ◌+◌, [], true, not, chars, length, map, option_map, string_bytes, IfOk, IfErr, MatchOption, OnOk};
+ghost use Rattle.lexed_text.specs.Kept.{IsKept};
 ghost use Rattle.parser_input.specs.Kind.{raw_of};
+ghost use Rattle.parser_input.specs.Lexed.{content};
 ghost use Rattle.rowan_green.specs.Forest.{tree_text};
 ghost use Rattle.syntax_editor.specs.Editing.{untouched};
 ghost use Rattle.syntax_tree.specs.Handle.{element_of};
 ghost use Rattle.syntax_tree.specs.Refusal.{RefusesTree};
 ghost use Rattle.rust_document.specs.Commit.{RefusesCommit};
 ghost use Rattle.rust_document.specs.Committed.{annotated_ends, ends_of};
+ghost use Rattle.rust_document.specs.ContentEdit.{AreCounts};
 ghost use Rattle.rust_document.specs.Core.{IsReadAsCore};
 ghost use Rattle.rust_document.specs.Costs.{most_steps};
 ghost use Rattle.rust_document.specs.Edit.{RefusesEdit, can_edit, edited};
 ghost use Rattle.rust_document.specs.Open.{IsOpened, RefusesOpen};
 ghost use Rattle.rust_document.specs.IsReading.{IsReading};
 ghost use Rattle.rust_document.specs.Seen.{message_of_error};
-ghost use Rattle.rust_document.specs.Reading.{after_preface, messages};
+ghost use Rattle.rust_document.specs.KeptTokens.{content_edit, counts_of, KeepsNoToken, KeepsOutput, KeepsTokens};
+ghost use Rattle.rust_document.specs.NextReading.{tokens_in, IsNextReading};
+ghost use Rattle.rust_document.specs.Reading.{messages};
 ghost use Rattle.rust_document.specs.Renames.{IsPlainRenaming, IsReadExactly};
 ghost use Rattle.rust_document.specs.Rewrite.{annotated, rewritten, changed};
 ghost use Rattle.rust_document.specs.Step.{MAX_TEXT, first_element, is_foreign, root_element, verdict, Accepted};
 ghost use Rattle.rust_document.specs.Tokens.{span_of, tokens_of};
 ghost use Rattle.rust_document.specs.WithoutMessages.{HasPairedBrackets, HasPlacedOperators};
 
+use crate::content_edit::{EditedContent, TextEdit, edit_content};
 use crate::edit::edited;
 use crate::error::{CommitError, EditError, OpenError};
-use crate::read::{Reading, read};
+use crate::parse::Parse;
+use crate::read::{FirstReading, NextReading, Reading, read_first, read_next};
 use crate::rewrite::{Rewritten, rewrite};
 use crate::syntax_error::SyntaxError;
 use crate::tokens::{LexedToken, Tokens};
+use lexed_text::{Kept, LexedText};
 use parser_input::edition::Edition;
 use parser_input::syntax_kind::SyntaxKind;
-use ra_parser::TopEntryPoint;
 use rowan_green::TextRange;
 use std::alloc::{AllocError, Global};
 use std::marker::Model;
@@ -46,25 +53,26 @@ pub struct Committed {
     /// The bytes of the new text of each annotated element that stands in the rewritten tree, with
     /// its annotation: by order of annotation, then of the tree.
     pub annotated: Vec<(TextRange, SyntaxAnnotation)>,
-    /// How many looks at the tokens of the new text the parser made.
+    /// The number of lookaheads that the parser made; 0 if its output was kept.
     pub steps: u64,
 }
 
-/// What an accepted edit tells. So far the new text is lexed whole, so no token is kept.
+/// What an accepted edit tells.
 #[derive(Clone, Copy, Debug, PartialEq, Eq)]
 pub struct Edited {
-    /// How many tokens before the edit were kept.
+    /// The number of tokens before the edit that were kept.
     pub front: usize,
-    /// How many tokens after the preface were lexed.
+    /// The number of tokens that were lexed; if none was kept, of leaves behind the preface.
     pub lexed: usize,
-    /// How many tokens after the edit were kept.
+    /// The number of tokens after the edit that were kept.
     pub back: usize,
-    /// How many looks at the tokens of the new text the parser made.
+    /// The number of lookaheads that the parser made; 0 if its output was kept.
     pub steps: u64,
 }
 
 /// A text with its edition, its tokens, its messages and its tree. A contract sees the edition, the
-/// text and the tree's number; tokens, messages and tree are the reading of that text.
+/// text and the tree's number; tokens, messages and tree are the reading of that text. The tokens of
+/// the content and the parser's output are kept for the next text.
 #[derive(Drop)]
 pub struct Document {
     edition: Edition,
@@ -72,12 +80,17 @@ pub struct Document {
     tokens: Vec<LexedToken>,
     root: SyntaxNode,
     errors: Vec<SyntaxError>,
+    /// What follows the preface, with its tokens.
+    kept: LexedText,
+    parse: Parse,
 }
 
 impl Model for Document {
     ghost use Rattle.std.specs.Prelude.{◌≡◌, ◌≤◌, [], length, chars, string_bytes};
+    ghost use Rattle.parser_input.specs.Lexed.{content};
     ghost use Rattle.rust_document.specs.Step.{State, MAX_TEXT};
     ghost use Rattle.rust_document.specs.IsReading.{IsReading};
+    ghost use Rattle.rust_document.specs.NextReading.{IsParseOf};
 
     ghost Value = { State };
 
@@ -85,7 +98,31 @@ impl Model for Document {
 
     ghost invariant = { λ d. (length (string_bytes d.text) ≤ MAX_TEXT)
         × (d.root.place.up ≡ [])
-        × IsReading d.edition (chars (string_bytes d.text)) d.tokens.items d.root.place.root d.errors.items };
+        × IsReading d.edition (chars (string_bytes d.text)) d.tokens.items d.root.place.root d.errors.items
+        × (chars d.kept ≡ content (chars (string_bytes d.text)))
+        × IsParseOf d.edition (chars (string_bytes d.text)) d.parse };
+}
+
+/// Returns what an edit tells: its counts, or that all `leaves` behind the preface were lexed.
+fn told(counts: Option<Kept>, leaves: usize, steps: u64) -> Edited
+    ensures counts { MatchOption counts
+        (result ≡ record { front = 0; lexed = leaves; back = 0; steps = steps })
+        (λ kept. result ≡ record { front = kept.front; lexed = kept.lexed; back = kept.back; steps = steps }) }
+{
+    match counts {
+        Some(kept) => Edited {
+            front: kept.front,
+            lexed: kept.lexed,
+            back: kept.back,
+            steps,
+        },
+        None => Edited {
+            front: 0,
+            lexed: leaves,
+            back: 0,
+            steps,
+        },
+    }
 }
 
 impl Document {
@@ -112,13 +149,16 @@ impl Document {
         if text.len() > MAX_TEXT {
             return Err(OpenError::TooLong);
         }
+        let FirstReading {
+            reading,
+            kept,
+            parse,
+        } = read_first(alloc, edition, text)?;
         let Reading {
             tokens,
             root,
             errors,
-            lexed: _,
-            steps: _,
-        } = read(alloc, TopEntryPoint::SourceFile, edition, text)?;
+        } = reading;
         let text = String::from_str(alloc, text)?;
         let root = SyntaxNode::new_root(alloc, root, ids)?;
         Ok(Document {
@@ -127,6 +167,8 @@ impl Document {
             tokens,
             root,
             errors,
+            kept,
+            parse,
         })
     }
 
@@ -179,6 +221,10 @@ impl Document {
     /// Puts a text in the place of a range, reads the new text, and gives its tree the next number
     /// of `ids`.
     ///
+    /// Tokens are kept, as [`LexedText::edit`] does, if the edit starts behind the preface and leaves
+    /// it as it is, and if before edition 2024 no token of either text is a guarded prefix. The
+    /// parser's output is kept if the parser's input is the same.
+    ///
     /// Refuses a new text of more than 16,777,216 bytes as too long, then for want of a tree
     /// number. A refusal changes nothing.
     pub fn edit(
@@ -200,27 +246,51 @@ impl Document {
         ensures brackets { OnOk result (HasPairedBrackets self.new) }
         ensures operators { OnOk result (HasPlacedOperators self.new) }
         ensures core { OnOk result (IsReadAsCore self.new) }
-        ensures front { IfOk result (λ e. e.front ≡ 0) }
-        ensures lexed { IfOk result (λ e. e.lexed ≡ length (after_preface self.old.edition
-            (chars (edited self.old.text range.start.0 range.end.0 text.now)))) }
-        ensures back { IfOk result (λ e. e.back ≡ 0) }
+        ensures counts { IfOk result (λ e.
+            KeepsTokens self.old.edition self.old.text self.new.text range.start.0
+            → IsKept (content_edit self.old.text range.start.0 range.end.0 text.now) (counts_of e)) }
+        ensures no_counts { IfOk result (λ e.
+            (KeepsTokens self.old.edition self.old.text self.new.text range.start.0 → ⊥)
+            → KeepsNoToken self.old.edition self.new.text e) }
+        ensures output { IfOk result (λ e. KeepsOutput self.old self.new e.steps) }
         ensures steps { IfOk result (λ e. e.steps ≤ most_steps self.old.edition
             (chars (edited self.old.text range.start.0 range.end.0 text.now))) }
         ensures refused { IfErr result (RefusesEdit
             (edited self.old.text range.start.0 range.end.0 text.now) ids.old) }
         ensures kept { IfErr result (λ _. (self.new ≡ self.old) × (ids.new ≡ ids.old)) }
     {
-        let text = edited(alloc, self.text(), range, text)?;
-        let entry = TopEntryPoint::SourceFile;
-        let reading = read(alloc, entry, self.edition, text.as_str())?;
-        let Reading { lexed, steps, .. } = reading;
-        self.renew(alloc, text, reading, ids)?;
-        Ok(Edited {
-            front: 0,
-            lexed,
-            back: 0,
-            steps,
-        })
+        let new = edited(alloc, self.text(), range, text)?;
+        let content = self.edited_content(alloc, range, text, new.as_str())?;
+        let EditedContent { kept, counts } = content;
+        let next = read_next(alloc, self.edition, new.as_str(), kept, &self.parse)?;
+        let leaves = next.leaves;
+        let steps = next.steps;
+        self.renew(alloc, new, next, ids)?;
+        Ok(told(counts, leaves, steps))
+    }
+
+    /// Lexes the content of `new`, which is the text with `put` in the place of a range.
+    fn edited_content(
+        &self,
+        alloc: Global,
+        range: TextRange,
+        put: &str,
+        new: &str,
+    ) -> Result<EditedContent, AllocError>
+        requires range { can_edit self.now.text range.start.0 range.end.0 ≡ true }
+        requires edited { new.now ≡ edited self.now.text range.start.0 range.end.0 put.now }
+        requires fits { length new.now ≤ MAX_TEXT }
+        ensures content { IfOk result (λ e. chars e.kept ≡ content (chars new.now)) }
+        ensures counts { IfOk result (λ e. AreCounts self.now.edition self.now.text new.now
+            range.start.0 range.end.0 put.now e.counts) }
+    {
+        let edit = TextEdit {
+            before: self.text.as_str(),
+            after: new,
+            range,
+            put,
+        };
+        edit_content(alloc, self.edition, &self.kept, &edit)
     }
 
     /// The first element in preorder that is of a kind and has a range: of several that have the
@@ -260,6 +330,8 @@ impl Document {
     /// are plain ([`is_plain_name`](crate::is_plain_name)). Only length, memory and tree numbers can
     /// refuse it.
     ///
+    /// The parser's output is kept if the parser's input is the same.
+    ///
     /// # Errors
     ///
     /// - [`CommitError::Foreign`] if `editor` is one of another tree.
@@ -292,6 +364,7 @@ impl Document {
         ensures core { OnOk result (IsReadAsCore self.new) }
         ensures changed { IfOk result (λ c. map ends_of c.changed.items ≡ changed editor) }
         ensures annotated { IfOk result (λ c. map annotated_ends c.annotated.items ≡ annotated editor) }
+        ensures output { IfOk result (λ c. KeepsOutput self.old self.new c.steps) }
         ensures steps { IfOk result (λ c. c.steps ≤ most_steps self.old.edition
             (chars (tree_text (rewritten editor)))) }
         ensures number { OnOk result (ids.new ≡ ids.old + 1) }
@@ -310,7 +383,7 @@ impl Document {
             reading,
             changed,
             annotated,
-        } = rewrite(alloc, self.edition, &editor)?;
+        } = rewrite(alloc, self.edition, &editor, &self.parse)?;
         let steps = reading.steps;
         self.renew(alloc, text, reading, ids)?;
         Ok(Committed {
@@ -326,12 +399,12 @@ impl Document {
         &mut self,
         alloc: Global,
         text: String,
-        reading: Reading,
+        next: NextReading,
         ids: &mut TreeIds,
     ) -> Result<(), TreeError>
         requires fits { length (string_bytes text) ≤ MAX_TEXT }
-        requires is_reading { IsReading self.old.edition (chars (string_bytes text))
-            reading.tokens.items reading.root reading.errors.items }
+        requires is_next { IsNextReading self.old.edition (chars (string_bytes text))
+            (tokens_in self.old.edition (chars self.old.text)) next }
         ensures state { OnOk result (self.new ≡
             record {
               edition = self.old.edition;
@@ -345,17 +418,26 @@ impl Document {
         ensures refused { IfErr result (RefusesTree ids.old) }
         ensures kept { IfErr result (λ _. (self.new ≡ self.old) × (ids.new ≡ ids.old)) }
     {
+        let NextReading {
+            reading,
+            kept,
+            parse,
+            leaves: _,
+            steps: _,
+        } = next;
         let Reading {
             tokens,
             root,
             errors,
-            lexed: _,
-            steps: _,
         } = reading;
         self.root = SyntaxNode::new_root(alloc, root, ids)?;
         self.text = text;
         self.tokens = tokens;
         self.errors = errors;
+        self.kept = kept;
+        if let Some(parse) = parse {
+            self.parse = parse;
+        }
         Ok(())
     }
 }

@@ -1,6 +1,7 @@
 //! Laws of the definitions. Each is the contract of a function that calls other laws, or none.
 
 ghost use Rattle.rust_document.specs.EditLaws.{EditsAreUndone};
+ghost use Rattle.rust_document.specs.Histories.{EditsAreOpenings, HistoriesEndInReadings, HistoriesGoOn};
 ghost use Rattle.rust_document.specs.Laws.{TreesHaveTheirTexts, LeavesAreSlices, TextsDecide, PointersFollowTexts, SwapsAreOne, UntouchedIsKept, KindsFollowInputs, OperatorsBindByPower, TokenTreesAreClosed};
 ghost use Rattle.rust_document.specs.Core.{CoreTextsAreRead};
 ghost use Rattle.rust_document.specs.OperatorExamples.{PlacedOperatorsAreTold};
@@ -81,4 +82,23 @@ pub fn core_texts_are_read()
 /// the new text reads as exactly the rewritten tree.
 pub fn plain_renamings_are_accepted()
     ensures { PlainRenamingsAreAccepted }
+{}
+
+/// Incremental equals from scratch: an edited document, whatever tokens and output it kept, has the
+/// tokens, the messages and the tree of one that is opened on its text.
+pub fn edits_are_openings()
+    ensures { EditsAreOpenings }
+{}
+
+/// After any list of edits and commits, some of them refused, the text is the opened text with the
+/// accepted changes made, and the document has the tokens, the messages and the tree of one that is
+/// opened on that text.
+pub fn histories_end_in_readings()
+    ensures { HistoriesEndInReadings }
+{}
+
+/// One list of edits and commits after another is a list of edits and commits: so a caller needs
+/// only the contract of each call.
+pub fn histories_go_on()
+    ensures { HistoriesGoOn }
 {}

@@ -5,13 +5,17 @@
 #![tactic(auto)]
 
 mod bare;
+mod content_edit;
 pub mod document;
 mod edit;
 pub mod error;
 pub mod laws;
 mod leaf;
+mod lexing;
+mod parse;
 pub mod payload_entry;
 pub mod plain_name;
+mod preface;
 mod read;
 mod rewrite;
 pub mod syntax_error;

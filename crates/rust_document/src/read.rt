@@ -1,70 +1,57 @@
 //! Reads a text.
-ghost use Rattle.std.specs.Prelude.{◌≡◌, false, ◌<◌, ◌≤◌, ◌++◌, length, map, chars, encode_utf8_all, IfOk, OnOk};
-ghost use Rattle.parser_input.specs.Lexed.{frontmatter_leaf, leaves_of, shebang_leaf};
-ghost use Rattle.parser_input.specs.Preface.{shebang_piece, source};
+ghost use Rattle.std.specs.Prelude.{◌≡◌, ◌<◌, ◌≤◌, ◌++◌, length, map, chars, IfOk, OnOk};
+ghost use Rattle.parser_input.specs.Lexed.{content};
 ghost use Rattle.parser_input.specs.Stored.{whole_of};
-ghost use Rattle.parser_events.specs.Dress.{joined};
-ghost use Rattle.parser_events.specs.Steps.{steps};
 ghost use Rattle.ra_parser.specs.Entries.{production_of};
+ghost use Rattle.ra_parser.specs.declared.entry_points.TopEntryPoint.{TopEntryPoint};
 ghost use Rattle.rust_document.specs.IsReading.{IsReadingBy};
-ghost use Rattle.parser_input.specs.Input.{input};
-ghost use Rattle.rust_document.specs.Costs.{most_steps, steps_for};
-ghost use Rattle.rust_document.specs.Reading.{after_preface, forest_by, of_leaf_at, of_leaves};
+ghost use Rattle.rust_document.specs.NextReading.{AreStepsBy, IsFirstReading, IsNextReading, IsOwnParse};
+ghost use Rattle.rust_document.specs.Reading.{of_leaf_at, of_leaves};
 ghost use Rattle.rust_document.specs.Seen.{message_of_error};
-ghost use Rattle.rust_document.specs.TreeBuilt.{IsBuilt};
 
+use crate::lexing::{leaves_of, lexed_content};
+use crate::parse::{Parse, parse_input};
+use crate::preface::parts_of;
 use crate::syntax_error::{SyntaxError, SyntaxMessage};
 use crate::tokens::{LexedToken, lexed_tokens};
 use crate::tree_sink::{Built, build};
+use lexed_text::LexedText;
+use parser_events::output::Output;
 use parser_input::edition::Edition;
-use parser_input::frontmatter::ScriptSource;
 use parser_input::lexed_str::LexedStr;
-use ra_parser::{ParseError, TopEntryPoint};
+use ra_parser::TopEntryPoint;
 use rowan_green::GreenNode;
-use rustc_lexer::strip_shebang;
 use std::alloc::{AllocError, Global};
 
-/// The tokens, the tree and the messages of a text, how many of the tokens stand after its preface,
-/// and how many looks at them the parser made.
+/// The tokens, the tree and the messages of a text.
 #[derive(Drop)]
 pub struct Reading {
     pub tokens: Vec<LexedToken>,
     pub root: GreenNode,
     pub errors: Vec<SyntaxError>,
-    pub lexed: usize,
-    pub steps: u64,
 }
 
-/// A tree with its messages, and how many looks the parser made.
+/// The reading of a text, and what serves the next one.
 #[derive(Drop)]
-struct ParsedTree {
-    built: Built,
-    steps: u64,
+pub struct FirstReading {
+    pub reading: Reading,
+    /// The text's content with its tokens.
+    pub kept: LexedText,
+    pub parse: Parse,
 }
 
-/// The tree and the messages that an entry reads of a text whose leaves are known.
-fn parsed(
-    alloc: Global,
-    entry: TopEntryPoint,
-    lexed: &LexedStr<'_>,
-) -> Result<ParsedTree, AllocError>
-    requires bytes { length (encode_utf8_all (joined (leaves_of lexed.now.leaves))) ≤ 16777216 }
-    requires count { length lexed.now.leaves ≤ 16777216 }
-    ensures built { IfOk result (λ p. IsBuilt
-        (steps (forest_by (production_of entry) lexed.now.edition (leaves_of lexed.now.leaves)))
-        (leaves_of lexed.now.leaves) p.built.root p.built.errors.items) }
-    ensures steps { IfOk result (λ p. p.steps ≤ steps_for
-        (input false lexed.now.edition (leaves_of lexed.now.leaves))) }
-{
-    let input = lexed.to_input(alloc)?;
-    let output = match entry.parse(alloc, &input) {
-        Ok(output) => output,
-        Err(ParseError::NoMemory) => return Err(AllocError),
-        Err(ParseError::TooLong) => unreachable!(),
-    };
-    let built = build(alloc, lexed, &output)?;
-    let steps = output.steps();
-    Ok(ParsedTree { built, steps })
+/// The reading of a text that takes the place of another one.
+#[derive(Drop)]
+pub struct NextReading {
+    pub reading: Reading,
+    /// The text's content with its tokens.
+    pub kept: LexedText,
+    /// The parse of the text; `None` if that of the text before serves.
+    pub parse: Option<Parse>,
+    /// The number of leaves behind the preface.
+    pub leaves: usize,
+    /// The number of lookaheads; 0 if the parse before serves.
+    pub steps: u64,
 }
 
 /// Appends the message of the lexer about a leaf, if there is one.
@@ -97,61 +84,116 @@ fn append_faults(lexed: &LexedStr<'_>, errors: &mut Vec<SyntaxError>) -> Result<
     Ok(())
 }
 
-/// How many leaves the shebang of a text is.
-fn shebang_len(text: &str) -> usize
-    ensures { result ≡ length (shebang_leaf (shebang_piece (chars text.now))) }
-{
-    match strip_shebang(text) {
-        Some(_line) => 1,
-        None => 0,
-    }
-}
-
-/// How many leaves the frontmatter of a text is.
-fn frontmatter_len(text: &str) -> usize
-    ensures { result ≡ length (frontmatter_leaf (chars text.now) (source (chars text.now))) }
-{
-    let Ok(source) = ScriptSource::parse(text) else {
-        return 0;
-    };
-    match source.close_span() {
-        Some(_fence) => 1,
-        None => 0,
-    }
-}
-
-/// How many of a text's leaves stand after its preface.
-fn after_preface(text: &str, lexed: &LexedStr<'_>) -> usize
-    requires { lexed.now ≡ whole_of lexed.now.edition (chars text.now) }
-    ensures { result ≡ length (after_preface lexed.now.edition (chars text.now)) }
-{
-    lexed.len() - (shebang_len(text) + frontmatter_len(text))
-}
-
-/// Reads a text of at most 16,777,216 bytes by an entry.
-pub fn read(
+/// Reads the leaves of a text for which the parser's output is known.
+///
+/// # Errors
+///
+/// [`AllocError`] if an allocation fails.
+fn read_leaves(
     alloc: Global,
-    entry: TopEntryPoint,
-    edition: Edition,
     text: &str,
+    lexed: &LexedStr<'_>,
+    output: &Output,
 ) -> Result<Reading, AllocError>
-    requires { length text.now ≤ 16777216 }
-    ensures read { IfOk result (λ r. IsReadingBy (production_of entry) edition (chars text.now)
-        r.tokens.items r.root r.errors.items) }
-    ensures lexed { IfOk result (λ r. r.lexed ≡ length (after_preface edition (chars text.now))) }
-    ensures steps { IfOk result (λ r. r.steps ≤ most_steps edition (chars text.now)) }
+    requires fits { length text.now ≤ 16777216 }
+    requires whole { lexed.now ≡ whole_of lexed.now.edition (chars text.now) }
+    requires parsed { (top : TopEntryPoint)
+        × AreStepsBy (production_of top) lexed.now.edition (chars text.now) output.now.steps }
+    ensures { IfOk result (λ r. (top : TopEntryPoint)
+        → AreStepsBy (production_of top) lexed.now.edition (chars text.now) output.now.steps
+        → IsReadingBy (production_of top) lexed.now.edition (chars text.now) r.tokens.items r.root r.errors.items) }
 {
-    let lexed = LexedStr::new(alloc, edition, text)?;
-    let ParsedTree { built, steps } = parsed(alloc, entry, &lexed)?;
-    let Built { root, mut errors } = built;
-    append_faults(&lexed, &mut errors)?;
-    let tokens = lexed_tokens(alloc, &lexed)?;
-    let lexed = after_preface(text, &lexed);
+    let Built { root, mut errors } = build(alloc, lexed, output)?;
+    append_faults(lexed, &mut errors)?;
+    let tokens = lexed_tokens(alloc, lexed)?;
     Ok(Reading {
         tokens,
         root,
         errors,
-        lexed,
+    })
+}
+
+/// Reads a text of at most 16,777,216 bytes by an entry.
+///
+/// # Errors
+///
+/// [`AllocError`] if an allocation fails.
+pub fn read(
+    alloc: Global,
+    top: TopEntryPoint,
+    edition: Edition,
+    text: &str,
+) -> Result<Reading, AllocError>
+    requires { length text.now ≤ 16777216 }
+    ensures { IfOk result (λ r. IsReadingBy (production_of top) edition (chars text.now)
+        r.tokens.items r.root r.errors.items) }
+{
+    let lexed = LexedStr::new(alloc, edition, text)?;
+    let input = lexed.to_input(alloc)?;
+    let output = parse_input(alloc, top, &input)?;
+    read_leaves(alloc, text, &lexed, &output)
+}
+
+/// Reads a text of at most 16,777,216 bytes as a source file.
+///
+/// # Errors
+///
+/// [`AllocError`] if an allocation fails.
+pub fn read_first(alloc: Global, edition: Edition, text: &str) -> Result<FirstReading, AllocError>
+    requires { length text.now ≤ 16777216 }
+    ensures { IfOk result (IsFirstReading edition (chars text.now)) }
+{
+    let kept = lexed_content(alloc, text)?;
+    let lexed = leaves_of(alloc, edition, text, &kept)?;
+    let input = lexed.to_input(alloc)?;
+    let output = parse_input(alloc, TopEntryPoint::SourceFile, &input)?;
+    let reading = read_leaves(alloc, text, &lexed, &output)?;
+    Ok(FirstReading {
+        reading,
+        kept,
+        parse: Parse { input, output },
+    })
+}
+
+/// Reads a text of at most 16,777,216 bytes as a source file. `kept` is the text's content with its
+/// tokens; `before` is the parse of another text, whose output serves if the inputs are equal.
+///
+/// # Errors
+///
+/// [`AllocError`] if an allocation fails.
+pub fn read_next(
+    alloc: Global,
+    edition: Edition,
+    text: &str,
+    kept: LexedText,
+    before: &Parse,
+) -> Result<NextReading, AllocError>
+    requires fits { length text.now ≤ 16777216 }
+    requires kept { chars kept ≡ content (chars text.now) }
+    requires before { IsOwnParse before.now }
+    ensures { IfOk result (IsNextReading edition (chars text.now) before.now.input) }
+{
+    let lexed = leaves_of(alloc, edition, text, &kept)?;
+    let leaves = lexed.len() - parts_of(text).preface_len();
+    let input = lexed.to_input(alloc)?;
+    if input == before.input {
+        let reading = read_leaves(alloc, text, &lexed, &before.output)?;
+        return Ok(NextReading {
+            reading,
+            kept,
+            parse: None,
+            leaves,
+            steps: 0,
+        });
+    }
+    let output = parse_input(alloc, TopEntryPoint::SourceFile, &input)?;
+    let reading = read_leaves(alloc, text, &lexed, &output)?;
+    let steps = output.steps();
+    Ok(NextReading {
+        reading,
+        kept,
+        parse: Some(Parse { input, output }),
+        leaves,
         steps,
     })
 }

@@ -4,15 +4,17 @@ ghost use Rattle.tree_rewrite.specs.Fits.{IsNode};
 ghost use Rattle.tree_rewrite.specs.Pieces.{Say};
 ghost use Rattle.syntax_editor.specs.Rewriting.{rewriting};
 ghost use Rattle.rust_document.specs.Committed.{annotated_ends, bounds_of};
+ghost use Rattle.rust_document.specs.NextReading.{IsOwnParse};
 ghost use Rattle.rust_document.specs.Rewrite.{annotated};
 ghost use Rattle.rust_document.specs.Rewritten.{IsReadBack, RefusesReadBack, IsRewritten, RefusesRewritten};
 
 use crate::bare::same_bare;
 use crate::document::MAX_TEXT;
 use crate::error::CommitError;
-use crate::read::{Reading, read};
+use crate::lexing::lexed_content;
+use crate::parse::Parse;
+use crate::read::{NextReading, read_next};
 use parser_input::edition::Edition;
-use ra_parser::TopEntryPoint;
 use rowan_green::{GreenNode, TextRange};
 use std::alloc::{AllocError, Global};
 use syntax_editor::{SyntaxAnnotation, SyntaxEditor};
@@ -25,7 +27,7 @@ use tree_rewrite::piece::Piece;
 #[derive(Drop)]
 pub struct Rewritten {
     pub text: String,
-    pub reading: Reading,
+    pub reading: NextReading,
     pub changed: Vec<TextRange>,
     pub annotated: Vec<(TextRange, SyntaxAnnotation)>,
 }
@@ -34,21 +36,33 @@ pub struct Rewritten {
 #[derive(Drop)]
 struct ReadBack {
     text: String,
-    reading: Reading,
+    reading: NextReading,
 }
 
-/// The text of a tree, with its reading, where that is the tree, white space and comments aside.
-fn read_back(alloc: Global, edition: Edition, tree: &GreenNode) -> Result<ReadBack, CommitError>
-    ensures ok { IfOk result (λ r. IsReadBack edition tree.now (string_bytes r.text) r.reading) }
+/// The text of a tree, with its reading after another one, where that is the tree, white space and
+/// comments aside.
+fn read_back(
+    alloc: Global,
+    edition: Edition,
+    tree: &GreenNode,
+    before: &Parse,
+) -> Result<ReadBack, CommitError>
+    requires { IsOwnParse before.now }
+    ensures ok { IfOk result (λ r. IsReadBack edition tree.now before.now.input
+        (string_bytes r.text) r.reading) }
     ensures refused { IfErr result (RefusesReadBack edition tree.now) }
 {
     if usize::from(tree.text_len()) > MAX_TEXT {
         return Err(CommitError::TooLong);
     }
     let text = format!(in alloc; "{tree}")?;
-    let reading = read(alloc, TopEntryPoint::SourceFile, edition, text.as_str())?;
-    if same_bare(tree, &reading.root) {
-        return Ok(ReadBack { text, reading });
+    let kept = lexed_content(alloc, text.as_str())?;
+    let next = read_next(alloc, edition, text.as_str(), kept, before)?;
+    if same_bare(tree, &next.reading.root) {
+        return Ok(ReadBack {
+            text,
+            reading: next,
+        });
     }
     Err(CommitError::Unfaithful)
 }
@@ -92,19 +106,21 @@ fn annotated_ranges(
     ranges_of(alloc, &found)
 }
 
-/// What an editor's changes make of its tree.
+/// What an editor's changes make of its tree; `before` is the parse of the tree's own text.
 pub fn rewrite(
     alloc: Global,
     edition: Edition,
     editor: &SyntaxEditor,
+    before: &Parse,
 ) -> Result<Rewritten, CommitError>
-    ensures ok { IfOk result (λ r. IsRewritten edition editor.now
+    requires { IsOwnParse before.now }
+    ensures ok { IfOk result (λ r. IsRewritten edition editor.now before.now.input
         (string_bytes r.text) r.reading r.changed.items) }
     ensures annotated { IfOk result (λ r. map annotated_ends r.annotated.items ≡ annotated editor.now) }
     ensures refused { IfErr result (RefusesRewritten edition editor.now) }
 {
     let rewritten = editor.rewritten(alloc)?;
-    let ReadBack { text, reading } = read_back(alloc, edition, &rewritten.green)?;
+    let ReadBack { text, reading } = read_back(alloc, edition, &rewritten.green, before)?;
     let annotated = annotated_ranges(alloc, editor, rewritten.green, &rewritten.pieces)?;
     Ok(Rewritten {
         text,

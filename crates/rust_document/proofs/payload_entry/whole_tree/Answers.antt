@@ -10,9 +10,9 @@ returns-then-text-gt-MAX_TEXT-clause-refused c number = entry_too_long (producti
 pub returns-then-len-gt0-clause-refused : goal.returns-then-len-gt0-clause-refused
 returns-then-len-gt0-clause-refused c number =
     entry_message (production_of c.args.top) c.args.edition c.args.text.now c.in_ok-reading.reading.errors.items c.if-text-gt-MAX_TEXT.false
-    c.in_ok-reading.ensures.read.errors_are (omega (arith, c.if-len-gt0.true, c.len.ensures))
+    c.in_ok-reading.ensures.errors_are (omega (arith, c.if-len-gt0.true, c.len.ensures))
 
 pub returns-clause-given : goal.returns-clause-given
 returns-clause-given c =
     entry_tree (production_of c.args.top) c.args.edition c.args.text.now c.in_ok-reading.reading.errors.items c.in_ok-reading.reading.root c.if-text-gt-MAX_TEXT.false
-    c.in_ok-reading.ensures.read.errors_are (omega (arith, c.if-len-gt0.false, c.len.ensures)) c.in_ok-reading.ensures.read.root_is
+    c.in_ok-reading.ensures.errors_are (omega (arith, c.if-len-gt0.false, c.len.ensures)) c.in_ok-reading.ensures.root_is

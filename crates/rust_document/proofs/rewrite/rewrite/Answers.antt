@@ -6,7 +6,7 @@ use Rattle.rust_document.proofs.rewrite.rewrite.Goals as goal
 pub returns-clause-ok : goal.returns-clause-ok
 returns-clause-ok c =
     let made = c.in_ok-rewritten.ensures in
-    read c.args.edition c.args.editor.now c.in_ok-rewritten.rewritten.green _ _ _ made.placeable made.green made.fits made.changed c.in_ok-text.ensures.ok
+    read c.args.edition c.args.editor.now c.in_ok-rewritten.rewritten.green _ _ _ _ made.placeable made.green made.fits made.changed c.in_ok-text.ensures.ok
 
 pub returns-in_err-rewritten-clause-refused : goal.returns-in_err-rewritten-clause-refused
 returns-in_err-rewritten-clause-refused c =

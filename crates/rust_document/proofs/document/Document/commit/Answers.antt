@@ -14,7 +14,7 @@ pub returns-then-not-is_of-clause-refused : goal.returns-then-not-is_of-clause-r
 returns-then-not-is_of-clause-refused c = foreign c.args.self.now c.args.editor _ c.is_of.ensures c.if-not-is_of.true
 
 pub returns-clause-accepted : goal.returns-clause-accepted
-returns-clause-accepted c = accepted c.args.self.now c.args.editor _ _ _ _ _ c.is_of.ensures c.if-not-is_of.false (ap (λ (s : State). s.edition) c.self.view_is) c.in_ok-text.ensures.ok
+returns-clause-accepted c = accepted c.args.self.now c.args.editor _ _ _ _ _ _ c.is_of.ensures c.if-not-is_of.false (ap (λ (s : State). s.edition) c.self.view_is) c.in_ok-text.ensures.ok
 
 pub returns-in_err-text-clause-refused : goal.returns-in_err-text-clause-refused
 returns-in_err-text-clause-refused c =
@@ -26,7 +26,7 @@ returns-in_err-renew-clause-refused c =
     let p = err_from_is_err_and c.from_residual-in_err-renew.result c.from_residual-in_err-renew.ensures.1 in
     rw (p.1, p.2)
     (without_tree _ c.args.ids.now c.in_err-renew.field-0.0
-    (accepted c.args.self.now c.args.editor _ _ _ _ _ c.is_of.ensures c.if-not-is_of.false (ap (λ (s : State). s.edition) c.self.view_is) c.in_ok-text.ensures.ok)
+    (accepted c.args.self.now c.args.editor _ _ _ _ _ _ c.is_of.ensures c.if-not-is_of.false (ap (λ (s : State). s.edition) c.self.view_is) c.in_ok-text.ensures.ok)
     c.in_err-renew.ensures.refused)
 
 pub returns-then-not-is_of-clause-renames : goal.returns-then-not-is_of-clause-renames
@@ -50,7 +50,7 @@ returns-in_err-renew-clause-renames c =
     rw (p.1, p.2)
     (renaming-refused c.args.self.now c.args.editor _ _ (subst IsUtf8 same (IsUtf8-string_bytes c.self.inside.text)) (subst IsOpened same c.self.invariant.0)
     (without_tree _ c.args.ids.now c.in_err-renew.field-0.0
-    (accepted c.args.self.now c.args.editor _ _ _ _ _ c.is_of.ensures c.if-not-is_of.false (ap (λ (s : State). s.edition) c.self.view_is) c.in_ok-text.ensures.ok)
+    (accepted c.args.self.now c.args.editor _ _ _ _ _ _ c.is_of.ensures c.if-not-is_of.false (ap (λ (s : State). s.edition) c.self.view_is) c.in_ok-text.ensures.ok)
     c.in_err-renew.ensures.refused))
 
 pub returns-clause-renamed : goal.returns-clause-renamed

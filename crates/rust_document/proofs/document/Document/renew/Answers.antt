@@ -4,11 +4,20 @@ use Rattle.rust_document.proofs.Bound.{document-bound}
 use Rattle.rust_document.proofs.CoreTexts.{core-read}
 use Rattle.rust_document.proofs.document.Document.renew.Goals as goal
 
-pub returns-clause-brackets : goal.returns-clause-brackets
-returns-clause-brackets c = document-closed _ _
+pub returns-in-Some-clause-brackets : goal.returns-in-Some-clause-brackets
+returns-in-Some-clause-brackets c = document-closed _ _
 
-pub returns-clause-operators : goal.returns-clause-operators
-returns-clause-operators c = document-bound _ _
+pub returns-in-Some-clause-operators : goal.returns-in-Some-clause-operators
+returns-in-Some-clause-operators c = document-bound _ _
 
-pub returns-clause-core : goal.returns-clause-core
-returns-clause-core c = core-read _ _
+pub returns-in-Some-clause-core : goal.returns-in-Some-clause-core
+returns-in-Some-clause-core c = core-read _ _
+
+pub returns-in_default-clause-brackets : goal.returns-in_default-clause-brackets
+returns-in_default-clause-brackets c = document-closed _ _
+
+pub returns-in_default-clause-operators : goal.returns-in_default-clause-operators
+returns-in_default-clause-operators c = document-bound _ _
+
+pub returns-in_default-clause-core : goal.returns-in_default-clause-core
+returns-in_default-clause-core c = core-read _ _
