@@ -1,0 +1,3 @@
+pub mod WellSpaced
+pub mod SpacedText
+pub mod Laws
