@@ -27,3 +27,4 @@ pub mod AnnotatedRanges
 pub mod Alike
 pub mod CoreTexts
 pub mod PlainRenamings
+pub mod WellSpacedRewrites

@@ -23,3 +23,4 @@ pub mod TreeBuilt
 pub mod Seen
 pub mod Core
 pub mod Renames
+pub mod WellSpaced

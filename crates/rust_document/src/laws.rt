@@ -5,6 +5,7 @@ ghost use Rattle.rust_document.specs.Laws.{TreesHaveTheirTexts, LeavesAreSlices,
 ghost use Rattle.rust_document.specs.Core.{CoreTextsAreRead};
 ghost use Rattle.rust_document.specs.OperatorExamples.{PlacedOperatorsAreTold};
 ghost use Rattle.rust_document.specs.Renames.{PlainRenamingsAreAccepted};
+ghost use Rattle.rust_document.specs.WellSpaced.{WellSpacedRewritesAreAccepted};
 
 use tree_rewrite::laws;
 
@@ -81,4 +82,10 @@ pub fn core_texts_are_read()
 /// the new text reads as exactly the rewritten tree.
 pub fn plain_renamings_are_accepted()
     ensures { PlainRenamingsAreAccepted }
+{}
+
+/// A rewrite of the present tree whose changes have places, whose text is within the limits and
+/// whose new tree is well-spaced is accepted.
+pub fn well_spaced_rewrites_are_accepted()
+    ensures { WellSpacedRewritesAreAccepted }
 {}
