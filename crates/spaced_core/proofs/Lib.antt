@@ -9,3 +9,5 @@ pub mod TreeTexts
 pub mod Inputs
 pub mod CoreInputs
 pub mod Dressed
+pub mod SingleTokens
+pub mod Examples
