@@ -32,3 +32,4 @@ pub mod Alike
 pub mod CoreTexts
 pub mod PlainRenamings
 pub mod Histories
+pub mod WellSpacedRewrites

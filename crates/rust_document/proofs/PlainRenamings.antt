@@ -101,7 +101,7 @@ all-texts d (c ∷ cs) h = and_from _ _ h.0.is_text (all-texts d cs h.1)
 
 -- The tree of a text, as one node.
 
-terms-mapped : (d : Dressed) → terms_of d ≡ dressed_forest encode_utf8 d
+pub terms-mapped : (d : Dressed) → terms_of d ≡ dressed_forest encode_utf8 d
 terms-mapped dressed.End = refl
 terms-mapped (dressed.Leaf k t d) =
     ap (λ (bs : List ℕ). leaf (record { kind = k; text = bs }) (terms_of d)) (encodes-flat t)

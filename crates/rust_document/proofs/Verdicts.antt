@@ -31,12 +31,12 @@ pub verdict-is :
     → not (is_faithful d.edition (rewritten e)) ≡ u → verdict d e ≡ chosen f i m l u
 verdict-is d e f i m l u p q r s t = λ j. chosen (p j) (q j) (r j) (s j) (t j)
 
-placed : (a : Bool) {A : Type 0} (o : Option A) → (not a && is_some o) ≡ true → (a ≡ false) × (is_none o ≡ false)
+pub placed : (a : Bool) {A : Type 0} (o : Option A) → (not a && is_some o) ≡ true → (a ≡ false) × (is_none o ≡ false)
 placed true o is = cc
 placed false None is = cc
 placed false (Some x) is = (refl, refl)
 
-abbrev parts : (e : Editing) → IsPlaceable e → (has_collision e.changes ≡ false) × (misses e ≡ false)
+abbrev pub parts : (e : Editing) → IsPlaceable e → (has_collision e.changes ≡ false) × (misses e ≡ false)
 parts e is = placed (has_collision e.changes) (jobs e.top e.changes e.mapping) is
 
 -- an editor of another tree

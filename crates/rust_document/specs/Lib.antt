@@ -27,3 +27,4 @@ pub mod NextReading
 pub mod KeptTokens
 pub mod ContentEdit
 pub mod Histories
+pub mod WellSpaced

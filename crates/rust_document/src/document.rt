@@ -23,6 +23,7 @@ ghost use Rattle.rust_document.specs.Renames.{IsPlainRenaming, IsReadExactly};
 ghost use Rattle.rust_document.specs.Rewrite.{annotated, rewritten, changed};
 ghost use Rattle.rust_document.specs.Step.{MAX_TEXT, first_element, is_foreign, root_element, verdict, Accepted};
 ghost use Rattle.rust_document.specs.Tokens.{span_of, tokens_of};
+ghost use Rattle.rust_document.specs.WellSpaced.{IsWellSpacedRewrite};
 ghost use Rattle.rust_document.specs.WithoutMessages.{HasPairedBrackets, HasPlacedOperators};
 
 use crate::content_edit::{EditedContent, TextEdit, edit_content};
@@ -332,6 +333,10 @@ impl Document {
     ///
     /// The parser's output is kept if the parser's input is the same.
     ///
+    /// A well-spaced rewrite is always accepted too: the new tree is one of the core language, its
+    /// leaves are spelled as their kinds, and whitespace is between any two of them. Only places,
+    /// length, memory and tree numbers can refuse it.
+    ///
     /// # Errors
     ///
     /// - [`CommitError::Foreign`] if `editor` is one of another tree.
@@ -373,6 +378,8 @@ impl Document {
             → length (tree_text (rewritten editor)) ≤ MAX_TEXT → RefusesCommit Accepted ids.old error) }
         ensures renamed { OnOk result (IsPlainRenaming self.old editor
             → IsReadExactly self.old editor) }
+        ensures spaced { IfErr result (λ error. IsWellSpacedRewrite self.old editor
+            → RefusesCommit Accepted ids.old error) }
         ensures kept { IfErr result (λ _. (self.new ≡ self.old) × (ids.new ≡ ids.old)) }
     {
         if !self.is_of(&editor) {

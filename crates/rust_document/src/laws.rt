@@ -6,6 +6,7 @@ ghost use Rattle.rust_document.specs.Laws.{TreesHaveTheirTexts, LeavesAreSlices,
 ghost use Rattle.rust_document.specs.Core.{CoreTextsAreRead};
 ghost use Rattle.rust_document.specs.OperatorExamples.{PlacedOperatorsAreTold};
 ghost use Rattle.rust_document.specs.Renames.{PlainRenamingsAreAccepted};
+ghost use Rattle.rust_document.specs.WellSpaced.{WellSpacedRewritesAreAccepted};
 
 use tree_rewrite::laws;
 
@@ -101,4 +102,10 @@ pub fn histories_end_in_readings()
 /// only the contract of each call.
 pub fn histories_go_on()
     ensures { HistoriesGoOn }
+{}
+
+/// A rewrite of the present tree whose changes have places, whose text is within the limits and
+/// whose new tree is well-spaced is accepted.
+pub fn well_spaced_rewrites_are_accepted()
+    ensures { WellSpacedRewritesAreAccepted }
 {}

@@ -1,0 +1,81 @@
+-- Well-spaced rewrites are accepted.
+use Rattle.std.proofs.Common.{◌≡◌, ℕ, true, false, not, ◌||◌, ◌==◌, chars, encode_utf8, length, List, refl, sym, ◌∙◌, ap, subst, inl, inr}
+use Rattle.std.proofs.lemmas.Bool.{cases_Bool}
+use Rattle.rustc_lexer.specs.Rows.{first_fit}
+use Rattle.rowan_green.specs.Forest.{Forest, empty, node, leaf, Tree, same_tree, tree_text}
+use Rattle.rowan_green.specs.Same.{same_tree-Decides}
+use Rattle.parser_input.specs.Kinds.{COMMENT, WHITESPACE}
+use Rattle.parser_input.specs.Leaf.{Leaf}
+use Rattle.parser_input.specs.declared.edition.Edition.{Edition}
+use Rattle.parser_events.specs.Forest as forest
+use Rattle.parser_events.specs.Dressed.{Dressed}
+use Rattle.parser_events.specs.Dress.{Dressing, close_node, dress, dress_root, open_node, put_each, root}
+use Rattle.plain_names.specs.Trees.{dressed_forest, forest_by}
+use Rattle.syntax_editor.specs.Editing.{Editing}
+use Rattle.spaced_core.specs.WellSpaced.{IsWellSpaced, shape}
+use Rattle.spaced_core.specs.Laws.{shape_of, text_leaves, without_trivia}
+use Rattle.spaced_core.proofs.CoreInputs.{core-input}
+use Rattle.spaced_core.proofs.Dressed.{tree-dressed}
+use Rattle.rust_document.specs.Commit.{RefusesCommit}
+use Rattle.rust_document.specs.Reading.{root_of, tree}
+use Rattle.rust_document.specs.Rewrite.{bare, rewritten}
+use Rattle.rust_document.specs.Step.{Accepted, State, Verdict, bare_tree, is_faithful, verdict}
+use Rattle.rust_document.specs.WellSpaced.{IsWellSpacedRewrite, WellSpacedRewritesAreAccepted}
+use Rattle.rust_document.specs.declared.error.CommitError.{CommitError}
+use Rattle.rust_document.proofs.CoreTexts.{core-read}
+use Rattle.rust_document.proofs.PlainRenamings.{terms-mapped}
+use Rattle.rust_document.proofs.Verdicts.{parts, verdict-is}
+
+-- the two words for a forest without whitespace and comments
+bare-same : (f : Forest) → bare f ≡ without_trivia f
+bare-same empty = refl
+bare-same (node k f r) = ap (λ (g : Forest). node k g (bare r)) (bare-same f) ∙ ap (λ (g : Forest). node k (without_trivia f) g) (bare-same r)
+bare-same (leaf l r) = elim (cases_Bool (l.kind == WHITESPACE || l.kind == COMMENT)) [
+  | inl h ↦ rw h (bare-same r)
+  | inr h ↦ rw h (ap (λ (g : Forest). leaf l g) (bare-same r))
+]
+
+-- what is dressed of one tree is one node
+node-bare : (k : ℕ) (f : Forest) → bare_tree (root_of (node k f empty)) ≡ root_of (without_trivia (node k f empty))
+node-bare k f = ap (λ (g : Forest). let t : Tree = record { kind = k; forest = g } in t) (bare-same f)
+
+abbrev dressed_of : Dressed → Forest
+dressed_of d = dressed_forest encode_utf8 d
+
+root-bare : (k : ℕ) (s : Dressing) → bare_tree (root_of (dressed_of (root k s).given)) ≡ root_of (without_trivia (dressed_of (root k s).given))
+unfolding root close_node open_node
+root-bare k s = node-bare k (dressed_of (put_each (length s.left) s).given)
+
+dressed-bare : (k : ℕ) (c : forest.Forest) (ls : List Leaf) → bare_tree (root_of (forest_by encode_utf8 (forest.Node k c forest.End) ls)) ≡ root_of (without_trivia (forest_by encode_utf8 (forest.Node k c forest.End) ls))
+unfolding dress_root
+dressed-bare k c ls = root-bare k (dress c _)
+
+tree-bare : (t : Tree) → root_of (without_trivia (node t.kind t.forest empty)) ≡ bare_tree t
+tree-bare t = ap (λ (g : Forest). let u : Tree = record { kind = t.kind; forest = g } in u) (sym (bare-same t.forest))
+
+-- the text of a well-spaced tree reads as that tree, whitespace and comments aside
+spaced-reads : (edition : Edition) (t : Tree) → IsWellSpaced edition t → bare_tree (tree edition (chars (tree_text t))) ≡ bare_tree t
+spaced-reads edition t w =
+    let ls = text_leaves edition t in
+    let core = core-read edition (chars (tree_text t)) (shape_of t) (core-input edition t w) in
+    ap bare_tree core.tree_is
+    ∙ ap (λ (f : Forest). bare_tree (root_of f)) (terms-mapped (dress_root (shape_of t) ls))
+    ∙ dressed-bare t.kind (shape t.forest) ls
+    ∙ ap root_of (tree-dressed edition t w)
+    ∙ tree-bare t
+
+same-itself : (t : Tree) → same_tree t t ≡ true
+same-itself t = (same_tree-Decides t t).1 refl
+
+spaced-faithful : (edition : Edition) (t : Tree) → IsWellSpaced edition t → is_faithful edition t ≡ true
+spaced-faithful edition t w = ap (λ (u : Tree). same_tree (bare_tree t) u) (spaced-reads edition t w) ∙ same-itself (bare_tree t)
+
+pub spaced-accepted : WellSpacedRewritesAreAccepted
+unfolding first_fit
+spaced-accepted d e w =
+    let has = parts e w.placeable in
+    verdict-is d e false false false false false w.own has.0 has.1 w.within (ap not (spaced-faithful d.edition (rewritten e) w.spaced))
+
+-- A refused well-spaced rewrite is refused as an accepted commit may be: out of tree numbers or of memory.
+pub spaced-refused : (d : State) (e : Editing) (number : ℕ) (error : CommitError) → RefusesCommit (verdict d e) number error → IsWellSpacedRewrite d e → RefusesCommit Accepted number error
+spaced-refused d e number error refused w = subst (λ (v : Verdict). RefusesCommit v number error) (spaced-accepted d e w) refused

@@ -1,0 +1,13 @@
+pub mod Sound
+pub mod Spaces
+pub mod Characters
+pub mod SpacedLeaves
+pub mod CoreStarts
+pub mod Starts
+pub mod Words
+pub mod TreeTexts
+pub mod Inputs
+pub mod CoreInputs
+pub mod Dressed
+pub mod SingleTokens
+pub mod Examples

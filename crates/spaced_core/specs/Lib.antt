@@ -1,0 +1,5 @@
+pub mod WellSpaced
+pub mod SpacedText
+pub mod Spelled
+pub mod Laws
+pub mod Examples
