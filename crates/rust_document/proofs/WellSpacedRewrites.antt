@@ -1,11 +1,15 @@
 -- Well-spaced rewrites are accepted.
-use Rattle.std.proofs.Common.{◌≡◌, ℕ, true, false, not, ◌||◌, ◌==◌, chars, encode_utf8, length, List, refl, sym, ◌∙◌, ap, subst, inl, inr}
-use Rattle.std.proofs.lemmas.Bool.{cases_Bool}
+use Rattle.std.proofs.Common.{◌≡◌, ℕ, true, false, not, ◌||◌, ◌==◌, chars, encode_utf8, length, List, refl, sym, ◌∙◌, ap, subst, inl, inr, ◌+◌, ◌∷◌, ◌++◌, [], Option, None, Some, is_none}
+use Rattle.std.specs.List.{list_all}
+use Rattle.std.proofs.lemmas.Bool.{and_parts, cases_Bool}
+use Rattle.rustc_lexer.specs.Characters.{size}
 use Rattle.rustc_lexer.specs.Rows.{first_fit}
 use Rattle.rowan_green.specs.Forest.{Forest, empty, node, leaf, Tree, same_tree, tree_text}
 use Rattle.rowan_green.specs.Same.{same_tree-Decides}
 use Rattle.parser_input.specs.Kinds.{COMMENT, WHITESPACE}
 use Rattle.parser_input.specs.Leaf.{Leaf}
+use Rattle.parser_input.specs.Lexed.{Lexed, lexed}
+use Rattle.parser_input.specs.declared.message.Message as leaves
 use Rattle.parser_input.specs.declared.edition.Edition.{Edition}
 use Rattle.parser_events.specs.Forest as forest
 use Rattle.parser_events.specs.Dressed.{Dressed}
@@ -16,11 +20,12 @@ use Rattle.spaced_core.specs.WellSpaced.{IsWellSpaced, shape}
 use Rattle.spaced_core.specs.Laws.{shape_of, text_leaves, without_trivia}
 use Rattle.spaced_core.proofs.CoreInputs.{core-input}
 use Rattle.spaced_core.proofs.Dressed.{tree-dressed}
+use Rattle.spaced_core.proofs.TreeTexts.{tree-silent}
 use Rattle.rust_document.specs.Commit.{RefusesCommit}
-use Rattle.rust_document.specs.Reading.{root_of, tree}
+use Rattle.rust_document.specs.Reading.{of_leaves, of_leaf, root_of, tree}
 use Rattle.rust_document.specs.Rewrite.{bare, rewritten}
 use Rattle.rust_document.specs.Step.{Accepted, State, Verdict, bare_tree, is_faithful, verdict}
-use Rattle.rust_document.specs.WellSpaced.{IsWellSpacedRewrite, WellSpacedRewritesAreAccepted}
+use Rattle.rust_document.specs.WellSpaced.{IsWellSpacedRewrite, WellSpacedRewritesAreAccepted, WellSpacedTextsHaveNoMessages}
 use Rattle.rust_document.specs.declared.error.CommitError.{CommitError}
 use Rattle.rust_document.proofs.CoreTexts.{core-read}
 use Rattle.rust_document.proofs.PlainRenamings.{terms-mapped}
@@ -79,3 +84,19 @@ spaced-accepted d e w =
 -- A refused well-spaced rewrite is refused as an accepted commit may be: out of tree numbers or of memory.
 pub spaced-refused : (d : State) (e : Editing) (number : ℕ) (error : CommitError) → RefusesCommit (verdict d e) number error → IsWellSpacedRewrite d e → RefusesCommit Accepted number error
 spaced-refused d e number error refused w = subst (λ (v : Verdict). RefusesCommit v number error) (spaced-accepted d e w) refused
+
+-- leaves without messages
+silent-none : (place : ℕ) (ls : List Lexed) → list_all (λ l. is_none l.message) ls ≡ true → of_leaves place ls ≡ []
+silent-none place [] h = refl
+silent-none place (l ∷ ls) h =
+    let both = and_parts (is_none l.message) (list_all (λ l. is_none l.message) ls) h in
+    none-first l.message both.0 ∙ silent-none (place + size l.leaf.text) ls both.1
+  where
+    none-first : (o : Option leaves.Message) → is_none o ≡ true → of_leaf place o ++ of_leaves (place + size l.leaf.text) ls ≡ of_leaves (place + size l.leaf.text) ls
+    none-first None h = refl
+    none-first (Some m) h = absurd (let z : false ≡ true = h in cc)
+
+pub spaced-silent : WellSpacedTextsHaveNoMessages
+spaced-silent edition t w =
+    let text = chars (tree_text t) in
+    (core-read edition text (shape_of t) (core-input edition t w)).messages_are ∙ silent-none 0 (lexed edition text) (tree-silent edition t w)

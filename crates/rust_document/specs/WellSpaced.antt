@@ -1,8 +1,11 @@
 -- Rewrites of the present tree that are always accepted: the new tree is one of the core language, and whitespace parts its leaves.
-use Rattle.std.specs.Prelude.{◌≡◌, false}
+use Rattle.std.specs.Prelude.{◌≡◌, false, [], chars}
+use Rattle.rowan_green.specs.Forest.{Tree, tree_text}
+use Rattle.parser_input.specs.declared.edition.Edition.{Edition}
 use Rattle.syntax_editor.specs.Editing.{Editing}
 use Rattle.syntax_editor.specs.Rewriting.{IsPlaceable}
 use Rattle.spaced_core.specs.WellSpaced.{IsWellSpaced}
+use Rattle.rust_document.specs.Reading.{messages}
 use Rattle.rust_document.specs.Rewrite.{rewritten}
 use Rattle.rust_document.specs.Step.{State, is_foreign, is_too_long, verdict, Accepted}
 
@@ -17,3 +20,7 @@ pub record IsWellSpacedRewrite (d : State) (e : Editing) : Type 0 where
 -- Such a rewrite is accepted.
 abbrev pub WellSpacedRewritesAreAccepted : Type 0
 WellSpacedRewritesAreAccepted = (d : State) (e : Editing) → IsWellSpacedRewrite d e → verdict d e ≡ Accepted
+
+-- Its text has no message.
+abbrev pub WellSpacedTextsHaveNoMessages : Type 0
+WellSpacedTextsHaveNoMessages = (edition : Edition) (t : Tree) → IsWellSpaced edition t → messages edition (chars (tree_text t)) ≡ []

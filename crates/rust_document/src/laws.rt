@@ -6,7 +6,7 @@ ghost use Rattle.rust_document.specs.Laws.{TreesHaveTheirTexts, LeavesAreSlices,
 ghost use Rattle.rust_document.specs.Core.{CoreTextsAreRead};
 ghost use Rattle.rust_document.specs.OperatorExamples.{PlacedOperatorsAreTold};
 ghost use Rattle.rust_document.specs.Renames.{PlainRenamingsAreAccepted};
-ghost use Rattle.rust_document.specs.WellSpaced.{WellSpacedRewritesAreAccepted};
+ghost use Rattle.rust_document.specs.WellSpaced.{WellSpacedRewritesAreAccepted, WellSpacedTextsHaveNoMessages};
 
 use tree_rewrite::laws;
 
@@ -108,4 +108,9 @@ pub fn histories_go_on()
 /// whose new tree is well-spaced is accepted.
 pub fn well_spaced_rewrites_are_accepted()
     ensures { WellSpacedRewritesAreAccepted }
+{}
+
+/// The text of a well-spaced tree has no message.
+pub fn well_spaced_texts_have_no_messages()
+    ensures { WellSpacedTextsHaveNoMessages }
 {}

@@ -89,7 +89,7 @@ not-false : (b : Bool) → not b ≡ true → b ≡ false
 not-false true h = absurd (cc)
 not-false false h = refl
 
-sound-parts : (edition : Edition) (t : Lexeme) → is_sound edition t ≡ true → (is_split edition t.kind ≡ false) × (is_none (message_of edition t.kind t.text) ≡ true)
+pub sound-parts : (edition : Edition) (t : Lexeme) → is_sound edition t ≡ true → (is_split edition t.kind ≡ false) × (is_none (message_of edition t.kind t.text) ≡ true)
 unfolding is_sound
 sound-parts edition t h =
     let both = and_parts (not (is_split edition t.kind)) (is_none (message_of edition t.kind t.text)) h in

@@ -18,13 +18,14 @@ use Rattle.parser_input.specs.Kind as kind
 use Rattle.parser_input.specs.Kinds.{COMMENT, WHITESPACE}
 use Rattle.parser_input.specs.Leaf.{Leaf, is_trivia, kind_of, leaf_of, leaves}
 use Rattle.parser_input.specs.Lexed.{is_split}
+use Rattle.parser_input.specs.Messages.{message_of}
 use Rattle.parser_input.specs.declared.edition.Edition.{Edition}
 use Rattle.parser_events.specs.Dress.{joined}
 use Rattle.plain_names.specs.ClosedTokens.{is_closed}
 use Rattle.plain_names.proofs.CalmLexeme.{space-ends}
-use Rattle.spaced_core.specs.WellSpaced.{AreSpaced, IsSpelled, characters_of, is_parted, is_space}
+use Rattle.spaced_core.specs.WellSpaced.{AreSpaced, IsSpelled, characters_of, is_parted, is_sound, is_space}
 use Rattle.spaced_core.specs.SpacedText.{AreRead, IsLeaf, nothing, one, solid, space, text_of}
-use Rattle.spaced_core.proofs.Sound.{all-closed, all-whole, is_solid, is_whole}
+use Rattle.spaced_core.proofs.Sound.{all-closed, is_solid}
 use Rattle.spaced_core.proofs.Spaces.{space-first, space-tokens, space_token}
 use Rattle.spaced_core.proofs.Characters.{all-solid, are_solid, solid-kind}
 
@@ -32,14 +33,14 @@ use Rattle.spaced_core.proofs.Characters.{all-solid, are_solid, solid-kind}
 abbrev pub leaves_by : Edition → List Lexeme → List Leaf
 leaves_by edition ts = map (leaf_of edition) ts
 
--- A text reads as these leaves of a tree, and each of its tokens is one leaf.
+-- A text reads as these leaves of a tree, and each of its tokens is one leaf without a message.
 pub record Goes (edition : Edition) (ls : List green.Leaf) (text : List ℕ) : Type 0 where
   pub reads : AreRead edition ls (leaves_by edition (tokens text))
-  pub whole : list_all (is_whole edition) (tokens text) ≡ true
+  pub sound : list_all (is_sound edition) (tokens text) ≡ true
 
 empty-goes : (edition : Edition) → Goes edition [] []
 unfolding tokens lexer.cut
-empty-goes edition = record { reads = nothing; whole = refl }
+empty-goes edition = record { reads = nothing; sound = refl }
 
 -- ---- whitespace
 
@@ -47,16 +48,16 @@ space-kind : (edition : Edition) (t : List ℕ) → is_trivia (leaf_of edition (
 unfolding leaf_of is_trivia kind_of
 space-kind edition t = refl
 
-space-whole : (edition : Edition) (t : List ℕ) (ts : List Lexeme) → list_all (is_whole edition) (space_token t ∷ ts) ≡ list_all (is_whole edition) ts
-unfolding is_split
-space-whole edition t ts = refl
+space-sound : (edition : Edition) (t : List ℕ) (ts : List Lexeme) → list_all (is_sound edition) (space_token t ∷ ts) ≡ list_all (is_sound edition) ts
+unfolding is_sound is_split message_of
+space-sound edition t ts = refl
 
 space-goes : (edition : Edition) (ls : List green.Leaf) (c : ℕ) (ws rest : List ℕ) → is_whitespace c ≡ true → list_all is_whitespace ws ≡ true → is_whitespace (peek 0 rest) ≡ false → Goes edition ls rest → Goes edition ls (c ∷ ws ++ rest)
 space-goes edition ls c ws rest white all ends g =
     let is = space-tokens c ws rest white all ends in
     record {
       reads = subst (λ (ts : List Lexeme). AreRead edition ls (leaves_by edition ts)) (sym is) (space (leaf_of edition (space_token (c ∷ ws))) (space-kind edition (c ∷ ws)) g.reads);
-      whole = ap (list_all (is_whole edition)) is ∙ space-whole edition (c ∷ ws) (tokens rest) ∙ g.whole;
+      sound = ap (list_all (is_sound edition)) is ∙ space-sound edition (c ∷ ws) (tokens rest) ∙ g.sound;
     }
 
 spaces-go : (edition : Edition) (ls : List green.Leaf) (ws rest : List ℕ) → list_all is_whitespace ws ≡ true → is_whitespace (peek 0 rest) ≡ false → Goes edition ls rest → Goes edition ls (ws ++ rest)
@@ -113,7 +114,7 @@ leaf-goes edition l ls rest utf8 none s h g =
     let both : leaves_by edition (tokens (text ++ rest)) ≡ leaves edition text ++ leaves_by edition (tokens rest) = ap (leaves_by edition) is ∙ map-append (leaf_of edition) (tokens text) (tokens rest) in
     record {
       reads = one l (leaves edition text) (leaves_by edition (tokens rest)) (leaf-is edition l utf8 none s) (apart-leaves edition rest h) g.reads both;
-      whole = ap (list_all (is_whole edition)) is ∙ list_all-append (is_whole edition) (tokens text) (tokens rest) ∙ and_from _ _ (all-whole edition (tokens text) s.sound) g.whole;
+      sound = ap (list_all (is_sound edition)) is ∙ list_all-append (is_sound edition) (tokens text) (tokens rest) ∙ and_from _ _ s.sound g.sound;
     }
 
 -- a spelled text begins with no whitespace

@@ -1,22 +1,28 @@
 -- The leaves of a well-spaced tree's text.
-use Rattle.std.proofs.Common.{◌≡◌, ℕ, true, List, [], ◌∷◌, ◌++◌, chars, refl, sym, ◌∙◌, ap, subst}
-use Rattle.std.specs.List.{flat_map}
+use Rattle.std.proofs.Common.{◌≡◌, ℕ, zero, suc, pred, Bool, true, ◌&&◌, List, [], ◌∷◌, ◌++◌, chars, is_none, length, refl, sym, ◌∙◌, ap, subst}
+use Rattle.std.specs.List.{flat_map, list_all}
+use Rattle.std.proofs.lemmas.Bool.{and_from, and_parts}
 use Rattle.std.proofs.lemmas.Grind.{flat_map-append}
 use Rattle.std.proofs.lemmas.Str.{chars-append, chars-nil}
+use Rattle.rustc_lexer.specs.Lexeme.{lexeme}
+use Rattle.rustc_lexer.specs.Tokens as lexer
+use Rattle.rustc_lexer.specs.Tokens.{Lexeme, tokens}
+use Rattle.rustc_lexer.proofs.Cutting.{first-length}
 use Rattle.rowan_green.specs.Forest.{Forest, empty, node, leaf, Tree, forest_text, tree_text}
 use Rattle.rowan_green.specs.Leaf as green
-use Rattle.parser_input.specs.Leaf.{leaves}
+use Rattle.parser_input.specs.Leaf.{leaf_of, leaves}
 use Rattle.parser_input.specs.Lexed as input
-use Rattle.parser_input.specs.Lexed.{lexed}
+use Rattle.parser_input.specs.Lexed.{Lexed, content, cut, lexed, next_leaf}
 use Rattle.parser_input.specs.declared.edition.Edition.{Edition}
 use Rattle.parser_input.proofs.LeavesLaw.{lexed-leaves}
+use Rattle.parser_input.proofs.LexedSteps.{leaf-whole}
 use Rattle.parser_events.specs.Forest as parser
-use Rattle.spaced_core.specs.WellSpaced.{AreSpaced, IsWellSpaced, leaves_of, shape}
+use Rattle.spaced_core.specs.WellSpaced.{AreSpaced, IsWellSpaced, is_sound, leaves_of, shape}
 use Rattle.spaced_core.specs.SpacedText.{AreRead, solid, text_of}
 use Rattle.spaced_core.specs.Laws.{text_leaves}
 use Rattle.spaced_core.proofs.CoreStarts.{begins_item, file-begins, kinds_in, kinds_of, shape-kinds}
 use Rattle.spaced_core.proofs.SpacedLeaves.{spaced-go, spaced-read}
-use Rattle.spaced_core.proofs.Sound.{none-split}
+use Rattle.spaced_core.proofs.Sound.{all-whole, none-split, sound-parts}
 use Rattle.spaced_core.proofs.Starts.{all-content, no-preface, starts_plain}
 use Rattle.spaced_core.proofs.Words.{text-starts}
 
@@ -60,8 +66,43 @@ leaves-are edition t w =
     let text = text_of (leaves_of t.forest) in
     let plain : starts_plain text ≡ true = text-starts edition (leaves_of t.forest) w.spaced (tree-begins edition t w) in
     ap (λ (cs : List ℕ). input.leaves_of (lexed edition cs)) (tree-chars edition t w.spaced)
-    ∙ lexed-leaves edition text (no-preface text plain) (all-content text plain) (none-split edition _ (spaced-go edition (leaves_of t.forest) w.spaced).whole)
+    ∙ lexed-leaves edition text (no-preface text plain) (all-content text plain) (none-split edition _ (all-whole edition _ (spaced-go edition (leaves_of t.forest) w.spaced).sound))
 
 pub tree-read : (edition : Edition) (t : Tree) → IsWellSpaced edition t → AreRead edition (solid (leaves_of t.forest)) (text_leaves edition t)
 tree-read edition t w =
     subst (AreRead edition (solid (leaves_of t.forest))) (sym (leaves-are edition t w)) (spaced-read edition (leaves_of t.forest) w.spaced)
+
+-- ---- messages
+
+abbrev is_silent : Lexed → Bool
+is_silent l = is_none l.message
+
+next-silent : (edition : Edition) (l : Lexeme) → is_sound edition l ≡ true → (is_silent (next_leaf edition l) ≡ true) × ((next_leaf edition l).leaf.text ≡ l.text)
+unfolding leaf_of
+next-silent edition l h =
+    let both = sound-parts edition l h in
+    let own = leaf-whole edition l both.0 in
+    (ap is_silent own ∙ both.1, ap (λ (m : Lexed). m.leaf.text) own)
+
+cut-silent : (edition : Edition) (held : ℕ) (text : List ℕ) → list_all (is_sound edition) (lexer.cut held text) ≡ true → list_all is_silent (cut edition held text) ≡ true
+unfolding cut lexer.cut
+cut-silent edition zero [] h = refl
+cut-silent edition (suc held) [] h = refl
+cut-silent edition (suc held) (c ∷ cs) h = cut-silent edition held cs h
+cut-silent edition zero (c ∷ cs) h =
+    let l = lexer.first_lexeme (c ∷ cs) in
+    let rest = pred (lexeme (c ∷ cs)).taken in
+    let both = and_parts (is_sound edition l) (list_all (is_sound edition) (lexer.cut rest cs)) h in
+    let next = next-silent edition l both.0 in
+    let n : pred (length (next_leaf edition l).leaf.text) ≡ rest = ap (λ (t : List ℕ). pred (length t)) next.1 ∙ ap pred (first-length (c ∷ cs)) in
+    ap (λ (k : ℕ). is_silent (next_leaf edition l) && list_all is_silent (cut edition k cs)) n ∙ and_from _ _ next.0 (cut-silent edition rest cs both.1)
+
+pub tree-silent : (edition : Edition) (t : Tree) → IsWellSpaced edition t → list_all (λ l. is_none l.message) (lexed edition (chars (tree_text t))) ≡ true
+unfolding lexed tokens
+tree-silent edition t w =
+    let text = text_of (leaves_of t.forest) in
+    let plain : starts_plain text ≡ true = text-starts edition (leaves_of t.forest) w.spaced (tree-begins edition t w) in
+    ap (λ (cs : List ℕ). list_all is_silent (lexed edition cs)) (tree-chars edition t w.spaced)
+    ∙ ap (λ (p : List Lexed). list_all is_silent (p ++ cut edition 0 (content text))) (no-preface text plain)
+    ∙ ap (λ (cs : List ℕ). list_all is_silent (cut edition 0 cs)) (all-content text plain)
+    ∙ cut-silent edition 0 text (spaced-go edition (leaves_of t.forest) w.spaced).sound

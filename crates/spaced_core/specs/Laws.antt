@@ -1,5 +1,6 @@
 -- What holds of well-spaced trees.
-use Rattle.std.specs.Prelude.{◌≡◌, false, List, chars, encode_utf8, if◌then◌else◌}
+use Rattle.std.specs.Prelude.{◌≡◌, true, false, List, chars, is_none, encode_utf8, if◌then◌else◌}
+use Rattle.std.specs.List.{list_all}
 use Rattle.rowan_green.specs.Forest.{Forest, empty, node, leaf, Tree, tree_text}
 use Rattle.rowan_green.specs.Leaf.{Leaf}
 use Rattle.parser_input.specs.Input.{input}
@@ -24,6 +25,12 @@ SpacedLeavesAreRead =
 -- the leaves of a tree's text
 abbrev pub text_leaves : Edition → Tree → List input_leaf.Leaf
 text_leaves edition t = lexed_leaves.leaves_of (lexed edition (chars (tree_text t)))
+
+-- No leaf of the text of a well-spaced tree has a message.
+abbrev pub WellSpacedLeavesAreSilent : Type 0
+WellSpacedLeavesAreSilent =
+    (edition : Edition) (t : Tree) → IsWellSpaced edition t →
+    list_all (λ l. is_none l.message) (lexed edition (chars (tree_text t))) ≡ true
 
 -- the tree in the parser's words
 abbrev pub shape_of : Tree → parser.Forest

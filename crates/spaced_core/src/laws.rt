@@ -2,16 +2,17 @@
 
 ghost use Rattle.spaced_core.specs.Examples.{ExamplesAreClassified};
 ghost use Rattle.spaced_core.specs.Spelled.{PunctuationIsSpelled, SingleTokensAreSpelled};
-ghost use Rattle.spaced_core.specs.Laws.{SpacedLeavesAreRead, WellSpacedTextsAreCore, WellSpacedTextsHaveTheirLeaves, WellSpacedTreesAreDressed};
+ghost use Rattle.spaced_core.specs.Laws.{SpacedLeavesAreRead, WellSpacedLeavesAreSilent, WellSpacedTextsAreCore, WellSpacedTextsHaveTheirLeaves, WellSpacedTreesAreDressed};
 
 /// The leaves of a text whose parts are spaced leaves are those leaves and whitespace.
 pub fn spaced_leaves_are_read()
     ensures { SpacedLeavesAreRead }
 {}
 
-/// The text of a well-spaced tree has no preface, and its leaves are the tree's.
+/// The text of a well-spaced tree has no preface, its leaves are the tree's, and none has a message.
 pub fn well_spaced_texts_have_their_leaves()
-    ensures { WellSpacedTextsHaveTheirLeaves }
+    ensures leaves { WellSpacedTextsHaveTheirLeaves }
+    ensures silent { WellSpacedLeavesAreSilent }
 {}
 
 /// The parser's input of the text of a well-spaced tree is a core file with that tree.
