@@ -76,5 +76,5 @@ returns-in_err-renew-clause-spaced c =
     rw (p.1, p.2)
     (spaced-refused c.args.self.now c.args.editor _ _
     (without_tree _ c.args.ids.now c.in_err-renew.field-0.0
-    (accepted c.args.self.now c.args.editor _ _ _ _ _ c.is_of.ensures c.if-not-is_of.false (ap (λ (s : State). s.edition) c.self.view_is) c.in_ok-text.ensures.ok)
+    (accepted c.args.self.now c.args.editor _ _ _ _ _ _ c.is_of.ensures c.if-not-is_of.false (ap (λ (s : State). s.edition) c.self.view_is) c.in_ok-text.ensures.ok)
     c.in_err-renew.ensures.refused))
