@@ -105,7 +105,7 @@ impl Model for Document {
 }
 
 /// Returns what an edit tells: its counts, or that all `leaves` behind the preface were lexed.
-fn told(counts: Option<Kept>, leaves: usize, steps: u64) -> Edited
+fn answer_of(counts: Option<Kept>, leaves: usize, steps: u64) -> Edited
     ensures counts { MatchOption counts
         (result ≡ record { front = 0; lexed = leaves; back = 0; steps = steps })
         (λ kept. result ≡ record { front = kept.front; lexed = kept.lexed; back = kept.back; steps = steps }) }
@@ -267,7 +267,7 @@ impl Document {
         let leaves = next.leaves;
         let steps = next.steps;
         self.renew(alloc, new, next, ids)?;
-        Ok(told(counts, leaves, steps))
+        Ok(answer_of(counts, leaves, steps))
     }
 
     /// Lexes the content of `new`, which is the text with `put` in the place of a range.
