@@ -1,5 +1,6 @@
-//! Opens the text on standard input as a document five times, and commits another name for its last one. Prints how many bytes the text
-//! then has, or why not; then edits lists of tokens, and prints how many were replaced. The times go to standard error, in microseconds.
+//! Opens the text on standard input as a document five times, edits a name in its middle four times, and commits another name for its
+//! last one. Prints how many bytes the text then has, or why not; then edits lists of tokens, and prints how many were replaced. The
+//! times go to standard error, in microseconds.
 #![tactic(auto)]
 
 use parser_input::edition::Edition;
@@ -13,7 +14,7 @@ use syntax_tree::{SyntaxElement, TreeIds};
 
 mod edits;
 
-/// How often a text is opened before it is edited.
+/// How often a text is opened before its last name is replaced.
 const AGAIN: usize = 4;
 
 /// Where the last name of the text stands.
@@ -25,6 +26,17 @@ fn last_name(document: &Document) -> Option<TextRange> {
         }
     }
     last
+}
+
+/// Returns the place of the first name in the second half of the text.
+fn middle_name(document: &Document) -> Option<TextRange> {
+    let half = document.text().len() / 2;
+    for token in document.tokens() {
+        if token.kind == SyntaxKind::IDENT && usize::from(token.range.start()) >= half {
+            return Some(token.range);
+        }
+    }
+    None
 }
 
 /// The last name itself.
@@ -60,11 +72,27 @@ fn opened(
     Ok(opened)
 }
 
+/// Puts `renamed` in the place of a name in the middle of the text.
+fn edit(rt: &HostRuntime, document: &mut Document, ids: &mut TreeIds) -> io::Result<()> {
+    let Some(range) = middle_name(document) else {
+        return Ok(());
+    };
+    if !document.can_edit(range) {
+        return Ok(());
+    }
+    let start = Instant::now(rt)?;
+    let edited = document.edit(rt.alloc(), range, "renamed", ids).is_ok();
+    let micros = start.elapsed(rt)?.as_micros();
+    eprintln!(rt; "edit of a name in the middle: {micros} microseconds, {edited}")
+}
+
 fn measured(rt: &HostRuntime, text: &str) -> io::Result<()> {
     let mut ids = TreeIds::new();
     // The first opening pays for memory that the process was never given before.
     for _ in 0..AGAIN {
-        let _ = opened(rt, text, &mut ids)?;
+        if let Ok(mut document) = opened(rt, text, &mut ids)? {
+            edit(rt, &mut document, &mut ids)?;
+        }
     }
     let mut document = match opened(rt, text, &mut ids)? {
         Ok(document) => document,
