@@ -1,7 +1,9 @@
 //! A renamer, as a tool of one's own would have it: it rests its contract on the document's.
 #![tactic(auto)]
 
-ghost use Rattle.std.specs.Prelude.{◌≡◌, IfErr};
+ghost use Rattle.std.specs.Prelude.{◌≡◌, IfErr, OnOk};
+ghost use Rattle.rust_document.specs.Step.{present};
+ghost use Rattle.rename_example.specs.Renamed.{is_named, renamed_text};
 
 use parser_input::syntax_kind::SyntaxKind;
 use rust_document::{CommitError, Document, PayloadEntry, PayloadError, RecordError, payload};
@@ -45,15 +47,18 @@ impl From<CommitError> for RenameError {
     }
 }
 
-/// Whether an element is an identifier of this text.
-fn is_named(element: &SyntaxElement, name: &str) -> bool {
+/// Returns `true` if `element` is the identifier `name`.
+fn is_named(element: &SyntaxElement, name: &str) -> bool
+    ensures { result ≡ is_named name.now element.now }
+{
     match element {
         SyntaxElement::Token(token) => token.kind() == SyntaxKind::IDENT && token.text() == name,
         SyntaxElement::Node(_) => false,
     }
 }
 
-/// Puts another name wherever one stands, all at once. A refusal leaves the document as it was.
+/// Renames the identifiers `old` to `new`, all at once, in macro calls too. Nothing else in the text
+/// changes. On error, `document` is unchanged.
 pub fn rename(
     alloc: Global,
     document: &mut Document,
@@ -61,14 +66,17 @@ pub fn rename(
     new: &str,
     ids: &mut TreeIds,
 ) -> Result<(), RenameError>
+    ensures text { OnOk result (document.new.text
+        ≡ renamed_text old.now new.now (present document.old)) }
+    ensures edition { OnOk result (document.new.edition ≡ document.old.edition) }
     ensures kept { IfErr result (λ _. document.new ≡ document.old) }
 {
-    let new = payload(alloc, PayloadEntry::Token, document.edition(), new, ids)?;
+    let token = payload(alloc, PayloadEntry::Token, document.edition(), new, ids)?;
     let mut editor = document.editor(alloc)?;
     for element in document.root().descendants_with_tokens(alloc)? {
         let element = element?;
         if is_named(&element, old) {
-            editor.replace(alloc, &element, &new)?;
+            editor.replace(alloc, &element, &token)?;
         }
     }
     document.commit(alloc, editor, ids)?;
@@ -101,6 +109,19 @@ mod tests {
                 & renamed.is_ok()
                 & is_right
         );
+        Ok(())
+    }
+
+    #[test]
+    fn a_macro_call_and_a_comment(rt: HostRuntime) -> Result<(), Fail> {
+        let alloc = rt.alloc();
+        let mut ids = TreeIds::new();
+        let text = "fn a() { a!(a, r#a) } // a";
+        let mut document = Document::open(alloc, Edition::Edition2021, text, &mut ids)?;
+        let renamed = rename(alloc, &mut document, "a", "b", &mut ids);
+        let is_right = document.text() == "fn b() { b!(b, r#a) } // a";
+        drop(document);
+        assert!(rt; renamed.is_ok() & is_right);
         Ok(())
     }
 }

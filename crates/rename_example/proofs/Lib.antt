@@ -1,0 +1,4 @@
+pub mod Changes
+pub mod Walked
+pub mod RawKinds
+pub mod NewLeaves
