@@ -72,7 +72,7 @@ fn opened(
     Ok(opened)
 }
 
-/// Puts `renamed` in the place of a name in the middle of the text.
+/// Replaces a name in the middle of the text by `renamed`.
 fn edit(rt: &HostRuntime, document: &mut Document, ids: &mut TreeIds) -> io::Result<()> {
     let Some(range) = middle_name(document) else {
         return Ok(());

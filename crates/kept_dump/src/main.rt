@@ -1,5 +1,5 @@
 //! Edits documents: each line of the input is a JSON object with an edition, a text, an edit as the start and the end of a range of
-//! bytes and the text that is put in its place, how many tokens are kept in front, lexed, and kept after, and whether the parser's
+//! bytes and the text that replaces it, how many tokens are kept in front, lexed, and kept after, and whether the parser's
 //! input stays the same. Prints for each what the edit of a document answers, and whether that agrees; then how many agree, and for how
 //! many the edit of a `LexedText` of the whole text has the same counts.
 //!

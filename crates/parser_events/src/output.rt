@@ -33,7 +33,7 @@ impl Model for Output {
 }
 
 impl Output {
-    /// Returns an output of these steps, after so many looks.
+    /// Returns an output of these steps, made with this number of looks.
     pub(crate) fn new(steps: StepList, looks: u64) -> Output
         ensures { result ≡ record { steps = map step_of steps; looks = looks } }
     {

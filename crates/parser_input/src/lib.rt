@@ -8,6 +8,7 @@ pub mod frontmatter;
 pub mod frontmatter_error;
 pub mod input;
 pub mod keywords;
+mod kind_names;
 mod kind_table;
 pub mod laws;
 mod leaves;

@@ -15,7 +15,8 @@ ghost use Rattle.parser_input.specs.Kind.{
 ghost use Rattle.parser_input.specs.declared.syntax_kind.SyntaxKind.{SyntaxKind};
 
 use crate::edition::Edition;
-use crate::kind_table::{KINDS, NAMES};
+use crate::kind_names::NAMES;
+use crate::kind_table::KINDS;
 
 /// The kind of a token or of a node of the syntax tree. Its raw number is its position here, so a
 /// later kind is only ever appended.

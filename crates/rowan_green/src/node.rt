@@ -282,11 +282,12 @@ impl GreenNode {
     }
 
     /// The child whose text has the byte at this offset; none from the length of the text on. It
-    /// takes no memory, and looks at no more than twice as many lengths as the count of children
-    /// has binary digits, and two.
+    /// takes no memory, and looks at one length at least, and at no more than twice as many as the
+    /// count of children has binary digits, and two.
     pub fn child_at_offset(&self, offset: TextSize) -> Option<ChildAt>
         ensures found { IsSome result ↔ (offset.0 < length (tree_text self.now)) }
         ensures child { IfSome result (λ c. IsChildAt (children_of self.now) offset.0 c.index c.start.0) }
+        ensures counted { IfSome result (λ c. 1 ≤ c.looks) }
         ensures looks { (digits : ℕ) → length (children_of self.now) < 2 ^ digits →
             IfSome result (λ c. c.looks ≤ 2 * digits + 2) }
     {

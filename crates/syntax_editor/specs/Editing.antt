@@ -4,9 +4,9 @@ use Rattle.rowan_green.specs.Forest.{Tree}
 use Rattle.rowan_green.specs.declared.utility_types.NodeOrToken.TheVariants.{Node}
 use Rattle.syntax_tree.specs.Element.{Way, Element, element_at, term_of}
 use Rattle.syntax_tree.specs.Mapping.{Mapping}
-use Rattle.syntax_tree.specs.declared.error.TreeError.{TreeError}
-use Rattle.syntax_tree.specs.declared.error.TreeError.TheVariants.{Spent, NoMemory}
 use Rattle.tree_rewrite.specs.Change.{Change}
+use Rattle.syntax_editor.specs.declared.make_error.MakeError.{MakeError}
+use Rattle.syntax_editor.specs.declared.make_error.MakeError.TheVariants.{NoMemory, NoTreeNumber, TooLong}
 
 -- an element with the number of an annotation
 pub record Annotated : Type 0 where
@@ -44,11 +44,12 @@ abbrev pub next_number : Way → ℕ → ℕ
 next_number [] n = n
 next_number (i ∷ w) n = n + 1
 
--- no editor of this node was made: for want of a number only where it is an inner node and none is left; out of memory at any point
-abbrev pub RefusesEditor : Way → ℕ → TreeError → Type 0
-RefusesEditor [] n Spent = ⊥
-RefusesEditor (i ∷ w) n Spent = n ≡ 2 ^ 32
+-- no editor of this node was made: for want of a number only where it is an inner node and none is left; out of memory at any point; never as too long
+abbrev pub RefusesEditor : Way → ℕ → MakeError → Type 0
 RefusesEditor w n NoMemory = Unit {0}
+RefusesEditor [] n NoTreeNumber = ⊥
+RefusesEditor (i ∷ w) n NoTreeNumber = n ≡ 2 ^ 32
+RefusesEditor w n TooLong = ⊥
 
 -- all that one has, and after it all that the other has
 abbrev pub merged : Editing → Editing → Editing

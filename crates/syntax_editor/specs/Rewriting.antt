@@ -37,10 +37,10 @@ RefusesRewriting e rewrites.MissingMapping = MissesMapping e
 RefusesRewriting e rewrites.TooLong = IsTooLong e
 RefusesRewriting e rewrites.NoMemory = Unit {0}
 
--- the same, and that no number is left
+-- the same; and, where all of it fits, that no number is left
 abbrev pub RefusesFinish : Editing → ℕ → FinishError → Type 0
 RefusesFinish e number finishes.Intersecting = IsIntersecting e
 RefusesFinish e number finishes.MissingMapping = MissesMapping e
 RefusesFinish e number finishes.TooLong = IsTooLong e
-RefusesFinish e number finishes.NoTreeNumber = IsPlaceable e × (number ≡ 2 ^ 32)
+RefusesFinish e number finishes.NoTreeNumber = IsPlaceable e × (new_fits (rewriting e) ≡ true) × (number ≡ 2 ^ 32)
 RefusesFinish e number finishes.NoMemory = Unit {0}

@@ -13,6 +13,7 @@ ghost use Rattle.syntax_editor.specs.Noted.{first_single};
 
 use crate::annotation::{SyntaxAnnotation, marked};
 use crate::factory::{FACTORY, SyntaxFactory};
+use crate::make_error::MakeError;
 use crate::noted::{is_deleted, note_all};
 use crate::recorded::puts_nothing;
 use crate::target::target;
@@ -20,7 +21,7 @@ use std::alloc::{AllocError, Global};
 use std::collections::HashMap;
 use std::marker::Model;
 use std::mem;
-use syntax_tree::{SyntaxElement, SyntaxMapping, SyntaxNode, TreeError, TreeIds};
+use syntax_tree::{SyntaxElement, SyntaxMapping, SyntaxNode, TreeIds};
 use tree_rewrite::change::Change;
 use tree_rewrite::way_map::{WayMap, number_at};
 
@@ -83,12 +84,13 @@ impl SyntaxEditor {
 
     /// An editor of the tree of a node, with nothing recorded, and the root of that. A root is
     /// edited in its own tree; an inner node is cloned into a tree of its own, which gets the next
-    /// number of `ids`. A refusal may have taken that number; for a root it takes none.
+    /// number of `ids`. A refusal may have taken that number; for a root it takes none. It never
+    /// refuses as `TooLong`.
     pub fn new(
         alloc: Global,
         node: SyntaxNode,
         ids: &mut TreeIds,
-    ) -> Result<(SyntaxEditor, SyntaxNode), TreeError>
+    ) -> Result<(SyntaxEditor, SyntaxNode), MakeError>
         ensures editor { IfOk result (λ r. r.0 ≡ untouched r.1) }
         ensures root { IfOk result (λ r. IsEdited node ids.old r.1) }
         ensures number { OnOk result (ids.new ≡ next_number node.place.up ids.old) }

@@ -1,9 +1,10 @@
-//! Why a token was not made.
+//! Why a token or an editor was not made.
+use std::alloc::AllocError;
 use std::error::Error;
 use std::fmt;
 use syntax_tree::TreeError;
 
-/// Why a token was not made. It took no tree number.
+/// Why a token or an editor was not made. A token that was not made took no tree number.
 #[derive(Clone, Copy, Debug, PartialEq, Eq)]
 pub enum MakeError {
     /// Memory was refused.
@@ -30,6 +31,17 @@ impl fmt::Display for MakeError {
 }
 
 impl Error for MakeError {}
+
+impl From<AllocError> for MakeError {
+    ghost use Rattle.syntax_editor.specs.declared.make_error.MakeError.TheVariants.{NoMemory};
+    ghost use Rattle.std.specs.Prelude.{◌≡◌};
+
+    ghost from_gives = { λ _ e. e ≡ NoMemory };
+
+    fn from(_e: AllocError) -> MakeError {
+        MakeError::NoMemory
+    }
+}
 
 impl From<TreeError> for MakeError {
     ghost use Rattle.syntax_editor.specs.Making.{of_tree};

@@ -3,19 +3,20 @@ ghost use Rattle.std.specs.Prelude.{◌≡◌, ◌≤◌, ◌+◌, IfOk, IfErr, 
 ghost use Rattle.syntax_editor.specs.Editing.{untouched, IsEdited, next_number, RefusesEditor};
 
 use crate::editor::SyntaxEditor;
+use crate::make_error::MakeError;
 use std::alloc::Global;
-use syntax_tree::{AstNode, TreeError, TreeIds};
+use syntax_tree::{AstNode, TreeIds};
 
 impl SyntaxEditor {
     /// An editor of the tree of a typed node, with nothing recorded, and the root of that, of the
     /// same type. A root is edited in its own tree; an inner node is cloned into a tree of its own,
     /// which gets the next number of `ids`. A refusal may have taken that number; for a root it takes
-    /// none.
+    /// none. It never refuses as `TooLong`.
     pub fn with_ast_node<T: AstNode>(
         alloc: Global,
         node: &T,
         ids: &mut TreeIds,
-    ) -> Result<(SyntaxEditor, T), TreeError>
+    ) -> Result<(SyntaxEditor, T), MakeError>
         ensures editor { IfOk result (λ r. r.0 ≡ untouched (T.stands r.1)) }
         ensures root { IfOk result (λ r. IsEdited (T.stands node.now) ids.old (T.stands r.1)) }
         ensures number { OnOk result (ids.new ≡ next_number (T.stands node.now).place.up ids.old) }
