@@ -47,7 +47,7 @@ use syntax_tree::{SyntaxElement, SyntaxNode, TreeError, TreeIds};
 pub const MAX_TEXT: usize = 16_777_216;
 
 /// What an accepted commit tells.
-#[derive(Debug, Drop)]
+#[derive(Debug)]
 pub struct Committed {
     /// The bytes of the new text that were put in, from front to end.
     pub changed: Vec<TextRange>,
@@ -56,6 +56,17 @@ pub struct Committed {
     pub annotated: Vec<(TextRange, SyntaxAnnotation)>,
     /// The number of lookaheads that the parser made; 0 if its output was kept.
     pub steps: u64,
+}
+
+// Not derived: a derived drop is opened field by field in each function that drops one.
+impl Drop for Committed {
+    fn drop(self) {
+        let Committed {
+            changed: _changed,
+            annotated: _annotated,
+            steps: _,
+        } = self;
+    }
 }
 
 /// What an accepted edit tells.
@@ -74,7 +85,6 @@ pub struct Edited {
 /// A text with its edition, its tokens, its messages and its tree. A contract sees the edition, the
 /// text and the tree's number; tokens, messages and tree are the reading of that text. The tokens of
 /// the content and the parser's output are kept for the next text.
-#[derive(Drop)]
 pub struct Document {
     edition: Edition,
     text: String,
@@ -84,6 +94,21 @@ pub struct Document {
     /// What follows the preface, with its tokens.
     kept: LexedText,
     parse: Parse,
+}
+
+// Not derived: a derived drop is opened field by field in each function that drops one.
+impl Drop for Document {
+    fn drop(self) {
+        let Document {
+            edition: _,
+            text: _text,
+            tokens: _tokens,
+            root: _root,
+            errors: _errors,
+            kept: _kept,
+            parse: _parse,
+        } = self;
+    }
 }
 
 impl Model for Document {
