@@ -47,7 +47,7 @@ use syntax_tree::{SyntaxElement, SyntaxNode, TreeError, TreeIds};
 pub const MAX_TEXT: usize = 16_777_216;
 
 /// What an accepted commit tells.
-#[derive(Debug)]
+#[derive(Debug, Drop)]
 pub struct Committed {
     /// The bytes of the new text that were put in, from front to end.
     pub changed: Vec<TextRange>,
@@ -56,17 +56,6 @@ pub struct Committed {
     pub annotated: Vec<(TextRange, SyntaxAnnotation)>,
     /// The number of lookaheads that the parser made; 0 if its output was kept.
     pub steps: u64,
-}
-
-// Not derived: a derived drop is opened field by field in each function that drops one.
-impl Drop for Committed {
-    fn drop(self) {
-        let Committed {
-            changed: _changed,
-            annotated: _annotated,
-            steps: _,
-        } = self;
-    }
 }
 
 /// What an accepted edit tells.
