@@ -1,11 +1,10 @@
 -- A plain name is one token and one leaf, without a message.
-use Rattle.std.proofs.Common.{◌≡◌, ℕ, suc, true, false, ◌&&◌, List, [], ◌∷◌, ◌++◌, drop, length, append-nil, refl, sym, ap, ◌∙◌, Some, None}
+use Rattle.std.proofs.Common.{◌≡◌, ℕ, true, false, List, [], ◌∷◌, drop, length, append-nil, refl, sym, ap, ◌∙◌, Some, None}
 use Rattle.std.proofs.lemmas.Bool.{and_parts}
 use Rattle.std.proofs.Math.Seq.{drop-append_seam}
 use Rattle.std.specs.List.{list_all}
 use Rattle.rustc_lexer.specs.Characters.{is_id_start, is_id_continue, is_ident}
 use Rattle.rustc_lexer.specs.Lexeme.{lexeme, opens_literal}
-use Rattle.rustc_lexer.specs.Scan.{peek}
 use Rattle.rustc_lexer.specs.Tokens as lexer
 use Rattle.rustc_lexer.specs.Tokens.{Lexeme, first_lexeme, tokens}
 use Rattle.rustc_lexer.proofs.Cutting.{first-length, tokens-cons}

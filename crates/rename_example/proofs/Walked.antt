@@ -1,12 +1,12 @@
 -- The walk through a tree enters each of its leaves, so the new text has all of them renamed.
-use Rattle.std.proofs.Common.{◌≡◌, ℕ, zero, suc, ◌+◌, List, [], ◌∷◌, ◌++◌, drop, map, Bool, true, false, not, ◌&&◌, nat_eq, Option, Some, None, slice_get, refl, ap, sym, ◌∙◌, arith, subst, inl, inr, if◌then◌else◌}
+use Rattle.std.proofs.Common.{◌≡◌, ℕ, zero, suc, ◌+◌, List, [], ◌∷◌, ◌++◌, drop, map, Bool, true, false, not, ◌&&◌, nat_eq, Option, Some, slice_get, refl, ap, sym, ◌∙◌, arith, subst, inl, inr, if◌then◌else◌}
 use Rattle.std.proofs.lemmas.Bool.{cases_Bool, eq-eqb, false≢true}
 use Rattle.rowan_green.specs.Leaf.{Leaf, same_leaf}
 use Rattle.rowan_green.specs.Forest.{Forest, empty, node, leaf, Tree, forest_text, tree_text}
-use Rattle.rowan_green.specs.Term.{Term, terms, forest_of, terms-forest_of, forest_of-terms, kind_of, text_of}
+use Rattle.rowan_green.specs.Term.{Term, terms, forest_of, terms-forest_of, forest_of-terms}
 use Rattle.rowan_green.specs.declared.utility_types.NodeOrToken.TheVariants.{Node, Token}
 use Rattle.rowan.specs.Place.{Place, term_by, term_at, children_in, kind_in, text_in, kind_at, text_at}
-use Rattle.rowan.specs.Walk.{Event, walk_forest, walk_from, walk, entered}
+use Rattle.rowan.specs.Walk.{Event, walk_forest, entered}
 use Rattle.rowan.specs.declared.utility_types.WalkEvent.TheVariants.{Enter, Leave}
 use Rattle.syntax_tree.specs.Element.{Way, Element, element_at, term_of}
 use Rattle.syntax_tree.specs.Handle.{element_of, with_number, with_cursor}
@@ -18,7 +18,7 @@ use Rattle.tree_rewrite.specs.Change.{Change, has_collision}
 use Rattle.tree_rewrite.specs.Marked.{forest_in}
 use Rattle.tree_rewrite.specs.Moved.{same_kind}
 use Rattle.tree_rewrite.specs.Rewrite.{rewrite}
-use Rattle.plain_names.specs.Replacements.{Replacement, with_leaves}
+use Rattle.plain_names.specs.Replacements.{with_leaves}
 use Rattle.plain_changes.specs.LeafChanges.{change_of, replacement_of}
 use Rattle.plain_changes.proofs.Orders.{leaves-replaced}
 use Rattle.syntax_editor.specs.Editing.{Editing, untouched, with_changes}
@@ -26,7 +26,7 @@ use Rattle.syntax_editor.specs.Recording.{BadTarget, Foreign, Recorded, is_one_n
 use Rattle.rust_document.specs.Reading.{root_of}
 use Rattle.rust_document.specs.Rewrite.{rewritten}
 use Rattle.rename_example.specs.Renamed.{identifier, is_named, renamed_leaves, renamed_text}
-use Rattle.rename_example.proofs.Changes.{change, changes_after, ways_after, changes-are, no-collision, with_way, has_way, Covered, covered, AreNamed, named-with, named-at, leaf_change, changes-of, all-replace, leaf-after}
+use Rattle.rename_example.proofs.Changes.{changes_after, ways_after, changes-are, no-collision, with_way, has_way, Covered, covered, AreNamed, named-with, named-at, leaf_change, changes-of, all-replace, leaf-after}
 use Rattle.rowan_green.specs.Same.{same_leaf-Decides}
 
 there : {X : Type 0} (xs : List X) (i : ℕ) (x : X) (ys : List X) → drop i xs ≡ x ∷ ys → (slice_get xs i ≡ Some x) × (drop (i + 1) xs ≡ ys)
@@ -128,16 +128,16 @@ no-root t l [] h = absurd (let z : Some (Node t) ≡ Some (Token l) = h in cc)
 no-root t l (i ∷ w) h = refl
 
 leaf-target : (n : ℕ) (t : Tree) (s : Element) → s.number ≡ n → IsLeafOf t s.place → is_target (element_at n t []) s ≡ true
-leaf-target n t s number leaf =
-    let own : term_of s ≡ term_by t s.place.up = ap (λ (r : Tree). term_by r s.place.up) leaf.2 in
-    (λ i. nat_eq (number i) n && same_kind (term_by t s.place.up) (own i)) ∙ (λ i. eq-eqb n n refl i && own-kind (term_by t s.place.up) leaf.0 leaf.1 i)
+leaf-target n t s number found =
+    let own : term_of s ≡ term_by t s.place.up = ap (λ (r : Tree). term_by r s.place.up) found.2 in
+    (λ i. nat_eq (number i) n && same_kind (term_by t s.place.up) (own i)) ∙ (λ i. eq-eqb n n refl i && own-kind (term_by t s.place.up) found.0 found.1 i)
 
 token-recorded : (n : ℕ) (t : Tree) (e : Element) (before : Editing) (s : Element) → s.number ≡ n → IsLeafOf t s.place → before.top ≡ element_at n t []
     → replacing before s (e ∷ []) ≡ Recorded (with_single before.changes s.place.up (e ∷ []))
-token-recorded n t e before s number leaf top =
+token-recorded n t e before s number here top =
     let put = Recorded (with_single before.changes s.place.up (e ∷ [])) in
-    let found : is_target before.top s ≡ true = ap (λ (x : Element). is_target x s) top ∙ leaf-target n t s number leaf in
-    let inner : is_root s.place.up ≡ false = no-root t leaf.0 s.place.up leaf.1 in
+    let found : is_target before.top s ≡ true = ap (λ (x : Element). is_target x s) top ∙ leaf-target n t s number here in
+    let inner : is_root s.place.up ≡ false = no-root t here.0 s.place.up here.1 in
     λ i. if not (found i) then Foreign else if inner i && not (is_one_node (e ∷ [])) then BadTarget else put
 
 pub named-recorded : (old : List ℕ) (n : ℕ) (t : Tree) (e : Element) (before : Editing) (x : SyntaxElement) (left rest : List SyntaxElement) → left ≡ x ∷ rest → AreOfTree n t left

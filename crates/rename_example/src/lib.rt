@@ -25,24 +25,44 @@ pub enum RenameError {
 }
 
 impl From<AllocError> for RenameError {
+    ghost use Rattle.rename_example.specs.declared.RenameError.TheVariants.{NoMemory};
+    ghost use Rattle.std.specs.Prelude.{◌≡◌};
+
+    ghost from_gives = { λ _ e. e ≡ NoMemory };
+
     fn from(_refused: AllocError) -> RenameError {
         RenameError::NoMemory
     }
 }
 
 impl From<PayloadError> for RenameError {
+    ghost use Rattle.rename_example.specs.declared.RenameError.TheVariants.{NoToken};
+    ghost use Rattle.std.specs.Prelude.{◌≡◌};
+
+    ghost from_gives = { λ f e. e ≡ NoToken f };
+
     fn from(error: PayloadError) -> RenameError {
         RenameError::NoToken(error)
     }
 }
 
 impl From<RecordError> for RenameError {
+    ghost use Rattle.rename_example.specs.declared.RenameError.TheVariants.{NotRecorded};
+    ghost use Rattle.std.specs.Prelude.{◌≡◌};
+
+    ghost from_gives = { λ f e. e ≡ NotRecorded f };
+
     fn from(error: RecordError) -> RenameError {
         RenameError::NotRecorded(error)
     }
 }
 
 impl From<CommitError> for RenameError {
+    ghost use Rattle.rename_example.specs.declared.RenameError.TheVariants.{Refused};
+    ghost use Rattle.std.specs.Prelude.{◌≡◌};
+
+    ghost from_gives = { λ f e. e ≡ Refused f };
+
     fn from(error: CommitError) -> RenameError {
         RenameError::Refused(error)
     }
