@@ -4,9 +4,10 @@ run meets no refusal. Says how many runs there were, and which ended otherwise t
 
     bench/refused.py [--fault | --calls] [--stdin FILE] PROGRAM [ARGUMENT..]
 
-A run that met a refusal ends as the run that met none, with the same output: so do tests that make a refused call again. With
---fault it may also end with status 2, 'fault: memory' on standard error, and a front of the output: so does document_tool. With
---calls its output has one line more, which comes first and names the call that answered out of memory: so does memory_suite.
+A run that met a refusal ends as the run that met none, with the same output: so do tests that make a refused call again, and so does
+a call that can do without the room that it asked for ahead. With --fault it may also end with status 2, 'fault: memory' on standard
+error, and a front of the output: so does document_tool. With --calls its output may have one line more, which comes first and names
+the call that answered out of memory: so does memory_suite.
 Standard input is empty, or FILE. Wants glibc, and the Rattle kit's C compiler or another one.
 """
 import argparse
@@ -22,7 +23,7 @@ from concurrent.futures import ThreadPoolExecutor
 HERE = os.path.dirname(os.path.realpath(__file__))
 FAULT = 2, b"fault: memory\n"
 # What memory_suite prints of a call that answered out of memory.
-OUT_OF_MEMORY = re.compile(rb"1 out of memory: (.*)\n")
+OUT_OF_MEMORY = re.compile(rb"\A1 out of memory: (.*)\n")
 # The runs that are started before it is seen whether one of them met no refusal.
 BATCH = 64
 # The wrong runs that are shown.
@@ -73,10 +74,9 @@ def is_as_it_may_be(ended, whole, mode):
     """Returns `True` if a run with a refusal ended as it may, beside one with none."""
     status, output, errors = ended
     if mode == "calls":
-        named = OUT_OF_MEMORY.match(output)
-        return bool(named) and (status, output[named.end() :]) == whole[:2]
+        output = OUT_OF_MEMORY.sub(b"", output, count=1)
     is_fault = mode == "fault" and (status, errors) == FAULT and whole[1].startswith(output)
-    return ended[:2] == whole[:2] or is_fault
+    return (status, output) == whole[:2] or is_fault
 
 
 class Outcome:

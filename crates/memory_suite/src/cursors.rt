@@ -264,7 +264,7 @@ pub(crate) const ROWS: &[Row<StepCall>] = &[
         "WORD@0..2 ",
     ),
     (
-        "rowan::SyntaxElement::clone",
+        "rowan::SyntaxToken::clone",
         StepCall::CloneElement,
         "COMMA@2..3 ",
     ),

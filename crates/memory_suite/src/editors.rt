@@ -10,7 +10,7 @@ use std::alloc::Global;
 use syntax_editor::{
     Annotations, MergeError, RecordError, Space, SyntaxAnnotation, SyntaxEditor, WhitespaceError,
 };
-use syntax_tree::{Position, SyntaxElement, SyntaxNode, TreeIds};
+use syntax_tree::{Position, SyntaxElement, SyntaxMappingBuilder, SyntaxNode, TreeIds};
 
 /// The calls of `syntax_editor`.
 #[derive(Clone, Copy)]
@@ -35,6 +35,7 @@ pub(crate) enum EditorCall {
     Finish,
     FindElement,
     Rewritten,
+    RewrittenNested,
     AnnotatedIn,
 }
 
@@ -219,6 +220,24 @@ fn merge(alloc: Global, editor: &mut SyntaxEditor, refused: &mut u32) -> anyhow:
     }
 }
 
+/// Replaces the second literal by an argument list, to whose second literal it is mapped, and inserts an element first in it.
+fn nest(
+    alloc: Global,
+    editor: &mut SyntaxEditor,
+    new: &SyntaxElement,
+    ids: &mut TreeIds,
+) -> anyhow::Result<()> {
+    let list = root(alloc, ids)?;
+    let literal = node(alloc, editor.root(), &[4])?;
+    let mut builder = SyntaxMappingBuilder::new(alloc, list.clone()?)?;
+    builder.map_node(alloc, literal.clone()?, node(alloc, &list, &[4])?)?;
+    builder.finish(editor.mappings())?;
+    let old = SyntaxElement::Node(literal.clone()?);
+    editor.replace(alloc, &old, &SyntaxElement::Node(list))?;
+    editor.insert(alloc, Position::first_child_of(literal), new)?;
+    Ok(())
+}
+
 fn copy_of(editor: &SyntaxEditor) -> anyhow::Result<SyntaxNode>
     ensures { IfOk result (λ r. r.place.up ≡ []) }
 {
@@ -244,6 +263,7 @@ fn record(
         EditorCall::AddAnnotation | EditorCall::AddAnnotationAll | EditorCall::AnnotatedIn => {
             annotate(alloc, call, editor, &new, refused)
         }
+        EditorCall::RewrittenNested => nest(alloc, editor, &new, ids),
         EditorCall::Merge => {
             replace(alloc, call, editor, &new, refused)?;
             merge(alloc, editor, refused)
@@ -259,7 +279,7 @@ fn asked(alloc: Global, call: EditorCall, editor: &SyntaxEditor) -> anyhow::Resu
             let element = child(alloc, editor, 1)?;
             Ok(format!(in alloc; "{}", editor.deleted(alloc, &element)?)?)
         }
-        EditorCall::Rewritten => Ok(format!(in alloc; "{}", editor.rewritten(alloc)?.green)?),
+        EditorCall::Rewritten | EditorCall::RewrittenNested => Ok(format!(in alloc; "{}", editor.rewritten(alloc)?.green)?),
         _ => {
             let root = editor.root();
             let origins = vec![in alloc; SyntaxElement::Node(root.clone()?)]?;
@@ -291,9 +311,10 @@ fn recorded(alloc: Global, call: EditorCall, refused: &mut u32) -> anyhow::Resul
     let mut editor = SyntaxEditor::of_root(alloc, root);
     record(alloc, call, &mut editor, (&mut ids, refused))?;
     match call {
-        EditorCall::Deleted | EditorCall::Rewritten | EditorCall::AnnotatedIn => {
-            asked(alloc, call, &editor)
-        }
+        EditorCall::Deleted
+        | EditorCall::Rewritten
+        | EditorCall::RewrittenNested
+        | EditorCall::AnnotatedIn => asked(alloc, call, &editor),
         _ => finished(alloc, call, editor, &mut ids),
     }
 }
@@ -438,6 +459,11 @@ pub(crate) const ROWS: &[Row<EditorCall>] = &[
         "syntax_editor::SyntaxEditor::rewritten",
         EditorCall::Rewritten,
         "(x, 2)",
+    ),
+    (
+        "syntax_editor::SyntaxEditor::rewritten",
+        EditorCall::RewrittenNested,
+        "(1, (1, x2))",
     ),
     (
         "syntax_editor::SyntaxEditor::annotated_in",

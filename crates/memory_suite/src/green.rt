@@ -146,7 +146,7 @@ pub(crate) const ROWS: &[Row<GreenCall>] = &[
     ("rowan_green::GreenToken::clone", GreenCall::CloneToken, "a"),
     ("rowan_green::GreenNode::clone", GreenCall::CloneNode, "ab"),
     (
-        "rowan_green::NodeOrToken::clone",
+        "rowan_green::GreenNode::clone",
         GreenCall::CloneElement,
         "ab",
     ),
