@@ -28,8 +28,11 @@ pub(crate) enum WalkCall {
 
 /// A walk from after the subtree of the first child on, skipped a second time if memory is refused.
 fn skipped(mut walk: Preorder<Lists>, refused: &mut u32) -> Result<Preorder<Lists>, AllocError> {
-    drop(walk.next());
-    drop(walk.next());
+    for _ in 0..2 {
+        if let Some(event) = walk.next() {
+            drop(event?);
+        }
+    }
     if walk.skip_subtree().is_err() {
         *refused = refused.saturating_add(1);
         walk.skip_subtree()?;
@@ -41,8 +44,11 @@ fn skipped_with_tokens(
     mut walk: PreorderWithTokens<Lists>,
     refused: &mut u32,
 ) -> Result<PreorderWithTokens<Lists>, AllocError> {
-    drop(walk.next());
-    drop(walk.next());
+    for _ in 0..2 {
+        if let Some(event) = walk.next() {
+            drop(event?);
+        }
+    }
     if walk.skip_subtree().is_err() {
         *refused = refused.saturating_add(1);
         walk.skip_subtree()?;
