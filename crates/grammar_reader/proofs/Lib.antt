@@ -1,4 +1,3 @@
-pub mod Inputs
 pub mod Seeing
 pub mod Elements
 pub mod Ends

@@ -1,6 +1,6 @@
 //! Reads all of an input as one thing: what is left over, or cannot begin it, stands in an error.
 
-ghost use Rattle.std.specs.Prelude.{◌≡◌, ◌≤◌, ◌<◌, ◌+◌, ◌*◌, ◌^◌, Bool, IsTrue, Some, [], ◌∷◌, false, true, length};
+ghost use Rattle.std.specs.Prelude.{◌≡◌, ◌≤◌, ◌<◌, ◌+◌, ◌*◌, Bool, IsTrue, Some, [], ◌∷◌, false, true, length};
 ghost use Rattle.parser_events.specs.Marked.{End, marked};
 ghost use Rattle.parser_events.specs.Seen.{message_of};
 ghost use Rattle.parser_events.specs.Stack.{IsInnermost};
@@ -103,7 +103,6 @@ fn begins(p: &mut Parser<'_>, single: Single) -> bool
 
 /// Reads it where it begins.
 fn read(p: &mut Parser<'_>, single: Single)
-    requires short { length p.old.input < 2 ^ 64 }
     requires begins { Saw false (looks (single_of single)) p.old true }
     requires some { 1 ≤ tokens p.old }
     ensures gives { Gives (single_of single) false p.old p.new }
@@ -119,7 +118,6 @@ fn read(p: &mut Parser<'_>, single: Single)
 
 /// Reads an input that no token was taken of as one thing.
 fn read_single(p: &mut Parser<'_>, single: Single)
-    requires short { length p.old.input < 2 ^ 64 }
     requires nodes { p.old.nodes ≡ Some (End ∷ []) }
     ensures tree { Holds p.new.nodes (marked (entry whole (single_of single) (left p.old)) ∷ []) }
     ensures looks { spent p.new ≤ spent p.old + 16 }
@@ -139,7 +137,6 @@ fn read_single(p: &mut Parser<'_>, single: Single)
 
 /// Reads an input that no token was taken of.
 pub(crate) fn read_entry(p: &mut Parser<'_>, entry_point: TopEntryPoint)
-    requires short { length p.old.input < 2 ^ 64 }
     requires nodes { p.old.nodes ≡ Some (End ∷ []) }
     ensures tree { Holds p.new.nodes (marked (entry whole (production_of entry_point) (left p.old)) ∷ []) }
     ensures looks { p.new.looks < p.old.looks + looks_per_token * (length (left p.old) + 1) }

@@ -15,10 +15,19 @@ use std::alloc::{AllocError, Global};
 use std::marker::{Model, PhantomData};
 
 /// A node and those above it, up to the root. A contract sees those that are left.
-#[derive(Drop)]
 pub struct Ancestors<L> {
     next: Option<cursor::SyntaxNode>,
     language: PhantomData<L>,
+}
+
+// Not derived: a derived drop is opened field by field in each function that drops one.
+impl<L> Drop for Ancestors<L> {
+    fn drop(self) {
+        let Ancestors {
+            next: _next,
+            language: _,
+        } = self;
+    }
 }
 
 impl<L> Model for Ancestors<L> {
@@ -71,12 +80,23 @@ impl<L: Language> Iterator for Ancestors<L> {
 }
 
 /// An element and its siblings on one side, the nearest first. A contract sees those that are left.
-#[derive(Drop)]
 pub struct SiblingsWithTokens<L> {
     alloc: Global,
     direction: Direction,
     next: Option<cursor::SyntaxElement>,
     language: PhantomData<L>,
+}
+
+// Not derived: a derived drop is opened field by field in each function that drops one.
+impl<L> Drop for SiblingsWithTokens<L> {
+    fn drop(self) {
+        let SiblingsWithTokens {
+            alloc: _,
+            direction: _,
+            next: _next,
+            language: _,
+        } = self;
+    }
 }
 
 impl<L> Model for SiblingsWithTokens<L> {
@@ -150,12 +170,23 @@ fn beside(
 
 /// A node and its siblings on one side that are nodes, the nearest first. A contract sees those
 /// that are left.
-#[derive(Drop)]
 pub struct Siblings<L> {
     alloc: Global,
     direction: Direction,
     next: Option<cursor::SyntaxNode>,
     language: PhantomData<L>,
+}
+
+// Not derived: a derived drop is opened field by field in each function that drops one.
+impl<L> Drop for Siblings<L> {
+    fn drop(self) {
+        let Siblings {
+            alloc: _,
+            direction: _,
+            next: _next,
+            language: _,
+        } = self;
+    }
 }
 
 impl<L> Model for Siblings<L> {

@@ -62,12 +62,23 @@ impl Model for SyntaxNode {
 }
 
 /// A token where it stands.
-#[derive(Drop)]
 pub struct SyntaxToken {
     parent: SyntaxNode,
     index: u32,
     offset: u32,
     green: GreenToken,
+}
+
+// Not derived: a derived drop is opened field by field in each function that drops one.
+impl Drop for SyntaxToken {
+    fn drop(self) {
+        let SyntaxToken {
+            parent: _parent,
+            index: _,
+            offset: _,
+            green: _green,
+        } = self;
+    }
 }
 
 impl Model for SyntaxToken {

@@ -15,11 +15,21 @@ use std::marker::{Model, PhantomData};
 
 /// The events of an element and of all that stands below it, nodes and tokens. A contract sees the
 /// events that are left.
-#[derive(Drop)]
 pub struct PreorderWithTokens<L> {
     alloc: Global,
     next: Option<Step>,
     language: PhantomData<L>,
+}
+
+// Not derived: a derived drop is opened field by field in each function that drops one.
+impl<L> Drop for PreorderWithTokens<L> {
+    fn drop(self) {
+        let PreorderWithTokens {
+            alloc: _,
+            next: _next,
+            language: _,
+        } = self;
+    }
 }
 
 impl<L> Model for PreorderWithTokens<L> {

@@ -74,7 +74,6 @@ pub struct Edited {
 /// A text with its edition, its tokens, its messages and its tree. A contract sees the edition, the
 /// text and the tree's number; tokens, messages and tree are the reading of that text. The tokens of
 /// the content and the parser's output are kept for the next text.
-#[derive(Drop)]
 pub struct Document {
     edition: Edition,
     text: String,
@@ -84,6 +83,21 @@ pub struct Document {
     /// What follows the preface, with its tokens.
     kept: LexedText,
     parse: Parse,
+}
+
+// Not derived: a derived drop is opened field by field in each function that drops one.
+impl Drop for Document {
+    fn drop(self) {
+        let Document {
+            edition: _,
+            text: _text,
+            tokens: _tokens,
+            root: _root,
+            errors: _errors,
+            kept: _kept,
+            parse: _parse,
+        } = self;
+    }
 }
 
 impl Model for Document {

@@ -2,6 +2,9 @@
 //!
 //! A contract names the production, or the rule, that the function reads, and says how many looks
 //! it makes at most: where it takes tokens these pay for the looks.
+//!
+//! The functions that write a step are `#[inline(never)]`: inlined, their calls that may allocate
+//! would nearly double the frames of the functions that nest.
 
 ghost use Rattle.std.specs.Prelude.{◌≡◌, ◌≢◌, ◌+◌, ◌≤◌, ◌==◌, Bool, not, ℕ, IsTrue, [], ◌∷◌};
 ghost use Rattle.parser_input.specs.Kind.{raw_of};
@@ -35,14 +38,14 @@ pub mod types;
 pub mod use_trees;
 pub mod visibility;
 
-/// How many tokens are left.
+/// Returns the number of tokens that are left.
 pub fn tokens_left(p: &Parser<'_>) -> usize
     ensures { result ≡ tokens p.now }
 {
     p.tokens_left()
 }
 
-/// The kind of the next token.
+/// Returns the kind of the next token.
 pub fn current(p: &mut Parser<'_>) -> SyntaxKind
     ensures sees { (c : Bool) (kind : ℕ) → Saw c (Kind 0 kind) p.old (raw_of result == kind) }
     ensures end { (c : Bool) → Saw c Left p.old (not (raw_of result == kinds.EOF)) }
@@ -54,7 +57,7 @@ pub fn current(p: &mut Parser<'_>) -> SyntaxKind
     p.kind_at(0)
 }
 
-/// The kind of the token so far ahead.
+/// Returns the kind of the token `n` tokens ahead.
 pub fn nth(p: &mut Parser<'_>, n: usize) -> SyntaxKind
     ensures sees { (c : Bool) (kind : ℕ) → Saw c (Kind n kind) p.old (raw_of result == kind) }
     ensures same { Does (λ s. s) p.old p.new }
@@ -64,7 +67,7 @@ pub fn nth(p: &mut Parser<'_>, n: usize) -> SyntaxKind
     p.kind_at(n)
 }
 
-/// Whether the next token is of this kind.
+/// Returns `true` if the next token is of this kind.
 pub fn at(p: &mut Parser<'_>, kind: SyntaxKind) -> bool
     ensures sees { (c : Bool) → Saw c (Kind 0 (raw_of kind)) p.old result }
     ensures some { IsTrue result → raw_of kind ≢ kinds.EOF → 1 ≤ tokens p.old }
@@ -75,7 +78,7 @@ pub fn at(p: &mut Parser<'_>, kind: SyntaxKind) -> bool
     current(p).to_raw() == kind.to_raw()
 }
 
-/// Whether the token after the next one is of this kind.
+/// Returns `true` if the second token is of this kind.
 pub fn at_second(p: &mut Parser<'_>, kind: SyntaxKind) -> bool
     ensures sees { (c : Bool) → Saw c (Kind 1 (raw_of kind)) p.old result }
     ensures some { IsTrue result → raw_of kind ≢ kinds.EOF → 2 ≤ tokens p.old }
@@ -86,7 +89,7 @@ pub fn at_second(p: &mut Parser<'_>, kind: SyntaxKind) -> bool
     p.kind_at(1).to_raw() == kind.to_raw()
 }
 
-/// Whether the third token from here is of this kind.
+/// Returns `true` if the third token is of this kind.
 pub fn at_third(p: &mut Parser<'_>, kind: SyntaxKind) -> bool
     ensures sees { (c : Bool) → Saw c (Kind 2 (raw_of kind)) p.old result }
     ensures some { IsTrue result → raw_of kind ≢ kinds.EOF → 3 ≤ tokens p.old }
@@ -97,7 +100,7 @@ pub fn at_third(p: &mut Parser<'_>, kind: SyntaxKind) -> bool
     p.kind_at(2).to_raw() == kind.to_raw()
 }
 
-/// Whether the next token is a word that is of this kind as a contextual keyword.
+/// Returns `true` if the next token is an identifier that is of this kind as a contextual keyword.
 fn at_contextual(p: &mut Parser<'_>, kind: SyntaxKind) -> bool
     ensures sees { (c : Bool) → Saw c (Contextual 0 (raw_of kind)) p.old result }
     ensures some { IsTrue result → raw_of kind ≢ kinds.EOF → 1 ≤ tokens p.old }
@@ -120,7 +123,7 @@ pub fn at_whole(p: &mut Parser<'_>) -> bool
     p.whole_at(0)
 }
 
-/// Whether tokens of these kinds are next, which touch each other.
+/// Returns `true` if the next two tokens are of these kinds and touch.
 pub fn at_pair(p: &mut Parser<'_>, first: SyntaxKind, second: SyntaxKind) -> bool
     ensures sees { (c : Bool) → Saw c (there_at 0 (raw_of first ∷ raw_of second ∷ [])) p.old result }
     ensures some { IsTrue result → raw_of second ≢ kinds.EOF → 2 ≤ tokens p.old }
@@ -137,7 +140,7 @@ pub fn at_pair(p: &mut Parser<'_>, first: SyntaxKind, second: SyntaxKind) -> boo
     at_second(p, second)
 }
 
-/// Whether tokens of these kinds come after the next one, and touch each other.
+/// Returns `true` if the second and the third token are of these kinds and touch.
 pub fn at_pair_after(p: &mut Parser<'_>, first: SyntaxKind, second: SyntaxKind) -> bool
     ensures sees { (c : Bool) → Saw c (there_at 1 (raw_of first ∷ raw_of second ∷ [])) p.old result }
     ensures same { Does (λ s. s) p.old p.new }
@@ -154,6 +157,7 @@ pub fn at_pair_after(p: &mut Parser<'_>, first: SyntaxKind, second: SyntaxKind) 
 }
 
 /// Opens a node in the innermost one.
+#[inline(never)]
 pub fn start(p: &mut Parser<'_>) -> Marker
     ensures opens { Opens p.old p.new }
     ensures marker { IsInnermost result p.new.nodes }
@@ -163,7 +167,8 @@ pub fn start(p: &mut Parser<'_>) -> Marker
     p.start()
 }
 
-/// Closes the marker's node as one of this kind.
+/// Completes the marker's node as one of this kind.
+#[inline(never)]
 pub fn complete(p: &mut Parser<'_>, marker: Marker, kind: SyntaxKind)
     requires { IsInnermost marker p.old.nodes }
     ensures closes { Closes (raw_of kind) p.old p.new }
@@ -173,7 +178,8 @@ pub fn complete(p: &mut Parser<'_>, marker: Marker, kind: SyntaxKind)
     marker.complete(p, kind);
 }
 
-/// Leaves the marker's node out.
+/// Abandons the marker's node.
+#[inline(never)]
 pub fn abandon(p: &mut Parser<'_>, marker: Marker)
     requires { IsInnermost marker p.old.nodes }
     ensures leaves { Leaves p.old p.new }
@@ -183,7 +189,8 @@ pub fn abandon(p: &mut Parser<'_>, marker: Marker)
     marker.abandon(p);
 }
 
-/// Adds a message.
+/// Emits an error.
+#[inline(never)]
 pub fn error(p: &mut Parser<'_>, message: Message)
     ensures reads { (c : Bool) → Reads c (Say (message_of message)) p.old p.new }
     ensures left { tokens p.new ≡ tokens p.old }
@@ -193,6 +200,7 @@ pub fn error(p: &mut Parser<'_>, message: Message)
 }
 
 /// Takes the next token, as a leaf of this kind.
+#[inline(never)]
 pub fn take(p: &mut Parser<'_>, kind: SyntaxKind)
     requires { 1 ≤ tokens p.old }
     ensures reads { (c : Bool) → Reads c (One (one (raw_of kind))) p.old p.new }
@@ -203,6 +211,7 @@ pub fn take(p: &mut Parser<'_>, kind: SyntaxKind)
 }
 
 /// Takes the next two tokens, as one leaf of this kind.
+#[inline(never)]
 pub fn take_pair(p: &mut Parser<'_>, kind: SyntaxKind)
     requires { 2 ≤ tokens p.old }
     ensures reads { (c : Bool) (first second : ℕ)
@@ -213,7 +222,8 @@ pub fn take_pair(p: &mut Parser<'_>, kind: SyntaxKind)
     p.token(kind, 2);
 }
 
-/// Takes the next token, whatever it is.
+/// Takes the next token, of whatever kind.
+#[inline(never)]
 pub fn take_any(p: &mut Parser<'_>)
     requires { 1 ≤ tokens p.old }
     ensures reads { (c : Bool) → Reads c Any p.old p.new }
@@ -224,7 +234,8 @@ pub fn take_any(p: &mut Parser<'_>)
     take(p, kind);
 }
 
-/// Takes the next token where it is of this kind.
+/// Takes the next token if it is of this kind.
+#[inline(never)]
 pub fn eat(p: &mut Parser<'_>, kind: SyntaxKind)
     requires { raw_of kind ≢ kinds.EOF }
     ensures reads { (c : Bool) → Reads c (Opt (One (one (raw_of kind)))) p.old p.new }
@@ -237,7 +248,8 @@ pub fn eat(p: &mut Parser<'_>, kind: SyntaxKind)
     take(p, kind);
 }
 
-/// Takes the next token, or says that one of this kind is missing.
+/// Takes the next token if it is of this kind; emits an error otherwise.
+#[inline(never)]
 pub fn expect(p: &mut Parser<'_>, kind: SyntaxKind)
     requires { raw_of kind ≢ kinds.EOF }
     ensures reads { (c : Bool) → Reads c (Want (One (one (raw_of kind))) (Expected (raw_of kind))) p.old p.new }
@@ -251,7 +263,8 @@ pub fn expect(p: &mut Parser<'_>, kind: SyntaxKind)
     error(p, Message::Expected(kind));
 }
 
-/// Takes the next token into an error, after the message.
+/// Emits an error, and takes the next token into an `ERROR` node.
+#[inline(never)]
 pub fn skip(p: &mut Parser<'_>, message: Message)
     requires { 1 ≤ tokens p.old }
     ensures reads { (c : Bool) → Reads c (Skip (message_of message)) p.old p.new }
@@ -264,7 +277,8 @@ pub fn skip(p: &mut Parser<'_>, message: Message)
     complete(p, node, SyntaxKind::ERROR);
 }
 
-/// Closes the node as one of this kind, and opens one around it.
+/// Completes the node as one of this kind, and opens a node around it.
+#[inline(never)]
 pub fn wrap(p: &mut Parser<'_>, marker: Marker, kind: SyntaxKind) -> Marker
     requires { IsInnermost marker p.old.nodes }
     ensures wraps { Does (wrapped (raw_of kind)) p.old p.new }

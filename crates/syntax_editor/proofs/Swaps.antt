@@ -56,7 +56,7 @@ refused_finish_on : (e : Editing) (cs ds : List Change) → AreAlike e.top cs ds
 refused_finish_on e cs ds a number finishes.Intersecting h = sym a.colliding ∙ h
 refused_finish_on e cs ds a number finishes.MissingMapping h = let apart = sym a.colliding ∙ h.0 in (apart, no_jobs e.top cs ds e.mapping a apart h.1)
 refused_finish_on e cs ds a number finishes.TooLong h = (sym a.placeable ∙ h.0, ap new_fits (sym (a.same h.0)) ∙ h.1)
-refused_finish_on e cs ds a number finishes.NoTreeNumber h = (sym a.placeable ∙ h.0, h.1)
+refused_finish_on e cs ds a number finishes.NoTreeNumber h = (sym a.placeable ∙ h.0, ap new_fits (sym (a.same h.0)) ∙ h.1, h.2)
 refused_finish_on e cs ds a number finishes.NoMemory h = tt
 
 finished_on : (e : Editing) (cs ds : List Change) → rewriting (with_changes e cs) ≡ rewriting (with_changes e ds) → (number : ℕ) (r : Edit)

@@ -29,7 +29,6 @@ use tree_rewrite::origins::{Origins, origins_of};
 use tree_rewrite::plan::Rewritten;
 
 /// A tree as it was, and with all recorded changes made.
-#[derive(Drop)]
 pub struct SyntaxEdit {
     old_root: SyntaxNode,
     new_root: SyntaxNode,
@@ -38,6 +37,21 @@ pub struct SyntaxEdit {
     changed_elements: Vec<SyntaxElement>,
     annotated: Vec<(SyntaxElement, SyntaxAnnotation)>,
     groups: Groups,
+}
+
+// Not derived: a derived drop is opened field by field in each function that drops one.
+impl Drop for SyntaxEdit {
+    fn drop(self) {
+        let SyntaxEdit {
+            old_root: _old_root,
+            new_root: _new_root,
+            changed: _changed,
+            origins: _origins,
+            changed_elements: _changed_elements,
+            annotated: _annotated,
+            groups: _groups,
+        } = self;
+    }
 }
 
 impl Model for SyntaxEdit {

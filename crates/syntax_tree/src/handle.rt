@@ -20,10 +20,19 @@ use std::alloc::{AllocError, Global};
 use std::marker::Model;
 
 /// A node of a numbered tree. A clone takes no memory.
-#[derive(Drop)]
 pub struct SyntaxNode {
     tree: u32,
     cursor: rowan::SyntaxNode<RustLanguage>,
+}
+
+// Not derived: a derived drop is opened field by field in each function that drops one.
+impl Drop for SyntaxNode {
+    fn drop(self) {
+        let SyntaxNode {
+            tree: _,
+            cursor: _cursor,
+        } = self;
+    }
 }
 
 impl Model for SyntaxNode {
@@ -39,10 +48,19 @@ impl Model for SyntaxNode {
 }
 
 /// A token of a numbered tree. A clone takes no memory.
-#[derive(Drop)]
 pub struct SyntaxToken {
     tree: u32,
     cursor: rowan::SyntaxToken<RustLanguage>,
+}
+
+// Not derived: a derived drop is opened field by field in each function that drops one.
+impl Drop for SyntaxToken {
+    fn drop(self) {
+        let SyntaxToken {
+            tree: _,
+            cursor: _cursor,
+        } = self;
+    }
 }
 
 impl Model for SyntaxToken {

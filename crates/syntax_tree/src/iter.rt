@@ -37,10 +37,19 @@ pub(crate) fn numbered_if(
 }
 
 /// A node and those above it, up to the root. A contract sees those that are left.
-#[derive(Drop)]
 pub struct Ancestors {
     tree: u32,
     cursors: rowan::Ancestors<RustLanguage>,
+}
+
+// Not derived: a derived drop is opened field by field in each function that drops one.
+impl Drop for Ancestors {
+    fn drop(self) {
+        let Ancestors {
+            tree: _,
+            cursors: _cursors,
+        } = self;
+    }
 }
 
 impl Model for Ancestors {
@@ -77,10 +86,19 @@ impl Iterator for Ancestors {
 }
 
 /// The children of a node that are nodes. A contract sees those that are left.
-#[derive(Drop)]
 pub struct SyntaxNodeChildren {
     tree: u32,
     cursors: rowan::SyntaxNodeChildren<RustLanguage>,
+}
+
+// Not derived: a derived drop is opened field by field in each function that drops one.
+impl Drop for SyntaxNodeChildren {
+    fn drop(self) {
+        let SyntaxNodeChildren {
+            tree: _,
+            cursors: _cursors,
+        } = self;
+    }
 }
 
 impl Model for SyntaxNodeChildren {
@@ -117,10 +135,19 @@ impl Iterator for SyntaxNodeChildren {
 }
 
 /// The children of a node, nodes and tokens. A contract sees those that are left.
-#[derive(Drop)]
 pub struct SyntaxElementChildren {
     tree: u32,
     cursors: rowan::SyntaxElementChildren<RustLanguage>,
+}
+
+// Not derived: a derived drop is opened field by field in each function that drops one.
+impl Drop for SyntaxElementChildren {
+    fn drop(self) {
+        let SyntaxElementChildren {
+            tree: _,
+            cursors: _cursors,
+        } = self;
+    }
 }
 
 impl Model for SyntaxElementChildren {
@@ -158,10 +185,19 @@ impl Iterator for SyntaxElementChildren {
 
 /// A node and all elements below it, each before those below it. A contract sees the events of the
 /// walk that are left.
-#[derive(Drop)]
 pub struct DescendantsWithTokens {
     tree: u32,
     cursors: rowan::DescendantsWithTokens<RustLanguage>,
+}
+
+// Not derived: a derived drop is opened field by field in each function that drops one.
+impl Drop for DescendantsWithTokens {
+    fn drop(self) {
+        let DescendantsWithTokens {
+            tree: _,
+            cursors: _cursors,
+        } = self;
+    }
 }
 
 impl Model for DescendantsWithTokens {

@@ -16,13 +16,23 @@ use std::marker::Model;
 use syntax_tree::SyntaxElement;
 
 /// A change that is not dropped, where it is made.
-#[derive(Drop)]
 pub struct Job {
     /// The replaced node in whose payload it is made; none for the tree itself.
     sheet: Option<Vec<usize>>,
     change: TreeChange,
     /// The node that it replaces by a node.
     own: Option<Vec<usize>>,
+}
+
+// Not derived: a derived drop is opened field by field in each function that drops one.
+impl Drop for Job {
+    fn drop(self) {
+        let Job {
+            sheet: _sheet,
+            change: _change,
+            own: _own,
+        } = self;
+    }
 }
 
 impl Model for Job {

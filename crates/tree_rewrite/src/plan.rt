@@ -33,10 +33,19 @@ use syntax_tree::{SyntaxElement, SyntaxMapping, SyntaxNode};
 
 /// The changes of a tree that are not dropped, where they are made. A contract sees the tree, and
 /// the jobs in recorded order.
-#[derive(Drop)]
 pub struct Plan {
     top: SyntaxNode,
     jobs: Vec<Job>,
+}
+
+// Not derived: a derived drop is opened field by field in each function that drops one.
+impl Drop for Plan {
+    fn drop(self) {
+        let Plan {
+            top: _top,
+            jobs: _jobs,
+        } = self;
+    }
 }
 
 /// A tree with all changes of a plan made.

@@ -78,10 +78,19 @@ fn row_through(way: &[usize], depth: usize) -> Option<(usize, usize)>
 }
 
 /// A change of a tree, whose elements it names by their ways.
-#[derive(Drop)]
 pub struct TreeChange {
     target: Target,
     new: Vec<SyntaxElement>,
+}
+
+// Not derived: a derived drop is opened field by field in each function that drops one.
+impl Drop for TreeChange {
+    fn drop(self) {
+        let TreeChange {
+            target: _target,
+            new: _new,
+        } = self;
+    }
 }
 
 impl Model for TreeChange {

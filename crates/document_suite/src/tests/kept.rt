@@ -4,7 +4,7 @@ use super::opening::{Row, is_row};
 use super::{IDENT, range};
 use parser_input::edition::Edition;
 use parser_input::syntax_kind::SyntaxKind;
-use rust_document::{Document, Edited};
+use rust_document::{Document, Edited, PayloadEntry, payload};
 use std::alloc::Global;
 use std::test::Fail;
 use syntax_tree::TreeIds;
@@ -145,5 +145,30 @@ fn commits_keep_output(rt: HostRuntime) -> Result<(), Fail> {
         (contextual.0 > 0) & (contextual.1 > 0),
         "a contextual keyword"
     );
+    Ok(())
+}
+
+/// Returns the steps of a commit that renames both names of a statement at once.
+fn steps_of_two(alloc: Global) -> Result<u64, Fail> {
+    let mut ids = TreeIds::new();
+    let mut document = Document::open(alloc, OLD, "fn f() { let x = a * 2; }", &mut ids)?;
+    let mut editor = document.editor(alloc)?;
+    for (at, name) in [((13, 14), "y"), ((17, 18), "b")] {
+        let Some(old) = document.find(alloc, SyntaxKind::IDENT, range(at.0, at.1))? else {
+            return Err(Fail::new("no identifier"));
+        };
+        let new = payload(alloc, PayloadEntry::Token, OLD, name, &mut ids)?;
+        editor.replace(alloc, &old, &new)?;
+    }
+    let committed = document.commit(alloc, editor, &mut ids)?;
+    if document.text() != "fn f() { let y = b * 2; }" {
+        return Err(Fail::new("another text"));
+    }
+    Ok(committed.steps)
+}
+
+#[test]
+fn two_renames_at_once_keep_output(rt: HostRuntime) -> Result<(), Fail> {
+    assert!(rt; steps_of_two(rt.alloc())? == 0);
     Ok(())
 }

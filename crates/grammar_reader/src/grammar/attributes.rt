@@ -1,6 +1,6 @@
 //! Attributes.
 
-ghost use Rattle.std.specs.Prelude.{◌≡◌, ◌≤◌, ◌<◌, ◌+◌, ◌*◌, ◌^◌, Bool, true, false, length};
+ghost use Rattle.std.specs.Prelude.{◌≤◌, ◌+◌, Bool, true, false};
 ghost use Rattle.rust_grammar.specs.Calls.{Expression, Meta, TokenTree};
 ghost use Rattle.rust_grammar.specs.Notation.{◌or◌, ◌▸◌, ⁅◌⁆, ◌! };
 ghost use Rattle.rust_grammar.specs.Rule as rules;
@@ -17,10 +17,10 @@ use rust_productions::grammar::paths::{at_path, path};
 use rust_productions::grammar::token_trees::{at_token_tree, token_tree};
 use rust_productions::grammar::{at, complete, eat, error, expect, start, take};
 
-/// An attribute.
+/// Parses an attribute.
+// #[inline]
 #[cycle(grammar)]
 pub(crate) fn attribute(p: &mut Parser<'_>)
-    requires short { length p.old.input < 2 ^ 64 }
     requires some { 1 ≤ tokens p.old }
     ensures gives { (c : Bool) → Gives rules.attribute c p.old p.new }
     ensures left { tokens p.new + 1 ≤ tokens p.old }
@@ -35,10 +35,9 @@ pub(crate) fn attribute(p: &mut Parser<'_>)
     complete(p, attribute, SyntaxKind::ATTR);
 }
 
-/// What an attribute says, or the message that it is missing.
+/// Parses the meta item of an attribute; emits an error if there is none.
 #[cycle(grammar)]
 fn expect_meta(p: &mut Parser<'_>)
-    requires short { length p.old.input < 2 ^ 64 }
     ensures reads { Reads false (Meta !) p.old p.new }
     ensures left { tokens p.new ≤ tokens p.old }
     ensures looks { spent p.new ≤ spent p.old + 3 }
@@ -50,10 +49,10 @@ fn expect_meta(p: &mut Parser<'_>)
     error(p, Message::Expected(SyntaxKind::META));
 }
 
-/// What an attribute says: a path, and a value or tokens.
+/// Parses a meta item: a path with an optional value or token tree.
+// cfg(test)
 #[cycle(grammar)]
 pub fn meta(p: &mut Parser<'_>, condition: bool)
-    requires short { length p.old.input < 2 ^ 64 }
     requires begins { (c : Bool) → Saw c (looks rules.path) p.old true }
     requires some { 1 ≤ tokens p.old }
     ensures gives { Gives rules.meta condition p.old p.new }
@@ -66,10 +65,10 @@ pub fn meta(p: &mut Parser<'_>, condition: bool)
     complete(p, meta, SyntaxKind::META);
 }
 
-/// The value or the tokens after the path of what an attribute says, where there are some.
+/// Parses the optional value or token tree of a meta item.
+// = "text"
 #[cycle(grammar)]
 fn opt_value(p: &mut Parser<'_>, condition: bool)
-    requires short { length p.old.input < 2 ^ 64 }
     ensures reads { Reads condition (⁅ One '=' ▸ Expression ! or TokenTree ⁆) p.old p.new }
     ensures left { tokens p.new ≤ tokens p.old }
     ensures looks { spent p.new ≤ spent p.old + 2 }

@@ -1,6 +1,6 @@
 //! What a whole input is read as, where nothing is left over.
 
-ghost use Rattle.std.specs.Prelude.{◌≡◌, ◌≤◌, ◌<◌, ◌+◌, ◌*◌, ◌^◌, false, length};
+ghost use Rattle.std.specs.Prelude.{◌≤◌, ◌+◌, false};
 ghost use Rattle.rust_grammar.specs.Rule as rules;
 ghost use Rattle.rust_productions.specs.Looks.{tokens, spent};
 ghost use Rattle.rust_productions.specs.Reads.{Gives};
@@ -12,9 +12,9 @@ use parser_events::parser::Parser;
 use parser_input::syntax_kind::SyntaxKind;
 use rust_productions::grammar::{complete, eat, start};
 
-/// A file: items, and what may stand before them.
+/// Parses a source file: an optional shebang, an optional frontmatter, and items.
+// mod a; fn f() {}
 pub fn source_file(p: &mut Parser<'_>)
-    requires short { length p.old.input < 2 ^ 64 }
     ensures gives { Gives rules.source_file false p.old p.new }
     ensures left { tokens p.new ≤ tokens p.old }
     ensures looks { spent p.new ≤ spent p.old + 4 }
@@ -26,9 +26,9 @@ pub fn source_file(p: &mut Parser<'_>)
     complete(p, file, SyntaxKind::SOURCE_FILE);
 }
 
-/// The items that a macro stands for.
+/// Parses the items that a macro expands to.
+// mod a; fn f() {}
 pub fn macro_items(p: &mut Parser<'_>)
-    requires short { length p.old.input < 2 ^ 64 }
     ensures gives { Gives rules.macro_items false p.old p.new }
     ensures left { tokens p.new ≤ tokens p.old }
     ensures looks { spent p.new ≤ spent p.old + 2 }
@@ -38,9 +38,9 @@ pub fn macro_items(p: &mut Parser<'_>)
     complete(p, list, SyntaxKind::MACRO_ITEMS);
 }
 
-/// The statements that a macro stands for.
+/// Parses the statements that a macro expands to.
+// f(); a
 pub fn macro_statements(p: &mut Parser<'_>)
-    requires short { length p.old.input < 2 ^ 64 }
     ensures gives { Gives rules.macro_statements false p.old p.new }
     ensures left { tokens p.new ≤ tokens p.old }
     ensures looks { spent p.new ≤ spent p.old + 901 }

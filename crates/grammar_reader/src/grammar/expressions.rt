@@ -1,6 +1,6 @@
 //! Expressions: operations, ranges, operands after `|>`, and assignments.
 
-ghost use Rattle.std.specs.Prelude.{◌≡◌, ◌≤◌, ◌<◌, ◌+◌, ◌*◌, ◌^◌, ℕ, Bool, IsTrue, Some, None, true, false, length};
+ghost use Rattle.std.specs.Prelude.{◌≡◌, ◌≤◌, ◌+◌, ℕ, Bool, IsTrue, Some, None, true, false};
 ghost use Rattle.parser_input.specs.Kinds.{BIN_EXPR};
 ghost use Rattle.parser_events.specs.Forest.{ExpectedExpression};
 ghost use Rattle.parser_events.specs.Stack.{IsInnermost};
@@ -13,7 +13,6 @@ ghost use Rattle.grammar_reader.specs.Told.{level_of};
 ghost use Rattle.rust_productions.specs.Looks.{tokens, spent};
 ghost use Rattle.rust_productions.specs.Operators.{IsMark, IsNext, spelling_of};
 ghost use Rattle.rust_productions.specs.Reads.{looks, Gives, Reads, Saw};
-ghost use Rattle.rust_productions.specs.Turns.{GoesFrom};
 
 use crate::grammar::expressions::layers::{climb, expect_layer, layers};
 use crate::grammar::expressions::operand::prefixed;
@@ -34,7 +33,7 @@ pub(crate) mod layers;
 pub(crate) mod match_arm;
 pub(crate) mod operand;
 
-/// Which operators an expression may have outside of brackets.
+/// The operators that an expression may have outside of brackets.
 #[derive(Clone, Copy)]
 pub(crate) enum Level {
     Comparison,
@@ -44,10 +43,10 @@ pub(crate) enum Level {
     Prefixed,
 }
 
-/// An expression with these operators, or the message that it is missing.
+/// Parses an expression with operators up to `level`; emits an error if there is none.
+// a + b
 #[cycle(grammar)]
 pub(crate) fn expect_expression(p: &mut Parser<'_>, level: Level, condition: bool)
-    requires short { length p.old.input < 2 ^ 64 }
     ensures reads { Reads condition (Want (Call (level_of level)) ExpectedExpression) p.old p.new }
     ensures left { tokens p.new ≤ tokens p.old }
     ensures looks { spent p.new ≤ spent p.old + 20 }
@@ -61,10 +60,10 @@ pub(crate) fn expect_expression(p: &mut Parser<'_>, level: Level, condition: boo
     }
 }
 
-/// An expression, or the message that it is missing.
+/// Parses an expression; emits an error if there is none.
+// a + b
 #[cycle(grammar)]
 fn expect_any(p: &mut Parser<'_>, condition: bool)
-    requires short { length p.old.input < 2 ^ 64 }
     ensures reads { Reads condition (Want (Call rules.expression) ExpectedExpression) p.old p.new }
     ensures left { tokens p.new ≤ tokens p.old }
     ensures looks { spent p.new ≤ spent p.old + 14 }
@@ -76,10 +75,10 @@ fn expect_any(p: &mut Parser<'_>, condition: bool)
     error(p, Message::ExpectedExpression);
 }
 
-/// An operation, or the message that it is missing.
+/// Parses an operation; emits an error if there is none.
+// a = b
 #[cycle(grammar)]
 fn expect_operation(p: &mut Parser<'_>, condition: bool)
-    requires short { length p.old.input < 2 ^ 64 }
     ensures reads { Reads condition (Operation !) p.old p.new }
     ensures left { tokens p.new ≤ tokens p.old }
     ensures looks { spent p.new ≤ spent p.old + 14 }
@@ -91,10 +90,10 @@ fn expect_operation(p: &mut Parser<'_>, condition: bool)
     error(p, Message::ExpectedExpression);
 }
 
-/// A condition, or the message that it is missing.
+/// Parses an operation in condition mode; emits an error if there is none.
+// a == b
 #[cycle(grammar)]
 pub(crate) fn expect_condition(p: &mut Parser<'_>)
-    requires short { length p.old.input < 2 ^ 64 }
     ensures reads { (c : Bool) → Reads c (on Operation !) p.old p.new }
     ensures left { tokens p.new ≤ tokens p.old }
     ensures looks { spent p.new ≤ spent p.old + 20 }
@@ -102,10 +101,10 @@ pub(crate) fn expect_condition(p: &mut Parser<'_>)
     expect_expression(p, Level::Operation, true);
 }
 
-/// An expression.
+/// Parses an expression.
+// a + b * c
 #[cycle(grammar)]
 pub fn expression(p: &mut Parser<'_>, condition: bool)
-    requires short { length p.old.input < 2 ^ 64 }
     requires begins { Saw condition (looks rules.expression) p.old true }
     requires some { 1 ≤ tokens p.old }
     ensures gives { Gives rules.expression condition p.old p.new }
@@ -115,10 +114,10 @@ pub fn expression(p: &mut Parser<'_>, condition: bool)
     operation(p, condition);
 }
 
-/// An operand with all operators after it, a range, or an assignment.
+/// Parses an operation: an operand with all operators after it, a range, or an assignment.
+// a = b..c
 #[cycle(grammar)]
 pub(crate) fn operation(p: &mut Parser<'_>, condition: bool)
-    requires short { length p.old.input < 2 ^ 64 }
     requires begins { Saw condition (looks rules.operation) p.old true }
     requires some { 1 ≤ tokens p.old }
     ensures gives { Gives rules.operation condition p.old p.new }
@@ -131,10 +130,10 @@ pub(crate) fn operation(p: &mut Parser<'_>, condition: bool)
     }
 }
 
-/// An operation that begins with an operand.
+/// Parses an operation that starts with an operand.
+// a + b
 #[cycle(grammar)]
 fn operands(p: &mut Parser<'_>, condition: bool)
-    requires short { length p.old.input < 2 ^ 64 }
     requires unmarked { IsMark None p.old }
     requires begins { Saw condition (looks rules.prefixed) p.old true }
     requires some { 1 ≤ tokens p.old }
@@ -149,10 +148,10 @@ fn operands(p: &mut Parser<'_>, condition: bool)
     abandon(p, frame);
 }
 
-/// An operation that begins with the mark of a range.
+/// Parses an operation that starts with a range operator.
+// ..a
 #[cycle(grammar)]
 fn range(p: &mut Parser<'_>, mark: RangeMark, condition: bool)
-    requires short { length p.old.input < 2 ^ 64 }
     requires marked { IsMark (Some mark) p.old }
     ensures gives { Gives rules.operation condition p.old p.new }
     ensures left { tokens p.new + 1 ≤ tokens p.old }
@@ -170,16 +169,15 @@ fn range(p: &mut Parser<'_>, mark: RangeMark, condition: bool)
     abandon(p, frame);
 }
 
-/// The mark of a range, and the operand after it, if one is there: that is the answer.
+/// Parses a range operator and its optional end. Returns `true` if there is an end.
+// ..=a
 #[cycle(grammar)]
 fn range_end(p: &mut Parser<'_>, mark: RangeMark, condition: bool) -> bool
-    requires short { length p.old.input < 2 ^ 64 }
     requires marked { IsMark (Some mark) p.old }
     ensures near { Saw condition (begins looks (range_to (spelling_of mark))) p.old result }
     ensures to { IsTrue result → Reads condition
         (One (spelling_of mark) ▸ Unless body_begins Disjunction) p.old p.new }
     ensures alone { result ≡ false → Reads condition (One (spelling_of mark)) p.old p.new }
-    ensures input { p.new.input ≡ p.old.input }
     ensures innermost { (n : ℕ) → IsInnermost n p.old.nodes → IsInnermost n p.new.nodes }
     ensures left { tokens p.new + 1 ≤ tokens p.old }
     ensures looks { spent p.new + 4080 ≤ spent p.old }
@@ -193,9 +191,9 @@ fn range_end(p: &mut Parser<'_>, mark: RangeMark, condition: bool) -> bool
 }
 
 /// Parses what follows an operand and its operators: ranges, operands after `|>`, an assignment.
+// ..b = c
 #[cycle(grammar)]
 fn operation_tail(p: &mut Parser<'_>, frame: Marker, condition: bool) -> Marker
-    requires short { length p.old.input < 2 ^ 64 }
     requires innermost { IsInnermost frame p.old.nodes }
     ensures reads { Reads condition (more rules.operation_tail) p.old p.new }
     ensures marker { IsInnermost result p.new.nodes }
@@ -219,7 +217,6 @@ fn operation_tail(p: &mut Parser<'_>, frame: Marker, condition: bool) -> Marker
 // a |> f() |> g() = b
 #[cycle(grammar)]
 fn pipe_tail(p: &mut Parser<'_>, frame: Marker, condition: bool) -> Marker
-    requires short { length p.old.input < 2 ^ 64 }
     requires innermost { IsInnermost frame p.old.nodes }
     ensures reads { Reads condition (more rules.pipe_tail) p.old p.new }
     ensures marker { IsInnermost result p.new.nodes }
@@ -237,10 +234,10 @@ fn pipe_tail(p: &mut Parser<'_>, frame: Marker, condition: bool) -> Marker
     opt_assignment(p, frame, operator, condition)
 }
 
-/// Parses the optional assignment to what stands before it. `operator` is the next one.
+/// Parses an optional assignment operator and its right operand. `operator` is the next operator.
+// = b
 #[cycle(grammar)]
 fn opt_assignment(p: &mut Parser<'_>, frame: Marker, operator: Operator, condition: bool) -> Marker
-    requires short { length p.old.input < 2 ^ 64 }
     requires next { IsNext operator p.old }
     requires innermost { IsInnermost frame p.old.nodes }
     ensures reads { Reads condition

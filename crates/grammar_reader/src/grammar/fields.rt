@@ -1,6 +1,6 @@
 //! Fields of record expressions and of record patterns.
 
-ghost use Rattle.std.specs.Prelude.{◌≡◌, ◌≤◌, ◌<◌, ◌+◌, ◌*◌, ◌^◌, Bool, true, false, length};
+ghost use Rattle.std.specs.Prelude.{◌≡◌, ◌≤◌, ◌+◌, Bool, true};
 ghost use Rattle.parser_input.specs.Kinds.{IDENT_PAT, NAME_REF, PATH_EXPR, RECORD_EXPR_FIELD, RECORD_PAT_FIELD};
 ghost use Rattle.rust_grammar.specs.Calls.{ExprPath, Expression, Name, Pattern};
 ghost use Rattle.rust_grammar.specs.Notation.{◌or◌, ◌▸◌, ⁅◌⁆, ◌!, ◌⟨◌⟩};
@@ -22,10 +22,10 @@ use rust_productions::grammar::names::{expect_name, name};
 use rust_productions::grammar::patterns::at_named_field;
 use rust_productions::grammar::{at_pair, complete, current, eat, start, take, take_pair};
 
-/// A field of a record expression.
+/// Parses a field of a record expression.
+// a: 1
 #[cycle(grammar)]
 pub(crate) fn field_value(p: &mut Parser<'_>, condition: bool)
-    requires short { length p.old.input < 2 ^ 64 }
     requires begins { Saw condition (looks rules.field_value) p.old true }
     requires some { 1 ≤ tokens p.old }
     ensures gives { Gives rules.field_value condition p.old p.new }
@@ -43,7 +43,8 @@ pub(crate) fn field_value(p: &mut Parser<'_>, condition: bool)
     path_value(p);
 }
 
-/// The name of a field, or its number.
+/// Parses the token of a field's name or number.
+// a
 fn name_or_number(p: &mut Parser<'_>)
     requires { 1 ≤ tokens p.old }
     ensures reads { (c : Bool) → Reads c (One 'ident' or One 'int') p.old p.new }
@@ -56,7 +57,8 @@ fn name_or_number(p: &mut Parser<'_>)
     }
 }
 
-/// A field by its name or number.
+/// Parses the name or the number of a field.
+// 0
 fn name_of_field(p: &mut Parser<'_>)
     requires { 1 ≤ tokens p.old }
     ensures reads { (c : Bool) → Reads c field_name p.old p.new }
@@ -68,10 +70,10 @@ fn name_of_field(p: &mut Parser<'_>)
     complete(p, node, SyntaxKind::NAME_REF);
 }
 
-/// A field by its name, and its value after a colon.
+/// Parses a field of a record expression with its value.
+// a: 1
 #[cycle(grammar)]
 fn named_value(p: &mut Parser<'_>, condition: bool)
-    requires short { length p.old.input < 2 ^ 64 }
     requires some { 2 ≤ tokens p.old }
     ensures reads { Reads condition
         (RECORD_EXPR_FIELD ⟨ field_name ▸ One ':' ▸ Expression ! ⟩) p.old p.new }
@@ -85,10 +87,10 @@ fn named_value(p: &mut Parser<'_>, condition: bool)
     complete(p, node, SyntaxKind::RECORD_EXPR_FIELD);
 }
 
-/// The other fields, as those of a value after two dots.
+/// Parses the `..` of a record expression and its optional base.
+// ..b
 #[cycle(grammar)]
 fn other_fields(p: &mut Parser<'_>, condition: bool)
-    requires short { length p.old.input < 2 ^ 64 }
     requires some { 2 ≤ tokens p.old }
     ensures reads { Reads condition (One 'dots' ▸ ⁅ Expression ⁆) p.old p.new }
     ensures left { tokens p.new + 1 ≤ tokens p.old }
@@ -98,10 +100,10 @@ fn other_fields(p: &mut Parser<'_>, condition: bool)
     opt_expression(p, condition);
 }
 
-/// An expression, where there is one.
+/// Parses an optional expression.
+// b
 #[cycle(grammar)]
 fn opt_expression(p: &mut Parser<'_>, condition: bool)
-    requires short { length p.old.input < 2 ^ 64 }
     ensures reads { Reads condition ⁅ Expression ⁆ p.old p.new }
     ensures left { tokens p.new ≤ tokens p.old }
     ensures looks { spent p.new ≤ spent p.old + 14 }
@@ -111,10 +113,10 @@ fn opt_expression(p: &mut Parser<'_>, condition: bool)
     }
 }
 
-/// A field whose value is a path.
+/// Parses a shorthand field of a record expression.
+// a
 #[cycle(grammar)]
 fn path_value(p: &mut Parser<'_>)
-    requires short { length p.old.input < 2 ^ 64 }
     requires begins { (c : Bool) → Saw c (looks rules.path) p.old true }
     requires some { 1 ≤ tokens p.old }
     ensures reads { (c : Bool) → Reads c
@@ -129,10 +131,10 @@ fn path_value(p: &mut Parser<'_>)
     complete(p, node, SyntaxKind::RECORD_EXPR_FIELD);
 }
 
-/// A field of a record pattern.
+/// Parses a field of a record pattern.
+// a: Some(b)
 #[cycle(grammar)]
 pub(crate) fn pattern_field(p: &mut Parser<'_>)
-    requires short { length p.old.input < 2 ^ 64 }
     requires begins { (c : Bool) → Saw c (looks rules.pattern_field) p.old true }
     requires some { 1 ≤ tokens p.old }
     ensures gives { (c : Bool) → Gives rules.pattern_field c p.old p.new }
@@ -150,10 +152,10 @@ pub(crate) fn pattern_field(p: &mut Parser<'_>)
     shorthand(p);
 }
 
-/// A field by its name, and its pattern after a colon.
+/// Parses a field of a record pattern with its pattern.
+// a: Some(b)
 #[cycle(grammar)]
 fn named_pattern(p: &mut Parser<'_>)
-    requires short { length p.old.input < 2 ^ 64 }
     requires some { 2 ≤ tokens p.old }
     ensures reads { (c : Bool) → Reads c
         (RECORD_PAT_FIELD ⟨ field_name ▸ One ':' ▸ Pattern ! ⟩) p.old p.new }
@@ -167,7 +169,8 @@ fn named_pattern(p: &mut Parser<'_>)
     complete(p, node, SyntaxKind::RECORD_PAT_FIELD);
 }
 
-/// A field that is bound to its own name.
+/// Parses a shorthand field of a record pattern.
+// ref mut a
 fn shorthand(p: &mut Parser<'_>)
     requires begins { (c : Bool) → Saw c
         (begins looks (⁅ One 'ref' ⁆ ▸ ⁅ One 'mut' ⁆ ▸ Name !)) p.old true }
@@ -184,7 +187,8 @@ fn shorthand(p: &mut Parser<'_>)
     complete(p, field, SyntaxKind::RECORD_PAT_FIELD);
 }
 
-/// A name, with what stands before it.
+/// Parses a name with an optional `ref` and an optional `mut`.
+// ref mut a
 fn bound_name(p: &mut Parser<'_>)
     requires begins { (c : Bool) → Saw c
         (begins looks (⁅ One 'ref' ⁆ ▸ ⁅ One 'mut' ⁆ ▸ Name !)) p.old true }
@@ -200,7 +204,8 @@ fn bound_name(p: &mut Parser<'_>)
     }
 }
 
-/// A name after `ref`.
+/// Parses a name with `ref` and an optional `mut`.
+// ref mut a
 fn name_after_ref(p: &mut Parser<'_>)
     requires { 1 ≤ tokens p.old }
     ensures reads { (c : Bool) → Reads c (One 'ref' ▸ ⁅ One 'mut' ⁆ ▸ Name !) p.old p.new }
@@ -212,7 +217,8 @@ fn name_after_ref(p: &mut Parser<'_>)
     expect_name(p);
 }
 
-/// A name after `mut`.
+/// Parses a name with `mut`.
+// mut a
 fn name_after_mut(p: &mut Parser<'_>)
     requires { 1 ≤ tokens p.old }
     ensures reads { (c : Bool) → Reads c (One 'mut' ▸ Name !) p.old p.new }

@@ -1,6 +1,6 @@
 //! Arguments of generics.
 
-ghost use Rattle.std.specs.Prelude.{◌≡◌, ◌≤◌, ◌<◌, ◌+◌, ◌*◌, ◌^◌, Bool, true, false, length};
+ghost use Rattle.std.specs.Prelude.{◌≡◌, ◌≤◌, ◌+◌, Bool, true};
 ghost use Rattle.parser_input.specs.Kinds as kinds;
 ghost use Rattle.parser_input.specs.Kinds.{ASSOC_TYPE_ARG, CONST_ARG, LIFETIME_ARG, NAME_REF, TYPE_ARG};
 ghost use Rattle.rust_grammar.specs.Calls.{AnyType, Lifetime, Literal};
@@ -18,10 +18,10 @@ use parser_input::syntax_kind::SyntaxKind;
 use rust_productions::grammar::names::{at_literal, expect_literal, lifetime, literal};
 use rust_productions::grammar::{at_second, complete, current, start, take};
 
-/// A generic argument.
+/// Parses a generic argument.
+// T = u8
 #[cycle(grammar)]
 pub(crate) fn generic_arg(p: &mut Parser<'_>, condition: bool)
-    requires short { length p.old.input < 2 ^ 64 }
     requires begins { Saw condition (looks rules.generic_arg) p.old true }
     requires some { 1 ≤ tokens p.old }
     ensures gives { Gives rules.generic_arg condition p.old p.new }
@@ -42,7 +42,8 @@ pub(crate) fn generic_arg(p: &mut Parser<'_>, condition: bool)
     }
 }
 
-/// A lifetime as an argument.
+/// Parses a lifetime argument.
+// 'a
 fn lifetime_arg(p: &mut Parser<'_>)
     requires { 1 ≤ tokens p.old }
     ensures reads { (c : Bool) → Reads c (LIFETIME_ARG ⟨ Lifetime ⟩) p.old p.new }
@@ -54,7 +55,8 @@ fn lifetime_arg(p: &mut Parser<'_>)
     complete(p, node, SyntaxKind::LIFETIME_ARG);
 }
 
-/// A literal with a `-` before it, as an argument.
+/// Parses a const argument that is a negative literal.
+// -1
 fn negative_arg(p: &mut Parser<'_>)
     requires { 1 ≤ tokens p.old }
     ensures reads { (c : Bool) → Reads c (CONST_ARG ⟨ One '-' ▸ Literal ! ⟩) p.old p.new }
@@ -67,7 +69,8 @@ fn negative_arg(p: &mut Parser<'_>)
     complete(p, node, SyntaxKind::CONST_ARG);
 }
 
-/// A literal as an argument.
+/// Parses a const argument that is a literal.
+// 1
 fn literal_arg(p: &mut Parser<'_>)
     requires { 1 ≤ tokens p.old }
     ensures reads { (c : Bool) → Reads c (CONST_ARG ⟨ Literal ⟩) p.old p.new }
@@ -79,10 +82,10 @@ fn literal_arg(p: &mut Parser<'_>)
     complete(p, node, SyntaxKind::CONST_ARG);
 }
 
-/// An argument that begins with a word: the type of an associated one, by its name, or a type.
+/// Parses a generic argument that starts with an identifier: an associated type or a type.
+// T = u8
 #[cycle(grammar)]
 fn word_arg(p: &mut Parser<'_>, condition: bool)
-    requires short { length p.old.input < 2 ^ 64 }
     requires word { Saw condition (Kind 0 kinds.IDENT) p.old true }
     requires some { 1 ≤ tokens p.old }
     ensures reads { Reads condition (rule rules.generic_arg) p.old p.new }
@@ -96,10 +99,10 @@ fn word_arg(p: &mut Parser<'_>, condition: bool)
     type_arg(p, condition);
 }
 
-/// The type of an associated one, after its name and a `=`.
+/// Parses an associated type with its name.
+// T = u8
 #[cycle(grammar)]
 fn assoc_type_arg(p: &mut Parser<'_>, condition: bool)
-    requires short { length p.old.input < 2 ^ 64 }
     requires some { 2 ≤ tokens p.old }
     ensures reads { Reads condition
         (ASSOC_TYPE_ARG ⟨ NAME_REF ⟨ One 'ident' ⟩ ▸ One '=' ▸ AnyType ! ⟩) p.old p.new }
@@ -113,10 +116,10 @@ fn assoc_type_arg(p: &mut Parser<'_>, condition: bool)
     complete(p, node, SyntaxKind::ASSOC_TYPE_ARG);
 }
 
-/// A type as an argument.
+/// Parses a type argument.
+// u8
 #[cycle(grammar)]
 fn type_arg(p: &mut Parser<'_>, condition: bool)
-    requires short { length p.old.input < 2 ^ 64 }
     requires begins { Saw condition (looks rules.any_type) p.old true }
     requires some { 1 ≤ tokens p.old }
     ensures reads { Reads condition (TYPE_ARG ⟨ AnyType ⟩) p.old p.new }

@@ -1,6 +1,6 @@
 //! Generic parameters, bounds, and what `where` asks.
 
-ghost use Rattle.std.specs.Prelude.{◌≡◌, ◌≤◌, ◌<◌, ◌+◌, ◌*◌, ◌^◌, Bool, true, false, length};
+ghost use Rattle.std.specs.Prelude.{◌≤◌, ◌+◌, Bool, true};
 ghost use Rattle.parser_input.specs.Kinds.{LIFETIME_PARAM, PATH_TYPE, TYPE_PARAM};
 ghost use Rattle.rust_grammar.specs.Calls.{AnyType, Bound, Bounds, Lifetime, Name, TypePath, WherePred};
 ghost use Rattle.rust_grammar.specs.Notation.{◌or◌, ◌▸◌, ⁅◌⁆, ◌*, ◌!, ◌⟨◌⟩};
@@ -9,7 +9,6 @@ ghost use Rattle.rust_grammar.specs.Rule.{One};
 ghost use Rattle.rust_grammar.specs.Words.{'comma', '?', ':', '=', '+'};
 ghost use Rattle.rust_productions.specs.Looks.{tokens, spent};
 ghost use Rattle.rust_productions.specs.Reads.{looks, Gives, Reads, Saw};
-ghost use Rattle.rust_productions.specs.Turns.{TurnsFrom};
 
 use crate::grammar::types::{any_type, opt_type_after, path_type};
 use parser_events::message::Message;
@@ -20,10 +19,10 @@ use rust_productions::grammar::names::{lifetime, name};
 use rust_productions::grammar::paths::at_path;
 use rust_productions::grammar::{at, complete, current, error, expect, start, take};
 
-/// A bound.
+/// Parses a bound.
+// ?Sized
 #[cycle(grammar)]
 fn bound(p: &mut Parser<'_>)
-    requires short { length p.old.input < 2 ^ 64 }
     requires begins { (c : Bool) → Saw c (looks rules.bound) p.old true }
     requires some { 1 ≤ tokens p.old }
     ensures gives { (c : Bool) → Gives rules.bound c p.old p.new }
@@ -35,10 +34,10 @@ fn bound(p: &mut Parser<'_>)
     complete(p, node, SyntaxKind::TYPE_BOUND);
 }
 
-/// What a bound is: a lifetime, or a path, maybe after a `?`.
+/// Parses a lifetime, or a path type with an optional `?`.
+// ?Sized
 #[cycle(grammar)]
 fn lifetime_or_path(p: &mut Parser<'_>)
-    requires short { length p.old.input < 2 ^ 64 }
     requires begins { (c : Bool) → Saw c (looks rules.bound) p.old true }
     requires some { 1 ≤ tokens p.old }
     ensures reads { (c : Bool) → Reads c
@@ -53,10 +52,10 @@ fn lifetime_or_path(p: &mut Parser<'_>)
     }
 }
 
-/// A path after a `?`.
+/// Parses a `?` and the path type after it.
+// ?Sized
 #[cycle(grammar)]
 fn path_after_question(p: &mut Parser<'_>)
-    requires short { length p.old.input < 2 ^ 64 }
     requires some { 1 ≤ tokens p.old }
     ensures reads { (c : Bool) → Reads c (One '?' ▸ (PATH_TYPE ⟨ TypePath ⟩) !) p.old p.new }
     ensures left { tokens p.new + 1 ≤ tokens p.old }
@@ -66,10 +65,10 @@ fn path_after_question(p: &mut Parser<'_>)
     expect_path_type(p);
 }
 
-/// A path as a type, or the message that it is missing.
+/// Parses a path type; emits an error if there is none.
+// Sized
 #[cycle(grammar)]
 fn expect_path_type(p: &mut Parser<'_>)
-    requires short { length p.old.input < 2 ^ 64 }
     ensures reads { (c : Bool) → Reads c ((PATH_TYPE ⟨ TypePath ⟩) !) p.old p.new }
     ensures left { tokens p.new ≤ tokens p.old }
     ensures looks { spent p.new ≤ spent p.old + 3 }
@@ -81,10 +80,10 @@ fn expect_path_type(p: &mut Parser<'_>)
     error(p, Message::Expected(SyntaxKind::PATH_TYPE));
 }
 
-/// Bounds.
+/// Parses bounds.
+// A + 'a
 #[cycle(grammar)]
 pub(crate) fn bounds(p: &mut Parser<'_>)
-    requires short { length p.old.input < 2 ^ 64 }
     ensures gives { (c : Bool) → Gives rules.bounds c p.old p.new }
     ensures left { tokens p.new ≤ tokens p.old }
     ensures looks { spent p.new ≤ spent p.old + 4 }
@@ -94,10 +93,10 @@ pub(crate) fn bounds(p: &mut Parser<'_>)
     complete(p, list, SyntaxKind::TYPE_BOUND_LIST);
 }
 
-/// Bounds, where there are some.
+/// Parses optional bounds.
+// A + 'a
 #[cycle(grammar)]
 fn opt_bounds(p: &mut Parser<'_>)
-    requires short { length p.old.input < 2 ^ 64 }
     ensures reads { (c : Bool) → Reads c ⁅ Bound ▸ (One '+' ▸ ⁅ Bound ⁆) * ⁆ p.old p.new }
     ensures left { tokens p.new ≤ tokens p.old }
     ensures looks { spent p.new ≤ spent p.old + 4 }
@@ -108,10 +107,10 @@ fn opt_bounds(p: &mut Parser<'_>)
     }
 }
 
-/// Further bounds, each after a `+`.
+/// Parses further bounds, each with its `+`.
+// + B + 'a
 #[cycle(grammar)]
 fn further_bounds(p: &mut Parser<'_>)
-    requires short { length p.old.input < 2 ^ 64 }
     ensures reads { (c : Bool) → Reads c ((One '+' ▸ ⁅ Bound ⁆) *) p.old p.new }
     ensures left { tokens p.new ≤ tokens p.old }
     ensures looks { spent p.new ≤ spent p.old + 1 }
@@ -121,10 +120,10 @@ fn further_bounds(p: &mut Parser<'_>)
     }
 }
 
-/// A `+` and the bound after it, where there is one.
+/// Parses a `+` and an optional bound.
+// + B
 #[cycle(grammar)]
 fn further_bound(p: &mut Parser<'_>)
-    requires short { length p.old.input < 2 ^ 64 }
     requires some { 1 ≤ tokens p.old }
     ensures reads { (c : Bool) → Reads c (One '+' ▸ ⁅ Bound ⁆) p.old p.new }
     ensures left { tokens p.new + 1 ≤ tokens p.old }
@@ -134,10 +133,10 @@ fn further_bound(p: &mut Parser<'_>)
     opt_bound(p);
 }
 
-/// A bound, where there is one.
+/// Parses an optional bound.
+// B
 #[cycle(grammar)]
 fn opt_bound(p: &mut Parser<'_>)
-    requires short { length p.old.input < 2 ^ 64 }
     ensures reads { (c : Bool) → Reads c ⁅ Bound ⁆ p.old p.new }
     ensures left { tokens p.new ≤ tokens p.old }
     ensures looks { spent p.new ≤ spent p.old + 4 }
@@ -147,10 +146,10 @@ fn opt_bound(p: &mut Parser<'_>)
     }
 }
 
-/// The bounds after a colon, where there is one.
+/// Parses optional bounds with their colon.
+// : A + B
 #[cycle(grammar)]
 pub(crate) fn bounds_after_colon(p: &mut Parser<'_>)
-    requires short { length p.old.input < 2 ^ 64 }
     ensures reads { (c : Bool) → Reads c ⁅ One ':' ▸ Bounds ⁆ p.old p.new }
     ensures left { tokens p.new ≤ tokens p.old }
     ensures looks { spent p.new ≤ spent p.old + 1 }
@@ -161,10 +160,10 @@ pub(crate) fn bounds_after_colon(p: &mut Parser<'_>)
     }
 }
 
-/// A lifetime as a parameter.
+/// Parses a lifetime parameter.
+// 'a: 'b
 #[cycle(grammar)]
 fn lifetime_param(p: &mut Parser<'_>)
-    requires short { length p.old.input < 2 ^ 64 }
     requires some { 1 ≤ tokens p.old }
     ensures reads { (c : Bool) → Reads c
         (LIFETIME_PARAM ⟨ Lifetime ▸ ⁅ One ':' ▸ Bounds ⁆ ⟩) p.old p.new }
@@ -177,10 +176,10 @@ fn lifetime_param(p: &mut Parser<'_>)
     complete(p, node, SyntaxKind::LIFETIME_PARAM);
 }
 
-/// A type as a parameter.
+/// Parses a type parameter.
+// T: A = u8
 #[cycle(grammar)]
 fn type_param(p: &mut Parser<'_>, condition: bool)
-    requires short { length p.old.input < 2 ^ 64 }
     requires some { 1 ≤ tokens p.old }
     ensures reads { Reads condition
         (TYPE_PARAM ⟨ Name ▸ ⁅ One ':' ▸ Bounds ⁆ ▸ ⁅ One '=' ▸ AnyType ! ⁆ ⟩) p.old p.new }
@@ -194,10 +193,10 @@ fn type_param(p: &mut Parser<'_>, condition: bool)
     complete(p, node, SyntaxKind::TYPE_PARAM);
 }
 
-/// A generic parameter.
+/// Parses a generic parameter.
+// T: A = u8
 #[cycle(grammar)]
 pub(crate) fn generic_param(p: &mut Parser<'_>, condition: bool)
-    requires short { length p.old.input < 2 ^ 64 }
     requires some { 1 ≤ tokens p.old }
     ensures gives { Gives rules.generic_param condition p.old p.new }
     ensures left { tokens p.new + 1 ≤ tokens p.old }
@@ -210,10 +209,10 @@ pub(crate) fn generic_param(p: &mut Parser<'_>, condition: bool)
     type_param(p, condition);
 }
 
-/// What a part of a `where` asks something of: a lifetime, or a type.
+/// Parses the lifetime or the type of a where predicate.
+// T
 #[cycle(grammar)]
 fn lifetime_or_type(p: &mut Parser<'_>, condition: bool)
-    requires short { length p.old.input < 2 ^ 64 }
     requires begins { Saw condition (looks rules.where_pred) p.old true }
     requires some { 1 ≤ tokens p.old }
     ensures reads { Reads condition (Lifetime or AnyType) p.old p.new }
@@ -227,10 +226,10 @@ fn lifetime_or_type(p: &mut Parser<'_>, condition: bool)
     any_type(p, condition);
 }
 
-/// A part of a `where`.
+/// Parses a where predicate.
+// T: A
 #[cycle(grammar)]
 fn where_pred(p: &mut Parser<'_>, condition: bool)
-    requires short { length p.old.input < 2 ^ 64 }
     requires begins { Saw condition (looks rules.where_pred) p.old true }
     requires some { 1 ≤ tokens p.old }
     ensures gives { Gives rules.where_pred condition p.old p.new }
@@ -244,10 +243,10 @@ fn where_pred(p: &mut Parser<'_>, condition: bool)
     complete(p, node, SyntaxKind::WHERE_PRED);
 }
 
-/// What `where` asks.
+/// Parses a where clause.
+// where T: A, U: B
 #[cycle(grammar)]
 pub(crate) fn where_clause(p: &mut Parser<'_>, condition: bool)
-    requires short { length p.old.input < 2 ^ 64 }
     requires some { 1 ≤ tokens p.old }
     ensures gives { Gives rules.where_clause condition p.old p.new }
     ensures left { tokens p.new + 1 ≤ tokens p.old }
@@ -259,10 +258,10 @@ pub(crate) fn where_clause(p: &mut Parser<'_>, condition: bool)
     complete(p, node, SyntaxKind::WHERE_CLAUSE);
 }
 
-/// The parts of a `where`, where there are some.
+/// Parses optional where predicates.
+// T: A, U: B
 #[cycle(grammar)]
 fn opt_preds(p: &mut Parser<'_>, condition: bool)
-    requires short { length p.old.input < 2 ^ 64 }
     ensures reads { Reads condition
         ⁅ WherePred ▸ (One 'comma' ▸ ⁅ WherePred ⁆) * ⁆ p.old p.new }
     ensures left { tokens p.new ≤ tokens p.old }
@@ -274,10 +273,10 @@ fn opt_preds(p: &mut Parser<'_>, condition: bool)
     }
 }
 
-/// Further parts of a `where`, each after a comma.
+/// Parses further where predicates, each with its comma.
+// , U: B
 #[cycle(grammar)]
 fn further_preds(p: &mut Parser<'_>, condition: bool)
-    requires short { length p.old.input < 2 ^ 64 }
     ensures reads { Reads condition ((One 'comma' ▸ ⁅ WherePred ⁆) *) p.old p.new }
     ensures left { tokens p.new ≤ tokens p.old }
     ensures looks { spent p.new ≤ spent p.old + 1 }
@@ -287,10 +286,10 @@ fn further_preds(p: &mut Parser<'_>, condition: bool)
     }
 }
 
-/// A comma and the part of a `where` after it, where there is one.
+/// Parses a comma and an optional where predicate.
+// , U: B
 #[cycle(grammar)]
 fn further_pred(p: &mut Parser<'_>, condition: bool)
-    requires short { length p.old.input < 2 ^ 64 }
     requires some { 1 ≤ tokens p.old }
     ensures reads { Reads condition (One 'comma' ▸ ⁅ WherePred ⁆) p.old p.new }
     ensures left { tokens p.new + 1 ≤ tokens p.old }
@@ -300,10 +299,10 @@ fn further_pred(p: &mut Parser<'_>, condition: bool)
     opt_pred(p, condition);
 }
 
-/// A part of a `where`, where there is one.
+/// Parses an optional where predicate.
+// U: B
 #[cycle(grammar)]
 fn opt_pred(p: &mut Parser<'_>, condition: bool)
-    requires short { length p.old.input < 2 ^ 64 }
     ensures reads { Reads condition ⁅ WherePred ⁆ p.old p.new }
     ensures left { tokens p.new ≤ tokens p.old }
     ensures looks { spent p.new ≤ spent p.old + 6 }

@@ -1,11 +1,11 @@
 //! Items.
 
-ghost use Rattle.std.specs.Prelude.{◌≡◌, ◌≤◌, ◌<◌, ◌+◌, ◌*◌, ◌^◌, Bool, ℕ, IsTrue, true, false, [], ◌∷◌, length};
+ghost use Rattle.std.specs.Prelude.{◌≡◌, ◌≤◌, ◌<◌, ◌+◌, Bool, ℕ, IsTrue, true, false};
 ghost use Rattle.parser_input.specs.Kind.{raw_of};
 ghost use Rattle.parser_input.specs.Kinds.{ITEM_LIST, MODULE, POUND, PUB_KW};
 ghost use Rattle.parser_events.specs.Stack.{IsInnermost};
 ghost use Rattle.grammar_reader.specs.Told.{ends_of, item_or_attribute};
-ghost use Rattle.rust_grammar.specs.Calls.{Attribute, GenericParams, Name, WhereClause, Item, Visibility};
+ghost use Rattle.rust_grammar.specs.Calls.{Attribute, GenericParams, Name, WhereClause, Visibility};
 ghost use Rattle.rust_grammar.specs.Items.{items_in_braces, items_until};
 ghost use Rattle.rust_grammar.specs.Notation.{◌or◌, ◌▸◌, ⁅◌⁆, ◌*, ◌!, ◌⟨◌⟩, ◌<⟨◌⟩};
 ghost use Rattle.rust_grammar.specs.Rule as rules;
@@ -39,10 +39,10 @@ pub(crate) mod functions;
 pub(crate) mod members;
 pub(crate) mod traits;
 
-/// An item.
+/// Parses an item.
+// #[a] pub fn f() {}
 #[cycle(grammar)]
 pub(crate) fn item(p: &mut Parser<'_>, condition: bool)
-    requires short { length p.old.input < 2 ^ 64 }
     requires some { 1 ≤ tokens p.old }
     ensures gives { Gives rules.item condition p.old p.new }
     ensures left { tokens p.new + 1 ≤ tokens p.old }
@@ -55,10 +55,10 @@ pub(crate) fn item(p: &mut Parser<'_>, condition: bool)
     }
 }
 
-/// An item that begins with an attribute.
+/// Parses an item that starts with an attribute.
+// #[a] pub fn f() {}
 #[cycle(grammar)]
 fn attributed_item(p: &mut Parser<'_>, condition: bool)
-    requires short { length p.old.input < 2 ^ 64 }
     requires begins { (c : Bool) → Saw c (looks rules.attribute) p.old true }
     requires some { 1 ≤ tokens p.old }
     ensures anew { Anew condition (rule rules.item) p.old p.new }
@@ -70,10 +70,10 @@ fn attributed_item(p: &mut Parser<'_>, condition: bool)
     body(p, item, true, condition);
 }
 
-/// An item that begins with its visibility.
+/// Parses an item that starts with a visibility.
+// pub fn f() {}
 #[cycle(grammar)]
 fn visible_item(p: &mut Parser<'_>, condition: bool)
-    requires short { length p.old.input < 2 ^ 64 }
     requires begins { (c : Bool) → Saw c (Kind 0 PUB_KW) p.old true }
     requires some { 1 ≤ tokens p.old }
     ensures anew { Anew condition (rule rules.item) p.old p.new }
@@ -85,10 +85,10 @@ fn visible_item(p: &mut Parser<'_>, condition: bool)
     body(p, item, true, condition);
 }
 
-/// An item that begins with neither.
+/// Parses an item without attributes and without a visibility.
+// fn f() {}
 #[cycle(grammar)]
 fn bare_item(p: &mut Parser<'_>, condition: bool)
-    requires short { length p.old.input < 2 ^ 64 }
     requires plain { (c : Bool) → Saw c (Kind 0 POUND) p.old false }
     requires hidden { (c : Bool) → Saw c (Kind 0 PUB_KW) p.old false }
     requires some { 1 ≤ tokens p.old }
@@ -100,10 +100,10 @@ fn bare_item(p: &mut Parser<'_>, condition: bool)
     body(p, item, false, condition);
 }
 
-/// Attributes.
+/// Parses attributes.
+// #[a] #[b]
 #[cycle(grammar)]
 fn attributes(p: &mut Parser<'_>)
-    requires short { length p.old.input < 2 ^ 64 }
     ensures reads { (c : Bool) → Reads c (Attribute *) p.old p.new }
     ensures left { tokens p.new ≤ tokens p.old }
     ensures looks { spent p.new ≤ spent p.old + 1 }
@@ -113,10 +113,10 @@ fn attributes(p: &mut Parser<'_>)
     }
 }
 
-/// Attributes, of which one begins here, and the visibility after them, where there is one.
+/// Parses one or more attributes and an optional visibility.
+// #[a] pub
 #[cycle(grammar)]
 pub(crate) fn attributes_and_visibility(p: &mut Parser<'_>)
-    requires short { length p.old.input < 2 ^ 64 }
     requires begins { (c : Bool) → Saw c (looks rules.attribute) p.old true }
     requires some { 1 ≤ tokens p.old }
     ensures reads { (c : Bool) → Reads c (Attribute * ▸ ⁅ Visibility ⁆) p.old p.new }
@@ -128,10 +128,11 @@ pub(crate) fn attributes_and_visibility(p: &mut Parser<'_>)
     opt_visibility(p);
 }
 
-/// What an item is, after its attributes and its visibility. Whether there was one is given.
+/// Parses an item after its attributes and its visibility, and completes its node. `given` is
+/// `true` if it has some.
+// fn f() {}
 #[cycle(grammar)]
 fn body(p: &mut Parser<'_>, item: Marker, given: bool, condition: bool)
-    requires short { length p.old.input < 2 ^ 64 }
     requires some { given ≡ false → 1 ≤ tokens p.old }
     requires innermost { IsInnermost item p.old.nodes }
     ensures completes { CompletesWhere given condition (rule rules.body) p.old p.new }
@@ -173,10 +174,10 @@ fn body(p: &mut Parser<'_>, item: Marker, given: bool, condition: bool)
     }
 }
 
-/// A module.
+/// Parses a module, and completes its node.
+// mod a { fn f() {} }
 #[cycle(grammar)]
 fn module(p: &mut Parser<'_>, item: Marker)
-    requires short { length p.old.input < 2 ^ 64 }
     requires some { 1 ≤ tokens p.old }
     requires innermost { IsInnermost item p.old.nodes }
     ensures completes { (c : Bool) → Completes c
@@ -190,10 +191,10 @@ fn module(p: &mut Parser<'_>, item: Marker)
     complete(p, item, SyntaxKind::MODULE);
 }
 
-/// The items of a module, or the `;` of one that stands elsewhere.
+/// Parses the items of a module, or its `;`.
+// { fn f() {} }
 #[cycle(grammar)]
 fn module_items(p: &mut Parser<'_>)
-    requires short { length p.old.input < 2 ^ 64 }
     ensures reads { (c : Bool) → Reads c (ITEM_LIST ⟨ items_in_braces ⟩ or One 'semi' !) p.old p.new }
     ensures left { tokens p.new ≤ tokens p.old }
     ensures looks { spent p.new ≤ spent p.old + 2 }
@@ -205,10 +206,10 @@ fn module_items(p: &mut Parser<'_>)
     expect(p, SyntaxKind::SEMICOLON);
 }
 
-/// Items in braces, in a node of this kind.
+/// Parses items in braces, in a node of `kind`.
+// { fn f() {} }
 #[cycle(grammar)]
 fn item_list(p: &mut Parser<'_>, kind: SyntaxKind)
-    requires short { length p.old.input < 2 ^ 64 }
     requires some { 1 ≤ tokens p.old }
     ensures reads { (c : Bool) → Reads c (raw_of kind ⟨ items_in_braces ⟩) p.old p.new }
     ensures left { tokens p.new + 1 ≤ tokens p.old }
@@ -221,14 +222,12 @@ fn item_list(p: &mut Parser<'_>, kind: SyntaxKind)
     complete(p, list, kind);
 }
 
-/// Reads an item, or an attribute of what the items stand in. Whether more may follow is the
-/// answer.
+/// Parses an item, or an inner attribute. Returns `true` if the list may continue.
+// fn f() {}
 #[cycle(grammar)]
 fn item_turn(p: &mut Parser<'_>, end: ListEnd) -> bool
-    requires short { length p.old.input < 2 ^ 64 }
     ensures goes { IsTrue result → TurnsFrom false (Unless (ends_of end) item_or_attribute) p.old p.new }
     ensures ends { result ≡ false → Reads false (items_until (ends_of end)) p.old p.new }
-    ensures input { p.new.input ≡ p.old.input }
     ensures innermost { (n : ℕ) → IsInnermost n p.old.nodes → IsInnermost n p.new.nodes }
     ensures fewer { IsTrue result → tokens p.new < tokens p.old }
     ensures left { tokens p.new ≤ tokens p.old }
@@ -246,10 +245,10 @@ fn item_turn(p: &mut Parser<'_>, end: ListEnd) -> bool
     true
 }
 
-/// Items up to where their list ends.
+/// Parses items up to the end of their list.
+// fn f() {} mod a;
 #[cycle(grammar)]
 pub(crate) fn items(p: &mut Parser<'_>, end: ListEnd)
-    requires short { length p.old.input < 2 ^ 64 }
     ensures reads { Reads false (items_until (ends_of end)) p.old p.new }
     ensures left { tokens p.new ≤ tokens p.old }
     ensures looks { spent p.new ≤ spent p.old + 2 }
@@ -257,10 +256,10 @@ pub(crate) fn items(p: &mut Parser<'_>, end: ListEnd)
     'turns: while item_turn(p, end) {}
 }
 
-/// The items of a trait or of an `impl`.
+/// Parses the associated items of a trait or of an implementation.
+// { fn f(); }
 #[cycle(grammar)]
 pub(crate) fn assoc_items(p: &mut Parser<'_>)
-    requires short { length p.old.input < 2 ^ 64 }
     requires some { 1 ≤ tokens p.old }
     ensures gives { (c : Bool) → Gives rules.assoc_items c p.old p.new }
     ensures left { tokens p.new + 1 ≤ tokens p.old }
@@ -269,10 +268,10 @@ pub(crate) fn assoc_items(p: &mut Parser<'_>)
     item_list(p, SyntaxKind::ASSOC_ITEM_LIST);
 }
 
-/// Generic parameters, where there are some.
+/// Parses optional generic parameters.
+// <T>
 #[cycle(grammar)]
 pub(crate) fn opt_generic_params(p: &mut Parser<'_>)
-    requires short { length p.old.input < 2 ^ 64 }
     ensures reads { (c : Bool) → Reads c ⁅ GenericParams ⁆ p.old p.new }
     ensures left { tokens p.new ≤ tokens p.old }
     ensures looks { spent p.new ≤ spent p.old + 1 }
@@ -282,10 +281,10 @@ pub(crate) fn opt_generic_params(p: &mut Parser<'_>)
     }
 }
 
-/// What a `where` asks, where there is one.
+/// Parses an optional where clause.
+// where T: A
 #[cycle(grammar)]
 pub(crate) fn opt_where_clause(p: &mut Parser<'_>, condition: bool)
-    requires short { length p.old.input < 2 ^ 64 }
     ensures reads { Reads condition ⁅ WhereClause ⁆ p.old p.new }
     ensures left { tokens p.new ≤ tokens p.old }
     ensures looks { spent p.new ≤ spent p.old + 1 }

@@ -9,14 +9,14 @@ use parser_events::parser::Parser;
 use parser_input::syntax_kind::SyntaxKind;
 use rust_productions::grammar::current;
 
-/// Where a list ends, if not before: at its closing brace or with the input, or with that alone.
+/// The end of a list: its closing brace or the end of the input, or the end of the input alone.
 #[derive(Clone, Copy)]
 pub(crate) enum ListEnd {
     Brace,
     Input,
 }
 
-/// Whether such a list ends here.
+/// Returns `true` if a list with this end ends here.
 pub(crate) fn at_end_of(p: &mut Parser<'_>, end: ListEnd) -> bool
     ensures sees { (c : Bool) → Saw c (ends_of end) p.old result }
     ensures same { Does (λ s. s) p.old p.new }

@@ -1,6 +1,6 @@
 //! Lists of elements with commas between them.
 
-ghost use Rattle.std.specs.Prelude.{◌≡◌, ◌≢◌, ◌≤◌, ◌<◌, ◌+◌, ◌*◌, ◌^◌, Bool, IsTrue, ℕ, true, false, length};
+ghost use Rattle.std.specs.Prelude.{◌≡◌, ◌≢◌, ◌≤◌, ◌<◌, ◌+◌, Bool, IsTrue, ℕ, true, false};
 ghost use Rattle.parser_input.specs.Kind.{raw_of};
 ghost use Rattle.parser_input.specs.Kinds as kinds;
 ghost use Rattle.parser_events.specs.Stack.{IsInnermost};
@@ -37,7 +37,7 @@ use rust_productions::grammar::patterns::{at_pattern, at_pattern_field, at_singl
 use rust_productions::grammar::types::at_type;
 use rust_productions::grammar::{complete, expect, skip, start, take, tokens_left};
 
-/// What a list holds.
+/// The elements of a list.
 #[derive(Clone, Copy)]
 pub(crate) enum Element {
     ClosureParam,
@@ -54,7 +54,7 @@ pub(crate) enum Element {
     Variant,
 }
 
-/// Whether an element begins here.
+/// Returns `true` if an element starts here.
 fn at_element(p: &mut Parser<'_>, element: Element) -> bool
     ensures sees { Saw false (begins looks (element_of element)) p.old result }
     ensures same { Does (λ s. s) p.old p.new }
@@ -77,10 +77,9 @@ fn at_element(p: &mut Parser<'_>, element: Element) -> bool
     }
 }
 
-/// Reads an element.
+/// Parses an element.
 #[cycle(grammar)]
 fn read_element(p: &mut Parser<'_>, element: Element)
-    requires short { length p.old.input < 2 ^ 64 }
     requires begins { Saw false (begins looks (element_of element)) p.old true }
     ensures reads { Reads false (element_of element) p.old p.new }
     ensures left { tokens p.new ≤ tokens p.old }
@@ -103,16 +102,15 @@ fn read_element(p: &mut Parser<'_>, element: Element)
     }
 }
 
-/// Reads an element with the comma after it, or a token that begins none. Whether the list may go
-/// on is the answer.
+/// Parses an element and its comma, or skips a token into an error. Returns `true` if the list may
+/// continue.
+// a,
 #[cycle(grammar)]
 fn turn(p: &mut Parser<'_>, list: SyntaxKind, element: Element, closing: SyntaxKind) -> bool
-    requires short { length p.old.input < 2 ^ 64 }
     ensures goes { IsTrue result → TurnsFrom false
         (list_turn (raw_of list) (element_of element) (raw_of closing)) p.old p.new }
     ensures ends { result ≡ false → Reads false
         ((list_turn (raw_of list) (element_of element) (raw_of closing)) *) p.old p.new }
-    ensures input { p.new.input ≡ p.old.input }
     ensures innermost { (n : ℕ) → IsInnermost n p.old.nodes → IsInnermost n p.new.nodes }
     ensures fewer { IsTrue result → tokens p.new < tokens p.old }
     ensures left { tokens p.new ≤ tokens p.old }
@@ -135,10 +133,10 @@ fn turn(p: &mut Parser<'_>, list: SyntaxKind, element: Element, closing: SyntaxK
     false
 }
 
-/// Reads the elements of a list.
+/// Parses the elements of a list.
+// a, b
 #[cycle(grammar)]
 fn elements(p: &mut Parser<'_>, list: SyntaxKind, element: Element, closing: SyntaxKind)
-    requires short { length p.old.input < 2 ^ 64 }
     ensures reads { Reads false
         ((list_turn (raw_of list) (element_of element) (raw_of closing)) *) p.old p.new }
     ensures left { tokens p.new ≤ tokens p.old }
@@ -147,7 +145,8 @@ fn elements(p: &mut Parser<'_>, list: SyntaxKind, element: Element, closing: Syn
     'turns: while turn(p, list, element, closing) {}
 }
 
-/// Reads the rest of a list after its opening token.
+/// Parses the rest of a list after its opening token.
+// a, b)
 #[cycle(grammar)]
 pub(crate) fn rest_of_list(
     p: &mut Parser<'_>,
@@ -155,7 +154,6 @@ pub(crate) fn rest_of_list(
     element: Element,
     closing: SyntaxKind,
 )
-    requires short { length p.old.input < 2 ^ 64 }
     requires closing { raw_of closing ≢ kinds.EOF }
     ensures reads { (c : Bool) → Reads c (rest_listed (raw_of list) (element_of element)
         (one (raw_of closing))) p.old p.new }
@@ -166,10 +164,10 @@ pub(crate) fn rest_of_list(
     expect(p, closing);
 }
 
-/// The arguments of a call.
+/// Parses call arguments.
+// (a, b)
 #[cycle(grammar)]
 pub(crate) fn arguments(p: &mut Parser<'_>)
-    requires short { length p.old.input < 2 ^ 64 }
     requires some { 1 ≤ tokens p.old }
     ensures gives { (c : Bool) → Gives rules.arguments c p.old p.new }
     ensures left { tokens p.new + 1 ≤ tokens p.old }
@@ -186,10 +184,10 @@ pub(crate) fn arguments(p: &mut Parser<'_>)
     complete(p, list, SyntaxKind::ARG_LIST);
 }
 
-/// The fields of a record expression.
+/// Parses the fields of a record expression.
+// { a: 1, ..b }
 #[cycle(grammar)]
 pub(crate) fn field_values(p: &mut Parser<'_>)
-    requires short { length p.old.input < 2 ^ 64 }
     requires some { 1 ≤ tokens p.old }
     ensures gives { (c : Bool) → Gives rules.field_values c p.old p.new }
     ensures left { tokens p.new + 1 ≤ tokens p.old }
@@ -206,10 +204,10 @@ pub(crate) fn field_values(p: &mut Parser<'_>)
     complete(p, list, SyntaxKind::RECORD_EXPR_FIELD_LIST);
 }
 
-/// The fields of a record pattern.
+/// Parses the fields of a record pattern.
+// { a: Some(b), .. }
 #[cycle(grammar)]
 pub(crate) fn pattern_fields(p: &mut Parser<'_>)
-    requires short { length p.old.input < 2 ^ 64 }
     requires some { 1 ≤ tokens p.old }
     ensures gives { (c : Bool) → Gives rules.pattern_fields c p.old p.new }
     ensures left { tokens p.new + 1 ≤ tokens p.old }
@@ -226,10 +224,10 @@ pub(crate) fn pattern_fields(p: &mut Parser<'_>)
     complete(p, list, SyntaxKind::RECORD_PAT_FIELD_LIST);
 }
 
-/// The parameters of a function.
+/// Parses function parameters.
+// (&self, a: u8)
 #[cycle(grammar)]
 pub(crate) fn params(p: &mut Parser<'_>)
-    requires short { length p.old.input < 2 ^ 64 }
     requires some { 1 ≤ tokens p.old }
     ensures gives { (c : Bool) → Gives rules.params c p.old p.new }
     ensures left { tokens p.new + 1 ≤ tokens p.old }
@@ -246,10 +244,10 @@ pub(crate) fn params(p: &mut Parser<'_>)
     complete(p, list, SyntaxKind::PARAM_LIST);
 }
 
-/// Generic parameters.
+/// Parses generic parameters.
+// <'a, T: A>
 #[cycle(grammar)]
 pub(crate) fn generic_params(p: &mut Parser<'_>)
-    requires short { length p.old.input < 2 ^ 64 }
     requires some { 1 ≤ tokens p.old }
     ensures gives { (c : Bool) → Gives rules.generic_params c p.old p.new }
     ensures left { tokens p.new + 1 ≤ tokens p.old }
@@ -266,10 +264,10 @@ pub(crate) fn generic_params(p: &mut Parser<'_>)
     complete(p, list, SyntaxKind::GENERIC_PARAM_LIST);
 }
 
-/// The variants of an enum.
+/// Parses the variants of an enum.
+// { A, B(u8) }
 #[cycle(grammar)]
 pub(crate) fn variants(p: &mut Parser<'_>)
-    requires short { length p.old.input < 2 ^ 64 }
     requires some { 1 ≤ tokens p.old }
     ensures gives { (c : Bool) → Gives rules.variants c p.old p.new }
     ensures left { tokens p.new + 1 ≤ tokens p.old }
@@ -286,10 +284,10 @@ pub(crate) fn variants(p: &mut Parser<'_>)
     complete(p, list, SyntaxKind::VARIANT_LIST);
 }
 
-/// Fields with names.
+/// Parses named fields.
+// { a: u8, pub b: u8 }
 #[cycle(grammar)]
 pub(crate) fn record_fields(p: &mut Parser<'_>)
-    requires short { length p.old.input < 2 ^ 64 }
     requires some { 1 ≤ tokens p.old }
     ensures gives { (c : Bool) → Gives rules.record_fields c p.old p.new }
     ensures left { tokens p.new + 1 ≤ tokens p.old }
@@ -306,10 +304,10 @@ pub(crate) fn record_fields(p: &mut Parser<'_>)
     complete(p, list, SyntaxKind::RECORD_FIELD_LIST);
 }
 
-/// Fields without names.
+/// Parses tuple fields.
+// (u8, pub u8)
 #[cycle(grammar)]
 pub(crate) fn tuple_fields(p: &mut Parser<'_>)
-    requires short { length p.old.input < 2 ^ 64 }
     requires some { 1 ≤ tokens p.old }
     ensures gives { (c : Bool) → Gives rules.tuple_fields c p.old p.new }
     ensures left { tokens p.new + 1 ≤ tokens p.old }

@@ -1,6 +1,6 @@
 //! Patterns with `|` between them.
 
-ghost use Rattle.std.specs.Prelude.{◌≡◌, ◌≤◌, ◌<◌, ◌+◌, ◌*◌, ◌^◌, Bool, true, length};
+ghost use Rattle.std.specs.Prelude.{◌≤◌, ◌+◌, Bool, true};
 ghost use Rattle.parser_input.specs.Kinds.{OR_PAT};
 ghost use Rattle.parser_events.specs.Stack.{IsInnermost};
 ghost use Rattle.rust_grammar.specs.Calls.{Pattern, SinglePattern};
@@ -11,7 +11,6 @@ ghost use Rattle.rust_grammar.specs.Whole.{rule};
 ghost use Rattle.rust_grammar.specs.Words.{'|'};
 ghost use Rattle.rust_productions.specs.Looks.{tokens, spent};
 ghost use Rattle.rust_productions.specs.Reads.{looks, Gives, Reads, Saw};
-ghost use Rattle.rust_productions.specs.Turns.{TurnsFrom};
 
 use crate::grammar::patterns::{expect_single, single_pattern};
 use parser_events::message::Message;
@@ -20,10 +19,10 @@ use parser_input::syntax_kind::SyntaxKind;
 use rust_productions::grammar::patterns::at_pattern;
 use rust_productions::grammar::{abandon, at, error, start, take, wrap};
 
-/// A pattern, or the message that it is missing.
+/// Parses a pattern; emits an error if there is none.
+// A | B
 #[cycle(grammar)]
 pub(crate) fn expect_pattern(p: &mut Parser<'_>)
-    requires short { length p.old.input < 2 ^ 64 }
     ensures reads { (c : Bool) → Reads c (Pattern !) p.old p.new }
     ensures left { tokens p.new ≤ tokens p.old }
     ensures looks { spent p.new ≤ spent p.old + 9 }
@@ -35,10 +34,10 @@ pub(crate) fn expect_pattern(p: &mut Parser<'_>)
     error(p, Message::ExpectedPattern);
 }
 
-/// A pattern.
+/// Parses a pattern.
+// A | B
 #[cycle(grammar)]
 pub fn pattern(p: &mut Parser<'_>)
-    requires short { length p.old.input < 2 ^ 64 }
     requires begins { (c : Bool) → Saw c (looks rules.pattern) p.old true }
     requires some { 1 ≤ tokens p.old }
     ensures gives { (c : Bool) → Gives rules.pattern c p.old p.new }
@@ -50,10 +49,10 @@ pub fn pattern(p: &mut Parser<'_>)
     abandon(p, frame);
 }
 
-/// A pattern, inside the node that is left out around it.
+/// Parses a pattern, within `frame`, which the caller abandons.
+// A | B
 #[cycle(grammar)]
 fn alternatives(p: &mut Parser<'_>, frame: Marker) -> Marker
-    requires short { length p.old.input < 2 ^ 64 }
     requires begins { (c : Bool) → Saw c (looks rules.pattern) p.old true }
     requires some { 1 ≤ tokens p.old }
     requires innermost { IsInnermost frame p.old.nodes }
@@ -72,10 +71,10 @@ fn alternatives(p: &mut Parser<'_>, frame: Marker) -> Marker
     opt_further(p, frame)
 }
 
-/// A `|` and the pattern after it.
+/// Parses a `|` and the alternative after it.
+// | B
 #[cycle(grammar)]
 fn one_further(p: &mut Parser<'_>)
-    requires short { length p.old.input < 2 ^ 64 }
     requires some { 1 ≤ tokens p.old }
     ensures reads { (c : Bool) → Reads c (One '|' ▸ SinglePattern !) p.old p.new }
     ensures left { tokens p.new + 1 ≤ tokens p.old }
@@ -85,10 +84,10 @@ fn one_further(p: &mut Parser<'_>)
     expect_single(p);
 }
 
-/// Further patterns, each after a `|`.
+/// Parses further alternatives, each with its `|`.
+// | B | C
 #[cycle(grammar)]
 fn further(p: &mut Parser<'_>)
-    requires short { length p.old.input < 2 ^ 64 }
     ensures reads { (c : Bool) → Reads c ((One '|' ▸ SinglePattern !) *) p.old p.new }
     ensures left { tokens p.new ≤ tokens p.old }
     ensures looks { spent p.new ≤ spent p.old + 1 }
@@ -98,10 +97,10 @@ fn further(p: &mut Parser<'_>)
     }
 }
 
-/// Further patterns, around which the node is closed, where there are some.
+/// Parses optional further alternatives. If there are some, completes the or-pattern.
+// | B | C
 #[cycle(grammar)]
 fn opt_further(p: &mut Parser<'_>, frame: Marker) -> Marker
-    requires short { length p.old.input < 2 ^ 64 }
     requires innermost { IsInnermost frame p.old.nodes }
     ensures reads { (c : Bool) → Reads c
         ⁅ OR_PAT <⟨ (One '|' ▸ SinglePattern !) ⁺ ⟩ ⁆ p.old p.new }

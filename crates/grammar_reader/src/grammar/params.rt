@@ -1,6 +1,6 @@
 //! Parameters of functions.
 
-ghost use Rattle.std.specs.Prelude.{◌≡◌, ◌≤◌, ◌<◌, ◌+◌, ◌*◌, ◌^◌, Bool, true, false, IsTrue, length};
+ghost use Rattle.std.specs.Prelude.{◌≡◌, ◌≤◌, ◌+◌, Bool, true, false};
 ghost use Rattle.parser_input.specs.Kinds as kinds;
 ghost use Rattle.parser_input.specs.Kinds.{NAME, PARAM, SELF_PARAM};
 ghost use Rattle.rust_grammar.specs.Calls.{AnyType, Lifetime, Pattern};
@@ -22,7 +22,7 @@ use rust_productions::grammar::{
     at_second, at_third, complete, current, eat, expect, nth, start, take,
 };
 
-/// Whether a `self` is next behind the `&` that stands here, or a lifetime.
+/// Returns `true` if the `&` that is next starts a `self` parameter.
 fn at_self_after_ref(p: &mut Parser<'_>) -> bool
     requires { (c : Bool) → Saw c (Kind 0 kinds.AMP) p.old true }
     ensures sees { (c : Bool) → Saw c self_begins p.old result }
@@ -37,7 +37,7 @@ fn at_self_after_ref(p: &mut Parser<'_>) -> bool
     }
 }
 
-/// Whether a parameter `self` is next.
+/// Returns `true` if a `self` parameter is next.
 fn at_self(p: &mut Parser<'_>) -> bool
     ensures sees { (c : Bool) → Saw c self_begins p.old result }
     ensures same { Does (λ s. s) p.old p.new }
@@ -52,10 +52,10 @@ fn at_self(p: &mut Parser<'_>) -> bool
     }
 }
 
-/// A parameter.
+/// Parses a function parameter.
+// a: u8
 #[cycle(grammar)]
 pub(crate) fn param(p: &mut Parser<'_>, condition: bool)
-    requires short { length p.old.input < 2 ^ 64 }
     requires begins { (c : Bool) → Saw c (looks rules.param) p.old true }
     requires some { 1 ≤ tokens p.old }
     ensures gives { Gives rules.param condition p.old p.new }
@@ -69,10 +69,10 @@ pub(crate) fn param(p: &mut Parser<'_>, condition: bool)
     pattern_param(p, condition);
 }
 
-/// A parameter with a pattern.
+/// Parses a parameter with a pattern.
+// a: u8
 #[cycle(grammar)]
 fn pattern_param(p: &mut Parser<'_>, condition: bool)
-    requires short { length p.old.input < 2 ^ 64 }
     requires begins { (c : Bool) → Saw c (looks rules.pattern) p.old true }
     requires some { 1 ≤ tokens p.old }
     ensures reads { Reads condition (PARAM ⟨ Pattern ▸ One ':' ! ▸ AnyType ! ⟩) p.old p.new }
@@ -86,10 +86,10 @@ fn pattern_param(p: &mut Parser<'_>, condition: bool)
     complete(p, node, SyntaxKind::PARAM);
 }
 
-/// The parameter `self`.
+/// Parses a `self` parameter.
+// &mut self
 #[cycle(grammar)]
 fn self_param(p: &mut Parser<'_>, condition: bool)
-    requires short { length p.old.input < 2 ^ 64 }
     requires begins { (c : Bool) → Saw c self_begins p.old true }
     requires some { 1 ≤ tokens p.old }
     ensures gives { Gives rules.param condition p.old p.new }
@@ -103,7 +103,8 @@ fn self_param(p: &mut Parser<'_>, condition: bool)
     }
 }
 
-/// The name `self`, or the message that it is missing.
+/// Parses the name `self`; emits an error if there is none.
+// self
 fn expect_self(p: &mut Parser<'_>)
     ensures reads { (c : Bool) → Reads c (NAME ⟨ One 'self' ! ⟩) p.old p.new }
     ensures left { tokens p.new ≤ tokens p.old }
@@ -114,10 +115,10 @@ fn expect_self(p: &mut Parser<'_>)
     complete(p, name, SyntaxKind::NAME);
 }
 
-/// A `self` behind a reference.
+/// Parses a `self` parameter with `&`.
+// &'a mut self
 #[cycle(grammar)]
 fn self_after_ref(p: &mut Parser<'_>, condition: bool)
-    requires short { length p.old.input < 2 ^ 64 }
     requires some { 1 ≤ tokens p.old }
     ensures reads { Reads condition (SELF_PARAM ⟨ One '&' ▸ ⁅ Lifetime ⁆ ▸ ⁅ One 'mut' ⁆
         ▸ NAME ⟨ One 'self' ! ⟩ ▸ ⁅ One ':' ▸ AnyType ! ⁆ ⟩) p.old p.new }
@@ -133,10 +134,10 @@ fn self_after_ref(p: &mut Parser<'_>, condition: bool)
     complete(p, node, SyntaxKind::SELF_PARAM);
 }
 
-/// A `self` that may be changed.
+/// Parses a `self` parameter with `mut`.
+// mut self
 #[cycle(grammar)]
 fn self_after_mut(p: &mut Parser<'_>, condition: bool)
-    requires short { length p.old.input < 2 ^ 64 }
     requires some { 1 ≤ tokens p.old }
     ensures reads { Reads condition (SELF_PARAM ⟨ One 'mut'
         ▸ NAME ⟨ One 'self' ! ⟩ ▸ ⁅ One ':' ▸ AnyType ! ⁆ ⟩) p.old p.new }
@@ -150,10 +151,10 @@ fn self_after_mut(p: &mut Parser<'_>, condition: bool)
     complete(p, node, SyntaxKind::SELF_PARAM);
 }
 
-/// A `self` by itself.
+/// Parses a `self` parameter without `&` and `mut`.
+// self: Box<Self>
 #[cycle(grammar)]
 fn self_alone(p: &mut Parser<'_>, condition: bool)
-    requires short { length p.old.input < 2 ^ 64 }
     requires some { 1 ≤ tokens p.old }
     ensures reads { Reads condition (SELF_PARAM
         ⟨ NAME ⟨ One 'self' ⟩ ▸ ⁅ One ':' ▸ AnyType ! ⁆ ⟩) p.old p.new }

@@ -1,6 +1,6 @@
 //! Paths with arguments.
 
-ghost use Rattle.std.specs.Prelude.{◌≡◌, ◌≤◌, ◌<◌, ◌+◌, ◌*◌, ◌^◌, Bool, true, IsTrue, length};
+ghost use Rattle.std.specs.Prelude.{◌≡◌, ◌≤◌, ◌+◌, Bool, true, IsTrue};
 ghost use Rattle.parser_input.specs.Kinds.{PATH, PATH_SEGMENT};
 ghost use Rattle.parser_events.specs.Stack.{IsInnermost};
 ghost use Rattle.rust_grammar.specs.Notation.{◌▸◌, ⁅◌⁆, ◌*, ◌!, ◌⟨◌⟩, ◌<⟨◌⟩, ◌before◌};
@@ -23,14 +23,14 @@ use rust_productions::grammar::{
     abandon, at, at_second, at_third, complete, error, start, take, take_pair, wrap,
 };
 
-/// Where a path with arguments stands, which tells where these begin.
+/// The kind of a path with generic arguments, which decides where these start.
 #[derive(Clone, Copy)]
 pub(crate) enum Mode {
     Expr,
     Type,
 }
 
-/// Whether a `::` is next with a `<` after it.
+/// Returns `true` if `::` is next, and `<` after it.
 fn at_colons_before_args(p: &mut Parser<'_>) -> bool
     ensures sees { (c : Bool) → Saw c ('::' before '<') p.old result }
     ensures some { IsTrue result → 3 ≤ tokens p.old }
@@ -44,7 +44,7 @@ fn at_colons_before_args(p: &mut Parser<'_>) -> bool
     at_third(p, SyntaxKind::L_ANGLE)
 }
 
-/// Whether a `<` is next that no comparison with `=` is.
+/// Returns `true` if a `<` is next that starts no `<=`.
 fn at_angle(p: &mut Parser<'_>) -> bool
     ensures sees { (c : Bool) → Saw c angle p.old result }
     ensures some { IsTrue result → 1 ≤ tokens p.old }
@@ -58,7 +58,7 @@ fn at_angle(p: &mut Parser<'_>) -> bool
     !at_second(p, SyntaxKind::EQ)
 }
 
-/// Whether arguments of a segment begin here.
+/// Returns `true` if the generic arguments of a segment start here.
 fn at_args(p: &mut Parser<'_>, mode: Mode) -> bool
     ensures sees { (c : Bool) → Saw c (args_look mode) p.old result }
     ensures some { IsTrue result → 1 ≤ tokens p.old }
@@ -75,7 +75,8 @@ fn at_args(p: &mut Parser<'_>, mode: Mode) -> bool
     }
 }
 
-/// The `::` that generic arguments can begin with.
+/// Parses the optional `::` of generic arguments.
+// ::
 fn opt_colons(p: &mut Parser<'_>)
     requires begins { (c : Bool) → Saw c (looks rules.generic_args) p.old true }
     requires some { 1 ≤ tokens p.old }
@@ -89,10 +90,10 @@ fn opt_colons(p: &mut Parser<'_>)
     }
 }
 
-/// Generic arguments.
+/// Parses generic arguments.
+// ::<'a, u8>
 #[cycle(grammar)]
 pub(crate) fn generic_args(p: &mut Parser<'_>)
-    requires short { length p.old.input < 2 ^ 64 }
     requires begins { (c : Bool) → Saw c (looks rules.generic_args) p.old true }
     requires some { 1 ≤ tokens p.old }
     ensures gives { (c : Bool) → Gives rules.generic_args c p.old p.new }
@@ -111,7 +112,7 @@ pub(crate) fn generic_args(p: &mut Parser<'_>)
     complete(p, list, SyntaxKind::GENERIC_ARG_LIST);
 }
 
-/// Whether generic arguments are next.
+/// Returns `true` if generic arguments are next.
 fn at_generic_args(p: &mut Parser<'_>) -> bool
     ensures sees { (c : Bool) → Saw c (looks rules.generic_args) p.old result }
     ensures some { IsTrue result → 1 ≤ tokens p.old }
@@ -125,10 +126,10 @@ fn at_generic_args(p: &mut Parser<'_>) -> bool
     at(p, SyntaxKind::L_ANGLE)
 }
 
-/// Generic arguments, where there are some.
+/// Parses optional generic arguments.
+// ::<u8>
 #[cycle(grammar)]
 pub(crate) fn opt_generic_args(p: &mut Parser<'_>)
-    requires short { length p.old.input < 2 ^ 64 }
     ensures reads { (c : Bool) → Reads c ⁅ GenericArgs ⁆ p.old p.new }
     ensures left { tokens p.new ≤ tokens p.old }
     ensures looks { spent p.new ≤ spent p.old + 4 }
@@ -138,10 +139,10 @@ pub(crate) fn opt_generic_args(p: &mut Parser<'_>)
     }
 }
 
-/// The arguments of a segment, where there are some.
+/// Parses the optional generic arguments of a segment.
+// ::<u8>
 #[cycle(grammar)]
 fn opt_args(p: &mut Parser<'_>, mode: Mode)
-    requires short { length p.old.input < 2 ^ 64 }
     ensures reads { (c : Bool) → Reads c (args_of mode) p.old p.new }
     ensures left { tokens p.new ≤ tokens p.old }
     ensures looks { spent p.new ≤ spent p.old + 5 }
@@ -151,10 +152,10 @@ fn opt_args(p: &mut Parser<'_>, mode: Mode)
     }
 }
 
-/// The first segment of a path.
+/// Parses the first segment of a path.
+// ::a::<u8>
 #[cycle(grammar)]
 fn first_segment(p: &mut Parser<'_>, mode: Mode)
-    requires short { length p.old.input < 2 ^ 64 }
     requires begins { (c : Bool) → Saw c (looks rules.path) p.old true }
     requires some { 1 ≤ tokens p.old }
     ensures reads { (c : Bool) → Reads c
@@ -170,10 +171,10 @@ fn first_segment(p: &mut Parser<'_>, mode: Mode)
     complete(p, path, SyntaxKind::PATH);
 }
 
-/// A segment, or the message that it is missing.
+/// Parses a path segment; emits an error if there is none.
+// a::<u8>
 #[cycle(grammar)]
 fn expect_segment(p: &mut Parser<'_>, mode: Mode)
-    requires short { length p.old.input < 2 ^ 64 }
     ensures reads { (c : Bool) → Reads c ((PATH_SEGMENT ⟨ Ref ▸ args_of mode ⟩) !) p.old p.new }
     ensures left { tokens p.new ≤ tokens p.old }
     ensures looks { spent p.new ≤ spent p.old + 1 }
@@ -188,10 +189,10 @@ fn expect_segment(p: &mut Parser<'_>, mode: Mode)
     error(p, Message::Expected(SyntaxKind::PATH_SEGMENT));
 }
 
-/// One more segment of a path, around which the node is closed.
+/// Parses a `::` and a segment, and completes the path up to it.
+// ::a
 #[cycle(grammar)]
 fn next_segment(p: &mut Parser<'_>, path: Marker, mode: Mode) -> Marker
-    requires short { length p.old.input < 2 ^ 64 }
     requires innermost { IsInnermost path p.old.nodes }
     requires some { 2 ≤ tokens p.old }
     ensures reads { (c : Bool) → Reads c
@@ -205,10 +206,10 @@ fn next_segment(p: &mut Parser<'_>, path: Marker, mode: Mode) -> Marker
     wrap(p, path, SyntaxKind::PATH)
 }
 
-/// The further segments of a path.
+/// Parses the further segments of a path.
+// ::a::b
 #[cycle(grammar)]
 fn next_segments(p: &mut Parser<'_>, path: Marker, mode: Mode) -> Marker
-    requires short { length p.old.input < 2 ^ 64 }
     requires innermost { IsInnermost path p.old.nodes }
     ensures reads { (c : Bool) → Reads c ((Unless colons_before_more
         (PATH <⟨ One '::' ▸ (PATH_SEGMENT ⟨ Ref ▸ args_of mode ⟩) ! ⟩)) *) p.old p.new }
@@ -223,10 +224,10 @@ fn next_segments(p: &mut Parser<'_>, path: Marker, mode: Mode) -> Marker
     path
 }
 
-/// A path with arguments.
+/// Parses a path with generic arguments.
+// a::<u8>::b
 #[cycle(grammar)]
 pub(crate) fn path_with_args(p: &mut Parser<'_>, mode: Mode)
-    requires short { length p.old.input < 2 ^ 64 }
     requires begins { (c : Bool) → Saw c (looks rules.path) p.old true }
     requires some { 1 ≤ tokens p.old }
     ensures gives { (c : Bool) → Gives (path_of mode) c p.old p.new }

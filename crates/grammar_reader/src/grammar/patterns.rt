@@ -1,6 +1,6 @@
 //! Patterns.
 
-ghost use Rattle.std.specs.Prelude.{◌≡◌, ◌≤◌, ◌<◌, ◌+◌, ◌*◌, ◌^◌, Bool, true, false, IsTrue, [], ◌∷◌, length};
+ghost use Rattle.std.specs.Prelude.{◌≡◌, ◌≤◌, ◌+◌, Bool, true, false, IsTrue, [], ◌∷◌};
 ghost use Rattle.parser_input.specs.Kinds.{IDENT_PAT, LITERAL_PAT, PAREN_PAT, PATH_PAT, RECORD_PAT, REF_PAT, REST_PAT, SLICE_PAT, TUPLE_PAT, TUPLE_STRUCT_PAT};
 ghost use Rattle.parser_events.specs.Stack.{IsInnermost};
 ghost use Rattle.rust_grammar.specs.Calls.{ExprPath, Literal, Name, Pattern, PatternFields, SinglePattern};
@@ -26,8 +26,8 @@ use rust_productions::grammar::{
     take_pair, wrap,
 };
 
-/// Whether a word is next that is a name in a pattern: before neither `::`, nor a bracket of
-/// fields, nor `!`.
+/// Returns `true` if an identifier is next that is a pattern: before none of `::`, `(`, `{` and
+/// `!`.
 fn at_ident_pat(p: &mut Parser<'_>) -> bool
     ensures sees { (c : Bool) → Saw c
         ('ident' not_before ('::' ∷ 'l_paren' ∷ 'l_curly' ∷ '!' ∷ [])) p.old result }
@@ -48,7 +48,7 @@ fn at_ident_pat(p: &mut Parser<'_>) -> bool
     }
 }
 
-/// Whether a `(` is next with `..` after it.
+/// Returns `true` if `(` is next, and `..` after it.
 fn at_paren_before_dots(p: &mut Parser<'_>) -> bool
     ensures sees { (c : Bool) → Saw c ('l_paren' before 'dots') p.old result }
     ensures some { IsTrue result → 1 ≤ tokens p.old }
@@ -62,10 +62,10 @@ fn at_paren_before_dots(p: &mut Parser<'_>) -> bool
     at_pair_after(p, SyntaxKind::DOT, SyntaxKind::DOT)
 }
 
-/// A pattern without a `|` before it or in it.
+/// Parses a pattern without top-level alternatives.
+// &mut (a, ..)
 #[cycle(grammar)]
 pub(crate) fn single_pattern(p: &mut Parser<'_>)
-    requires short { length p.old.input < 2 ^ 64 }
     requires begins { (c : Bool) → Saw c (looks rules.single_pattern) p.old true }
     requires some { 1 ≤ tokens p.old }
     ensures gives { (c : Bool) → Gives rules.single_pattern c p.old p.new }
@@ -77,10 +77,10 @@ pub(crate) fn single_pattern(p: &mut Parser<'_>)
     abandon(p, frame);
 }
 
-/// A pattern, inside the node that is left out around it.
+/// Parses a pattern without top-level alternatives, within `frame`, which the caller abandons.
+// (a, ..)
 #[cycle(grammar)]
 fn inside(p: &mut Parser<'_>, frame: Marker) -> Marker
-    requires short { length p.old.input < 2 ^ 64 }
     requires begins { (c : Bool) → Saw c (looks rules.single_pattern) p.old true }
     requires some { 1 ≤ tokens p.old }
     requires innermost { IsInnermost frame p.old.nodes }
@@ -139,7 +139,8 @@ fn inside(p: &mut Parser<'_>, frame: Marker) -> Marker
     }
 }
 
-/// A literal with a `-` before it.
+/// Parses a literal pattern with a minus sign.
+// -1
 fn negative(p: &mut Parser<'_>)
     requires { 1 ≤ tokens p.old }
     ensures reads { (c : Bool) → Reads c (LITERAL_PAT ⟨ One '-' ▸ Literal ! ⟩) p.old p.new }
@@ -152,7 +153,8 @@ fn negative(p: &mut Parser<'_>)
     complete(p, node, SyntaxKind::LITERAL_PAT);
 }
 
-/// A literal.
+/// Parses a literal pattern without a minus sign.
+// 1
 fn literal_pat(p: &mut Parser<'_>)
     requires { 1 ≤ tokens p.old }
     ensures reads { (c : Bool) → Reads c (LITERAL_PAT ⟨ Literal ⟩) p.old p.new }
@@ -164,7 +166,8 @@ fn literal_pat(p: &mut Parser<'_>)
     complete(p, node, SyntaxKind::LITERAL_PAT);
 }
 
-/// The two dots that stand for the rest.
+/// Parses a rest pattern.
+// ..
 pub(crate) fn rest_pat(p: &mut Parser<'_>)
     requires { 2 ≤ tokens p.old }
     ensures reads { (c : Bool) → Reads c (REST_PAT ⟨ One 'dots' ⟩) p.old p.new }
@@ -176,10 +179,10 @@ pub(crate) fn rest_pat(p: &mut Parser<'_>)
     complete(p, node, SyntaxKind::REST_PAT);
 }
 
-/// A single pattern, or the message that it is missing.
+/// Parses a pattern without top-level alternatives; emits an error if there is none.
+// (a, ..)
 #[cycle(grammar)]
 pub(crate) fn expect_single(p: &mut Parser<'_>)
-    requires short { length p.old.input < 2 ^ 64 }
     ensures reads { (c : Bool) → Reads c (SinglePattern !) p.old p.new }
     ensures left { tokens p.new ≤ tokens p.old }
     ensures looks { spent p.new ≤ spent p.old + 8 }
@@ -191,10 +194,10 @@ pub(crate) fn expect_single(p: &mut Parser<'_>)
     error(p, Message::ExpectedPattern);
 }
 
-/// A reference.
+/// Parses a reference pattern.
+// &mut a
 #[cycle(grammar)]
 fn ref_pat(p: &mut Parser<'_>)
-    requires short { length p.old.input < 2 ^ 64 }
     requires some { 1 ≤ tokens p.old }
     ensures reads { (c : Bool) → Reads c
         (REF_PAT ⟨ One '&' ▸ ⁅ One 'mut' ⁆ ▸ SinglePattern ! ⟩) p.old p.new }
@@ -208,10 +211,10 @@ fn ref_pat(p: &mut Parser<'_>)
     complete(p, node, SyntaxKind::REF_PAT);
 }
 
-/// A slice.
+/// Parses a slice pattern.
+// [a, .., b]
 #[cycle(grammar)]
 fn slice_pat(p: &mut Parser<'_>)
-    requires short { length p.old.input < 2 ^ 64 }
     requires some { 1 ≤ tokens p.old }
     ensures reads { (c : Bool) → Reads c
         (SLICE_PAT ⟨ listed SLICE_PAT '[' Pattern ']' ⟩) p.old p.new }
@@ -229,10 +232,10 @@ fn slice_pat(p: &mut Parser<'_>)
     complete(p, node, SyntaxKind::SLICE_PAT);
 }
 
-/// A tuple that begins with two dots.
+/// Parses a tuple pattern that starts with a rest pattern.
+// (.., a)
 #[cycle(grammar)]
 fn tuple_pat(p: &mut Parser<'_>)
-    requires short { length p.old.input < 2 ^ 64 }
     requires some { 1 ≤ tokens p.old }
     ensures reads { (c : Bool) → Reads c
         (TUPLE_PAT ⟨ listed TUPLE_PAT 'l_paren' Pattern 'r_paren' ⟩) p.old p.new }
@@ -250,10 +253,10 @@ fn tuple_pat(p: &mut Parser<'_>)
     complete(p, node, SyntaxKind::TUPLE_PAT);
 }
 
-/// The pattern after the `@` of a name, where there is one.
+/// Parses the optional subpattern of an identifier pattern.
+// @ Some(_)
 #[cycle(grammar)]
 fn opt_at(p: &mut Parser<'_>)
-    requires short { length p.old.input < 2 ^ 64 }
     ensures reads { (c : Bool) → Reads c ⁅ One 'at' ▸ SinglePattern ! ⁆ p.old p.new }
     ensures left { tokens p.new ≤ tokens p.old }
     ensures looks { spent p.new ≤ spent p.old + 1 }
@@ -264,10 +267,10 @@ fn opt_at(p: &mut Parser<'_>)
     }
 }
 
-/// A name.
+/// Parses an identifier pattern without `ref` and `mut`.
+// a @ Some(_)
 #[cycle(grammar)]
 fn ident_pat(p: &mut Parser<'_>)
-    requires short { length p.old.input < 2 ^ 64 }
     requires some { 1 ≤ tokens p.old }
     ensures reads { (c : Bool) → Reads c
         (IDENT_PAT ⟨ Name ▸ ⁅ One 'at' ▸ SinglePattern ! ⁆ ⟩) p.old p.new }
@@ -280,10 +283,10 @@ fn ident_pat(p: &mut Parser<'_>)
     complete(p, node, SyntaxKind::IDENT_PAT);
 }
 
-/// A name after `mut`.
+/// Parses an identifier pattern with `mut`.
+// mut a
 #[cycle(grammar)]
 fn ident_after_mut(p: &mut Parser<'_>)
-    requires short { length p.old.input < 2 ^ 64 }
     requires some { 1 ≤ tokens p.old }
     ensures reads { (c : Bool) → Reads c
         (IDENT_PAT ⟨ One 'mut' ▸ Name ! ▸ ⁅ One 'at' ▸ SinglePattern ! ⁆ ⟩) p.old p.new }
@@ -297,10 +300,10 @@ fn ident_after_mut(p: &mut Parser<'_>)
     complete(p, node, SyntaxKind::IDENT_PAT);
 }
 
-/// A name after `ref`.
+/// Parses an identifier pattern with `ref`.
+// ref mut a
 #[cycle(grammar)]
 fn ident_after_ref(p: &mut Parser<'_>)
-    requires short { length p.old.input < 2 ^ 64 }
     requires some { 1 ≤ tokens p.old }
     ensures reads { (c : Bool) → Reads c (IDENT_PAT ⟨ One 'ref' ▸ ⁅ One 'mut' ⁆ ▸ Name !
         ▸ ⁅ One 'at' ▸ SinglePattern ! ⁆ ⟩) p.old p.new }
@@ -315,10 +318,10 @@ fn ident_after_ref(p: &mut Parser<'_>)
     complete(p, node, SyntaxKind::IDENT_PAT);
 }
 
-/// A pattern that begins with `(`: a tuple, or one in parentheses.
+/// Parses a tuple pattern or a grouped pattern.
+// (a, b)
 #[cycle(grammar)]
 fn paren_pat(p: &mut Parser<'_>, frame: Marker) -> Marker
-    requires short { length p.old.input < 2 ^ 64 }
     requires some { 1 ≤ tokens p.old }
     requires innermost { IsInnermost frame p.old.nodes }
     ensures reads { (c : Bool) → Reads c (One 'l_paren' ▸ (TUPLE_PAT <⟨ One 'r_paren' ⟩
@@ -332,10 +335,10 @@ fn paren_pat(p: &mut Parser<'_>, frame: Marker) -> Marker
     after_paren(p, frame)
 }
 
-/// What stands after the `(`.
+/// Parses a tuple pattern or a grouped pattern after its `(`.
+// a, b)
 #[cycle(grammar)]
 fn after_paren(p: &mut Parser<'_>, frame: Marker) -> Marker
-    requires short { length p.old.input < 2 ^ 64 }
     requires innermost { IsInnermost frame p.old.nodes }
     ensures reads { (c : Bool) → Reads c (TUPLE_PAT <⟨ One 'r_paren' ⟩
         or Pattern ! ▸ (TUPLE_PAT <⟨ One 'comma' ▸ rest_listed TUPLE_PAT Pattern 'r_paren' ⟩
@@ -352,10 +355,10 @@ fn after_paren(p: &mut Parser<'_>, frame: Marker) -> Marker
     after_first(p, frame)
 }
 
-/// What stands after the first pattern in parentheses.
+/// Parses a tuple pattern or a grouped pattern after its first element.
+// , b)
 #[cycle(grammar)]
 fn after_first(p: &mut Parser<'_>, frame: Marker) -> Marker
-    requires short { length p.old.input < 2 ^ 64 }
     requires innermost { IsInnermost frame p.old.nodes }
     ensures reads { (c : Bool) → Reads c
         (TUPLE_PAT <⟨ One 'comma' ▸ rest_listed TUPLE_PAT Pattern 'r_paren' ⟩
@@ -378,10 +381,10 @@ fn after_first(p: &mut Parser<'_>, frame: Marker) -> Marker
     wrap(p, frame, SyntaxKind::PAREN_PAT)
 }
 
-/// A path, with fields after it or alone.
+/// Parses a path pattern, a tuple struct pattern or a record pattern.
+// Some(a)
 #[cycle(grammar)]
 fn path_pat(p: &mut Parser<'_>, frame: Marker) -> Marker
-    requires short { length p.old.input < 2 ^ 64 }
     requires begins { (c : Bool) → Saw c (looks rules.path) p.old true }
     requires some { 1 ≤ tokens p.old }
     requires innermost { IsInnermost frame p.old.nodes }
@@ -397,10 +400,10 @@ fn path_pat(p: &mut Parser<'_>, frame: Marker) -> Marker
     after_path(p, frame)
 }
 
-/// The fields after a path, or nothing.
+/// Parses the optional fields after the path of a pattern.
+// (a)
 #[cycle(grammar)]
 fn after_path(p: &mut Parser<'_>, frame: Marker) -> Marker
-    requires short { length p.old.input < 2 ^ 64 }
     requires innermost { IsInnermost frame p.old.nodes }
     ensures reads { (c : Bool) → Reads c
         (TUPLE_STRUCT_PAT <⟨ listed TUPLE_STRUCT_PAT 'l_paren' Pattern 'r_paren' ⟩

@@ -1,6 +1,6 @@
 //! Statements.
 
-ghost use Rattle.std.specs.Prelude.{◌≡◌, ◌≤◌, ◌<◌, ◌+◌, ◌*◌, ◌^◌, Bool, IsTrue, true, false, [], ◌∷◌, length};
+ghost use Rattle.std.specs.Prelude.{◌≡◌, ◌≤◌, ◌<◌, ◌+◌, Bool, IsTrue, true, false, [], ◌∷◌};
 ghost use Rattle.parser_input.specs.Kinds.{DEFER_STMT, LET_ELSE, LET_STMT};
 ghost use Rattle.parser_events.specs.Forest.{ExpectedStatement};
 ghost use Rattle.parser_events.specs.Stack.{IsInnermost};
@@ -31,10 +31,10 @@ use rust_productions::grammar::{
     abandon, at, at_pair, at_second, complete, current, error, expect, nth, skip, start, take, wrap,
 };
 
-/// A statement of a list.
+/// Parses a statement of a list.
+// let a = 1;
 #[cycle(grammar)]
 pub(crate) fn statement(p: &mut Parser<'_>, end: ListEnd)
-    requires short { length p.old.input < 2 ^ 64 }
     requires some { 1 ≤ tokens p.old }
     ensures gives { Gives (listing_of end).one false p.old p.new }
     ensures left { tokens p.new ≤ tokens p.old }
@@ -59,7 +59,7 @@ pub(crate) fn statement(p: &mut Parser<'_>, end: ListEnd)
     }
 }
 
-/// Whether an attribute of what holds the statements is next.
+/// Returns `true` if an inner attribute is next.
 pub(crate) fn at_inner_attribute(p: &mut Parser<'_>) -> bool
     ensures sees { (c : Bool) → Saw c ('#' before '!') p.old result }
     ensures some { IsTrue result → 1 ≤ tokens p.old }
@@ -73,7 +73,7 @@ pub(crate) fn at_inner_attribute(p: &mut Parser<'_>) -> bool
     at_second(p, SyntaxKind::BANG)
 }
 
-/// Whether an item begins here, among statements.
+/// Returns `true` if an item starts here, among statements.
 fn at_item(p: &mut Parser<'_>) -> bool
     ensures sees { (c : Bool) → Saw c item_begins p.old result }
     ensures some { IsTrue result → 1 ≤ tokens p.old }
@@ -99,7 +99,7 @@ fn at_item(p: &mut Parser<'_>) -> bool
     }
 }
 
-/// Whether a word is the next but one that begins an item after `unsafe`.
+/// Returns `true` if the token after the next one is `fn`, `impl` or `trait`.
 fn at_item_after_unsafe(p: &mut Parser<'_>) -> bool
     ensures sees { (c : Bool) → Saw c (one_of 1 ('fn' ∷ 'impl' ∷ 'trait' ∷ [])) p.old result }
     ensures same { Does (λ s. s) p.old p.new }
@@ -116,7 +116,6 @@ fn at_item_after_unsafe(p: &mut Parser<'_>) -> bool
 // defer { close(file) }
 #[cycle(grammar)]
 fn defer_stmt(p: &mut Parser<'_>)
-    requires short { length p.old.input < 2 ^ 64 }
     requires some { 1 ≤ tokens p.old }
     ensures reads { (c : Bool) → Reads c (DEFER_STMT ⟨ One 'defer' ▸ Block ! ⟩) p.old p.new }
     ensures left { tokens p.new + 1 ≤ tokens p.old }
@@ -128,10 +127,10 @@ fn defer_stmt(p: &mut Parser<'_>)
     complete(p, node, SyntaxKind::DEFER_STMT);
 }
 
-/// A `let`.
+/// Parses a `let` statement.
+// let Some(a): Option<u8> = b else { return };
 #[cycle(grammar)]
 fn let_stmt(p: &mut Parser<'_>)
-    requires short { length p.old.input < 2 ^ 64 }
     requires some { 1 ≤ tokens p.old }
     ensures reads { Reads false (LET_STMT ⟨ One 'let' ▸ Pattern ! ▸ ⁅ One ':' ▸ AnyType ! ⁆
         ▸ ⁅ One '=' ▸ Expression ! ⁆ ▸ ⁅ LET_ELSE ⟨ One 'else' ▸ Block ! ⟩ ⁆ ▸ One 'semi' ! ⟩) p.old p.new }
@@ -148,10 +147,10 @@ fn let_stmt(p: &mut Parser<'_>)
     complete(p, node, SyntaxKind::LET_STMT);
 }
 
-/// What is done where the pattern of a `let` does not fit, if that is said.
+/// Parses the optional `else` branch of a `let` statement.
+// else { return }
 #[cycle(grammar)]
 fn opt_else(p: &mut Parser<'_>)
-    requires short { length p.old.input < 2 ^ 64 }
     ensures reads { (c : Bool) → Reads c ⁅ LET_ELSE ⟨ One 'else' ▸ Block ! ⟩ ⁆ p.old p.new }
     ensures left { tokens p.new ≤ tokens p.old }
     ensures looks { spent p.new ≤ spent p.old + 1 }
@@ -161,10 +160,10 @@ fn opt_else(p: &mut Parser<'_>)
     }
 }
 
-/// What is done where the pattern of a `let` does not fit.
+/// Parses the `else` branch of a `let` statement.
+// else { return }
 #[cycle(grammar)]
 fn let_else(p: &mut Parser<'_>)
-    requires short { length p.old.input < 2 ^ 64 }
     requires some { 1 ≤ tokens p.old }
     ensures reads { (c : Bool) → Reads c (LET_ELSE ⟨ One 'else' ▸ Block ! ⟩) p.old p.new }
     ensures left { tokens p.new + 1 ≤ tokens p.old }
@@ -176,10 +175,11 @@ fn let_else(p: &mut Parser<'_>)
     complete(p, node, SyntaxKind::LET_ELSE);
 }
 
-/// An expression as a statement or as the last of its list, or a token that begins none.
+/// Parses an expression statement or the last expression of a list, or skips a token into an
+/// error.
+// f();
 #[cycle(grammar)]
 fn expression_statement(p: &mut Parser<'_>, end: ListEnd)
-    requires short { length p.old.input < 2 ^ 64 }
     requires some { 1 ≤ tokens p.old }
     ensures anew { Anew false (BlockLike ▸ after_block_of end or Expression ▸ more (listing_of end).end
         or Skip ExpectedStatement) p.old p.new }
@@ -198,10 +198,10 @@ fn expression_statement(p: &mut Parser<'_>, end: ListEnd)
     skip(p, Message::ExpectedStatement);
 }
 
-/// An expression that ends in a block, with what stands after it.
+/// Parses a statement that starts with an expression that ends in a block.
+// if a { b }.c();
 #[cycle(grammar)]
 fn block_statement(p: &mut Parser<'_>, end: ListEnd)
-    requires short { length p.old.input < 2 ^ 64 }
     requires begins { (c : Bool) → Saw c (looks rules.block_like) p.old true }
     requires some { 1 ≤ tokens p.old }
     ensures anew { (c : Bool) → Anew c (BlockLike ▸ after_block_of end) p.old p.new }
@@ -214,7 +214,8 @@ fn block_statement(p: &mut Parser<'_>, end: ListEnd)
     abandon(p, frame);
 }
 
-/// Whether an expression that ends in a block goes on, by a `?` or a dot that begins no range.
+/// Returns `true` if an expression that ends in a block continues: with a `?`, or with a dot that
+/// starts no range.
 fn at_more(p: &mut Parser<'_>) -> bool
     ensures sees { (c : Bool) → Saw c goes_on p.old result }
     ensures some { IsTrue result → 1 ≤ tokens p.old }
@@ -234,10 +235,10 @@ fn at_more(p: &mut Parser<'_>) -> bool
     }
 }
 
-/// What stands after an expression that ends in a block.
+/// Parses what follows an expression that ends in a block: postfix operators, or a `;`.
+// .c();
 #[cycle(grammar)]
 fn after_block(p: &mut Parser<'_>, frame: Marker, end: ListEnd) -> Marker
-    requires short { length p.old.input < 2 ^ 64 }
     requires innermost { IsInnermost frame p.old.nodes }
     ensures reads { (c : Bool) → Reads c (after_block_of end) p.old p.new }
     ensures marker { IsInnermost result p.new.nodes }
@@ -259,10 +260,10 @@ fn after_block(p: &mut Parser<'_>, frame: Marker, end: ListEnd) -> Marker
     wrap(p, frame, SyntaxKind::EXPR_STMT)
 }
 
-/// An expression with what stands after it.
+/// Parses an expression and the end of its statement.
+// f();
 #[cycle(grammar)]
 fn ended_expression(p: &mut Parser<'_>, end: ListEnd)
-    requires short { length p.old.input < 2 ^ 64 }
     requires begins { Saw false (looks rules.expression) p.old true }
     requires some { 1 ≤ tokens p.old }
     ensures anew { Anew false (Expression ▸ more (listing_of end).end) p.old p.new }
@@ -276,7 +277,8 @@ fn ended_expression(p: &mut Parser<'_>, end: ListEnd)
     abandon(p, frame);
 }
 
-/// What stands after an expression that needs a `;`, unless it is the last of its list.
+/// Parses the `;` of an expression statement, which the last expression of a list does not need.
+// ;
 fn statement_end(p: &mut Parser<'_>, frame: Marker, end: ListEnd) -> Marker
     requires { IsInnermost frame p.old.nodes }
     ensures reads { (c : Bool) → Reads c (more (listing_of end).end) p.old p.new }

@@ -1,6 +1,6 @@
 //! Types.
 
-ghost use Rattle.std.specs.Prelude.{◌≡◌, ◌≢◌, ◌≤◌, ◌<◌, ◌+◌, ◌*◌, ◌^◌, Bool, true, length};
+ghost use Rattle.std.specs.Prelude.{◌≡◌, ◌≢◌, ◌≤◌, ◌+◌, Bool, true};
 ghost use Rattle.parser_input.specs.Kind.{raw_of};
 ghost use Rattle.parser_input.specs.Kinds as kinds;
 ghost use Rattle.parser_input.specs.Kinds.{ARRAY_TYPE, CONST_ARG, PAREN_TYPE, PTR_TYPE, PATH_TYPE, REF_TYPE, SLICE_TYPE, TUPLE_TYPE};
@@ -27,10 +27,10 @@ use rust_productions::grammar::{
     abandon, at, complete, current, eat, error, expect, start, take, take_pair, wrap,
 };
 
-/// A type.
+/// Parses a type.
+// &'a [u8]
 #[cycle(grammar)]
 pub fn any_type(p: &mut Parser<'_>, condition: bool)
-    requires short { length p.old.input < 2 ^ 64 }
     requires begins { Saw condition (looks rules.any_type) p.old true }
     requires some { 1 ≤ tokens p.old }
     ensures gives { Gives rules.any_type condition p.old p.new }
@@ -42,10 +42,10 @@ pub fn any_type(p: &mut Parser<'_>, condition: bool)
     abandon(p, frame);
 }
 
-/// A type, inside the node that is left out around it.
+/// Parses a type, within `frame`, which the caller abandons.
+// [u8]
 #[cycle(grammar)]
 fn inside(p: &mut Parser<'_>, frame: Marker, condition: bool) -> Marker
-    requires short { length p.old.input < 2 ^ 64 }
     requires begins { Saw condition (looks rules.any_type) p.old true }
     requires some { 1 ≤ tokens p.old }
     requires innermost { IsInnermost frame p.old.nodes }
@@ -92,7 +92,8 @@ fn inside(p: &mut Parser<'_>, frame: Marker, condition: bool) -> Marker
     }
 }
 
-/// A type of one token, in a node of this kind.
+/// Parses one token, in a node of `kind`.
+// _
 pub(crate) fn word_type(p: &mut Parser<'_>, token: SyntaxKind, kind: SyntaxKind)
     requires { 1 ≤ tokens p.old }
     ensures reads { (c : Bool) → Reads c (raw_of kind ⟨ One (one (raw_of token)) ⟩) p.old p.new }
@@ -104,10 +105,10 @@ pub(crate) fn word_type(p: &mut Parser<'_>, token: SyntaxKind, kind: SyntaxKind)
     complete(p, node, kind);
 }
 
-/// A token and bounds after it, in a node of this kind.
+/// Parses a `dyn` or `impl` type, in a node of `kind`. `token` is its keyword.
+// dyn A + B
 #[cycle(grammar)]
 fn bounded_type(p: &mut Parser<'_>, token: SyntaxKind, kind: SyntaxKind)
-    requires short { length p.old.input < 2 ^ 64 }
     requires some { 1 ≤ tokens p.old }
     ensures reads { (c : Bool) → Reads c
         (raw_of kind ⟨ One (one (raw_of token)) ▸ Bounds ⟩) p.old p.new }
@@ -120,10 +121,10 @@ fn bounded_type(p: &mut Parser<'_>, token: SyntaxKind, kind: SyntaxKind)
     complete(p, node, kind);
 }
 
-/// A path as a type.
+/// Parses a path type.
+// a::B<u8>
 #[cycle(grammar)]
 pub(crate) fn path_type(p: &mut Parser<'_>)
-    requires short { length p.old.input < 2 ^ 64 }
     requires begins { (c : Bool) → Saw c (looks rules.path) p.old true }
     requires some { 1 ≤ tokens p.old }
     ensures reads { (c : Bool) → Reads c (PATH_TYPE ⟨ TypePath ⟩) p.old p.new }
@@ -135,10 +136,10 @@ pub(crate) fn path_type(p: &mut Parser<'_>)
     complete(p, node, SyntaxKind::PATH_TYPE);
 }
 
-/// A type, or the message that it is missing.
+/// Parses a type; emits an error if there is none.
+// u8
 #[cycle(grammar)]
 pub(crate) fn expect_type(p: &mut Parser<'_>, condition: bool)
-    requires short { length p.old.input < 2 ^ 64 }
     ensures reads { Reads condition (AnyType !) p.old p.new }
     ensures left { tokens p.new ≤ tokens p.old }
     ensures looks { spent p.new ≤ spent p.old + 5 }
@@ -150,10 +151,10 @@ pub(crate) fn expect_type(p: &mut Parser<'_>, condition: bool)
     error(p, Message::ExpectedType);
 }
 
-/// A pointer.
+/// Parses a raw pointer type.
+// *const u8
 #[cycle(grammar)]
 fn ptr_type(p: &mut Parser<'_>, condition: bool)
-    requires short { length p.old.input < 2 ^ 64 }
     requires some { 1 ≤ tokens p.old }
     ensures reads { Reads condition
         (PTR_TYPE ⟨ One '*' ▸ (One 'const' or One 'mut' !) ▸ AnyType ! ⟩) p.old p.new }
@@ -167,7 +168,8 @@ fn ptr_type(p: &mut Parser<'_>, condition: bool)
     complete(p, node, SyntaxKind::PTR_TYPE);
 }
 
-/// The word `const` or `mut`, or the message that `mut` is missing.
+/// Parses `const` or `mut`; emits an error if there is neither.
+// mut
 fn const_or_mut(p: &mut Parser<'_>)
     ensures reads { (c : Bool) → Reads c (One 'const' or One 'mut' !) p.old p.new }
     ensures left { tokens p.new ≤ tokens p.old }
@@ -180,10 +182,10 @@ fn const_or_mut(p: &mut Parser<'_>)
     expect(p, SyntaxKind::MUT_KW);
 }
 
-/// A reference.
+/// Parses a reference type.
+// &'a mut u8
 #[cycle(grammar)]
 fn ref_type(p: &mut Parser<'_>, condition: bool)
-    requires short { length p.old.input < 2 ^ 64 }
     requires some { 1 ≤ tokens p.old }
     ensures reads { Reads condition
         (REF_TYPE ⟨ One '&' ▸ ⁅ Lifetime ⁆ ▸ ⁅ One 'mut' ⁆ ▸ AnyType ! ⟩) p.old p.new }
@@ -198,10 +200,10 @@ fn ref_type(p: &mut Parser<'_>, condition: bool)
     complete(p, node, SyntaxKind::REF_TYPE);
 }
 
-/// A type that begins with `(`: a tuple, or one in parentheses.
+/// Parses a tuple type or a parenthesized type.
+// (u8, u8)
 #[cycle(grammar)]
 fn paren_type(p: &mut Parser<'_>, frame: Marker, condition: bool) -> Marker
-    requires short { length p.old.input < 2 ^ 64 }
     requires some { 1 ≤ tokens p.old }
     requires innermost { IsInnermost frame p.old.nodes }
     ensures reads { Reads condition (One 'l_paren' ▸ (TUPLE_TYPE <⟨ One 'r_paren' ⟩
@@ -215,10 +217,10 @@ fn paren_type(p: &mut Parser<'_>, frame: Marker, condition: bool) -> Marker
     after_paren(p, frame, condition)
 }
 
-/// What stands after the `(`.
+/// Parses a tuple type or a parenthesized type after its `(`.
+// u8, u8)
 #[cycle(grammar)]
 fn after_paren(p: &mut Parser<'_>, frame: Marker, condition: bool) -> Marker
-    requires short { length p.old.input < 2 ^ 64 }
     requires innermost { IsInnermost frame p.old.nodes }
     ensures reads { Reads condition (TUPLE_TYPE <⟨ One 'r_paren' ⟩
         or AnyType ! ▸ (TUPLE_TYPE <⟨ One 'comma' ▸ rest_listed TUPLE_TYPE AnyType 'r_paren' ⟩
@@ -235,10 +237,10 @@ fn after_paren(p: &mut Parser<'_>, frame: Marker, condition: bool) -> Marker
     after_first(p, frame)
 }
 
-/// What stands after the first type in parentheses.
+/// Parses a tuple type or a parenthesized type after its first element.
+// , u8)
 #[cycle(grammar)]
 fn after_first(p: &mut Parser<'_>, frame: Marker) -> Marker
-    requires short { length p.old.input < 2 ^ 64 }
     requires innermost { IsInnermost frame p.old.nodes }
     ensures reads { (c : Bool) → Reads c
         (TUPLE_TYPE <⟨ One 'comma' ▸ rest_listed TUPLE_TYPE AnyType 'r_paren' ⟩
@@ -261,10 +263,10 @@ fn after_first(p: &mut Parser<'_>, frame: Marker) -> Marker
     wrap(p, frame, SyntaxKind::PAREN_TYPE)
 }
 
-/// An array or a slice.
+/// Parses an array type or a slice type.
+// [u8; 4]
 #[cycle(grammar)]
 fn bracket_type(p: &mut Parser<'_>, frame: Marker, condition: bool) -> Marker
-    requires short { length p.old.input < 2 ^ 64 }
     requires some { 1 ≤ tokens p.old }
     requires innermost { IsInnermost frame p.old.nodes }
     ensures reads { Reads condition (One '[' ▸ AnyType !
@@ -279,10 +281,10 @@ fn bracket_type(p: &mut Parser<'_>, frame: Marker, condition: bool) -> Marker
     after_element(p, frame)
 }
 
-/// What stands after the type of an element.
+/// Parses an array type or a slice type after its element type.
+// ; 4]
 #[cycle(grammar)]
 fn after_element(p: &mut Parser<'_>, frame: Marker) -> Marker
-    requires short { length p.old.input < 2 ^ 64 }
     requires innermost { IsInnermost frame p.old.nodes }
     ensures reads { (c : Bool) → Reads c
         (ARRAY_TYPE <⟨ One 'semi' ▸ CONST_ARG ⟨ off (Expression !) ⟩ ▸ One ']' ! ⟩
@@ -301,10 +303,10 @@ fn after_element(p: &mut Parser<'_>, frame: Marker) -> Marker
     wrap(p, frame, SyntaxKind::SLICE_TYPE)
 }
 
-/// How many elements an array has.
+/// Parses the length of an array type.
+// 4
 #[cycle(grammar)]
 fn array_length(p: &mut Parser<'_>)
-    requires short { length p.old.input < 2 ^ 64 }
     ensures reads { (c : Bool) → Reads c (CONST_ARG ⟨ off (Expression !) ⟩) p.old p.new }
     ensures left { tokens p.new ≤ tokens p.old }
     ensures looks { spent p.new ≤ spent p.old + 770 }
@@ -314,10 +316,10 @@ fn array_length(p: &mut Parser<'_>)
     complete(p, node, SyntaxKind::CONST_ARG);
 }
 
-/// The type that a function gives.
+/// Parses a return type.
+// -> u8
 #[cycle(grammar)]
 pub(crate) fn ret_type(p: &mut Parser<'_>, condition: bool)
-    requires short { length p.old.input < 2 ^ 64 }
     requires some { 2 ≤ tokens p.old }
     ensures gives { Gives rules.ret_type condition p.old p.new }
     ensures left { tokens p.new + 1 ≤ tokens p.old }
@@ -329,10 +331,10 @@ pub(crate) fn ret_type(p: &mut Parser<'_>, condition: bool)
     complete(p, node, SyntaxKind::RET_TYPE);
 }
 
-/// The type after this word, where that is next.
+/// Parses an optional `word` and the type after it.
+// = u8
 #[cycle(grammar)]
 pub(crate) fn opt_type_after(p: &mut Parser<'_>, word: SyntaxKind, condition: bool)
-    requires short { length p.old.input < 2 ^ 64 }
     requires inside { raw_of word ≢ kinds.EOF }
     ensures reads { Reads condition ⁅ One (one (raw_of word)) ▸ AnyType ! ⁆ p.old p.new }
     ensures left { tokens p.new ≤ tokens p.old }

@@ -18,7 +18,7 @@ use crate::grammar::{at, at_pair, at_second, at_third, current};
 use parser_events::parser::Parser;
 use parser_input::syntax_kind::SyntaxKind;
 
-/// Whether a macro call with braces is next, by one word.
+/// Returns `true` if a macro call with braces is next whose path is one identifier.
 pub(crate) fn at_macro_block(p: &mut Parser<'_>) -> bool
     ensures sees { (c : Bool) → Saw c (row 0 ('ident' ∷ '!' ∷ 'l_curly' ∷ [])) p.old result }
     ensures some { IsTrue result → 1 ≤ tokens p.old }
@@ -38,7 +38,7 @@ pub(crate) fn at_macro_block(p: &mut Parser<'_>) -> bool
     true
 }
 
-/// Whether the word `let` is next in a condition.
+/// Returns `true` if a `let` in a condition is next.
 fn at_let(p: &mut Parser<'_>, condition: bool) -> bool
     ensures sees { Saw condition (Both InCondition (next 'let')) p.old result }
     ensures some { IsTrue result → 1 ≤ tokens p.old }
@@ -55,7 +55,7 @@ fn at_let(p: &mut Parser<'_>, condition: bool) -> bool
     }
 }
 
-/// Whether an expression begins here that ends in a block.
+/// Returns `true` if an expression starts here that ends in a block.
 pub fn at_block_like(p: &mut Parser<'_>) -> bool
     ensures sees { (c : Bool) → Saw c (looks rules.block_like) p.old result }
     ensures some { IsTrue result → 1 ≤ tokens p.old }
@@ -78,7 +78,7 @@ pub fn at_block_like(p: &mut Parser<'_>) -> bool
     }
 }
 
-/// Whether an expression begins here that has no operator before it.
+/// Returns `true` if an expression without prefix operators starts here.
 pub(crate) fn at_atom(p: &mut Parser<'_>, condition: bool) -> bool
     ensures sees { Saw condition (looks rules.atom) p.old result }
     ensures some { IsTrue result → 1 ≤ tokens p.old }
@@ -110,7 +110,7 @@ pub(crate) fn at_atom(p: &mut Parser<'_>, condition: bool) -> bool
     }
 }
 
-/// Whether an operand begins here.
+/// Returns `true` if an operand starts here.
 pub fn at_operand(p: &mut Parser<'_>, condition: bool) -> bool
     ensures sees { Saw condition (looks rules.prefixed) p.old result }
     ensures some { IsTrue result → 1 ≤ tokens p.old }
@@ -127,7 +127,7 @@ pub fn at_operand(p: &mut Parser<'_>, condition: bool) -> bool
     }
 }
 
-/// Whether an operation begins here: with an operand, or with the mark of a range.
+/// Returns `true` if an operation starts here: at an operand or at a range operator.
 pub fn at_operation(p: &mut Parser<'_>, condition: bool) -> bool
     ensures sees { Saw condition (looks rules.operation) p.old result }
     ensures some { IsTrue result → 1 ≤ tokens p.old }
@@ -141,7 +141,7 @@ pub fn at_operation(p: &mut Parser<'_>, condition: bool) -> bool
     }
 }
 
-/// Whether an expression begins here.
+/// Returns `true` if an expression starts here.
 pub fn at_expression(p: &mut Parser<'_>, condition: bool) -> bool
     ensures sees { Saw condition (looks rules.expression) p.old result }
     ensures some { IsTrue result → 1 ≤ tokens p.old }
@@ -152,7 +152,7 @@ pub fn at_expression(p: &mut Parser<'_>, condition: bool) -> bool
     at_operation(p, condition)
 }
 
-/// Whether a `{` is next that ends a condition.
+/// Returns `true` if a `{` is next that ends a condition.
 pub fn at_body(p: &mut Parser<'_>, condition: bool) -> bool
     ensures sees { Saw condition body_begins p.old result }
     ensures same { Does (λ s. s) p.old p.new }
@@ -165,7 +165,7 @@ pub fn at_body(p: &mut Parser<'_>, condition: bool) -> bool
     at(p, SyntaxKind::L_CURLY)
 }
 
-/// Whether the operand of a range begins here: a `{` ends a condition, and begins none.
+/// Returns `true` if the end of a range starts here. In a condition a `{` starts none.
 pub fn at_range_operand(p: &mut Parser<'_>, condition: bool) -> bool
     ensures sees { Saw condition (begins looks (Unless body_begins Disjunction)) p.old result }
     ensures operand { IsTrue result → Saw condition (looks rules.prefixed) p.old true }

@@ -11,7 +11,7 @@ use crate::grammar::patterns::at_named_field;
 use parser_events::parser::Parser;
 use parser_input::syntax_kind::SyntaxKind;
 
-/// Whether a field of a record expression begins here.
+/// Returns `true` if a field of a record expression starts here.
 pub fn at_field_value(p: &mut Parser<'_>) -> bool
     ensures sees { (c : Bool) → Saw c (looks rules.field_value) p.old result }
     ensures some { IsTrue result → 1 ≤ tokens p.old }

@@ -11,7 +11,7 @@ use crate::grammar::{at, current};
 use parser_events::parser::Parser;
 use parser_input::syntax_kind::SyntaxKind;
 
-/// Whether a generic argument begins here.
+/// Returns `true` if a generic argument starts here.
 pub fn at_generic_arg(p: &mut Parser<'_>) -> bool
     ensures sees { (c : Bool) → Saw c (looks rules.generic_arg) p.old result }
     ensures some { IsTrue result → 1 ≤ tokens p.old }

@@ -11,7 +11,7 @@ use crate::grammar::{at, current};
 use parser_events::parser::Parser;
 use parser_input::syntax_kind::SyntaxKind;
 
-/// Whether a generic parameter begins here.
+/// Returns `true` if a generic parameter starts here.
 pub fn at_generic_param(p: &mut Parser<'_>) -> bool
     ensures sees { (c : Bool) → Saw c (looks rules.generic_param) p.old result }
     ensures some { IsTrue result → 1 ≤ tokens p.old }
@@ -25,7 +25,7 @@ pub fn at_generic_param(p: &mut Parser<'_>) -> bool
     }
 }
 
-/// Whether a bound begins here.
+/// Returns `true` if a bound starts here.
 pub fn at_bound(p: &mut Parser<'_>) -> bool
     ensures sees { (c : Bool) → Saw c (looks rules.bound) p.old result }
     ensures some { IsTrue result → 1 ≤ tokens p.old }
@@ -42,7 +42,7 @@ pub fn at_bound(p: &mut Parser<'_>) -> bool
     }
 }
 
-/// Whether a part of a `where` begins here.
+/// Returns `true` if a where predicate starts here.
 pub fn at_where_pred(p: &mut Parser<'_>) -> bool
     ensures sees { (c : Bool) → Saw c (looks rules.where_pred) p.old result }
     ensures some { IsTrue result → 1 ≤ tokens p.old }

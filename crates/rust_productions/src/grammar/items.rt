@@ -25,7 +25,7 @@ use parser_events::message::Message;
 use parser_events::parser::{Marker, Parser};
 use parser_input::syntax_kind::SyntaxKind;
 
-/// Whether a function begins here.
+/// Returns `true` if a function starts here.
 pub fn at_fn(p: &mut Parser<'_>) -> bool
     ensures sees { (c : Bool) → Saw c fn_begins p.old result }
     ensures some { IsTrue result → 1 ≤ tokens p.old }
@@ -41,7 +41,7 @@ pub fn at_fn(p: &mut Parser<'_>) -> bool
     }
 }
 
-/// Whether a function begins with the `const` that is next.
+/// Returns `true` if a function starts at the `const` that is next.
 fn at_fn_after_const(p: &mut Parser<'_>) -> bool
     requires { (c : Bool) → Saw c (next 'const') p.old true }
     ensures sees { (c : Bool) → Saw c fn_begins p.old result }
@@ -55,7 +55,7 @@ fn at_fn_after_const(p: &mut Parser<'_>) -> bool
     }
 }
 
-/// Whether a function begins with the `unsafe` that is next.
+/// Returns `true` if a function starts at the `unsafe` that is next.
 fn at_fn_after_unsafe(p: &mut Parser<'_>) -> bool
     requires { (c : Bool) → Saw c (next 'unsafe') p.old true }
     ensures sees { (c : Bool) → Saw c fn_begins p.old result }
@@ -69,7 +69,8 @@ fn at_fn_after_unsafe(p: &mut Parser<'_>) -> bool
     }
 }
 
-/// The words that a function begins with.
+/// Parses the qualifiers and the `fn` of a function.
+// const unsafe fn
 pub fn fn_words(p: &mut Parser<'_>)
     requires begins { (c : Bool) → Saw c fn_begins p.old true }
     requires some { 1 ≤ tokens p.old }
@@ -91,7 +92,7 @@ pub fn fn_words(p: &mut Parser<'_>)
     }
 }
 
-/// Whether this word is next, or the one after `unsafe`.
+/// Returns `true` if `word` is next, or `unsafe` and then `word`.
 pub fn at_unsafe(p: &mut Parser<'_>, word: SyntaxKind) -> bool
     ensures sees { (c : Bool) → Saw c
         (Either (next (one (raw_of word))) ('unsafe' before one (raw_of word))) p.old result }
@@ -109,7 +110,8 @@ pub fn at_unsafe(p: &mut Parser<'_>, word: SyntaxKind) -> bool
     at_second(p, word)
 }
 
-/// This word, which is next or the one after `unsafe`.
+/// Parses an optional `unsafe` and `word`.
+// unsafe impl
 pub fn unsafe_word(p: &mut Parser<'_>, word: SyntaxKind)
     requires begins { (c : Bool) → Saw c
         (Either (next (one (raw_of word))) ('unsafe' before one (raw_of word))) p.old true }
@@ -128,7 +130,8 @@ pub fn unsafe_word(p: &mut Parser<'_>, word: SyntaxKind)
     take(p, word);
 }
 
-/// What is used.
+/// Parses a use declaration, and completes its node.
+// use a::b as c;
 pub fn use_item(p: &mut Parser<'_>, item: Marker)
     requires some { 1 ≤ tokens p.old }
     requires innermost { IsInnermost item p.old.nodes }
@@ -143,7 +146,9 @@ pub fn use_item(p: &mut Parser<'_>, item: Marker)
     complete(p, item, SyntaxKind::USE);
 }
 
-/// A macro call, or a path that begins no item.
+/// Parses a macro call as an item, and completes its node; emits an error after a path that is no
+/// macro call.
+// m! { a }
 pub fn path_item(p: &mut Parser<'_>, item: Marker)
     requires begins { (c : Bool) → Saw c (looks rules.path) p.old true }
     requires some { 1 ≤ tokens p.old }
@@ -158,7 +163,8 @@ pub fn path_item(p: &mut Parser<'_>, item: Marker)
     after_path(p, item);
 }
 
-/// What stands after a path: the rest of a macro call, or the message that it is no item.
+/// Parses a macro call after its path, and completes its node; emits an error if there is none.
+// ! { a }
 fn after_path(p: &mut Parser<'_>, item: Marker)
     requires { IsInnermost item p.old.nodes }
     ensures completes { (c : Bool) → Completes c
@@ -177,7 +183,8 @@ fn after_path(p: &mut Parser<'_>, item: Marker)
     complete(p, item, SyntaxKind::ERROR);
 }
 
-/// The tokens of a macro call, with a `;` unless they stand in braces.
+/// Parses the token tree of a macro call, and a `;` unless it is in braces.
+// (a);
 fn macro_tokens(p: &mut Parser<'_>)
     ensures reads { (c : Bool) → Reads c
         (When (next 'l_curly') TokenTree or TokenTree ! ▸ One 'semi' !) p.old p.new }
@@ -192,8 +199,8 @@ fn macro_tokens(p: &mut Parser<'_>)
     expect(p, SyntaxKind::SEMICOLON);
 }
 
-/// What begins no item: after attributes or a visibility the message that an item is missing, and
-/// else a token in an error.
+/// Completes the node of a missing item. After attributes or a visibility emits an error,
+/// otherwise skips a token into an error.
 pub fn no_item(p: &mut Parser<'_>, item: Marker, given: bool)
     requires some { given ≡ false → 1 ≤ tokens p.old }
     requires innermost { IsInnermost item p.old.nodes }

@@ -16,7 +16,7 @@ use parser_events::message::Message;
 use parser_events::parser::Parser;
 use parser_input::syntax_kind::SyntaxKind;
 
-/// Whether no token is left.
+/// Returns `true` if no token is left.
 pub(crate) fn at_end(p: &mut Parser<'_>) -> bool
     ensures sees { (c : Bool) → Saw c (Not Left) p.old result }
     ensures same { Does (λ s. s) p.old p.new }
@@ -29,7 +29,7 @@ pub(crate) fn at_end(p: &mut Parser<'_>) -> bool
     }
 }
 
-/// Whether a list ends here: at its closing token, or with the input.
+/// Returns `true` if a list ends here: at its closing token or at the end of the input.
 pub fn at_list_end(p: &mut Parser<'_>, closing: SyntaxKind) -> bool
     ensures sees { (c : Bool) → Saw c (until (one (raw_of closing))) p.old result }
     ensures same { Does (λ s. s) p.old p.new }
@@ -42,7 +42,7 @@ pub fn at_list_end(p: &mut Parser<'_>, closing: SyntaxKind) -> bool
     at(p, closing)
 }
 
-/// Whether a token is next that a list takes into an error: none at which it gives up.
+/// Returns `true` if a token is next that a list skips into an error.
 pub fn at_unexpected(p: &mut Parser<'_>) -> bool
     ensures sees { (c : Bool) → Saw c (Both Left (Not (one_of 0 stops))) p.old result }
     ensures some { IsTrue result → 1 ≤ tokens p.old }
@@ -61,8 +61,7 @@ pub fn at_unexpected(p: &mut Parser<'_>) -> bool
     }
 }
 
-/// The comma after an element, or the message that it is missing; none is wanted before the closing
-/// token.
+/// Parses the comma after an element; emits an error if there is none and the list does not close.
 pub fn comma(p: &mut Parser<'_>, closing: SyntaxKind)
     ensures reads { (c : Bool) → Reads c
         (One 'comma' or When (next (one (raw_of closing))) Nothing or Say (Expected COMMA)) p.old p.new }

@@ -17,7 +17,8 @@ use parser_events::message::Message;
 use parser_events::parser::Parser;
 use parser_input::syntax_kind::SyntaxKind;
 
-/// A name.
+/// Parses a name.
+// a
 pub fn name(p: &mut Parser<'_>)
     requires { 1 ≤ tokens p.old }
     ensures gives { (c : Bool) → Gives rules.name c p.old p.new }
@@ -29,7 +30,8 @@ pub fn name(p: &mut Parser<'_>)
     complete(p, name, SyntaxKind::NAME);
 }
 
-/// A name, or the message that it is missing.
+/// Parses a name; emits an error if there is none.
+// a
 pub fn expect_name(p: &mut Parser<'_>)
     ensures reads { (c : Bool) → Reads c (Name !) p.old p.new }
     ensures left { tokens p.new ≤ tokens p.old }
@@ -42,7 +44,8 @@ pub fn expect_name(p: &mut Parser<'_>)
     error(p, Message::Expected(SyntaxKind::NAME));
 }
 
-/// A lifetime.
+/// Parses a lifetime.
+// 'a
 pub fn lifetime(p: &mut Parser<'_>)
     requires { 1 ≤ tokens p.old }
     ensures gives { (c : Bool) → Gives rules.lifetime c p.old p.new }
@@ -54,7 +57,8 @@ pub fn lifetime(p: &mut Parser<'_>)
     complete(p, lifetime, SyntaxKind::LIFETIME);
 }
 
-/// A lifetime, where there is one.
+/// Parses an optional lifetime.
+// 'a
 pub fn opt_lifetime(p: &mut Parser<'_>)
     ensures reads { (c : Bool) → Reads c ⁅ Lifetime ⁆ p.old p.new }
     ensures left { tokens p.new ≤ tokens p.old }
@@ -65,7 +69,8 @@ pub fn opt_lifetime(p: &mut Parser<'_>)
     }
 }
 
-/// The word of a path's segment.
+/// Takes the identifier or the keyword of a path segment.
+// self
 fn take_word(p: &mut Parser<'_>)
     requires { 1 ≤ tokens p.old }
     ensures reads { (c : Bool) → Reads c
@@ -82,7 +87,8 @@ fn take_word(p: &mut Parser<'_>)
     }
 }
 
-/// The use of a name.
+/// Parses a name reference.
+// self
 pub fn name_ref(p: &mut Parser<'_>)
     requires { 1 ≤ tokens p.old }
     ensures gives { (c : Bool) → Gives rules.name_ref c p.old p.new }
@@ -94,7 +100,7 @@ pub fn name_ref(p: &mut Parser<'_>)
     complete(p, name, SyntaxKind::NAME_REF);
 }
 
-/// Whether a use of a name begins here.
+/// Returns `true` if a name reference starts here.
 pub fn at_name_ref(p: &mut Parser<'_>) -> bool
     ensures sees { (c : Bool) → Saw c (looks rules.name_ref) p.old result }
     ensures some { IsTrue result → 1 ≤ tokens p.old }
@@ -112,7 +118,8 @@ pub fn at_name_ref(p: &mut Parser<'_>) -> bool
     }
 }
 
-/// The use of a name, or the message that it is missing.
+/// Parses a name reference; emits an error if there is none.
+// self
 pub(crate) fn expect_name_ref(p: &mut Parser<'_>)
     ensures reads { (c : Bool) → Reads c (Ref !) p.old p.new }
     ensures left { tokens p.new ≤ tokens p.old }
@@ -125,7 +132,8 @@ pub(crate) fn expect_name_ref(p: &mut Parser<'_>)
     error(p, Message::Expected(SyntaxKind::NAME_REF));
 }
 
-/// The token of a literal.
+/// Takes the token of a literal.
+// 1
 fn take_literal(p: &mut Parser<'_>)
     requires { 1 ≤ tokens p.old }
     ensures reads { (c : Bool) → Reads c literal_token p.old p.new }
@@ -145,7 +153,8 @@ fn take_literal(p: &mut Parser<'_>)
     }
 }
 
-/// A literal.
+/// Parses a literal.
+// 1
 pub fn literal(p: &mut Parser<'_>)
     requires { 1 ≤ tokens p.old }
     ensures gives { (c : Bool) → Gives rules.literal c p.old p.new }
@@ -157,7 +166,7 @@ pub fn literal(p: &mut Parser<'_>)
     complete(p, literal, SyntaxKind::LITERAL);
 }
 
-/// Whether a literal begins here.
+/// Returns `true` if a literal starts here.
 pub fn at_literal(p: &mut Parser<'_>) -> bool
     ensures sees { (c : Bool) → Saw c (looks rules.literal) p.old result }
     ensures some { IsTrue result → 1 ≤ tokens p.old }
@@ -179,7 +188,8 @@ pub fn at_literal(p: &mut Parser<'_>) -> bool
     }
 }
 
-/// A literal, or the message that it is missing.
+/// Parses a literal; emits an error if there is none.
+// 1
 pub fn expect_literal(p: &mut Parser<'_>)
     ensures reads { (c : Bool) → Reads c (Literal !) p.old p.new }
     ensures left { tokens p.new ≤ tokens p.old }

@@ -54,7 +54,7 @@ impl Operator {
     }
 }
 
-/// Whether the next token touches the one after it, and that is of this kind.
+/// Returns `true` if the next token touches the second, and that is of this kind.
 fn at_joined(p: &mut Parser<'_>, kind: SyntaxKind) -> bool
     ensures sees { (c : Bool) → Saw c (Both (Joint 0) (Kind 1 (raw_of kind))) p.old result }
     ensures some { IsTrue result → raw_of kind ≢ kinds.EOF → 2 ≤ tokens p.old }
@@ -68,7 +68,7 @@ fn at_joined(p: &mut Parser<'_>, kind: SyntaxKind) -> bool
     at_second(p, kind)
 }
 
-/// Whether the token after the next one touches the third, and that is of this kind.
+/// Returns `true` if the second token touches the third, and that is of this kind.
 fn at_joined_after(p: &mut Parser<'_>, kind: SyntaxKind) -> bool
     ensures sees { (c : Bool) → Saw c (Both (Joint 1) (Kind 2 (raw_of kind))) p.old result }
     ensures some { IsTrue result → raw_of kind ≢ kinds.EOF → 3 ≤ tokens p.old }
@@ -97,7 +97,7 @@ fn at_pipe_gt(p: &mut Parser<'_>) -> bool
     at_joined(p, SyntaxKind::R_ANGLE)
 }
 
-/// Whether the next token touches the one after it.
+/// Returns `true` if the next token touches the second.
 pub fn at_joint(p: &mut Parser<'_>) -> bool
     ensures sees { (c : Bool) → Saw c (Joint 0) p.old result }
     ensures same { Does (λ s. s) p.old p.new }
@@ -107,14 +107,14 @@ pub fn at_joint(p: &mut Parser<'_>) -> bool
     p.joint_at(0)
 }
 
-/// The mark of a range: `..` or `..=`.
+/// A range operator: `..` or `..=`.
 #[derive(Clone, Copy)]
 pub enum RangeMark {
     Exclusive,
     Inclusive,
 }
 
-/// The mark of a range that is next, if one is.
+/// Returns the range operator that is next, if there is one.
 pub fn range_mark(p: &mut Parser<'_>) -> Option<RangeMark>
     ensures mark { IsMark result p.old }
     ensures same { Does (λ s. s) p.old p.new }
@@ -136,7 +136,7 @@ pub fn range_mark(p: &mut Parser<'_>) -> Option<RangeMark>
     Some(RangeMark::Exclusive)
 }
 
-/// Takes the mark of a range that is next.
+/// Takes the range operator that is next.
 pub fn take_mark(p: &mut Parser<'_>, mark: RangeMark)
     requires { IsMark (Some mark) p.old }
     ensures reads { (c : Bool) → Reads c (One (spelling_of mark)) p.old p.new }
@@ -149,7 +149,7 @@ pub fn take_mark(p: &mut Parser<'_>, mark: RangeMark)
     }
 }
 
-/// The operator that is next, if one is: the longest that stands there.
+/// Returns the operator that is next, the longest one, if there is one.
 pub fn current_op(p: &mut Parser<'_>) -> Operator
     ensures next { IsNext result p.old }
     ensures same { Does (λ s. s) p.old p.new }
@@ -192,7 +192,7 @@ pub fn current_op(p: &mut Parser<'_>) -> Operator
     }
 }
 
-/// The operator that begins with `&`.
+/// Returns the operator that starts with the `&` that is next.
 fn after_ampersand(p: &mut Parser<'_>) -> Operator
     requires first { (c : Bool) → Saw c (Kind 0 kinds.AMP) p.old true }
     requires some { 1 ≤ tokens p.old }
@@ -208,7 +208,7 @@ fn after_ampersand(p: &mut Parser<'_>) -> Operator
     Operator::new(5, SyntaxKind::AMP, 1).or_assignment(assigned, SyntaxKind::AMPEQ)
 }
 
-/// The operator that begins with `|`.
+/// Returns the operator that starts with the `|` that is next.
 fn after_pipe(p: &mut Parser<'_>) -> Operator
     requires first { (c : Bool) → Saw c (Kind 0 kinds.PIPE) p.old true }
     requires some { 1 ≤ tokens p.old }
@@ -227,7 +227,7 @@ fn after_pipe(p: &mut Parser<'_>) -> Operator
     Operator::new(7, SyntaxKind::PIPE, 1).or_assignment(assigned, SyntaxKind::PIPEEQ)
 }
 
-/// The operator that begins with `=`, if one does: `=>` is none.
+/// Returns the operator that starts with the `=` that is next, if there is one: `=>` is none.
 fn after_equals(p: &mut Parser<'_>) -> Operator
     requires first { (c : Bool) → Saw c (Kind 0 kinds.EQ) p.old true }
     requires some { 1 ≤ tokens p.old }
@@ -245,7 +245,7 @@ fn after_equals(p: &mut Parser<'_>) -> Operator
     Operator::new(12, SyntaxKind::EQ, 1)
 }
 
-/// The operator that begins with `!`, if one does.
+/// Returns the operator that starts with the `!` that is next, if there is one.
 fn after_bang(p: &mut Parser<'_>) -> Operator
     requires first { (c : Bool) → Saw c (Kind 0 kinds.BANG) p.old true }
     requires some { 1 ≤ tokens p.old }
@@ -260,7 +260,7 @@ fn after_bang(p: &mut Parser<'_>) -> Operator
     Operator::none()
 }
 
-/// The operator that begins with `<`.
+/// Returns the operator that starts with the `<` that is next.
 fn after_left_angle(p: &mut Parser<'_>) -> Operator
     requires first { (c : Bool) → Saw c (Kind 0 kinds.L_ANGLE) p.old true }
     requires some { 1 ≤ tokens p.old }
@@ -284,7 +284,7 @@ fn after_left_angle(p: &mut Parser<'_>) -> Operator
     Operator::new(4, SyntaxKind::SHL, 2)
 }
 
-/// The operator that begins with `>`.
+/// Returns the operator that starts with the `>` that is next.
 fn after_right_angle(p: &mut Parser<'_>) -> Operator
     requires first { (c : Bool) → Saw c (Kind 0 kinds.R_ANGLE) p.old true }
     requires some { 1 ≤ tokens p.old }

@@ -8,7 +8,8 @@ ghost use Rattle.rust_productions.specs.Reads.{looks, Does, Saw};
 use crate::grammar::patterns::at_pattern;
 use parser_events::parser::Parser;
 
-/// Whether a parameter begins here, as a pattern does: so begins `self` too.
+/// Returns `true` if a function parameter starts here. A `self` parameter starts as a pattern
+/// does.
 pub fn at_param(p: &mut Parser<'_>) -> bool
     ensures sees { (c : Bool) → Saw c (looks rules.param) p.old result }
     ensures some { IsTrue result → 1 ≤ tokens p.old }

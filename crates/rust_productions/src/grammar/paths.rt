@@ -19,7 +19,7 @@ use parser_events::message::Message;
 use parser_events::parser::{Marker, Parser};
 use parser_input::syntax_kind::SyntaxKind;
 
-/// Whether `::` is next.
+/// Returns `true` if `::` is next.
 pub fn at_colons(p: &mut Parser<'_>) -> bool
     ensures sees { (c : Bool) → Saw c (Both (Kind 0 kinds.COLON)
         (Both (Joint 0) (Kind 1 kinds.COLON))) p.old result }
@@ -31,7 +31,7 @@ pub fn at_colons(p: &mut Parser<'_>) -> bool
     at_pair(p, SyntaxKind::COLON, SyntaxKind::COLON)
 }
 
-/// Whether a path begins here.
+/// Returns `true` if a path starts here.
 pub fn at_path(p: &mut Parser<'_>) -> bool
     ensures sees { (c : Bool) → Saw c (looks rules.path) p.old result }
     ensures some { IsTrue result → 1 ≤ tokens p.old }
@@ -48,7 +48,8 @@ pub fn at_path(p: &mut Parser<'_>) -> bool
     false
 }
 
-/// The word that a path begins with, and the `::` before it.
+/// Parses the optional `::` and the first word of a path.
+// ::a
 pub fn first_word(p: &mut Parser<'_>)
     requires begins { (c : Bool) → Saw c (looks rules.path) p.old true }
     requires some { 1 ≤ tokens p.old }
@@ -64,7 +65,8 @@ pub fn first_word(p: &mut Parser<'_>)
     name_ref(p);
 }
 
-/// The first segment of a path without arguments.
+/// Parses the first segment of a path without generic arguments.
+// ::a
 fn first_segment(p: &mut Parser<'_>)
     requires begins { (c : Bool) → Saw c (looks rules.path) p.old true }
     requires some { 1 ≤ tokens p.old }
@@ -80,7 +82,7 @@ fn first_segment(p: &mut Parser<'_>)
     complete(p, path, SyntaxKind::PATH);
 }
 
-/// Whether a path goes on here: at a `::` with neither `*` nor `{` after it.
+/// Returns `true` if a path continues here: at a `::` that is before neither `*` nor `{`.
 pub fn at_next_segment(p: &mut Parser<'_>) -> bool
     ensures sees { (c : Bool) → Saw c path_goes_on p.old result }
     ensures some { IsTrue result → 2 ≤ tokens p.old }
@@ -97,7 +99,8 @@ pub fn at_next_segment(p: &mut Parser<'_>) -> bool
     }
 }
 
-/// A segment without arguments, or the message that it is missing.
+/// Parses a path segment without generic arguments; emits an error if there is none.
+// a
 fn expect_segment(p: &mut Parser<'_>)
     ensures reads { (c : Bool) → Reads c ((PATH_SEGMENT ⟨ Ref ▸ Nothing ⟩) !) p.old p.new }
     ensures left { tokens p.new ≤ tokens p.old }
@@ -112,7 +115,8 @@ fn expect_segment(p: &mut Parser<'_>)
     error(p, Message::Expected(SyntaxKind::PATH_SEGMENT));
 }
 
-/// One more segment of a path, around which the node is closed.
+/// Parses a `::` and a segment, and completes the path up to it.
+// ::a
 fn next_segment(p: &mut Parser<'_>, path: Marker) -> Marker
     requires innermost { IsInnermost path p.old.nodes }
     requires some { 2 ≤ tokens p.old }
@@ -126,7 +130,8 @@ fn next_segment(p: &mut Parser<'_>, path: Marker) -> Marker
     wrap(p, path, SyntaxKind::PATH)
 }
 
-/// The further segments of a path.
+/// Parses the further segments of a path.
+// ::a::b
 fn next_segments(p: &mut Parser<'_>, path: Marker) -> Marker
     requires { IsInnermost path p.old.nodes }
     ensures reads { (c : Bool) → Reads c
@@ -143,7 +148,8 @@ fn next_segments(p: &mut Parser<'_>, path: Marker) -> Marker
     path
 }
 
-/// A path without arguments.
+/// Parses a path without generic arguments.
+// a::b
 pub fn path(p: &mut Parser<'_>)
     requires begins { (c : Bool) → Saw c (looks rules.path) p.old true }
     requires some { 1 ≤ tokens p.old }
@@ -158,7 +164,8 @@ pub fn path(p: &mut Parser<'_>)
     abandon(p, frame);
 }
 
-/// A path without arguments, or the message that it is missing.
+/// Parses a path without generic arguments; emits an error if there is none.
+// a::b
 pub(crate) fn expect_path(p: &mut Parser<'_>)
     ensures reads { (c : Bool) → Reads c (Path !) p.old p.new }
     ensures left { tokens p.new ≤ tokens p.old }

@@ -15,7 +15,7 @@ use crate::grammar::{at, at_pair, at_second, current};
 use parser_events::parser::Parser;
 use parser_input::syntax_kind::SyntaxKind;
 
-/// Whether a pattern begins here, without a `|` before it.
+/// Returns `true` if a pattern without top-level alternatives starts here.
 pub fn at_single_pattern(p: &mut Parser<'_>) -> bool
     ensures sees { (c : Bool) → Saw c (looks rules.single_pattern) p.old result }
     ensures some { IsTrue result → 1 ≤ tokens p.old }
@@ -47,7 +47,7 @@ pub fn at_single_pattern(p: &mut Parser<'_>) -> bool
     }
 }
 
-/// Whether a pattern begins here.
+/// Returns `true` if a pattern starts here.
 pub fn at_pattern(p: &mut Parser<'_>) -> bool
     ensures sees { (c : Bool) → Saw c (looks rules.pattern) p.old result }
     ensures some { IsTrue result → 1 ≤ tokens p.old }
@@ -64,7 +64,7 @@ pub fn at_pattern(p: &mut Parser<'_>) -> bool
     }
 }
 
-/// Whether a field by name or number is next, with a colon after it.
+/// Returns `true` if the name or the number of a field is next, with a colon after it.
 pub fn at_named_field(p: &mut Parser<'_>) -> bool
     ensures sees { (c : Bool) → Saw c (begins looks (field_name ▹ One ':')) p.old result }
     ensures some { IsTrue result → 2 ≤ tokens p.old }
@@ -81,7 +81,7 @@ pub fn at_named_field(p: &mut Parser<'_>) -> bool
     }
 }
 
-/// Whether a field of a record pattern begins here.
+/// Returns `true` if a field of a record pattern starts here.
 pub fn at_pattern_field(p: &mut Parser<'_>) -> bool
     ensures sees { (c : Bool) → Saw c (looks rules.pattern_field) p.old result }
     ensures some { IsTrue result → 1 ≤ tokens p.old }

@@ -19,7 +19,7 @@ use parser_events::message::Message;
 use parser_events::parser::Parser;
 use parser_input::syntax_kind::SyntaxKind;
 
-/// Whether a token tree begins here.
+/// Returns `true` if a token tree starts here.
 pub fn at_token_tree(p: &mut Parser<'_>) -> bool
     ensures sees { (c : Bool) → Saw c (looks rules.token_tree) p.old result }
     ensures some { IsTrue result → 1 ≤ tokens p.old }
@@ -33,7 +33,7 @@ pub fn at_token_tree(p: &mut Parser<'_>) -> bool
     }
 }
 
-/// Whether a token is next that can stand in a token tree: any but a closing bracket.
+/// Returns `true` if a token is next that is no closing delimiter.
 fn at_inner(p: &mut Parser<'_>) -> bool
     ensures sees { (c : Bool) → Saw c
         (Either (looks rules.token_tree) (Both Left (Not (one_of 0 ('r_paren' ∷ 'r_curly' ∷ ']' ∷ []))))) p.old result }
@@ -48,7 +48,8 @@ fn at_inner(p: &mut Parser<'_>) -> bool
     }
 }
 
-/// A token inside a token tree, or another token tree.
+/// Parses a token or a token tree, within a token tree.
+// (a)
 #[cycle(token_trees)]
 fn inner(p: &mut Parser<'_>)
     requires { 1 ≤ tokens p.old }
@@ -63,7 +64,8 @@ fn inner(p: &mut Parser<'_>)
     take_any(p);
 }
 
-/// What stands in a token tree.
+/// Parses the tokens and the token trees within a token tree.
+// a (b) c
 #[cycle(token_trees)]
 fn inner_tokens(p: &mut Parser<'_>)
     ensures reads { (c : Bool) → Reads c (inner_token *) p.old p.new }
@@ -75,7 +77,8 @@ fn inner_tokens(p: &mut Parser<'_>)
     }
 }
 
-/// A token tree between these brackets.
+/// Parses a token tree with these delimiters.
+// (a b)
 #[cycle(token_trees)]
 fn bracketed(p: &mut Parser<'_>, opening: SyntaxKind, closing: SyntaxKind)
     requires some { 1 ≤ tokens p.old }
@@ -95,7 +98,8 @@ fn bracketed(p: &mut Parser<'_>, opening: SyntaxKind, closing: SyntaxKind)
     complete(p, tree, SyntaxKind::TOKEN_TREE);
 }
 
-/// A token tree.
+/// Parses a token tree.
+// (a b)
 #[cycle(token_trees)]
 pub fn token_tree(p: &mut Parser<'_>)
     requires { 1 ≤ tokens p.old }
@@ -110,7 +114,8 @@ pub fn token_tree(p: &mut Parser<'_>)
     }
 }
 
-/// A token tree, or the message that it is missing.
+/// Parses a token tree; emits an error if there is none.
+// (a b)
 pub fn expect_token_tree(p: &mut Parser<'_>)
     ensures reads { (c : Bool) → Reads c (TokenTree !) p.old p.new }
     ensures left { tokens p.new ≤ tokens p.old }

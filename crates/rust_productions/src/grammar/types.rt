@@ -16,7 +16,7 @@ use crate::grammar::{at_contextual, current, nth};
 use parser_events::parser::Parser;
 use parser_input::syntax_kind::SyntaxKind;
 
-/// Whether the word `dyn` is next, as no keyword of the edition, before what can follow `dyn`.
+/// Returns `true` if `dyn` is next as an identifier, before a token that can follow `dyn`.
 pub fn at_dyn_word(p: &mut Parser<'_>) -> bool
     ensures sees { (c : Bool) → Saw c (Both (Contextual 0 DYN_KW)
         (one_of 1 ('?' ∷ 'lifetime' ∷ refs))) p.old result }
@@ -40,7 +40,7 @@ pub fn at_dyn_word(p: &mut Parser<'_>) -> bool
     }
 }
 
-/// Whether a type begins here.
+/// Returns `true` if a type starts here.
 pub fn at_type(p: &mut Parser<'_>) -> bool
     ensures sees { (c : Bool) → Saw c (looks rules.any_type) p.old result }
     ensures some { IsTrue result → 1 ≤ tokens p.old }

@@ -24,7 +24,7 @@ use parser_events::message::Message;
 use parser_events::parser::Parser;
 use parser_input::syntax_kind::SyntaxKind;
 
-/// Whether a `::` is next with a `*` or a `{` after it.
+/// Returns `true` if `::` is next, and `*` or `{` after it.
 fn at_colons_before_more(p: &mut Parser<'_>) -> bool
     ensures sees { (c : Bool) → Saw c colons_before_more p.old result }
     ensures some { IsTrue result → 3 ≤ tokens p.old }
@@ -44,7 +44,7 @@ fn at_colons_before_more(p: &mut Parser<'_>) -> bool
     false
 }
 
-/// Whether a use tree begins here.
+/// Returns `true` if a use tree starts here.
 fn at_use_tree(p: &mut Parser<'_>) -> bool
     ensures sees { (c : Bool) → Saw c (looks rules.use_tree) p.old result }
     ensures some { IsTrue result → 1 ≤ tokens p.old }
@@ -64,7 +64,8 @@ fn at_use_tree(p: &mut Parser<'_>) -> bool
     }
 }
 
-/// A use tree, or the message that it is missing.
+/// Parses a use tree; emits an error if there is none.
+// a::b
 pub(crate) fn expect_use_tree(p: &mut Parser<'_>)
     ensures reads { (c : Bool) → Reads c (UseTree !) p.old p.new }
     ensures left { tokens p.new ≤ tokens p.old }
@@ -77,7 +78,8 @@ pub(crate) fn expect_use_tree(p: &mut Parser<'_>)
     error(p, Message::Expected(SyntaxKind::USE_TREE));
 }
 
-/// A new name for what is used, or `_`.
+/// Parses the rename of a use tree.
+// as b
 fn rename(p: &mut Parser<'_>)
     requires { 1 ≤ tokens p.old }
     ensures reads { (c : Bool) → Reads c (RENAME ⟨ One 'as' ▸ (One '_' or Name !) ⟩) p.old p.new }
@@ -90,7 +92,8 @@ fn rename(p: &mut Parser<'_>)
     complete(p, rename, SyntaxKind::RENAME);
 }
 
-/// A name or `_`, or the message that a name is missing.
+/// Parses `_` or a name; emits an error if there is neither.
+// _
 pub fn underscore_or_name(p: &mut Parser<'_>)
     ensures reads { (c : Bool) → Reads c (One '_' or Name !) p.old p.new }
     ensures left { tokens p.new ≤ tokens p.old }
@@ -103,7 +106,8 @@ pub fn underscore_or_name(p: &mut Parser<'_>)
     expect_name(p);
 }
 
-/// A `*`, or a list of use trees.
+/// Parses a `*` or a use tree list.
+// {a, b}
 #[cycle(use_trees)]
 fn star_or_list(p: &mut Parser<'_>)
     requires { 1 ≤ tokens p.old }
@@ -118,7 +122,8 @@ fn star_or_list(p: &mut Parser<'_>)
     use_list(p);
 }
 
-/// What stands after the path of a use tree, where that is more or a new name.
+/// Parses the optional rest of a use tree after its path: a `*`, a use tree list or a rename.
+// ::{a, b}
 #[cycle(use_trees)]
 fn after_path(p: &mut Parser<'_>)
     requires ends { (c : Bool) → Saw c path_goes_on p.old false }
@@ -136,7 +141,8 @@ fn after_path(p: &mut Parser<'_>)
     }
 }
 
-/// A path with what stands after it.
+/// Parses a use tree that starts with a path.
+// a::{b, c}
 #[cycle(use_trees)]
 fn path_tree(p: &mut Parser<'_>)
     requires begins { (c : Bool) → Saw c (looks rules.path) p.old true }
@@ -149,7 +155,8 @@ fn path_tree(p: &mut Parser<'_>)
     after_path(p);
 }
 
-/// What stands after a `::` that a use tree begins with.
+/// Parses a use tree after its leading `::`.
+// {a, b}
 #[cycle(use_trees)]
 fn after_colons(p: &mut Parser<'_>)
     requires next { (c : Bool) → Saw c (one_of 0 ('*' ∷ 'l_curly' ∷ [])) p.old true }
@@ -165,7 +172,8 @@ fn after_colons(p: &mut Parser<'_>)
     use_list(p);
 }
 
-/// A use tree, inside its node.
+/// Parses a use tree, within its node.
+// a::{b, c}
 #[cycle(use_trees)]
 fn inside(p: &mut Parser<'_>)
     requires begins { (c : Bool) → Saw c (looks rules.use_tree) p.old true }
@@ -188,7 +196,8 @@ fn inside(p: &mut Parser<'_>)
     }
 }
 
-/// A use tree.
+/// Parses a use tree.
+// a::{b, c}
 #[cycle(use_trees)]
 pub fn use_tree(p: &mut Parser<'_>)
     requires begins { (c : Bool) → Saw c (looks rules.use_tree) p.old true }
@@ -202,7 +211,8 @@ pub fn use_tree(p: &mut Parser<'_>)
     complete(p, tree, SyntaxKind::USE_TREE);
 }
 
-/// A list of use trees.
+/// Parses a use tree list.
+// {a, b as c}
 #[cycle(use_trees)]
 pub fn use_list(p: &mut Parser<'_>)
     requires { 1 ≤ tokens p.old }
@@ -217,7 +227,7 @@ pub fn use_list(p: &mut Parser<'_>)
     complete(p, list, SyntaxKind::USE_TREE_LIST);
 }
 
-/// Whether a list of use trees goes on here.
+/// Returns `true` if a use tree list continues here.
 fn at_use_turn(p: &mut Parser<'_>) -> bool
     ensures sees { (c : Bool) → Saw c
         (Both (Not (until 'r_curly')) (Either (looks rules.use_tree) (Both Left (Not (one_of 0 stops))))) p.old result }
@@ -238,7 +248,8 @@ fn at_use_turn(p: &mut Parser<'_>) -> bool
     false
 }
 
-/// A use tree with its comma, or a token that begins none.
+/// Parses a use tree and its comma, or skips a token into an error.
+// a,
 #[cycle(use_trees)]
 fn use_turn(p: &mut Parser<'_>)
     requires { 1 ≤ tokens p.old }
@@ -256,7 +267,8 @@ fn use_turn(p: &mut Parser<'_>)
     skip(p, Message::UnexpectedIn(SyntaxKind::USE_TREE_LIST));
 }
 
-/// The use trees of a list.
+/// Parses the use trees of a use tree list.
+// a, b as c
 #[cycle(use_trees)]
 fn use_turns(p: &mut Parser<'_>)
     ensures reads { Reads false

@@ -15,8 +15,7 @@ use crate::grammar::{at, at_second, at_third, complete, eat, expect, nth, start,
 use parser_events::parser::Parser;
 use parser_input::syntax_kind::SyntaxKind;
 
-/// Whether a bracket is next that belongs to the `pub` before it: what stands in it is a path after
-/// `in`, or one word.
+/// Returns `true` if the scope of a visibility is next, in its parentheses.
 fn at_scope(p: &mut Parser<'_>) -> bool
     ensures sees { (c : Bool) → Saw c visibility_goes_on p.old result }
     ensures some { IsTrue result → 1 ≤ tokens p.old }
@@ -39,7 +38,8 @@ fn at_scope(p: &mut Parser<'_>) -> bool
     }
 }
 
-/// The bracket after `pub`, where it belongs to that.
+/// Parses the optional scope of a visibility, in its parentheses.
+// (in a::b)
 fn opt_scope(p: &mut Parser<'_>)
     ensures reads { (c : Bool) → Reads c
         ⁅ When visibility_goes_on (One 'l_paren' ▸ ⁅ One 'in' ⁆ ▸ Path ! ▸ One 'r_paren' !) ⁆ p.old p.new }
@@ -54,7 +54,8 @@ fn opt_scope(p: &mut Parser<'_>)
     }
 }
 
-/// A visibility.
+/// Parses a visibility.
+// pub(crate)
 pub fn visibility(p: &mut Parser<'_>)
     requires { 1 ≤ tokens p.old }
     ensures gives { (c : Bool) → Gives rules.visibility c p.old p.new }
@@ -67,7 +68,8 @@ pub fn visibility(p: &mut Parser<'_>)
     complete(p, visibility, SyntaxKind::VISIBILITY);
 }
 
-/// A visibility, where there is one.
+/// Parses an optional visibility.
+// pub(crate)
 pub fn opt_visibility(p: &mut Parser<'_>)
     ensures reads { (c : Bool) → Reads c ⁅ Visibility ⁆ p.old p.new }
     ensures left { tokens p.new ≤ tokens p.old }

@@ -48,41 +48,17 @@ use Rattle.grammar_reader.proofs.grammar.+grammar.Answers.Statements as statemen
 use Rattle.grammar_reader.proofs.grammar.+grammar.Answers.Traits as traits
 use Rattle.grammar_reader.proofs.grammar.+grammar.Answers.Types as types
 
-pub items::adt::struct_item-opt_generic_params-requires : goal.items::adt::struct_item-opt_generic_params-requires
-items::adt::struct_item-opt_generic_params-requires = adt.items::adt::struct_item-opt_generic_params-requires
-
-pub items::adt::struct_item-fields-requires : goal.items::adt::struct_item-fields-requires
-items::adt::struct_item-fields-requires = adt.items::adt::struct_item-fields-requires
-
 pub items::adt::struct_item-complete-requires : goal.items::adt::struct_item-complete-requires
 items::adt::struct_item-complete-requires = adt.items::adt::struct_item-complete-requires
 
 pub items::adt::struct_item-returns-clause-completes : goal.items::adt::struct_item-returns-clause-completes
 items::adt::struct_item-returns-clause-completes = adt.items::adt::struct_item-returns-clause-completes
 
-pub items::adt::fields-opt_where_clause-requires : goal.items::adt::fields-opt_where_clause-requires
-items::adt::fields-opt_where_clause-requires = adt.items::adt::fields-opt_where_clause-requires
-
 pub items::adt::fields-returns-then-at-clause-reads : goal.items::adt::fields-returns-then-at-clause-reads
 items::adt::fields-returns-then-at-clause-reads = adt.items::adt::fields-returns-then-at-clause-reads
 
-pub items::adt::fields-opt_where_clause-requires-2 : goal.items::adt::fields-opt_where_clause-requires-2
-items::adt::fields-opt_where_clause-requires-2 = adt.items::adt::fields-opt_where_clause-requires-2
-
-pub items::adt::fields-named_fields-requires : goal.items::adt::fields-named_fields-requires
-items::adt::fields-named_fields-requires = adt.items::adt::fields-named_fields-requires
-
 pub items::adt::fields-returns-clause-reads : goal.items::adt::fields-returns-clause-reads
 items::adt::fields-returns-clause-reads = adt.items::adt::fields-returns-clause-reads
-
-pub items::adt::enum_item-opt_generic_params-requires : goal.items::adt::enum_item-opt_generic_params-requires
-items::adt::enum_item-opt_generic_params-requires = adt.items::adt::enum_item-opt_generic_params-requires
-
-pub items::adt::enum_item-opt_where_clause-requires : goal.items::adt::enum_item-opt_where_clause-requires
-items::adt::enum_item-opt_where_clause-requires = adt.items::adt::enum_item-opt_where_clause-requires
-
-pub items::adt::enum_item-expect_variants-requires : goal.items::adt::enum_item-expect_variants-requires
-items::adt::enum_item-expect_variants-requires = adt.items::adt::enum_item-expect_variants-requires
 
 pub items::adt::enum_item-complete-requires : goal.items::adt::enum_item-complete-requires
 items::adt::enum_item-complete-requires = adt.items::adt::enum_item-complete-requires
@@ -243,9 +219,6 @@ expressions::atom::paren_expr-returns-clause-reads = atom.expressions::atom::par
 pub expressions::atom::after_paren-wrap-requires : goal.expressions::atom::after_paren-wrap-requires
 expressions::atom::after_paren-wrap-requires = atom.expressions::atom::after_paren-wrap-requires
 
-pub expressions::atom::after_paren-expect_expression-requires : goal.expressions::atom::after_paren-expect_expression-requires
-expressions::atom::after_paren-expect_expression-requires = atom.expressions::atom::after_paren-expect_expression-requires
-
 pub expressions::atom::after_paren-after_first-requires : goal.expressions::atom::after_paren-after_first-requires
 expressions::atom::after_paren-after_first-requires = atom.expressions::atom::after_paren-after_first-requires
 
@@ -270,9 +243,6 @@ expressions::atom::after_first-returns-then-at-clause-reads = atom.expressions::
 pub expressions::atom::after_first-returns-clause-reads : goal.expressions::atom::after_first-returns-clause-reads
 expressions::atom::after_first-returns-clause-reads = atom.expressions::atom::after_first-returns-clause-reads
 
-pub expressions::atom::array_expr-array_elements-requires : goal.expressions::atom::array_expr-array_elements-requires
-expressions::atom::array_expr-array_elements-requires = atom.expressions::atom::array_expr-array_elements-requires
-
 pub expressions::atom::array_expr-complete-requires : goal.expressions::atom::array_expr-complete-requires
 expressions::atom::array_expr-complete-requires = atom.expressions::atom::array_expr-complete-requires
 
@@ -282,17 +252,11 @@ expressions::atom::array_expr-returns-clause-reads = atom.expressions::atom::arr
 pub expressions::atom::array_elements-expression-requires : goal.expressions::atom::array_elements-expression-requires
 expressions::atom::array_elements-expression-requires = atom.expressions::atom::array_elements-expression-requires
 
-pub expressions::atom::array_elements-after_element-requires : goal.expressions::atom::array_elements-after_element-requires
-expressions::atom::array_elements-after_element-requires = atom.expressions::atom::array_elements-after_element-requires
-
 pub expressions::atom::array_elements-returns-then-at_expression-clause-reads : goal.expressions::atom::array_elements-returns-then-at_expression-clause-reads
 expressions::atom::array_elements-returns-then-at_expression-clause-reads = atom.expressions::atom::array_elements-returns-then-at_expression-clause-reads
 
 pub expressions::atom::array_elements-returns-clause-reads : goal.expressions::atom::array_elements-returns-clause-reads
 expressions::atom::array_elements-returns-clause-reads = atom.expressions::atom::array_elements-returns-clause-reads
-
-pub expressions::atom::after_element-expect_expression-requires : goal.expressions::atom::after_element-expect_expression-requires
-expressions::atom::after_element-expect_expression-requires = atom.expressions::atom::after_element-expect_expression-requires
 
 pub expressions::atom::after_element-rest_of_list-requires : goal.expressions::atom::after_element-rest_of_list-requires
 expressions::atom::after_element-rest_of_list-requires = atom.expressions::atom::after_element-rest_of_list-requires
@@ -305,9 +269,6 @@ expressions::atom::after_element-returns-then-at-2-clause-reads = atom.expressio
 
 pub expressions::atom::after_element-returns-clause-reads : goal.expressions::atom::after_element-returns-clause-reads
 expressions::atom::after_element-returns-clause-reads = atom.expressions::atom::after_element-returns-clause-reads
-
-pub expressions::atom::value_expr-opt_value-requires : goal.expressions::atom::value_expr-opt_value-requires
-expressions::atom::value_expr-opt_value-requires = atom.expressions::atom::value_expr-opt_value-requires
 
 pub expressions::atom::value_expr-complete-requires : goal.expressions::atom::value_expr-complete-requires
 expressions::atom::value_expr-complete-requires = atom.expressions::atom::value_expr-complete-requires
@@ -330,20 +291,11 @@ expressions::atom::opt_value-returns-else-at_operation-clause-reads = atom.expre
 pub expressions::closures::closure_expr-closure_params-requires : goal.expressions::closures::closure_expr-closure_params-requires
 expressions::closures::closure_expr-closure_params-requires = atom.expressions::closures::closure_expr-closure_params-requires
 
-pub expressions::closures::closure_expr-closure_body-requires : goal.expressions::closures::closure_expr-closure_body-requires
-expressions::closures::closure_expr-closure_body-requires = atom.expressions::closures::closure_expr-closure_body-requires
-
 pub expressions::closures::closure_expr-complete-requires : goal.expressions::closures::closure_expr-complete-requires
 expressions::closures::closure_expr-complete-requires = atom.expressions::closures::closure_expr-complete-requires
 
 pub expressions::closures::closure_expr-returns-clause-reads : goal.expressions::closures::closure_expr-returns-clause-reads
 expressions::closures::closure_expr-returns-clause-reads = atom.expressions::closures::closure_expr-returns-clause-reads
-
-pub expressions::closures::move_closure-expect_closure_params-requires : goal.expressions::closures::move_closure-expect_closure_params-requires
-expressions::closures::move_closure-expect_closure_params-requires = atom.expressions::closures::move_closure-expect_closure_params-requires
-
-pub expressions::closures::move_closure-closure_body-requires : goal.expressions::closures::move_closure-closure_body-requires
-expressions::closures::move_closure-closure_body-requires = atom.expressions::closures::move_closure-closure_body-requires
 
 pub expressions::closures::move_closure-complete-requires : goal.expressions::closures::move_closure-complete-requires
 expressions::closures::move_closure-complete-requires = atom.expressions::closures::move_closure-complete-requires
@@ -372,17 +324,11 @@ expressions::closures::closure_params-returns-clause-reads = atom.expressions::c
 pub expressions::closures::closure_param-single_pattern-requires : goal.expressions::closures::closure_param-single_pattern-requires
 expressions::closures::closure_param-single_pattern-requires = atom.expressions::closures::closure_param-single_pattern-requires
 
-pub expressions::closures::closure_param-opt_type-requires : goal.expressions::closures::closure_param-opt_type-requires
-expressions::closures::closure_param-opt_type-requires = atom.expressions::closures::closure_param-opt_type-requires
-
 pub expressions::closures::closure_param-complete-requires : goal.expressions::closures::closure_param-complete-requires
 expressions::closures::closure_param-complete-requires = atom.expressions::closures::closure_param-complete-requires
 
 pub expressions::closures::closure_param-returns-clause-reads : goal.expressions::closures::closure_param-returns-clause-reads
 expressions::closures::closure_param-returns-clause-reads = atom.expressions::closures::closure_param-returns-clause-reads
-
-pub expressions::closures::opt_type-expect_type-requires : goal.expressions::closures::opt_type-expect_type-requires
-expressions::closures::opt_type-expect_type-requires = atom.expressions::closures::opt_type-expect_type-requires
 
 pub expressions::closures::opt_type-returns-then-at-clause-reads : goal.expressions::closures::opt_type-returns-then-at-clause-reads
 expressions::closures::opt_type-returns-then-at-clause-reads = atom.expressions::closures::opt_type-returns-then-at-clause-reads
@@ -393,32 +339,17 @@ expressions::closures::opt_type-returns-else-at-clause-reads = atom.expressions:
 pub expressions::closures::closure_body-ret_type-requires : goal.expressions::closures::closure_body-ret_type-requires
 expressions::closures::closure_body-ret_type-requires = atom.expressions::closures::closure_body-ret_type-requires
 
-pub expressions::closures::closure_body-expect_block-requires : goal.expressions::closures::closure_body-expect_block-requires
-expressions::closures::closure_body-expect_block-requires = atom.expressions::closures::closure_body-expect_block-requires
-
-pub expressions::closures::closure_body-expect_expression-requires : goal.expressions::closures::closure_body-expect_expression-requires
-expressions::closures::closure_body-expect_expression-requires = atom.expressions::closures::closure_body-expect_expression-requires
-
 pub expressions::closures::closure_body-returns-then-at_pair-clause-reads : goal.expressions::closures::closure_body-returns-then-at_pair-clause-reads
 expressions::closures::closure_body-returns-then-at_pair-clause-reads = atom.expressions::closures::closure_body-returns-then-at_pair-clause-reads
 
 pub expressions::closures::closure_body-returns-clause-reads : goal.expressions::closures::closure_body-returns-clause-reads
 expressions::closures::closure_body-returns-clause-reads = atom.expressions::closures::closure_body-returns-clause-reads
 
-pub expressions::atom::let_expr-expect_pattern-requires : goal.expressions::atom::let_expr-expect_pattern-requires
-expressions::atom::let_expr-expect_pattern-requires = atom.expressions::atom::let_expr-expect_pattern-requires
-
-pub expressions::atom::let_expr-expect_expression-requires : goal.expressions::atom::let_expr-expect_expression-requires
-expressions::atom::let_expr-expect_expression-requires = atom.expressions::atom::let_expr-expect_expression-requires
-
 pub expressions::atom::let_expr-complete-requires : goal.expressions::atom::let_expr-complete-requires
 expressions::atom::let_expr-complete-requires = atom.expressions::atom::let_expr-complete-requires
 
 pub expressions::atom::let_expr-returns-clause-reads : goal.expressions::atom::let_expr-returns-clause-reads
 expressions::atom::let_expr-returns-clause-reads = atom.expressions::atom::let_expr-returns-clause-reads
-
-pub attributes::attribute-expect_meta-requires : goal.attributes::attribute-expect_meta-requires
-attributes::attribute-expect_meta-requires = attributes.attributes::attribute-expect_meta-requires
 
 pub attributes::attribute-complete-requires : goal.attributes::attribute-complete-requires
 attributes::attribute-complete-requires = attributes.attributes::attribute-complete-requires
@@ -438,17 +369,11 @@ attributes::expect_meta-returns-clause-reads = attributes.attributes::expect_met
 pub attributes::meta-path-requires-clause-begins : goal.attributes::meta-path-requires-clause-begins
 attributes::meta-path-requires-clause-begins = attributes.attributes::meta-path-requires-clause-begins
 
-pub attributes::meta-opt_value-requires : goal.attributes::meta-opt_value-requires
-attributes::meta-opt_value-requires = attributes.attributes::meta-opt_value-requires
-
 pub attributes::meta-complete-requires : goal.attributes::meta-complete-requires
 attributes::meta-complete-requires = attributes.attributes::meta-complete-requires
 
 pub attributes::meta-returns-clause-gives : goal.attributes::meta-returns-clause-gives
 attributes::meta-returns-clause-gives = attributes.attributes::meta-returns-clause-gives
-
-pub attributes::opt_value-expect_expression-requires : goal.attributes::opt_value-expect_expression-requires
-attributes::opt_value-expect_expression-requires = attributes.attributes::opt_value-expect_expression-requires
 
 pub attributes::opt_value-returns-then-at-clause-reads : goal.attributes::opt_value-returns-then-at-clause-reads
 attributes::opt_value-returns-then-at-clause-reads = attributes.attributes::opt_value-returns-then-at-clause-reads
@@ -483,9 +408,6 @@ expressions::blocks::statements-turns-preserved = blocks.expressions::blocks::st
 pub expressions::blocks::statements-returns-clause-reads : goal.expressions::blocks::statements-returns-clause-reads
 expressions::blocks::statements-returns-clause-reads = blocks.expressions::blocks::statements-returns-clause-reads
 
-pub expressions::blocks::statement_list-statements-requires : goal.expressions::blocks::statement_list-statements-requires
-expressions::blocks::statement_list-statements-requires = blocks.expressions::blocks::statement_list-statements-requires
-
 pub expressions::blocks::statement_list-complete-requires : goal.expressions::blocks::statement_list-complete-requires
 expressions::blocks::statement_list-complete-requires = blocks.expressions::blocks::statement_list-complete-requires
 
@@ -498,17 +420,11 @@ expressions::blocks::block-complete-requires = blocks.expressions::blocks::block
 pub expressions::blocks::block-returns-clause-gives : goal.expressions::blocks::block-returns-clause-gives
 expressions::blocks::block-returns-clause-gives = blocks.expressions::blocks::block-returns-clause-gives
 
-pub items::consts::const_item-typed_value-requires : goal.items::consts::const_item-typed_value-requires
-items::consts::const_item-typed_value-requires = consts.items::consts::const_item-typed_value-requires
-
 pub items::consts::const_item-complete-requires : goal.items::consts::const_item-complete-requires
 items::consts::const_item-complete-requires = consts.items::consts::const_item-complete-requires
 
 pub items::consts::const_item-returns-clause-completes : goal.items::consts::const_item-returns-clause-completes
 items::consts::const_item-returns-clause-completes = consts.items::consts::const_item-returns-clause-completes
-
-pub items::consts::static_item-typed_value-requires : goal.items::consts::static_item-typed_value-requires
-items::consts::static_item-typed_value-requires = consts.items::consts::static_item-typed_value-requires
 
 pub items::consts::static_item-complete-requires : goal.items::consts::static_item-complete-requires
 items::consts::static_item-complete-requires = consts.items::consts::static_item-complete-requires
@@ -516,32 +432,14 @@ items::consts::static_item-complete-requires = consts.items::consts::static_item
 pub items::consts::static_item-returns-clause-completes : goal.items::consts::static_item-returns-clause-completes
 items::consts::static_item-returns-clause-completes = consts.items::consts::static_item-returns-clause-completes
 
-pub items::consts::typed_value-expect_type-requires : goal.items::consts::typed_value-expect_type-requires
-items::consts::typed_value-expect_type-requires = consts.items::consts::typed_value-expect_type-requires
-
-pub items::consts::typed_value-opt_value-requires : goal.items::consts::typed_value-opt_value-requires
-items::consts::typed_value-opt_value-requires = consts.items::consts::typed_value-opt_value-requires
-
 pub items::consts::typed_value-returns-clause-reads : goal.items::consts::typed_value-returns-clause-reads
 items::consts::typed_value-returns-clause-reads = consts.items::consts::typed_value-returns-clause-reads
-
-pub items::consts::opt_value-expect_expression-requires : goal.items::consts::opt_value-expect_expression-requires
-items::consts::opt_value-expect_expression-requires = consts.items::consts::opt_value-expect_expression-requires
 
 pub items::consts::opt_value-returns-then-at-clause-reads : goal.items::consts::opt_value-returns-then-at-clause-reads
 items::consts::opt_value-returns-then-at-clause-reads = consts.items::consts::opt_value-returns-then-at-clause-reads
 
 pub items::consts::opt_value-returns-else-at-clause-reads : goal.items::consts::opt_value-returns-else-at-clause-reads
 items::consts::opt_value-returns-else-at-clause-reads = consts.items::consts::opt_value-returns-else-at-clause-reads
-
-pub items::consts::type_alias-opt_generic_params-requires : goal.items::consts::type_alias-opt_generic_params-requires
-items::consts::type_alias-opt_generic_params-requires = consts.items::consts::type_alias-opt_generic_params-requires
-
-pub items::consts::type_alias-bounds_after_colon-requires : goal.items::consts::type_alias-bounds_after_colon-requires
-items::consts::type_alias-bounds_after_colon-requires = consts.items::consts::type_alias-bounds_after_colon-requires
-
-pub items::consts::type_alias-opt_where_clause-requires : goal.items::consts::type_alias-opt_where_clause-requires
-items::consts::type_alias-opt_where_clause-requires = consts.items::consts::type_alias-opt_where_clause-requires
 
 pub items::consts::type_alias-opt_type_after-requires : goal.items::consts::type_alias-opt_type_after-requires
 items::consts::type_alias-opt_type_after-requires = consts.items::consts::type_alias-opt_type_after-requires
@@ -627,20 +525,11 @@ expressions::control::expect_match_arms-returns-then-at-clause-reads = control.e
 pub expressions::control::expect_match_arms-returns-clause-reads : goal.expressions::control::expect_match_arms-returns-clause-reads
 expressions::control::expect_match_arms-returns-clause-reads = control.expressions::control::expect_match_arms-returns-clause-reads
 
-pub expressions::control::unsafe_block-expect_statement_list-requires : goal.expressions::control::unsafe_block-expect_statement_list-requires
-expressions::control::unsafe_block-expect_statement_list-requires = control.expressions::control::unsafe_block-expect_statement_list-requires
-
 pub expressions::control::unsafe_block-complete-requires : goal.expressions::control::unsafe_block-complete-requires
 expressions::control::unsafe_block-complete-requires = control.expressions::control::unsafe_block-complete-requires
 
 pub expressions::control::unsafe_block-returns-clause-reads : goal.expressions::control::unsafe_block-returns-clause-reads
 expressions::control::unsafe_block-returns-clause-reads = control.expressions::control::unsafe_block-returns-clause-reads
-
-pub expressions::control::while_expr-expect_condition-requires : goal.expressions::control::while_expr-expect_condition-requires
-expressions::control::while_expr-expect_condition-requires = control.expressions::control::while_expr-expect_condition-requires
-
-pub expressions::control::while_expr-expect_block-requires : goal.expressions::control::while_expr-expect_block-requires
-expressions::control::while_expr-expect_block-requires = control.expressions::control::while_expr-expect_block-requires
 
 pub expressions::control::while_expr-complete-requires : goal.expressions::control::while_expr-complete-requires
 expressions::control::while_expr-complete-requires = control.expressions::control::while_expr-complete-requires
@@ -648,20 +537,11 @@ expressions::control::while_expr-complete-requires = control.expressions::contro
 pub expressions::control::while_expr-returns-clause-reads : goal.expressions::control::while_expr-returns-clause-reads
 expressions::control::while_expr-returns-clause-reads = control.expressions::control::while_expr-returns-clause-reads
 
-pub expressions::control::loop_expr-expect_block-requires : goal.expressions::control::loop_expr-expect_block-requires
-expressions::control::loop_expr-expect_block-requires = control.expressions::control::loop_expr-expect_block-requires
-
 pub expressions::control::loop_expr-complete-requires : goal.expressions::control::loop_expr-complete-requires
 expressions::control::loop_expr-complete-requires = control.expressions::control::loop_expr-complete-requires
 
 pub expressions::control::loop_expr-returns-clause-reads : goal.expressions::control::loop_expr-returns-clause-reads
 expressions::control::loop_expr-returns-clause-reads = control.expressions::control::loop_expr-returns-clause-reads
-
-pub expressions::control::match_expr-expect_condition-requires : goal.expressions::control::match_expr-expect_condition-requires
-expressions::control::match_expr-expect_condition-requires = control.expressions::control::match_expr-expect_condition-requires
-
-pub expressions::control::match_expr-expect_match_arms-requires : goal.expressions::control::match_expr-expect_match_arms-requires
-expressions::control::match_expr-expect_match_arms-requires = control.expressions::control::match_expr-expect_match_arms-requires
 
 pub expressions::control::match_expr-complete-requires : goal.expressions::control::match_expr-complete-requires
 expressions::control::match_expr-complete-requires = control.expressions::control::match_expr-complete-requires
@@ -669,38 +549,17 @@ expressions::control::match_expr-complete-requires = control.expressions::contro
 pub expressions::control::match_expr-returns-clause-reads : goal.expressions::control::match_expr-returns-clause-reads
 expressions::control::match_expr-returns-clause-reads = control.expressions::control::match_expr-returns-clause-reads
 
-pub expressions::control::for_expr-expect_pattern-requires : goal.expressions::control::for_expr-expect_pattern-requires
-expressions::control::for_expr-expect_pattern-requires = control.expressions::control::for_expr-expect_pattern-requires
-
-pub expressions::control::for_expr-expect_condition-requires : goal.expressions::control::for_expr-expect_condition-requires
-expressions::control::for_expr-expect_condition-requires = control.expressions::control::for_expr-expect_condition-requires
-
-pub expressions::control::for_expr-expect_block-requires : goal.expressions::control::for_expr-expect_block-requires
-expressions::control::for_expr-expect_block-requires = control.expressions::control::for_expr-expect_block-requires
-
 pub expressions::control::for_expr-complete-requires : goal.expressions::control::for_expr-complete-requires
 expressions::control::for_expr-complete-requires = control.expressions::control::for_expr-complete-requires
 
 pub expressions::control::for_expr-returns-clause-reads : goal.expressions::control::for_expr-returns-clause-reads
 expressions::control::for_expr-returns-clause-reads = control.expressions::control::for_expr-returns-clause-reads
 
-pub expressions::control::if_expr-expect_condition-requires : goal.expressions::control::if_expr-expect_condition-requires
-expressions::control::if_expr-expect_condition-requires = control.expressions::control::if_expr-expect_condition-requires
-
-pub expressions::control::if_expr-expect_block-requires : goal.expressions::control::if_expr-expect_block-requires
-expressions::control::if_expr-expect_block-requires = control.expressions::control::if_expr-expect_block-requires
-
-pub expressions::control::if_expr-opt_else-requires : goal.expressions::control::if_expr-opt_else-requires
-expressions::control::if_expr-opt_else-requires = control.expressions::control::if_expr-opt_else-requires
-
 pub expressions::control::if_expr-complete-requires : goal.expressions::control::if_expr-complete-requires
 expressions::control::if_expr-complete-requires = control.expressions::control::if_expr-complete-requires
 
 pub expressions::control::if_expr-returns-clause-gives : goal.expressions::control::if_expr-returns-clause-gives
 expressions::control::if_expr-returns-clause-gives = control.expressions::control::if_expr-returns-clause-gives
-
-pub expressions::control::opt_else-after_else-requires : goal.expressions::control::opt_else-after_else-requires
-expressions::control::opt_else-after_else-requires = control.expressions::control::opt_else-after_else-requires
 
 pub expressions::control::opt_else-returns-then-at-clause-reads : goal.expressions::control::opt_else-returns-then-at-clause-reads
 expressions::control::opt_else-returns-then-at-clause-reads = control.expressions::control::opt_else-returns-then-at-clause-reads
@@ -711,17 +570,11 @@ expressions::control::opt_else-returns-else-at-clause-reads = control.expression
 pub expressions::control::after_else-if_expr-requires : goal.expressions::control::after_else-if_expr-requires
 expressions::control::after_else-if_expr-requires = control.expressions::control::after_else-if_expr-requires
 
-pub expressions::control::after_else-expect_block-requires : goal.expressions::control::after_else-expect_block-requires
-expressions::control::after_else-expect_block-requires = control.expressions::control::after_else-expect_block-requires
-
 pub expressions::control::after_else-returns-then-at-clause-reads : goal.expressions::control::after_else-returns-then-at-clause-reads
 expressions::control::after_else-returns-then-at-clause-reads = control.expressions::control::after_else-returns-then-at-clause-reads
 
 pub expressions::control::after_else-returns-clause-reads : goal.expressions::control::after_else-returns-clause-reads
 expressions::control::after_else-returns-clause-reads = control.expressions::control::after_else-returns-clause-reads
-
-pub expressions::control::match_arms-arms-requires : goal.expressions::control::match_arms-arms-requires
-expressions::control::match_arms-arms-requires = control.expressions::control::match_arms-arms-requires
 
 pub expressions::control::match_arms-complete-requires : goal.expressions::control::match_arms-complete-requires
 expressions::control::match_arms-complete-requires = control.expressions::control::match_arms-complete-requires
@@ -744,9 +597,6 @@ expressions::control::arm_turn-match_arm-requires = control.expressions::control
 pub expressions::control::arm_turn-returns-then-at_pattern-clause-goes : goal.expressions::control::arm_turn-returns-then-at_pattern-clause-goes
 expressions::control::arm_turn-returns-then-at_pattern-clause-goes = control.expressions::control::arm_turn-returns-then-at_pattern-clause-goes
 
-pub expressions::control::arm_turn-returns-then-at_pattern-clause-input : goal.expressions::control::arm_turn-returns-then-at_pattern-clause-input
-expressions::control::arm_turn-returns-then-at_pattern-clause-input = control.expressions::control::arm_turn-returns-then-at_pattern-clause-input
-
 pub expressions::control::arm_turn-returns-then-at_pattern-clause-innermost : goal.expressions::control::arm_turn-returns-then-at_pattern-clause-innermost
 expressions::control::arm_turn-returns-then-at_pattern-clause-innermost = control.expressions::control::arm_turn-returns-then-at_pattern-clause-innermost
 
@@ -761,9 +611,6 @@ expressions::control::arm_turn-skip-requires = control.expressions::control::arm
 
 pub expressions::control::arm_turn-returns-clause-goes : goal.expressions::control::arm_turn-returns-clause-goes
 expressions::control::arm_turn-returns-clause-goes = control.expressions::control::arm_turn-returns-clause-goes
-
-pub expressions::control::arm_turn-returns-clause-input : goal.expressions::control::arm_turn-returns-clause-input
-expressions::control::arm_turn-returns-clause-input = control.expressions::control::arm_turn-returns-clause-input
 
 pub expressions::control::arm_turn-returns-clause-innermost : goal.expressions::control::arm_turn-returns-clause-innermost
 expressions::control::arm_turn-returns-clause-innermost = control.expressions::control::arm_turn-returns-clause-innermost
@@ -786,14 +633,8 @@ expressions::expect_expression-expect_layer-requires-in-Disjunction = expression
 pub expressions::expect_expression-returns-in-Disjunction-clause-reads : goal.expressions::expect_expression-returns-in-Disjunction-clause-reads
 expressions::expect_expression-returns-in-Disjunction-clause-reads = expressions.expressions::expect_expression-returns-in-Disjunction-clause-reads
 
-pub expressions::expect_expression-expect_any-requires : goal.expressions::expect_expression-expect_any-requires
-expressions::expect_expression-expect_any-requires = expressions.expressions::expect_expression-expect_any-requires
-
 pub expressions::expect_expression-returns-in-Expression-clause-reads : goal.expressions::expect_expression-returns-in-Expression-clause-reads
 expressions::expect_expression-returns-in-Expression-clause-reads = expressions.expressions::expect_expression-returns-in-Expression-clause-reads
-
-pub expressions::expect_expression-expect_operation-requires : goal.expressions::expect_expression-expect_operation-requires
-expressions::expect_expression-expect_operation-requires = expressions.expressions::expect_expression-expect_operation-requires
 
 pub expressions::expect_expression-returns-in-Operation-clause-reads : goal.expressions::expect_expression-returns-in-Operation-clause-reads
 expressions::expect_expression-returns-in-Operation-clause-reads = expressions.expressions::expect_expression-returns-in-Operation-clause-reads
@@ -885,23 +726,14 @@ expressions::range_end-returns-clause-near = expressions.expressions::range_end-
 pub expressions::range_end-returns-then-at_range_operand-clause-to : goal.expressions::range_end-returns-then-at_range_operand-clause-to
 expressions::range_end-returns-then-at_range_operand-clause-to = expressions.expressions::range_end-returns-then-at_range_operand-clause-to
 
-pub expressions::range_end-returns-then-at_range_operand-clause-input : goal.expressions::range_end-returns-then-at_range_operand-clause-input
-expressions::range_end-returns-then-at_range_operand-clause-input = expressions.expressions::range_end-returns-then-at_range_operand-clause-input
-
 pub expressions::range_end-returns-then-at_range_operand-clause-innermost : goal.expressions::range_end-returns-then-at_range_operand-clause-innermost
 expressions::range_end-returns-then-at_range_operand-clause-innermost = expressions.expressions::range_end-returns-then-at_range_operand-clause-innermost
 
 pub expressions::range_end-returns-clause-alone : goal.expressions::range_end-returns-clause-alone
 expressions::range_end-returns-clause-alone = expressions.expressions::range_end-returns-clause-alone
 
-pub expressions::range_end-returns-clause-input : goal.expressions::range_end-returns-clause-input
-expressions::range_end-returns-clause-input = expressions.expressions::range_end-returns-clause-input
-
 pub expressions::range_end-returns-clause-innermost : goal.expressions::range_end-returns-clause-innermost
 expressions::range_end-returns-clause-innermost = expressions.expressions::range_end-returns-clause-innermost
-
-pub expressions::opt_assignment-expect_operation-requires : goal.expressions::opt_assignment-expect_operation-requires
-expressions::opt_assignment-expect_operation-requires = expressions.expressions::opt_assignment-expect_operation-requires
 
 pub expressions::opt_assignment-wrap-requires : goal.expressions::opt_assignment-wrap-requires
 expressions::opt_assignment-wrap-requires = expressions.expressions::opt_assignment-wrap-requires
@@ -966,17 +798,11 @@ fields::field_value-path_value-requires = fields.fields::field_value-path_value-
 pub fields::field_value-returns-clause-gives : goal.fields::field_value-returns-clause-gives
 fields::field_value-returns-clause-gives = fields.fields::field_value-returns-clause-gives
 
-pub fields::named_value-expect_expression-requires : goal.fields::named_value-expect_expression-requires
-fields::named_value-expect_expression-requires = fields.fields::named_value-expect_expression-requires
-
 pub fields::named_value-complete-requires : goal.fields::named_value-complete-requires
 fields::named_value-complete-requires = fields.fields::named_value-complete-requires
 
 pub fields::named_value-returns-clause-reads : goal.fields::named_value-returns-clause-reads
 fields::named_value-returns-clause-reads = fields.fields::named_value-returns-clause-reads
-
-pub fields::other_fields-opt_expression-requires : goal.fields::other_fields-opt_expression-requires
-fields::other_fields-opt_expression-requires = fields.fields::other_fields-opt_expression-requires
 
 pub fields::other_fields-returns-clause-reads : goal.fields::other_fields-returns-clause-reads
 fields::other_fields-returns-clause-reads = fields.fields::other_fields-returns-clause-reads
@@ -1017,9 +843,6 @@ fields::pattern_field-shorthand-requires-clause-begins = fields.fields::pattern_
 pub fields::pattern_field-returns-clause-gives : goal.fields::pattern_field-returns-clause-gives
 fields::pattern_field-returns-clause-gives = fields.fields::pattern_field-returns-clause-gives
 
-pub fields::named_pattern-expect_pattern-requires : goal.fields::named_pattern-expect_pattern-requires
-fields::named_pattern-expect_pattern-requires = fields.fields::named_pattern-expect_pattern-requires
-
 pub fields::named_pattern-complete-requires : goal.fields::named_pattern-complete-requires
 fields::named_pattern-complete-requires = fields.fields::named_pattern-complete-requires
 
@@ -1028,21 +851,6 @@ fields::named_pattern-returns-clause-reads = fields.fields::named_pattern-return
 
 pub items::functions::fn_item-fn_words-requires : goal.items::functions::fn_item-fn_words-requires
 items::functions::fn_item-fn_words-requires = functions.items::functions::fn_item-fn_words-requires
-
-pub items::functions::fn_item-opt_generic_params-requires : goal.items::functions::fn_item-opt_generic_params-requires
-items::functions::fn_item-opt_generic_params-requires = functions.items::functions::fn_item-opt_generic_params-requires
-
-pub items::functions::fn_item-expect_params-requires : goal.items::functions::fn_item-expect_params-requires
-items::functions::fn_item-expect_params-requires = functions.items::functions::fn_item-expect_params-requires
-
-pub items::functions::fn_item-opt_ret_type-requires : goal.items::functions::fn_item-opt_ret_type-requires
-items::functions::fn_item-opt_ret_type-requires = functions.items::functions::fn_item-opt_ret_type-requires
-
-pub items::functions::fn_item-opt_where_clause-requires : goal.items::functions::fn_item-opt_where_clause-requires
-items::functions::fn_item-opt_where_clause-requires = functions.items::functions::fn_item-opt_where_clause-requires
-
-pub items::functions::fn_item-fn_body-requires : goal.items::functions::fn_item-fn_body-requires
-items::functions::fn_item-fn_body-requires = functions.items::functions::fn_item-fn_body-requires
 
 pub items::functions::fn_item-complete-requires : goal.items::functions::fn_item-complete-requires
 items::functions::fn_item-complete-requires = functions.items::functions::fn_item-complete-requires
@@ -1110,9 +918,6 @@ generic_args::word_arg-type_arg-requires = generic_args.generic_args::word_arg-t
 pub generic_args::word_arg-returns-clause-reads : goal.generic_args::word_arg-returns-clause-reads
 generic_args::word_arg-returns-clause-reads = generic_args.generic_args::word_arg-returns-clause-reads
 
-pub generic_args::assoc_type_arg-expect_type-requires : goal.generic_args::assoc_type_arg-expect_type-requires
-generic_args::assoc_type_arg-expect_type-requires = generic_args.generic_args::assoc_type_arg-expect_type-requires
-
 pub generic_args::assoc_type_arg-complete-requires : goal.generic_args::assoc_type_arg-complete-requires
 generic_args::assoc_type_arg-complete-requires = generic_args.generic_args::assoc_type_arg-complete-requires
 
@@ -1152,9 +957,6 @@ generic_params::lifetime_or_path-path_type-requires = generic_params.generic_par
 pub generic_params::lifetime_or_path-returns-in_default-clause-reads : goal.generic_params::lifetime_or_path-returns-in_default-clause-reads
 generic_params::lifetime_or_path-returns-in_default-clause-reads = generic_params.generic_params::lifetime_or_path-returns-in_default-clause-reads
 
-pub generic_params::path_after_question-expect_path_type-requires : goal.generic_params::path_after_question-expect_path_type-requires
-generic_params::path_after_question-expect_path_type-requires = generic_params.generic_params::path_after_question-expect_path_type-requires
-
 pub generic_params::path_after_question-returns-clause-reads : goal.generic_params::path_after_question-returns-clause-reads
 generic_params::path_after_question-returns-clause-reads = generic_params.generic_params::path_after_question-returns-clause-reads
 
@@ -1167,9 +969,6 @@ generic_params::expect_path_type-returns-then-at_path-clause-reads = generic_par
 pub generic_params::expect_path_type-returns-clause-reads : goal.generic_params::expect_path_type-returns-clause-reads
 generic_params::expect_path_type-returns-clause-reads = generic_params.generic_params::expect_path_type-returns-clause-reads
 
-pub generic_params::bounds-opt_bounds-requires : goal.generic_params::bounds-opt_bounds-requires
-generic_params::bounds-opt_bounds-requires = generic_params.generic_params::bounds-opt_bounds-requires
-
 pub generic_params::bounds-complete-requires : goal.generic_params::bounds-complete-requires
 generic_params::bounds-complete-requires = generic_params.generic_params::bounds-complete-requires
 
@@ -1178,9 +977,6 @@ generic_params::bounds-returns-clause-gives = generic_params.generic_params::bou
 
 pub generic_params::opt_bounds-bound-requires : goal.generic_params::opt_bounds-bound-requires
 generic_params::opt_bounds-bound-requires = generic_params.generic_params::opt_bounds-bound-requires
-
-pub generic_params::opt_bounds-further_bounds-requires : goal.generic_params::opt_bounds-further_bounds-requires
-generic_params::opt_bounds-further_bounds-requires = generic_params.generic_params::opt_bounds-further_bounds-requires
 
 pub generic_params::opt_bounds-returns-then-at_bound-clause-reads : goal.generic_params::opt_bounds-returns-then-at_bound-clause-reads
 generic_params::opt_bounds-returns-then-at_bound-clause-reads = generic_params.generic_params::opt_bounds-returns-then-at_bound-clause-reads
@@ -1194,9 +990,6 @@ generic_params::further_bounds-turns-preserved = generic_params.generic_params::
 pub generic_params::further_bounds-returns-clause-reads : goal.generic_params::further_bounds-returns-clause-reads
 generic_params::further_bounds-returns-clause-reads = generic_params.generic_params::further_bounds-returns-clause-reads
 
-pub generic_params::further_bound-opt_bound-requires : goal.generic_params::further_bound-opt_bound-requires
-generic_params::further_bound-opt_bound-requires = generic_params.generic_params::further_bound-opt_bound-requires
-
 pub generic_params::further_bound-returns-clause-reads : goal.generic_params::further_bound-returns-clause-reads
 generic_params::further_bound-returns-clause-reads = generic_params.generic_params::further_bound-returns-clause-reads
 
@@ -1209,26 +1002,17 @@ generic_params::opt_bound-returns-then-at_bound-clause-reads = generic_params.ge
 pub generic_params::opt_bound-returns-else-at_bound-clause-reads : goal.generic_params::opt_bound-returns-else-at_bound-clause-reads
 generic_params::opt_bound-returns-else-at_bound-clause-reads = generic_params.generic_params::opt_bound-returns-else-at_bound-clause-reads
 
-pub generic_params::bounds_after_colon-bounds-requires : goal.generic_params::bounds_after_colon-bounds-requires
-generic_params::bounds_after_colon-bounds-requires = generic_params.generic_params::bounds_after_colon-bounds-requires
-
 pub generic_params::bounds_after_colon-returns-then-at-clause-reads : goal.generic_params::bounds_after_colon-returns-then-at-clause-reads
 generic_params::bounds_after_colon-returns-then-at-clause-reads = generic_params.generic_params::bounds_after_colon-returns-then-at-clause-reads
 
 pub generic_params::bounds_after_colon-returns-else-at-clause-reads : goal.generic_params::bounds_after_colon-returns-else-at-clause-reads
 generic_params::bounds_after_colon-returns-else-at-clause-reads = generic_params.generic_params::bounds_after_colon-returns-else-at-clause-reads
 
-pub generic_params::lifetime_param-bounds_after_colon-requires : goal.generic_params::lifetime_param-bounds_after_colon-requires
-generic_params::lifetime_param-bounds_after_colon-requires = generic_params.generic_params::lifetime_param-bounds_after_colon-requires
-
 pub generic_params::lifetime_param-complete-requires : goal.generic_params::lifetime_param-complete-requires
 generic_params::lifetime_param-complete-requires = generic_params.generic_params::lifetime_param-complete-requires
 
 pub generic_params::lifetime_param-returns-clause-reads : goal.generic_params::lifetime_param-returns-clause-reads
 generic_params::lifetime_param-returns-clause-reads = generic_params.generic_params::lifetime_param-returns-clause-reads
-
-pub generic_params::type_param-bounds_after_colon-requires : goal.generic_params::type_param-bounds_after_colon-requires
-generic_params::type_param-bounds_after_colon-requires = generic_params.generic_params::type_param-bounds_after_colon-requires
 
 pub generic_params::type_param-opt_type_after-requires : goal.generic_params::type_param-opt_type_after-requires
 generic_params::type_param-opt_type_after-requires = generic_params.generic_params::type_param-opt_type_after-requires
@@ -1263,17 +1047,11 @@ generic_params::lifetime_or_type-returns-clause-reads = generic_params.generic_p
 pub generic_params::where_pred-lifetime_or_type-requires : goal.generic_params::where_pred-lifetime_or_type-requires
 generic_params::where_pred-lifetime_or_type-requires = generic_params.generic_params::where_pred-lifetime_or_type-requires
 
-pub generic_params::where_pred-bounds-requires : goal.generic_params::where_pred-bounds-requires
-generic_params::where_pred-bounds-requires = generic_params.generic_params::where_pred-bounds-requires
-
 pub generic_params::where_pred-complete-requires : goal.generic_params::where_pred-complete-requires
 generic_params::where_pred-complete-requires = generic_params.generic_params::where_pred-complete-requires
 
 pub generic_params::where_pred-returns-clause-gives : goal.generic_params::where_pred-returns-clause-gives
 generic_params::where_pred-returns-clause-gives = generic_params.generic_params::where_pred-returns-clause-gives
-
-pub generic_params::where_clause-opt_preds-requires : goal.generic_params::where_clause-opt_preds-requires
-generic_params::where_clause-opt_preds-requires = generic_params.generic_params::where_clause-opt_preds-requires
 
 pub generic_params::where_clause-complete-requires : goal.generic_params::where_clause-complete-requires
 generic_params::where_clause-complete-requires = generic_params.generic_params::where_clause-complete-requires
@@ -1283,9 +1061,6 @@ generic_params::where_clause-returns-clause-gives = generic_params.generic_param
 
 pub generic_params::opt_preds-where_pred-requires : goal.generic_params::opt_preds-where_pred-requires
 generic_params::opt_preds-where_pred-requires = generic_params.generic_params::opt_preds-where_pred-requires
-
-pub generic_params::opt_preds-further_preds-requires : goal.generic_params::opt_preds-further_preds-requires
-generic_params::opt_preds-further_preds-requires = generic_params.generic_params::opt_preds-further_preds-requires
 
 pub generic_params::opt_preds-returns-then-at_where_pred-clause-reads : goal.generic_params::opt_preds-returns-then-at_where_pred-clause-reads
 generic_params::opt_preds-returns-then-at_where_pred-clause-reads = generic_params.generic_params::opt_preds-returns-then-at_where_pred-clause-reads
@@ -1298,9 +1073,6 @@ generic_params::further_preds-turns-preserved = generic_params.generic_params::f
 
 pub generic_params::further_preds-returns-clause-reads : goal.generic_params::further_preds-returns-clause-reads
 generic_params::further_preds-returns-clause-reads = generic_params.generic_params::further_preds-returns-clause-reads
-
-pub generic_params::further_pred-opt_pred-requires : goal.generic_params::further_pred-opt_pred-requires
-generic_params::further_pred-opt_pred-requires = generic_params.generic_params::further_pred-opt_pred-requires
 
 pub generic_params::further_pred-returns-clause-reads : goal.generic_params::further_pred-returns-clause-reads
 generic_params::further_pred-returns-clause-reads = generic_params.generic_params::further_pred-returns-clause-reads
@@ -1340,9 +1112,6 @@ items::attributed_item-body-requires = items.items::attributed_item-body-require
 
 pub items::attributed_item-returns-clause-anew : goal.items::attributed_item-returns-clause-anew
 items::attributed_item-returns-clause-anew = items.items::attributed_item-returns-clause-anew
-
-pub items::attributes_and_visibility-attributes-requires : goal.items::attributes_and_visibility-attributes-requires
-items::attributes_and_visibility-attributes-requires = items.items::attributes_and_visibility-attributes-requires
 
 pub items::attributes_and_visibility-returns-clause-reads : goal.items::attributes_and_visibility-returns-clause-reads
 items::attributes_and_visibility-returns-clause-reads = items.items::attributes_and_visibility-returns-clause-reads
@@ -1452,9 +1221,6 @@ items::body-returns-else-at_path-clause-takes = items.items::body-returns-else-a
 pub items::body-returns-else-at_path-clause-pays : goal.items::body-returns-else-at_path-clause-pays
 items::body-returns-else-at_path-clause-pays = items.items::body-returns-else-at_path-clause-pays
 
-pub items::module-module_items-requires : goal.items::module-module_items-requires
-items::module-module_items-requires = items.items::module-module_items-requires
-
 pub items::module-complete-requires : goal.items::module-complete-requires
 items::module-complete-requires = items.items::module-complete-requires
 
@@ -1469,9 +1235,6 @@ items::module_items-returns-then-at-clause-reads = items.items::module_items-ret
 
 pub items::module_items-returns-clause-reads : goal.items::module_items-returns-clause-reads
 items::module_items-returns-clause-reads = items.items::module_items-returns-clause-reads
-
-pub items::item_list-items-requires : goal.items::item_list-items-requires
-items::item_list-items-requires = items.items::item_list-items-requires
 
 pub items::item_list-complete-requires : goal.items::item_list-complete-requires
 items::item_list-complete-requires = items.items::item_list-complete-requires
@@ -1512,9 +1275,6 @@ items::item_turn-attribute-requires = items.items::item_turn-attribute-requires
 pub items::item_turn-returns-then-at_inner_attribute-clause-goes : goal.items::item_turn-returns-then-at_inner_attribute-clause-goes
 items::item_turn-returns-then-at_inner_attribute-clause-goes = items.items::item_turn-returns-then-at_inner_attribute-clause-goes
 
-pub items::item_turn-returns-then-at_inner_attribute-clause-input : goal.items::item_turn-returns-then-at_inner_attribute-clause-input
-items::item_turn-returns-then-at_inner_attribute-clause-input = items.items::item_turn-returns-then-at_inner_attribute-clause-input
-
 pub items::item_turn-returns-then-at_inner_attribute-clause-innermost : goal.items::item_turn-returns-then-at_inner_attribute-clause-innermost
 items::item_turn-returns-then-at_inner_attribute-clause-innermost = items.items::item_turn-returns-then-at_inner_attribute-clause-innermost
 
@@ -1523,9 +1283,6 @@ items::item_turn-item-requires = items.items::item_turn-item-requires
 
 pub items::item_turn-returns-clause-goes : goal.items::item_turn-returns-clause-goes
 items::item_turn-returns-clause-goes = items.items::item_turn-returns-clause-goes
-
-pub items::item_turn-returns-clause-input : goal.items::item_turn-returns-clause-input
-items::item_turn-returns-clause-input = items.items::item_turn-returns-clause-input
 
 pub items::item_turn-returns-clause-innermost : goal.items::item_turn-returns-clause-innermost
 items::item_turn-returns-clause-innermost = items.items::item_turn-returns-clause-innermost
@@ -1544,9 +1301,6 @@ expressions::layers::layers-climb-frame-requires = layers.expressions::layers::l
 
 pub expressions::layers::layers-returns-clause-gives : goal.expressions::layers::layers-returns-clause-gives
 expressions::layers::layers-returns-clause-gives = layers.expressions::layers::layers-returns-clause-gives
-
-pub expressions::layers::turn-expect_type-requires : goal.expressions::layers::turn-expect_type-requires
-expressions::layers::turn-expect_type-requires = layers.expressions::layers::turn-expect_type-requires
 
 pub expressions::layers::turn-expect_layer-requires : goal.expressions::layers::turn-expect_layer-requires
 expressions::layers::turn-expect_layer-requires = layers.expressions::layers::turn-expect_layer-requires
@@ -1602,9 +1356,6 @@ lists::turn-returns-then-at_element-clause-goes = lists.lists::turn-returns-then
 pub lists::turn-returns-then-at_element-clause-ends : goal.lists::turn-returns-then-at_element-clause-ends
 lists::turn-returns-then-at_element-clause-ends = lists.lists::turn-returns-then-at_element-clause-ends
 
-pub lists::turn-returns-then-at_element-clause-input : goal.lists::turn-returns-then-at_element-clause-input
-lists::turn-returns-then-at_element-clause-input = lists.lists::turn-returns-then-at_element-clause-input
-
 pub lists::turn-returns-then-at_element-clause-innermost : goal.lists::turn-returns-then-at_element-clause-innermost
 lists::turn-returns-then-at_element-clause-innermost = lists.lists::turn-returns-then-at_element-clause-innermost
 
@@ -1619,9 +1370,6 @@ lists::turn-returns-then-at_element-clause-looks = lists.lists::turn-returns-the
 
 pub lists::turn-returns-then-at_unexpected-clause-goes : goal.lists::turn-returns-then-at_unexpected-clause-goes
 lists::turn-returns-then-at_unexpected-clause-goes = lists.lists::turn-returns-then-at_unexpected-clause-goes
-
-pub lists::turn-returns-then-at_unexpected-clause-input : goal.lists::turn-returns-then-at_unexpected-clause-input
-lists::turn-returns-then-at_unexpected-clause-input = lists.lists::turn-returns-then-at_unexpected-clause-input
 
 pub lists::turn-returns-then-at_unexpected-clause-innermost : goal.lists::turn-returns-then-at_unexpected-clause-innermost
 lists::turn-returns-then-at_unexpected-clause-innermost = lists.lists::turn-returns-then-at_unexpected-clause-innermost
@@ -1791,20 +1539,11 @@ lists::tuple_fields-returns-clause-gives = lists.lists::tuple_fields-returns-cla
 pub expressions::match_arm::match_arm-pattern-requires : goal.expressions::match_arm::match_arm-pattern-requires
 expressions::match_arm::match_arm-pattern-requires = match_arm.expressions::match_arm::match_arm-pattern-requires
 
-pub expressions::match_arm::match_arm-opt_guard-requires : goal.expressions::match_arm::match_arm-opt_guard-requires
-expressions::match_arm::match_arm-opt_guard-requires = match_arm.expressions::match_arm::match_arm-opt_guard-requires
-
-pub expressions::match_arm::match_arm-arm_value-requires : goal.expressions::match_arm::match_arm-arm_value-requires
-expressions::match_arm::match_arm-arm_value-requires = match_arm.expressions::match_arm::match_arm-arm_value-requires
-
 pub expressions::match_arm::match_arm-complete-requires : goal.expressions::match_arm::match_arm-complete-requires
 expressions::match_arm::match_arm-complete-requires = match_arm.expressions::match_arm::match_arm-complete-requires
 
 pub expressions::match_arm::match_arm-returns-clause-gives : goal.expressions::match_arm::match_arm-returns-clause-gives
 expressions::match_arm::match_arm-returns-clause-gives = match_arm.expressions::match_arm::match_arm-returns-clause-gives
-
-pub expressions::match_arm::opt_guard-expect_condition-requires : goal.expressions::match_arm::opt_guard-expect_condition-requires
-expressions::match_arm::opt_guard-expect_condition-requires = match_arm.expressions::match_arm::opt_guard-expect_condition-requires
 
 pub expressions::match_arm::opt_guard-complete-requires : goal.expressions::match_arm::opt_guard-complete-requires
 expressions::match_arm::opt_guard-complete-requires = match_arm.expressions::match_arm::opt_guard-complete-requires
@@ -1821,17 +1560,11 @@ expressions::match_arm::arm_value-block_like-requires = match_arm.expressions::m
 pub expressions::match_arm::arm_value-returns-then-at_block_like-clause-reads : goal.expressions::match_arm::arm_value-returns-then-at_block_like-clause-reads
 expressions::match_arm::arm_value-returns-then-at_block_like-clause-reads = match_arm.expressions::match_arm::arm_value-returns-then-at_block_like-clause-reads
 
-pub expressions::match_arm::arm_value-expect_expression-requires : goal.expressions::match_arm::arm_value-expect_expression-requires
-expressions::match_arm::arm_value-expect_expression-requires = match_arm.expressions::match_arm::arm_value-expect_expression-requires
-
 pub expressions::match_arm::arm_value-returns-clause-reads : goal.expressions::match_arm::arm_value-returns-clause-reads
 expressions::match_arm::arm_value-returns-clause-reads = match_arm.expressions::match_arm::arm_value-returns-clause-reads
 
 pub items::members::variant-named-requires : goal.items::members::variant-named-requires
 items::members::variant-named-requires = members.items::members::variant-named-requires
-
-pub items::members::variant-opt_fields-requires : goal.items::members::variant-opt_fields-requires
-items::members::variant-opt_fields-requires = members.items::members::variant-opt_fields-requires
 
 pub items::members::variant-complete-requires : goal.items::members::variant-complete-requires
 items::members::variant-complete-requires = members.items::members::variant-complete-requires
@@ -1841,9 +1574,6 @@ items::members::variant-returns-clause-reads = members.items::members::variant-r
 
 pub items::members::record_field-named-requires : goal.items::members::record_field-named-requires
 items::members::record_field-named-requires = members.items::members::record_field-named-requires
-
-pub items::members::record_field-expect_type-requires : goal.items::members::record_field-expect_type-requires
-items::members::record_field-expect_type-requires = members.items::members::record_field-expect_type-requires
 
 pub items::members::record_field-complete-requires : goal.items::members::record_field-complete-requires
 items::members::record_field-complete-requires = members.items::members::record_field-complete-requires
@@ -1874,12 +1604,6 @@ items::members::named-returns-in_default-clause-reads = members.items::members::
 
 pub items::members::typed-attributes_and_visibility-requires : goal.items::members::typed-attributes_and_visibility-requires
 items::members::typed-attributes_and_visibility-requires = members.items::members::typed-attributes_and_visibility-requires
-
-pub items::members::typed-expect_type-requires : goal.items::members::typed-expect_type-requires
-items::members::typed-expect_type-requires = members.items::members::typed-expect_type-requires
-
-pub items::members::typed-expect_type-requires-in-PUB_KW : goal.items::members::typed-expect_type-requires-in-PUB_KW
-items::members::typed-expect_type-requires-in-PUB_KW = members.items::members::typed-expect_type-requires-in-PUB_KW
 
 pub items::members::typed-returns-in-POUND-clause-reads : goal.items::members::typed-returns-in-POUND-clause-reads
 items::members::typed-returns-in-POUND-clause-reads = members.items::members::typed-returns-in-POUND-clause-reads
@@ -1938,17 +1662,11 @@ expressions::operand::prefixed-operand-requires = operand.expressions::operand::
 pub expressions::operand::prefixed-returns-in_default-clause-gives : goal.expressions::operand::prefixed-returns-in_default-clause-gives
 expressions::operand::prefixed-returns-in_default-clause-gives = operand.expressions::operand::prefixed-returns-in_default-clause-gives
 
-pub expressions::operand::prefix_expr-expect_expression-requires : goal.expressions::operand::prefix_expr-expect_expression-requires
-expressions::operand::prefix_expr-expect_expression-requires = operand.expressions::operand::prefix_expr-expect_expression-requires
-
 pub expressions::operand::prefix_expr-complete-requires : goal.expressions::operand::prefix_expr-complete-requires
 expressions::operand::prefix_expr-complete-requires = operand.expressions::operand::prefix_expr-complete-requires
 
 pub expressions::operand::prefix_expr-returns-clause-reads : goal.expressions::operand::prefix_expr-returns-clause-reads
 expressions::operand::prefix_expr-returns-clause-reads = operand.expressions::operand::prefix_expr-returns-clause-reads
-
-pub expressions::operand::ref_expr-expect_expression-requires : goal.expressions::operand::ref_expr-expect_expression-requires
-expressions::operand::ref_expr-expect_expression-requires = operand.expressions::operand::ref_expr-expect_expression-requires
 
 pub expressions::operand::ref_expr-complete-requires : goal.expressions::operand::ref_expr-complete-requires
 expressions::operand::ref_expr-complete-requires = operand.expressions::operand::ref_expr-complete-requires
@@ -2001,9 +1719,6 @@ expressions::operand::postfix-after_dot-requires = operand.expressions::operand:
 pub expressions::operand::postfix-returns-in_default-clause-reads : goal.expressions::operand::postfix-returns-in_default-clause-reads
 expressions::operand::postfix-returns-in_default-clause-reads = operand.expressions::operand::postfix-returns-in_default-clause-reads
 
-pub expressions::operand::index-expect_expression-requires : goal.expressions::operand::index-expect_expression-requires
-expressions::operand::index-expect_expression-requires = operand.expressions::operand::index-expect_expression-requires
-
 pub expressions::operand::index-returns-clause-reads : goal.expressions::operand::index-returns-clause-reads
 expressions::operand::index-returns-clause-reads = operand.expressions::operand::index-returns-clause-reads
 
@@ -2039,12 +1754,6 @@ expressions::operand::after_dot-wrap-requires-in_default = operand.expressions::
 
 pub expressions::operand::after_dot-returns-in_default-clause-reads : goal.expressions::operand::after_dot-returns-in_default-clause-reads
 expressions::operand::after_dot-returns-in_default-clause-reads = operand.expressions::operand::after_dot-returns-in_default-clause-reads
-
-pub expressions::operand::method_call-opt_generic_args-requires : goal.expressions::operand::method_call-opt_generic_args-requires
-expressions::operand::method_call-opt_generic_args-requires = operand.expressions::operand::method_call-opt_generic_args-requires
-
-pub expressions::operand::method_call-expect_arguments-requires : goal.expressions::operand::method_call-expect_arguments-requires
-expressions::operand::method_call-expect_arguments-requires = operand.expressions::operand::method_call-expect_arguments-requires
 
 pub expressions::operand::method_call-returns-clause-reads : goal.expressions::operand::method_call-returns-clause-reads
 expressions::operand::method_call-returns-clause-reads = operand.expressions::operand::method_call-returns-clause-reads
@@ -2085,9 +1794,6 @@ params::param-returns-clause-gives = params.params::param-returns-clause-gives
 pub params::pattern_param-pattern-requires : goal.params::pattern_param-pattern-requires
 params::pattern_param-pattern-requires = params.params::pattern_param-pattern-requires
 
-pub params::pattern_param-expect_type-requires : goal.params::pattern_param-expect_type-requires
-params::pattern_param-expect_type-requires = params.params::pattern_param-expect_type-requires
-
 pub params::pattern_param-complete-requires : goal.params::pattern_param-complete-requires
 params::pattern_param-complete-requires = params.params::pattern_param-complete-requires
 
@@ -2112,26 +1818,17 @@ params::self_param-returns-in-MUT_KW-clause-gives = params.params::self_param-re
 pub params::self_param-returns-in_default-clause-gives : goal.params::self_param-returns-in_default-clause-gives
 params::self_param-returns-in_default-clause-gives = params.params::self_param-returns-in_default-clause-gives
 
-pub params::self_after_ref-opt_type-requires : goal.params::self_after_ref-opt_type-requires
-params::self_after_ref-opt_type-requires = params.params::self_after_ref-opt_type-requires
-
 pub params::self_after_ref-complete-requires : goal.params::self_after_ref-complete-requires
 params::self_after_ref-complete-requires = params.params::self_after_ref-complete-requires
 
 pub params::self_after_ref-returns-clause-reads : goal.params::self_after_ref-returns-clause-reads
 params::self_after_ref-returns-clause-reads = params.params::self_after_ref-returns-clause-reads
 
-pub params::self_after_mut-opt_type-requires : goal.params::self_after_mut-opt_type-requires
-params::self_after_mut-opt_type-requires = params.params::self_after_mut-opt_type-requires
-
 pub params::self_after_mut-complete-requires : goal.params::self_after_mut-complete-requires
 params::self_after_mut-complete-requires = params.params::self_after_mut-complete-requires
 
 pub params::self_after_mut-returns-clause-reads : goal.params::self_after_mut-returns-clause-reads
 params::self_after_mut-returns-clause-reads = params.params::self_after_mut-returns-clause-reads
-
-pub params::self_alone-opt_type-requires : goal.params::self_alone-opt_type-requires
-params::self_alone-opt_type-requires = params.params::self_alone-opt_type-requires
 
 pub params::self_alone-complete-requires : goal.params::self_alone-complete-requires
 params::self_alone-complete-requires = params.params::self_alone-complete-requires
@@ -2163,9 +1860,6 @@ paths::opt_args-returns-else-at_args-clause-reads = paths.paths::opt_args-return
 pub paths::first_segment-first_word-requires-clause-begins : goal.paths::first_segment-first_word-requires-clause-begins
 paths::first_segment-first_word-requires-clause-begins = paths.paths::first_segment-first_word-requires-clause-begins
 
-pub paths::first_segment-opt_args-requires : goal.paths::first_segment-opt_args-requires
-paths::first_segment-opt_args-requires = paths.paths::first_segment-opt_args-requires
-
 pub paths::first_segment-complete-requires : goal.paths::first_segment-complete-requires
 paths::first_segment-complete-requires = paths.paths::first_segment-complete-requires
 
@@ -2175,9 +1869,6 @@ paths::first_segment-complete-requires-2 = paths.paths::first_segment-complete-r
 pub paths::first_segment-returns-clause-reads : goal.paths::first_segment-returns-clause-reads
 paths::first_segment-returns-clause-reads = paths.paths::first_segment-returns-clause-reads
 
-pub paths::expect_segment-opt_args-requires : goal.paths::expect_segment-opt_args-requires
-paths::expect_segment-opt_args-requires = paths.paths::expect_segment-opt_args-requires
-
 pub paths::expect_segment-complete-requires : goal.paths::expect_segment-complete-requires
 paths::expect_segment-complete-requires = paths.paths::expect_segment-complete-requires
 
@@ -2186,9 +1877,6 @@ paths::expect_segment-returns-then-at_name_ref-clause-reads = paths.paths::expec
 
 pub paths::expect_segment-returns-clause-reads : goal.paths::expect_segment-returns-clause-reads
 paths::expect_segment-returns-clause-reads = paths.paths::expect_segment-returns-clause-reads
-
-pub paths::next_segment-expect_segment-requires : goal.paths::next_segment-expect_segment-requires
-paths::next_segment-expect_segment-requires = paths.paths::next_segment-expect_segment-requires
 
 pub paths::next_segment-wrap-requires : goal.paths::next_segment-wrap-requires
 paths::next_segment-wrap-requires = paths.paths::next_segment-wrap-requires
@@ -2301,9 +1989,6 @@ or_patterns::expect_pattern-returns-then-at_pattern-clause-reads = patterns.or_p
 pub or_patterns::expect_pattern-returns-clause-reads : goal.or_patterns::expect_pattern-returns-clause-reads
 or_patterns::expect_pattern-returns-clause-reads = patterns.or_patterns::expect_pattern-returns-clause-reads
 
-pub patterns::ref_pat-expect_single-requires : goal.patterns::ref_pat-expect_single-requires
-patterns::ref_pat-expect_single-requires = patterns.patterns::ref_pat-expect_single-requires
-
 pub patterns::ref_pat-complete-requires : goal.patterns::ref_pat-complete-requires
 patterns::ref_pat-complete-requires = patterns.patterns::ref_pat-complete-requires
 
@@ -2328,17 +2013,11 @@ patterns::tuple_pat-complete-requires = patterns.patterns::tuple_pat-complete-re
 pub patterns::tuple_pat-returns-clause-reads : goal.patterns::tuple_pat-returns-clause-reads
 patterns::tuple_pat-returns-clause-reads = patterns.patterns::tuple_pat-returns-clause-reads
 
-pub patterns::ident_pat-opt_at-requires : goal.patterns::ident_pat-opt_at-requires
-patterns::ident_pat-opt_at-requires = patterns.patterns::ident_pat-opt_at-requires
-
 pub patterns::ident_pat-complete-requires : goal.patterns::ident_pat-complete-requires
 patterns::ident_pat-complete-requires = patterns.patterns::ident_pat-complete-requires
 
 pub patterns::ident_pat-returns-clause-reads : goal.patterns::ident_pat-returns-clause-reads
 patterns::ident_pat-returns-clause-reads = patterns.patterns::ident_pat-returns-clause-reads
-
-pub patterns::ident_after_mut-opt_at-requires : goal.patterns::ident_after_mut-opt_at-requires
-patterns::ident_after_mut-opt_at-requires = patterns.patterns::ident_after_mut-opt_at-requires
 
 pub patterns::ident_after_mut-complete-requires : goal.patterns::ident_after_mut-complete-requires
 patterns::ident_after_mut-complete-requires = patterns.patterns::ident_after_mut-complete-requires
@@ -2346,17 +2025,11 @@ patterns::ident_after_mut-complete-requires = patterns.patterns::ident_after_mut
 pub patterns::ident_after_mut-returns-clause-reads : goal.patterns::ident_after_mut-returns-clause-reads
 patterns::ident_after_mut-returns-clause-reads = patterns.patterns::ident_after_mut-returns-clause-reads
 
-pub patterns::ident_after_ref-opt_at-requires : goal.patterns::ident_after_ref-opt_at-requires
-patterns::ident_after_ref-opt_at-requires = patterns.patterns::ident_after_ref-opt_at-requires
-
 pub patterns::ident_after_ref-complete-requires : goal.patterns::ident_after_ref-complete-requires
 patterns::ident_after_ref-complete-requires = patterns.patterns::ident_after_ref-complete-requires
 
 pub patterns::ident_after_ref-returns-clause-reads : goal.patterns::ident_after_ref-returns-clause-reads
 patterns::ident_after_ref-returns-clause-reads = patterns.patterns::ident_after_ref-returns-clause-reads
-
-pub patterns::opt_at-expect_single-requires : goal.patterns::opt_at-expect_single-requires
-patterns::opt_at-expect_single-requires = patterns.patterns::opt_at-expect_single-requires
 
 pub patterns::opt_at-returns-then-at-clause-reads : goal.patterns::opt_at-returns-then-at-clause-reads
 patterns::opt_at-returns-then-at-clause-reads = patterns.patterns::opt_at-returns-then-at-clause-reads
@@ -2375,9 +2048,6 @@ patterns::after_paren-wrap-requires = patterns.patterns::after_paren-wrap-requir
 
 pub patterns::after_paren-after_first-requires : goal.patterns::after_paren-after_first-requires
 patterns::after_paren-after_first-requires = patterns.patterns::after_paren-after_first-requires
-
-pub patterns::after_paren-expect_pattern-requires : goal.patterns::after_paren-expect_pattern-requires
-patterns::after_paren-expect_pattern-requires = patterns.patterns::after_paren-expect_pattern-requires
 
 pub patterns::after_paren-returns-then-at-clause-reads : goal.patterns::after_paren-returns-then-at-clause-reads
 patterns::after_paren-returns-then-at-clause-reads = patterns.patterns::after_paren-returns-then-at-clause-reads
@@ -2436,12 +2106,6 @@ or_patterns::pattern-alternatives-frame-requires = patterns.or_patterns::pattern
 pub or_patterns::pattern-returns-clause-gives : goal.or_patterns::pattern-returns-clause-gives
 or_patterns::pattern-returns-clause-gives = patterns.or_patterns::pattern-returns-clause-gives
 
-pub or_patterns::alternatives-expect_single-requires : goal.or_patterns::alternatives-expect_single-requires
-or_patterns::alternatives-expect_single-requires = patterns.or_patterns::alternatives-expect_single-requires
-
-pub or_patterns::alternatives-further-requires : goal.or_patterns::alternatives-further-requires
-or_patterns::alternatives-further-requires = patterns.or_patterns::alternatives-further-requires
-
 pub or_patterns::alternatives-wrap-requires : goal.or_patterns::alternatives-wrap-requires
 or_patterns::alternatives-wrap-requires = patterns.or_patterns::alternatives-wrap-requires
 
@@ -2457,9 +2121,6 @@ or_patterns::alternatives-returns-then-at-clause-reads = patterns.or_patterns::a
 pub or_patterns::alternatives-returns-clause-reads : goal.or_patterns::alternatives-returns-clause-reads
 or_patterns::alternatives-returns-clause-reads = patterns.or_patterns::alternatives-returns-clause-reads
 
-pub or_patterns::one_further-expect_single-requires : goal.or_patterns::one_further-expect_single-requires
-or_patterns::one_further-expect_single-requires = patterns.or_patterns::one_further-expect_single-requires
-
 pub or_patterns::one_further-returns-clause-reads : goal.or_patterns::one_further-returns-clause-reads
 or_patterns::one_further-returns-clause-reads = patterns.or_patterns::one_further-returns-clause-reads
 
@@ -2468,9 +2129,6 @@ or_patterns::further-turns-preserved = patterns.or_patterns::further-turns-prese
 
 pub or_patterns::further-returns-clause-reads : goal.or_patterns::further-returns-clause-reads
 or_patterns::further-returns-clause-reads = patterns.or_patterns::further-returns-clause-reads
-
-pub or_patterns::opt_further-further-requires : goal.or_patterns::opt_further-further-requires
-or_patterns::opt_further-further-requires = patterns.or_patterns::opt_further-further-requires
 
 pub or_patterns::opt_further-wrap-requires : goal.or_patterns::opt_further-wrap-requires
 or_patterns::opt_further-wrap-requires = patterns.or_patterns::opt_further-wrap-requires
@@ -2517,18 +2175,6 @@ statements::statement-returns-else-at_item-clause-gives = statements.statements:
 pub statements::statement-returns-else-at_item-clause-pays : goal.statements::statement-returns-else-at_item-clause-pays
 statements::statement-returns-else-at_item-clause-pays = statements.statements::statement-returns-else-at_item-clause-pays
 
-pub statements::let_stmt-expect_pattern-requires : goal.statements::let_stmt-expect_pattern-requires
-statements::let_stmt-expect_pattern-requires = statements.statements::let_stmt-expect_pattern-requires
-
-pub statements::let_stmt-opt_type-requires : goal.statements::let_stmt-opt_type-requires
-statements::let_stmt-opt_type-requires = statements.statements::let_stmt-opt_type-requires
-
-pub statements::let_stmt-opt_value-requires : goal.statements::let_stmt-opt_value-requires
-statements::let_stmt-opt_value-requires = statements.statements::let_stmt-opt_value-requires
-
-pub statements::let_stmt-opt_else-requires : goal.statements::let_stmt-opt_else-requires
-statements::let_stmt-opt_else-requires = statements.statements::let_stmt-opt_else-requires
-
 pub statements::let_stmt-complete-requires : goal.statements::let_stmt-complete-requires
 statements::let_stmt-complete-requires = statements.statements::let_stmt-complete-requires
 
@@ -2544,17 +2190,11 @@ statements::opt_else-returns-then-at-clause-reads = statements.statements::opt_e
 pub statements::opt_else-returns-else-at-clause-reads : goal.statements::opt_else-returns-else-at-clause-reads
 statements::opt_else-returns-else-at-clause-reads = statements.statements::opt_else-returns-else-at-clause-reads
 
-pub statements::defer_stmt-expect_block-requires : goal.statements::defer_stmt-expect_block-requires
-statements::defer_stmt-expect_block-requires = statements.statements::defer_stmt-expect_block-requires
-
 pub statements::defer_stmt-complete-requires : goal.statements::defer_stmt-complete-requires
 statements::defer_stmt-complete-requires = statements.statements::defer_stmt-complete-requires
 
 pub statements::defer_stmt-returns-clause-reads : goal.statements::defer_stmt-returns-clause-reads
 statements::defer_stmt-returns-clause-reads = statements.statements::defer_stmt-returns-clause-reads
-
-pub statements::let_else-expect_block-requires : goal.statements::let_else-expect_block-requires
-statements::let_else-expect_block-requires = statements.statements::let_else-expect_block-requires
 
 pub statements::let_else-complete-requires : goal.statements::let_else-complete-requires
 statements::let_else-complete-requires = statements.statements::let_else-complete-requires
@@ -2625,20 +2265,8 @@ statements::ended_expression-returns-clause-anew = statements.statements::ended_
 pub items::traits::impl_item-unsafe_word-requires : goal.items::traits::impl_item-unsafe_word-requires
 items::traits::impl_item-unsafe_word-requires = traits.items::traits::impl_item-unsafe_word-requires
 
-pub items::traits::impl_item-opt_generic_params-requires : goal.items::traits::impl_item-opt_generic_params-requires
-items::traits::impl_item-opt_generic_params-requires = traits.items::traits::impl_item-opt_generic_params-requires
-
-pub items::traits::impl_item-expect_type-requires : goal.items::traits::impl_item-expect_type-requires
-items::traits::impl_item-expect_type-requires = traits.items::traits::impl_item-expect_type-requires
-
 pub items::traits::impl_item-opt_type_after-requires : goal.items::traits::impl_item-opt_type_after-requires
 items::traits::impl_item-opt_type_after-requires = traits.items::traits::impl_item-opt_type_after-requires
-
-pub items::traits::impl_item-opt_where_clause-requires : goal.items::traits::impl_item-opt_where_clause-requires
-items::traits::impl_item-opt_where_clause-requires = traits.items::traits::impl_item-opt_where_clause-requires
-
-pub items::traits::impl_item-expect_assoc_items-requires : goal.items::traits::impl_item-expect_assoc_items-requires
-items::traits::impl_item-expect_assoc_items-requires = traits.items::traits::impl_item-expect_assoc_items-requires
 
 pub items::traits::impl_item-complete-requires : goal.items::traits::impl_item-complete-requires
 items::traits::impl_item-complete-requires = traits.items::traits::impl_item-complete-requires
@@ -2648,18 +2276,6 @@ items::traits::impl_item-returns-clause-completes = traits.items::traits::impl_i
 
 pub items::traits::trait_item-unsafe_word-requires : goal.items::traits::trait_item-unsafe_word-requires
 items::traits::trait_item-unsafe_word-requires = traits.items::traits::trait_item-unsafe_word-requires
-
-pub items::traits::trait_item-opt_generic_params-requires : goal.items::traits::trait_item-opt_generic_params-requires
-items::traits::trait_item-opt_generic_params-requires = traits.items::traits::trait_item-opt_generic_params-requires
-
-pub items::traits::trait_item-bounds_after_colon-requires : goal.items::traits::trait_item-bounds_after_colon-requires
-items::traits::trait_item-bounds_after_colon-requires = traits.items::traits::trait_item-bounds_after_colon-requires
-
-pub items::traits::trait_item-opt_where_clause-requires : goal.items::traits::trait_item-opt_where_clause-requires
-items::traits::trait_item-opt_where_clause-requires = traits.items::traits::trait_item-opt_where_clause-requires
-
-pub items::traits::trait_item-expect_assoc_items-requires : goal.items::traits::trait_item-expect_assoc_items-requires
-items::traits::trait_item-expect_assoc_items-requires = traits.items::traits::trait_item-expect_assoc_items-requires
 
 pub items::traits::trait_item-complete-requires : goal.items::traits::trait_item-complete-requires
 items::traits::trait_item-complete-requires = traits.items::traits::trait_item-complete-requires
@@ -2718,9 +2334,6 @@ types::inside-returns-else-at_dyn_word = types.types::inside-returns-else-at_dyn
 pub types::inside-path_type-requires : goal.types::inside-path_type-requires
 types::inside-path_type-requires = types.types::inside-path_type-requires
 
-pub types::bounded_type-bounds-requires : goal.types::bounded_type-bounds-requires
-types::bounded_type-bounds-requires = types.types::bounded_type-bounds-requires
-
 pub types::bounded_type-complete-requires : goal.types::bounded_type-complete-requires
 types::bounded_type-complete-requires = types.types::bounded_type-complete-requires
 
@@ -2751,17 +2364,11 @@ types::expect_type-returns-then-at_type-clause-reads = types.types::expect_type-
 pub types::expect_type-returns-clause-reads : goal.types::expect_type-returns-clause-reads
 types::expect_type-returns-clause-reads = types.types::expect_type-returns-clause-reads
 
-pub types::ptr_type-expect_type-requires : goal.types::ptr_type-expect_type-requires
-types::ptr_type-expect_type-requires = types.types::ptr_type-expect_type-requires
-
 pub types::ptr_type-complete-requires : goal.types::ptr_type-complete-requires
 types::ptr_type-complete-requires = types.types::ptr_type-complete-requires
 
 pub types::ptr_type-returns-clause-reads : goal.types::ptr_type-returns-clause-reads
 types::ptr_type-returns-clause-reads = types.types::ptr_type-returns-clause-reads
-
-pub types::ref_type-expect_type-requires : goal.types::ref_type-expect_type-requires
-types::ref_type-expect_type-requires = types.types::ref_type-expect_type-requires
 
 pub types::ref_type-complete-requires : goal.types::ref_type-complete-requires
 types::ref_type-complete-requires = types.types::ref_type-complete-requires
@@ -2799,17 +2406,11 @@ types::after_first-returns-then-at-clause-reads = types.types::after_first-retur
 pub types::after_first-returns-clause-reads : goal.types::after_first-returns-clause-reads
 types::after_first-returns-clause-reads = types.types::after_first-returns-clause-reads
 
-pub types::bracket_type-expect_type-requires : goal.types::bracket_type-expect_type-requires
-types::bracket_type-expect_type-requires = types.types::bracket_type-expect_type-requires
-
 pub types::bracket_type-after_element-requires : goal.types::bracket_type-after_element-requires
 types::bracket_type-after_element-requires = types.types::bracket_type-after_element-requires
 
 pub types::bracket_type-returns-clause-reads : goal.types::bracket_type-returns-clause-reads
 types::bracket_type-returns-clause-reads = types.types::bracket_type-returns-clause-reads
-
-pub types::after_element-array_length-requires : goal.types::after_element-array_length-requires
-types::after_element-array_length-requires = types.types::after_element-array_length-requires
 
 pub types::after_element-wrap-requires : goal.types::after_element-wrap-requires
 types::after_element-wrap-requires = types.types::after_element-wrap-requires
@@ -2826,17 +2427,11 @@ types::after_element-returns-clause-reads = types.types::after_element-returns-c
 pub types::array_length-returns-clause-reads : goal.types::array_length-returns-clause-reads
 types::array_length-returns-clause-reads = types.types::array_length-returns-clause-reads
 
-pub types::ret_type-expect_type-requires : goal.types::ret_type-expect_type-requires
-types::ret_type-expect_type-requires = types.types::ret_type-expect_type-requires
-
 pub types::ret_type-complete-requires : goal.types::ret_type-complete-requires
 types::ret_type-complete-requires = types.types::ret_type-complete-requires
 
 pub types::ret_type-returns-clause-gives : goal.types::ret_type-returns-clause-gives
 types::ret_type-returns-clause-gives = types.types::ret_type-returns-clause-gives
-
-pub types::opt_type_after-expect_type-requires : goal.types::opt_type_after-expect_type-requires
-types::opt_type_after-expect_type-requires = types.types::opt_type_after-expect_type-requires
 
 pub types::opt_type_after-returns-then-at-clause-reads : goal.types::opt_type_after-returns-then-at-clause-reads
 types::opt_type_after-returns-then-at-clause-reads = types.types::opt_type_after-returns-then-at-clause-reads

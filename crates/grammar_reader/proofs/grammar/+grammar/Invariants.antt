@@ -1,5 +1,5 @@
 -- What is left shrinks from call to call: the tokens, or else how many calls there can be before one is taken.
-use Rattle.std.specs.Prelude.{◌≡◌, ℕ, ◌+◌, ◌-◌, ◌*◌, ◌≤◌, Bool, false}
+use Rattle.std.specs.Prelude.{ℕ, ◌+◌, ◌-◌, ◌*◌, ◌≤◌, Bool, false}
 use Rattle.parser_events.specs.Stack.{IsInnermost}
 use Rattle.rust_productions.specs.Looks.{tokens, spent}
 use Rattle.rust_productions.specs.Layers.{turns_from}
@@ -65,7 +65,6 @@ decreases-lists::turn l = 512 * tokens l.p.now + 102
 
 abbrev pub invariant-lists::elements-turns : goal.invariant-lists::elements-turns
 invariant-lists::elements-turns l = record {
-  input : l.p.input ≡ l.initial.p.input;
   innermost : (n : ℕ) → IsInnermost n l.initial.p.nodes → IsInnermost n l.p.nodes;
   goes : TurnsFrom false (list_turn (raw_of l.list) (element_of l.element) (raw_of l.closing)) l.initial.p l.p;
   left : tokens l.p ≤ tokens l.initial.p;
@@ -77,7 +76,6 @@ decreases-lists::elements-turns l = tokens l.p
 
 abbrev pub invariant-paths::next_segments-turns : goal.invariant-paths::next_segments-turns
 invariant-paths::next_segments-turns l = record {
-  input : l.p.input ≡ l.initial.p.input;
   marker : IsInnermost l.path l.p.nodes;
   goes : (c : Bool) → TurnsFrom c (Unless colons_before_more (PATH <⟨ One '::' ▸ (PATH_SEGMENT ⟨ Ref ▸ args_of l.mode ⟩) ! ⟩)) l.initial.p l.p;
   left : tokens l.p ≤ tokens l.initial.p;
@@ -113,7 +111,6 @@ decreases-expressions::blocks::statement_turn l = 512 * tokens l.p.now + 106
 
 abbrev pub invariant-expressions::blocks::statements-turns : goal.invariant-expressions::blocks::statements-turns
 invariant-expressions::blocks::statements-turns l = record {
-  input : l.p.input ≡ l.initial.p.input;
   innermost : (n : ℕ) → IsInnermost n l.initial.p.nodes → IsInnermost n l.p.nodes;
   goes : TurnsFrom false (Unless (ends_of l.end) (Call (listing_of l.end).one)) l.initial.p l.p;
   left : tokens l.p ≤ tokens l.initial.p;
@@ -227,7 +224,6 @@ decreases-or_patterns::opt_further l = 512 * tokens l.p.now + 2
 
 abbrev pub invariant-or_patterns::further-turns : goal.invariant-or_patterns::further-turns
 invariant-or_patterns::further-turns l = record {
-  input : l.p.input ≡ l.initial.p.input;
   goes : (c : Bool) → TurnsFrom c (One '|' ▸ SinglePattern !) l.initial.p l.p;
   left : tokens l.p ≤ tokens l.initial.p;
   looks : spent l.p ≤ spent l.initial.p;
@@ -416,7 +412,6 @@ decreases-statements::statement l = 512 * tokens l.p.now + 103
 
 abbrev pub invariant-expressions::control::arms-turns : goal.invariant-expressions::control::arms-turns
 invariant-expressions::control::arms-turns l = record {
-  input : l.p.input ≡ l.initial.p.input;
   innermost : (n : ℕ) → IsInnermost n l.initial.p.nodes → IsInnermost n l.p.nodes;
   goes : TurnsFrom false (Unless (until 'r_curly') (MatchArm or Skip ExpectedMatchArm)) l.initial.p l.p;
   left : tokens l.p ≤ tokens l.initial.p;
@@ -428,7 +423,6 @@ decreases-expressions::control::arms-turns l = tokens l.p
 
 abbrev pub invariant-expressions::operand::postfixes-turns : goal.invariant-expressions::operand::postfixes-turns
 invariant-expressions::operand::postfixes-turns l = record {
-  input : l.p.input ≡ l.initial.p.input;
   marker : IsInnermost l.frame l.p.nodes;
   goes : (c : Bool) → TurnsFrom c (more rules.postfix) l.initial.p l.p;
   left : tokens l.p ≤ tokens l.initial.p;
@@ -537,7 +531,6 @@ decreases-types::opt_type_after l = 512 * tokens l.p.now
 
 abbrev pub invariant-items::attributes-turns : goal.invariant-items::attributes-turns
 invariant-items::attributes-turns l = record {
-  input : l.p.input ≡ l.initial.p.input;
   innermost : (n : ℕ) → IsInnermost n l.initial.p.nodes → IsInnermost n l.p.nodes;
   goes : (c : Bool) → TurnsFrom c (Call rules.attribute) l.initial.p l.p;
   left : tokens l.p ≤ tokens l.initial.p;
@@ -549,7 +542,6 @@ decreases-items::attributes-turns l = tokens l.p
 
 abbrev pub invariant-items::items-turns : goal.invariant-items::items-turns
 invariant-items::items-turns l = record {
-  input : l.p.input ≡ l.initial.p.input;
   innermost : (n : ℕ) → IsInnermost n l.initial.p.nodes → IsInnermost n l.p.nodes;
   goes : TurnsFrom false (Unless (ends_of l.end) item_or_attribute) l.initial.p l.p;
   left : tokens l.p ≤ tokens l.initial.p;
@@ -682,7 +674,6 @@ decreases-params::self_alone l = 512 * tokens l.p.now
 
 abbrev pub invariant-generic_params::further_bounds-turns : goal.invariant-generic_params::further_bounds-turns
 invariant-generic_params::further_bounds-turns l = record {
-  input : l.p.input ≡ l.initial.p.input;
   goes : (c : Bool) → TurnsFrom c (One '+' ▸ ⁅ Bound ⁆) l.initial.p l.p;
   left : tokens l.p ≤ tokens l.initial.p;
   looks : spent l.p ≤ spent l.initial.p;
@@ -693,7 +684,6 @@ decreases-generic_params::further_bounds-turns l = tokens l.p
 
 abbrev pub invariant-generic_params::further_preds-turns : goal.invariant-generic_params::further_preds-turns
 invariant-generic_params::further_preds-turns l = record {
-  input : l.p.input ≡ l.initial.p.input;
   goes : TurnsFrom l.condition (One 'comma' ▸ ⁅ WherePred ⁆) l.initial.p l.p;
   left : tokens l.p ≤ tokens l.initial.p;
   looks : spent l.p ≤ spent l.initial.p;
@@ -747,7 +737,6 @@ decreases-expressions::opt_assignment l = 512 * tokens l.p.now
 
 abbrev pub invariant-expressions::layers::climb-turns : goal.invariant-expressions::layers::climb-turns
 invariant-expressions::layers::climb-turns l = record {
-  input : l.p.input ≡ l.initial.p.input;
   marker : IsInnermost l.frame l.p.nodes;
   next : IsNext l.next l.p;
   goes : LayersFrom l.condition (turns_from l.top 1) (turns_from (l.top + 1 - l.lowest) l.lowest) l.initial.p l.p;
@@ -762,7 +751,6 @@ decreases-expressions::layers::climb-turns l = tokens l.p
 
 abbrev pub invariant-expressions::operation_tail-ranges-2 : goal.invariant-expressions::operation_tail-ranges-2
 invariant-expressions::operation_tail-ranges-2 l = record {
-  input : l.p.input ≡ l.initial.p.input;
   marker : IsInnermost l.frame l.p.nodes;
   mark : IsMark l.mark l.p;
   goes : GoesFrom rules.operation_tail l.condition l.initial.p l.p;
@@ -775,7 +763,6 @@ decreases-expressions::operation_tail-ranges-2 l = tokens l.p
 
 abbrev pub invariant-expressions::pipe_tail-pipes : goal.invariant-expressions::pipe_tail-pipes
 invariant-expressions::pipe_tail-pipes l = record {
-  input : l.p.input ≡ l.initial.p.input;
   marker : IsInnermost l.frame l.p.nodes;
   next : IsNext l.operator l.p;
   goes : GoesFrom rules.pipe_tail l.condition l.initial.p l.p;

@@ -1,6 +1,6 @@
 //! Expressions without an operator.
 
-ghost use Rattle.std.specs.Prelude.{◌≡◌, ◌≤◌, ◌<◌, ◌+◌, ◌*◌, ◌^◌, Bool, true, false, length};
+ghost use Rattle.std.specs.Prelude.{◌≤◌, ◌+◌, Bool, true, false};
 ghost use Rattle.parser_input.specs.Kind.{raw_of};
 ghost use Rattle.parser_input.specs.Kinds.{ARRAY_EXPR, LET_EXPR, MACRO_CALL, MACRO_EXPR, PAREN_EXPR, PATH_EXPR, RECORD_EXPR, TUPLE_EXPR};
 ghost use Rattle.parser_events.specs.Stack.{IsInnermost};
@@ -11,7 +11,7 @@ ghost use Rattle.rust_grammar.specs.Rule.{Both, InCondition, Nothing, One, Unles
 ghost use Rattle.rust_grammar.specs.Whole.{rule};
 ghost use Rattle.rust_grammar.specs.Words.{one, '!=', 'comma', 'semi', 'l_curly', 'l_paren', 'r_paren', '[', ']', '=', '!', 'let'};
 ghost use Rattle.rust_productions.specs.Looks.{tokens, spent};
-ghost use Rattle.rust_productions.specs.Reads.{looks, Does, Gives, Reads, Saw};
+ghost use Rattle.rust_productions.specs.Reads.{looks, Reads, Saw};
 
 use crate::grammar::expressions::closures::{closure_expr, move_closure};
 use crate::grammar::expressions::control::block_like;
@@ -30,10 +30,10 @@ use rust_productions::grammar::{
     abandon, at, at_pair, complete, current, error, expect, start, take, wrap,
 };
 
-/// An expression without an operator, inside the node that is left out around it.
+/// Parses an expression without operators, within `frame`, which the caller abandons.
+// (a)
 #[cycle(grammar)]
 pub(crate) fn inside(p: &mut Parser<'_>, frame: Marker, condition: bool) -> Marker
-    requires short { length p.old.input < 2 ^ 64 }
     requires begins { Saw condition (looks rules.atom) p.old true }
     requires some { 1 ≤ tokens p.old }
     requires innermost { IsInnermost frame p.old.nodes }
@@ -86,10 +86,10 @@ pub(crate) fn inside(p: &mut Parser<'_>, frame: Marker, condition: bool) -> Mark
     }
 }
 
-/// A path, with what stands after it: the rest of a macro call, or the fields of a record.
+/// Parses a path expression, a macro call or a record expression.
+// S { a: 1 }
 #[cycle(grammar)]
 fn path_expr(p: &mut Parser<'_>, frame: Marker, condition: bool) -> Marker
-    requires short { length p.old.input < 2 ^ 64 }
     requires begins { (c : Bool) → Saw c (looks rules.path) p.old true }
     requires some { 1 ≤ tokens p.old }
     requires innermost { IsInnermost frame p.old.nodes }
@@ -105,10 +105,10 @@ fn path_expr(p: &mut Parser<'_>, frame: Marker, condition: bool) -> Marker
     after_path(p, frame, condition)
 }
 
-/// What stands after a path.
+/// Parses what may follow the path of an expression: the rest of a macro call, or record fields.
+// { a: 1 }
 #[cycle(grammar)]
 fn after_path(p: &mut Parser<'_>, frame: Marker, condition: bool) -> Marker
-    requires short { length p.old.input < 2 ^ 64 }
     requires innermost { IsInnermost frame p.old.nodes }
     ensures reads { Reads condition
         (Unless (next '!=') (MACRO_CALL <⟨ One '!' ▸ TokenTree ! ⟩ ▸ MACRO_EXPR <⟨ Nothing ⟩)
@@ -136,7 +136,8 @@ fn after_path(p: &mut Parser<'_>, frame: Marker, condition: bool) -> Marker
     wrap(p, frame, SyntaxKind::PATH_EXPR)
 }
 
-/// The rest of a macro call.
+/// Parses the `!` and the token tree of a macro call.
+// !(a, b)
 fn macro_call(p: &mut Parser<'_>)
     requires { 1 ≤ tokens p.old }
     ensures reads { (c : Bool) → Reads c (One '!' ▸ TokenTree !) p.old p.new }
@@ -147,10 +148,10 @@ fn macro_call(p: &mut Parser<'_>)
     expect_token_tree(p);
 }
 
-/// An expression that begins with `(`: a tuple, or one in parentheses.
+/// Parses a tuple expression or a parenthesized expression.
+// (a, b)
 #[cycle(grammar)]
 fn paren_expr(p: &mut Parser<'_>, frame: Marker) -> Marker
-    requires short { length p.old.input < 2 ^ 64 }
     requires some { 1 ≤ tokens p.old }
     requires innermost { IsInnermost frame p.old.nodes }
     ensures reads { (c : Bool) → Reads c (One 'l_paren' ▸ (TUPLE_EXPR <⟨ One 'r_paren' ⟩
@@ -164,10 +165,10 @@ fn paren_expr(p: &mut Parser<'_>, frame: Marker) -> Marker
     after_paren(p, frame)
 }
 
-/// What stands after the `(`.
+/// Parses a tuple expression or a parenthesized expression after its `(`.
+// a, b)
 #[cycle(grammar)]
 fn after_paren(p: &mut Parser<'_>, frame: Marker) -> Marker
-    requires short { length p.old.input < 2 ^ 64 }
     requires innermost { IsInnermost frame p.old.nodes }
     ensures reads { (c : Bool) → Reads c (TUPLE_EXPR <⟨ One 'r_paren' ⟩
         or off (Expression !) ▸ (TUPLE_EXPR <⟨ One 'comma' ▸ rest_listed TUPLE_EXPR Expression 'r_paren' ⟩
@@ -184,10 +185,10 @@ fn after_paren(p: &mut Parser<'_>, frame: Marker) -> Marker
     after_first(p, frame)
 }
 
-/// What stands after the first expression in parentheses.
+/// Parses a tuple expression or a parenthesized expression after its first element.
+// , b)
 #[cycle(grammar)]
 fn after_first(p: &mut Parser<'_>, frame: Marker) -> Marker
-    requires short { length p.old.input < 2 ^ 64 }
     requires innermost { IsInnermost frame p.old.nodes }
     ensures reads { (c : Bool) → Reads c
         (TUPLE_EXPR <⟨ One 'comma' ▸ rest_listed TUPLE_EXPR Expression 'r_paren' ⟩
@@ -210,10 +211,10 @@ fn after_first(p: &mut Parser<'_>, frame: Marker) -> Marker
     wrap(p, frame, SyntaxKind::PAREN_EXPR)
 }
 
-/// An array.
+/// Parses an array expression.
+// [a, b]
 #[cycle(grammar)]
 fn array_expr(p: &mut Parser<'_>)
-    requires short { length p.old.input < 2 ^ 64 }
     requires some { 1 ≤ tokens p.old }
     ensures reads { (c : Bool) → Reads c (ARRAY_EXPR ⟨ One '['
         ▸ (off Expression ▸ (One 'semi' ▸ off (Expression !) ▸ One ']' !
@@ -229,10 +230,10 @@ fn array_expr(p: &mut Parser<'_>)
     complete(p, node, SyntaxKind::ARRAY_EXPR);
 }
 
-/// What stands after the `[` of an array.
+/// Parses an array expression after its `[`.
+// a, b]
 #[cycle(grammar)]
 fn array_elements(p: &mut Parser<'_>)
-    requires short { length p.old.input < 2 ^ 64 }
     ensures reads { (c : Bool) → Reads c
         (off Expression ▸ (One 'semi' ▸ off (Expression !) ▸ One ']' !
         or One 'comma' ▸ rest_listed ARRAY_EXPR Expression ']'
@@ -249,10 +250,10 @@ fn array_elements(p: &mut Parser<'_>)
     expect(p, SyntaxKind::R_BRACK);
 }
 
-/// What stands after the first element of an array.
+/// Parses an array expression after its first element.
+// ; 4]
 #[cycle(grammar)]
 fn after_element(p: &mut Parser<'_>)
-    requires short { length p.old.input < 2 ^ 64 }
     ensures reads { (c : Bool) → Reads c (One 'semi' ▸ off (Expression !) ▸ One ']' !
         or One 'comma' ▸ rest_listed ARRAY_EXPR Expression ']'
         or One ']' !) p.old p.new }
@@ -278,10 +279,10 @@ fn after_element(p: &mut Parser<'_>)
     expect(p, SyntaxKind::R_BRACK);
 }
 
-/// A word and the value after it, in a node of this kind.
+/// Parses a `return` or `break` expression, in a node of `kind`. `token` is its keyword.
+// return a
 #[cycle(grammar)]
 fn value_expr(p: &mut Parser<'_>, token: SyntaxKind, kind: SyntaxKind, condition: bool)
-    requires short { length p.old.input < 2 ^ 64 }
     requires some { 1 ≤ tokens p.old }
     ensures reads { Reads condition (raw_of kind ⟨ One (one (raw_of token))
         ▸ ⁅ Unless (Both InCondition (next 'l_curly')) Operation ⁆ ⟩) p.old p.new }
@@ -294,10 +295,10 @@ fn value_expr(p: &mut Parser<'_>, token: SyntaxKind, kind: SyntaxKind, condition
     complete(p, node, kind);
 }
 
-/// The value of a `return` or a `break`, where there is one.
+/// Parses the optional value of a `return` or `break` expression.
+// a
 #[cycle(grammar)]
 fn opt_value(p: &mut Parser<'_>, condition: bool)
-    requires short { length p.old.input < 2 ^ 64 }
     ensures reads { Reads condition ⁅ Unless (Both InCondition (next 'l_curly')) Operation ⁆ p.old p.new }
     ensures left { tokens p.new ≤ tokens p.old }
     ensures looks { spent p.new ≤ spent p.old + 780 }
@@ -310,10 +311,10 @@ fn opt_value(p: &mut Parser<'_>, condition: bool)
     }
 }
 
-/// A `let` in a condition.
+/// Parses a `let` in a condition.
+// let Some(a) = b
 #[cycle(grammar)]
 fn let_expr(p: &mut Parser<'_>, condition: bool)
-    requires short { length p.old.input < 2 ^ 64 }
     requires some { 1 ≤ tokens p.old }
     ensures reads { Reads condition
         (LET_EXPR ⟨ One 'let' ▸ Pattern ! ▸ One '=' ! ▸ Comparison ! ⟩) p.old p.new }

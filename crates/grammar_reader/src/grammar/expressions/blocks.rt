@@ -1,6 +1,6 @@
 //! Blocks.
 
-ghost use Rattle.std.specs.Prelude.{◌≡◌, ◌≤◌, ◌<◌, ◌+◌, ◌*◌, ◌^◌, Bool, ℕ, IsTrue, false, length};
+ghost use Rattle.std.specs.Prelude.{◌≡◌, ◌≤◌, ◌<◌, ◌+◌, Bool, ℕ, IsTrue, false};
 ghost use Rattle.parser_events.specs.Stack.{IsInnermost};
 ghost use Rattle.rust_grammar.specs.Rule as rules;
 ghost use Rattle.rust_grammar.specs.Rule.{Call, Unless};
@@ -16,10 +16,10 @@ use parser_events::parser::Parser;
 use parser_input::syntax_kind::SyntaxKind;
 use rust_productions::grammar::{complete, expect, start, take, tokens_left};
 
-/// A block.
+/// Parses a block expression.
+// { f(); a }
 #[cycle(grammar)]
 pub(crate) fn block(p: &mut Parser<'_>)
-    requires short { length p.old.input < 2 ^ 64 }
     requires some { 1 ≤ tokens p.old }
     ensures gives { (c : Bool) → Gives rules.block c p.old p.new }
     ensures left { tokens p.new + 1 ≤ tokens p.old }
@@ -30,10 +30,10 @@ pub(crate) fn block(p: &mut Parser<'_>)
     complete(p, block, SyntaxKind::BLOCK_EXPR);
 }
 
-/// The statements of a block, in their braces.
+/// Parses the statements of a block, with their braces.
+// { f(); a }
 #[cycle(grammar)]
 pub(crate) fn statement_list(p: &mut Parser<'_>)
-    requires short { length p.old.input < 2 ^ 64 }
     requires some { 1 ≤ tokens p.old }
     ensures gives { (c : Bool) → Gives rules.statement_list c p.old p.new }
     ensures left { tokens p.new + 1 ≤ tokens p.old }
@@ -46,14 +46,13 @@ pub(crate) fn statement_list(p: &mut Parser<'_>)
     complete(p, list, SyntaxKind::STMT_LIST);
 }
 
-/// Reads a statement, which any token begins. Whether more may follow is the answer.
+/// Parses a statement. Returns `true` if the list may continue.
+// f();
 #[cycle(grammar)]
 fn statement_turn(p: &mut Parser<'_>, end: ListEnd) -> bool
-    requires short { length p.old.input < 2 ^ 64 }
     ensures goes { IsTrue result
         → TurnsFrom false (Unless (ends_of end) (Call (listing_of end).one)) p.old p.new }
     ensures ends { result ≡ false → Reads false (all_of (listing_of end)) p.old p.new }
-    ensures input { p.new.input ≡ p.old.input }
     ensures innermost { (n : ℕ) → IsInnermost n p.old.nodes → IsInnermost n p.new.nodes }
     ensures fewer { IsTrue result → tokens p.new < tokens p.old }
     ensures left { tokens p.new ≤ tokens p.old }
@@ -68,10 +67,10 @@ fn statement_turn(p: &mut Parser<'_>, end: ListEnd) -> bool
     tokens_left(p) < before
 }
 
-/// Reads statements up to where their list ends.
+/// Parses statements up to the end of their list.
+// f(); a
 #[cycle(grammar)]
 pub(crate) fn statements(p: &mut Parser<'_>, end: ListEnd)
-    requires short { length p.old.input < 2 ^ 64 }
     ensures reads { Reads false (all_of (listing_of end)) p.old p.new }
     ensures left { tokens p.new ≤ tokens p.old }
     ensures looks { spent p.new ≤ spent p.old + 901 }

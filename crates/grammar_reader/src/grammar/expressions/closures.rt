@@ -1,6 +1,6 @@
 //! Closures.
 
-ghost use Rattle.std.specs.Prelude.{◌≡◌, ◌≤◌, ◌<◌, ◌+◌, ◌*◌, ◌^◌, Bool, true, false, length};
+ghost use Rattle.std.specs.Prelude.{◌≤◌, ◌+◌, Bool, true, false};
 ghost use Rattle.parser_input.specs.Kinds.{CLOSURE_EXPR};
 ghost use Rattle.rust_grammar.specs.Calls.{AnyType, Block, Operation, RetType};
 ghost use Rattle.rust_grammar.specs.Expressions as rows;
@@ -21,10 +21,10 @@ use parser_events::parser::Parser;
 use parser_input::syntax_kind::SyntaxKind;
 use rust_productions::grammar::{at, at_pair, complete, error, start, take};
 
-/// A closure.
+/// Parses a closure expression without `move`.
+// |a| a + 1
 #[cycle(grammar)]
 pub(crate) fn closure_expr(p: &mut Parser<'_>, condition: bool)
-    requires short { length p.old.input < 2 ^ 64 }
     requires some { 1 ≤ tokens p.old }
     ensures reads { Reads condition
         (CLOSURE_EXPR ⟨ rows.closure_params ▸ (RetType ▸ Block ! or Operation !) ⟩) p.old p.new }
@@ -37,10 +37,10 @@ pub(crate) fn closure_expr(p: &mut Parser<'_>, condition: bool)
     complete(p, node, SyntaxKind::CLOSURE_EXPR);
 }
 
-/// A closure after `move`.
+/// Parses a closure expression with `move`.
+// move |a| a + 1
 #[cycle(grammar)]
 pub(crate) fn move_closure(p: &mut Parser<'_>, condition: bool)
-    requires short { length p.old.input < 2 ^ 64 }
     requires some { 1 ≤ tokens p.old }
     ensures reads { Reads condition (CLOSURE_EXPR
         ⟨ One 'move' ▸ rows.closure_params ! ▸ (RetType ▸ Block ! or Operation !) ⟩) p.old p.new }
@@ -54,10 +54,10 @@ pub(crate) fn move_closure(p: &mut Parser<'_>, condition: bool)
     complete(p, node, SyntaxKind::CLOSURE_EXPR);
 }
 
-/// The parameters of a closure, or the message that they are missing.
+/// Parses closure parameters; emits an error if there are none.
+// |a, b: u8|
 #[cycle(grammar)]
 fn expect_closure_params(p: &mut Parser<'_>)
-    requires short { length p.old.input < 2 ^ 64 }
     ensures reads { (c : Bool) → Reads c (rows.closure_params !) p.old p.new }
     ensures left { tokens p.new ≤ tokens p.old }
     ensures looks { spent p.new ≤ spent p.old + 1 }
@@ -69,10 +69,10 @@ fn expect_closure_params(p: &mut Parser<'_>)
     error(p, Message::Expected(SyntaxKind::PARAM_LIST));
 }
 
-/// The parameters of a closure.
+/// Parses closure parameters.
+// |a, b: u8|
 #[cycle(grammar)]
 fn closure_params(p: &mut Parser<'_>)
-    requires short { length p.old.input < 2 ^ 64 }
     requires some { 1 ≤ tokens p.old }
     ensures reads { (c : Bool) → Reads c rows.closure_params p.old p.new }
     ensures left { tokens p.new + 1 ≤ tokens p.old }
@@ -89,10 +89,10 @@ fn closure_params(p: &mut Parser<'_>)
     complete(p, list, SyntaxKind::PARAM_LIST);
 }
 
-/// A parameter of a closure.
+/// Parses a closure parameter.
+// b: u8
 #[cycle(grammar)]
 pub(crate) fn closure_param(p: &mut Parser<'_>)
-    requires short { length p.old.input < 2 ^ 64 }
     requires begins { (c : Bool) → Saw c (looks rules.single_pattern) p.old true }
     requires some { 1 ≤ tokens p.old }
     ensures reads { Reads false rows.closure_param p.old p.new }
@@ -105,10 +105,10 @@ pub(crate) fn closure_param(p: &mut Parser<'_>)
     complete(p, node, SyntaxKind::PARAM);
 }
 
-/// The type after a colon, where there is one.
+/// Parses an optional type with its colon.
+// : u8
 #[cycle(grammar)]
 pub(crate) fn opt_type(p: &mut Parser<'_>, condition: bool)
-    requires short { length p.old.input < 2 ^ 64 }
     ensures reads { Reads condition ⁅ One ':' ▸ AnyType ! ⁆ p.old p.new }
     ensures left { tokens p.new ≤ tokens p.old }
     ensures looks { spent p.new ≤ spent p.old + 1 }
@@ -119,10 +119,10 @@ pub(crate) fn opt_type(p: &mut Parser<'_>, condition: bool)
     }
 }
 
-/// What a closure does: a block after a type, or an expression.
+/// Parses the body of a closure: a block after a return type, otherwise an expression.
+// -> u8 { 1 }
 #[cycle(grammar)]
 fn closure_body(p: &mut Parser<'_>, condition: bool)
-    requires short { length p.old.input < 2 ^ 64 }
     ensures reads { Reads condition (RetType ▸ Block ! or Operation !) p.old p.new }
     ensures left { tokens p.new ≤ tokens p.old }
     ensures looks { spent p.new ≤ spent p.old + 780 }

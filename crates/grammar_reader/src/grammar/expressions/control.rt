@@ -1,6 +1,6 @@
 //! Expressions that end in a block.
 
-ghost use Rattle.std.specs.Prelude.{◌≡◌, ◌≤◌, ◌<◌, ◌+◌, ◌*◌, ◌^◌, Bool, ℕ, IsTrue, true, false, [], ◌∷◌, length};
+ghost use Rattle.std.specs.Prelude.{◌≡◌, ◌≤◌, ◌<◌, ◌+◌, Bool, ℕ, IsTrue, true, false, [], ◌∷◌};
 ghost use Rattle.parser_input.specs.Kinds.{BLOCK_EXPR, FOR_EXPR, LOOP_EXPR, MACRO_CALL, MACRO_EXPR, MATCH_EXPR, WHILE_EXPR};
 ghost use Rattle.parser_events.specs.Forest.{ExpectedMatchArm};
 ghost use Rattle.parser_events.specs.Stack.{IsInnermost};
@@ -8,7 +8,6 @@ ghost use Rattle.rust_grammar.specs.Calls.{Block, ExprPath, IfExpr, MatchArm, Ma
 ghost use Rattle.rust_grammar.specs.Notation.{◌or◌, ◌▸◌, ⁅◌⁆, ◌*, ◌!, ◌⟨◌⟩, on, row, until};
 ghost use Rattle.rust_grammar.specs.Rule as rules;
 ghost use Rattle.rust_grammar.specs.Rule.{One, Skip, Unless};
-ghost use Rattle.rust_grammar.specs.Whole.{rule};
 ghost use Rattle.rust_grammar.specs.Words.{'ident', 'l_curly', 'r_curly', '!', 'else', 'for', 'in', 'loop', 'match', 'unsafe', 'while'};
 ghost use Rattle.rust_productions.specs.Looks.{tokens, spent};
 ghost use Rattle.rust_productions.specs.Reads.{looks, Gives, Reads, Saw};
@@ -26,10 +25,10 @@ use rust_productions::grammar::patterns::at_pattern;
 use rust_productions::grammar::token_trees::token_tree;
 use rust_productions::grammar::{abandon, at, complete, current, error, expect, skip, start, take};
 
-/// An expression that ends in a block.
+/// Parses an expression that ends in a block.
+// if a { b }
 #[cycle(grammar)]
 pub(crate) fn block_like(p: &mut Parser<'_>)
-    requires short { length p.old.input < 2 ^ 64 }
     requires begins { (c : Bool) → Saw c (looks rules.block_like) p.old true }
     requires some { 1 ≤ tokens p.old }
     ensures gives { (c : Bool) → Gives rules.block_like c p.old p.new }
@@ -48,10 +47,10 @@ pub(crate) fn block_like(p: &mut Parser<'_>)
     }
 }
 
-/// Statements, or the message that they are missing.
+/// Parses statements in braces; emits an error if there are none.
+// { f(); a }
 #[cycle(grammar)]
 fn expect_statement_list(p: &mut Parser<'_>)
-    requires short { length p.old.input < 2 ^ 64 }
     ensures reads { (c : Bool) → Reads c (StatementList !) p.old p.new }
     ensures left { tokens p.new ≤ tokens p.old }
     ensures looks { spent p.new ≤ spent p.old + 1 }
@@ -63,10 +62,10 @@ fn expect_statement_list(p: &mut Parser<'_>)
     error(p, Message::Expected(SyntaxKind::STMT_LIST));
 }
 
-/// A block, or the message that it is missing.
+/// Parses a block expression; emits an error if there is none.
+// { f(); a }
 #[cycle(grammar)]
 pub(crate) fn expect_block(p: &mut Parser<'_>)
-    requires short { length p.old.input < 2 ^ 64 }
     ensures reads { (c : Bool) → Reads c (Block !) p.old p.new }
     ensures left { tokens p.new ≤ tokens p.old }
     ensures looks { spent p.new ≤ spent p.old + 1 }
@@ -78,10 +77,10 @@ pub(crate) fn expect_block(p: &mut Parser<'_>)
     error(p, Message::Expected(SyntaxKind::BLOCK_EXPR));
 }
 
-/// A block after `unsafe`.
+/// Parses an `unsafe` block.
+// unsafe { f() }
 #[cycle(grammar)]
 fn unsafe_block(p: &mut Parser<'_>)
-    requires short { length p.old.input < 2 ^ 64 }
     requires some { 1 ≤ tokens p.old }
     ensures reads { (c : Bool) → Reads c
         (BLOCK_EXPR ⟨ One 'unsafe' ▸ StatementList ! ⟩) p.old p.new }
@@ -94,10 +93,10 @@ fn unsafe_block(p: &mut Parser<'_>)
     complete(p, node, SyntaxKind::BLOCK_EXPR);
 }
 
-/// An `if`.
+/// Parses an `if` expression.
+// if a { b } else { c }
 #[cycle(grammar)]
 pub(crate) fn if_expr(p: &mut Parser<'_>)
-    requires short { length p.old.input < 2 ^ 64 }
     requires some { 1 ≤ tokens p.old }
     ensures gives { (c : Bool) → Gives rules.if_expr c p.old p.new }
     ensures left { tokens p.new + 1 ≤ tokens p.old }
@@ -111,10 +110,10 @@ pub(crate) fn if_expr(p: &mut Parser<'_>)
     complete(p, node, SyntaxKind::IF_EXPR);
 }
 
-/// What is done where the condition does not hold, if that is said.
+/// Parses the optional `else` branch of an `if` expression.
+// else { c }
 #[cycle(grammar)]
 fn opt_else(p: &mut Parser<'_>)
-    requires short { length p.old.input < 2 ^ 64 }
     ensures reads { (c : Bool) → Reads c ⁅ One 'else' ▸ (IfExpr or Block !) ⁆ p.old p.new }
     ensures left { tokens p.new ≤ tokens p.old }
     ensures looks { spent p.new ≤ spent p.old + 1 }
@@ -125,10 +124,10 @@ fn opt_else(p: &mut Parser<'_>)
     }
 }
 
-/// What stands after `else`: another `if`, or a block.
+/// Parses an `else` branch after its keyword: an `if` expression or a block.
+// if b { c }
 #[cycle(grammar)]
 fn after_else(p: &mut Parser<'_>)
-    requires short { length p.old.input < 2 ^ 64 }
     ensures reads { (c : Bool) → Reads c (IfExpr or Block !) p.old p.new }
     ensures left { tokens p.new ≤ tokens p.old }
     ensures looks { spent p.new ≤ spent p.old + 2 }
@@ -140,10 +139,10 @@ fn after_else(p: &mut Parser<'_>)
     expect_block(p);
 }
 
-/// A `while`.
+/// Parses a `while` loop.
+// while a { b }
 #[cycle(grammar)]
 fn while_expr(p: &mut Parser<'_>)
-    requires short { length p.old.input < 2 ^ 64 }
     requires some { 1 ≤ tokens p.old }
     ensures reads { (c : Bool) → Reads c
         (WHILE_EXPR ⟨ One 'while' ▸ on Operation ! ▸ Block ! ⟩) p.old p.new }
@@ -157,10 +156,10 @@ fn while_expr(p: &mut Parser<'_>)
     complete(p, node, SyntaxKind::WHILE_EXPR);
 }
 
-/// A `loop`.
+/// Parses a `loop` expression.
+// loop { a }
 #[cycle(grammar)]
 fn loop_expr(p: &mut Parser<'_>)
-    requires short { length p.old.input < 2 ^ 64 }
     requires some { 1 ≤ tokens p.old }
     ensures reads { (c : Bool) → Reads c (LOOP_EXPR ⟨ One 'loop' ▸ Block ! ⟩) p.old p.new }
     ensures left { tokens p.new + 1 ≤ tokens p.old }
@@ -172,10 +171,10 @@ fn loop_expr(p: &mut Parser<'_>)
     complete(p, node, SyntaxKind::LOOP_EXPR);
 }
 
-/// A `for`.
+/// Parses a `for` loop.
+// for a in b { c }
 #[cycle(grammar)]
 fn for_expr(p: &mut Parser<'_>)
-    requires short { length p.old.input < 2 ^ 64 }
     requires some { 1 ≤ tokens p.old }
     ensures reads { (c : Bool) → Reads c
         (FOR_EXPR ⟨ One 'for' ▸ Pattern ! ▸ One 'in' ! ▸ on Operation ! ▸ Block ! ⟩) p.old p.new }
@@ -191,10 +190,10 @@ fn for_expr(p: &mut Parser<'_>)
     complete(p, node, SyntaxKind::FOR_EXPR);
 }
 
-/// A `match`.
+/// Parses a `match` expression.
+// match a { _ => b }
 #[cycle(grammar)]
 fn match_expr(p: &mut Parser<'_>)
-    requires short { length p.old.input < 2 ^ 64 }
     requires some { 1 ≤ tokens p.old }
     ensures reads { (c : Bool) → Reads c
         (MATCH_EXPR ⟨ One 'match' ▸ on Operation ! ▸ MatchArms ! ⟩) p.old p.new }
@@ -208,10 +207,10 @@ fn match_expr(p: &mut Parser<'_>)
     complete(p, node, SyntaxKind::MATCH_EXPR);
 }
 
-/// The arms of a `match`, or the message that they are missing.
+/// Parses match arms in braces; emits an error if there are none.
+// { a => b, _ => c }
 #[cycle(grammar)]
 fn expect_match_arms(p: &mut Parser<'_>)
-    requires short { length p.old.input < 2 ^ 64 }
     ensures reads { (c : Bool) → Reads c (MatchArms !) p.old p.new }
     ensures left { tokens p.new ≤ tokens p.old }
     ensures looks { spent p.new ≤ spent p.old + 1 }
@@ -223,10 +222,10 @@ fn expect_match_arms(p: &mut Parser<'_>)
     error(p, Message::Expected(SyntaxKind::MATCH_ARM_LIST));
 }
 
-/// The arms of a `match`.
+/// Parses match arms in braces.
+// { a => b, _ => c }
 #[cycle(grammar)]
 pub(crate) fn match_arms(p: &mut Parser<'_>)
-    requires short { length p.old.input < 2 ^ 64 }
     requires some { 1 ≤ tokens p.old }
     ensures gives { (c : Bool) → Gives rules.match_arms c p.old p.new }
     ensures left { tokens p.new + 1 ≤ tokens p.old }
@@ -239,10 +238,10 @@ pub(crate) fn match_arms(p: &mut Parser<'_>)
     complete(p, list, SyntaxKind::MATCH_ARM_LIST);
 }
 
-/// Reads the arms of a `match`.
+/// Parses match arms up to the closing brace.
+// a => b, _ => c
 #[cycle(grammar)]
 fn arms(p: &mut Parser<'_>)
-    requires short { length p.old.input < 2 ^ 64 }
     ensures reads { Reads false
         ((Unless (until 'r_curly') (MatchArm or Skip ExpectedMatchArm)) *) p.old p.new }
     ensures left { tokens p.new ≤ tokens p.old }
@@ -251,15 +250,14 @@ fn arms(p: &mut Parser<'_>)
     'turns: while arm_turn(p) {}
 }
 
-/// Reads an arm, or a token that begins none. Whether more may follow is the answer.
+/// Parses a match arm, or skips a token into an error. Returns `true` if the list may continue.
+// a => b,
 #[cycle(grammar)]
 fn arm_turn(p: &mut Parser<'_>) -> bool
-    requires short { length p.old.input < 2 ^ 64 }
     ensures goes { IsTrue result → TurnsFrom false
         (Unless (until 'r_curly') (MatchArm or Skip ExpectedMatchArm)) p.old p.new }
     ensures ends { result ≡ false → Reads false
         ((Unless (until 'r_curly') (MatchArm or Skip ExpectedMatchArm)) *) p.old p.new }
-    ensures input { p.new.input ≡ p.old.input }
     ensures innermost { (n : ℕ) → IsInnermost n p.old.nodes → IsInnermost n p.new.nodes }
     ensures fewer { IsTrue result → tokens p.new < tokens p.old }
     ensures left { tokens p.new ≤ tokens p.old }
@@ -277,7 +275,8 @@ fn arm_turn(p: &mut Parser<'_>) -> bool
     true
 }
 
-/// A path of one word, before the `!` of a macro call with braces.
+/// Parses a path of one identifier, before the `!` of a macro call with braces.
+// m
 fn word_path(p: &mut Parser<'_>)
     requires begins { (c : Bool) → Saw c (row 0 ('ident' ∷ '!' ∷ 'l_curly' ∷ [])) p.old true }
     requires some { 1 ≤ tokens p.old }
@@ -296,7 +295,8 @@ fn word_path(p: &mut Parser<'_>)
     abandon(p, frame);
 }
 
-/// A macro call with braces, by one word.
+/// Parses a macro call with braces.
+// m! { a }
 fn macro_block(p: &mut Parser<'_>)
     requires begins { (c : Bool) → Saw c (row 0 ('ident' ∷ '!' ∷ 'l_curly' ∷ [])) p.old true }
     requires some { 3 ≤ tokens p.old }

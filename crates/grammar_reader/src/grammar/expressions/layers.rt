@@ -1,6 +1,6 @@
 //! Operands with the operators between them.
 
-ghost use Rattle.std.specs.Prelude.{◌≡◌, ◌≤◌, ◌<◌, ◌+◌, ◌*◌, ◌^◌, true, length};
+ghost use Rattle.std.specs.Prelude.{◌≤◌, ◌+◌, true};
 ghost use Rattle.parser_events.specs.Forest.{ExpectedExpression};
 ghost use Rattle.parser_events.specs.Stack.{IsInnermost};
 ghost use Rattle.rust_grammar.specs.Rule as rules;
@@ -19,10 +19,10 @@ use rust_productions::grammar::expressions::at_operand;
 use rust_productions::grammar::operators::{Operator, current_op, take_operator};
 use rust_productions::grammar::{abandon, error, start, wrap};
 
-/// An operand, and what the layers of operators up to this height add to it.
+/// Parses an operand with the operators of the layers up to `height`.
+// a * b + c
 #[cycle(grammar)]
 pub(crate) fn layers(p: &mut Parser<'_>, height: u8, condition: bool)
-    requires short { length p.old.input < 2 ^ 64 }
     requires begins { Saw condition (looks rules.prefixed) p.old true }
     requires some { 1 ≤ tokens p.old }
     requires high { height ≤ 10 }
@@ -36,11 +36,11 @@ pub(crate) fn layers(p: &mut Parser<'_>, height: u8, condition: bool)
     abandon(p, frame);
 }
 
-/// The operators after an operand, of the layers up to this height. After one of a layer none of a
-/// tighter layer is read: that would have been read with the operand before it.
+/// Parses operators of the layers up to `top`, each with its right operand. After an operator of a
+/// layer no tighter one can follow: it would belong to the right operand.
+// * b + c
 #[cycle(grammar)]
 pub(crate) fn climb(p: &mut Parser<'_>, frame: Marker, top: u8, condition: bool) -> Marker
-    requires short { length p.old.input < 2 ^ 64 }
     requires high { top ≤ 10 }
     requires innermost { IsInnermost frame p.old.nodes }
     ensures reads { Reads condition (repeated (turns_from top 1)) p.old p.new }
@@ -59,10 +59,10 @@ pub(crate) fn climb(p: &mut Parser<'_>, frame: Marker, top: u8, condition: bool)
     frame
 }
 
-/// An operator, and the type or the operand after it.
+/// Parses an operator and its right operand, or `as` and its type.
+// + b
 #[cycle(grammar)]
 fn turn(p: &mut Parser<'_>, frame: Marker, operator: Operator, condition: bool) -> Marker
-    requires short { length p.old.input < 2 ^ 64 }
     requires next { IsNext operator p.old }
     requires is { 1 ≤ operator.height }
     requires high { operator.height ≤ 10 }
@@ -81,11 +81,11 @@ fn turn(p: &mut Parser<'_>, frame: Marker, operator: Operator, condition: bool) 
     wrap(p, frame, SyntaxKind::BIN_EXPR)
 }
 
-/// An operand with the operators of the layers up to this height, or the message that it is
-/// missing.
+/// Parses an operand with the operators of the layers up to `height`; emits an error if there is
+/// none.
+// a * b
 #[cycle(grammar)]
 pub(crate) fn expect_layer(p: &mut Parser<'_>, height: u8, condition: bool)
-    requires short { length p.old.input < 2 ^ 64 }
     requires high { height ≤ 10 }
     ensures reads { Reads condition (Want (Call (layer_at height)) ExpectedExpression) p.old p.new }
     ensures left { tokens p.new ≤ tokens p.old }

@@ -1,6 +1,6 @@
 //! Arms of a `match`.
 
-ghost use Rattle.std.specs.Prelude.{◌≡◌, ◌≤◌, ◌<◌, ◌+◌, ◌*◌, ◌^◌, Bool, true, length};
+ghost use Rattle.std.specs.Prelude.{◌≤◌, ◌+◌, Bool, true};
 ghost use Rattle.parser_input.specs.Kinds.{COMMA, MATCH_GUARD};
 ghost use Rattle.parser_events.specs.Forest.{Expected};
 ghost use Rattle.rust_grammar.specs.Calls.{BlockLike, Expression, Operation};
@@ -21,10 +21,10 @@ use rust_productions::grammar::expressions::at_block_like;
 use rust_productions::grammar::lists::comma;
 use rust_productions::grammar::{at, at_pair, complete, eat, error, start, take, take_pair};
 
-/// An arm of a `match`.
+/// Parses a match arm.
+// Some(a) if a > 1 => b,
 #[cycle(grammar)]
 pub(crate) fn match_arm(p: &mut Parser<'_>, condition: bool)
-    requires short { length p.old.input < 2 ^ 64 }
     requires begins { (c : Bool) → Saw c (looks rules.pattern) p.old true }
     requires some { 1 ≤ tokens p.old }
     ensures gives { Gives rules.match_arm condition p.old p.new }
@@ -39,10 +39,10 @@ pub(crate) fn match_arm(p: &mut Parser<'_>, condition: bool)
     complete(p, node, SyntaxKind::MATCH_ARM);
 }
 
-/// The condition of an arm, where there is one.
+/// Parses the optional guard of a match arm.
+// if a > 1
 #[cycle(grammar)]
 fn opt_guard(p: &mut Parser<'_>)
-    requires short { length p.old.input < 2 ^ 64 }
     ensures reads { (c : Bool) → Reads c
         ⁅ MATCH_GUARD ⟨ One 'if' ▸ on Operation ! ⟩ ⁆ p.old p.new }
     ensures left { tokens p.new ≤ tokens p.old }
@@ -56,7 +56,8 @@ fn opt_guard(p: &mut Parser<'_>)
     }
 }
 
-/// The arrow of an arm, or the message that it is missing.
+/// Parses the `=>` of a match arm; emits an error if there is none.
+// =>
 fn expect_arrow(p: &mut Parser<'_>)
     ensures reads { (c : Bool) → Reads c (One '=>' !) p.old p.new }
     ensures left { tokens p.new ≤ tokens p.old }
@@ -69,10 +70,10 @@ fn expect_arrow(p: &mut Parser<'_>)
     error(p, Message::Expected(SyntaxKind::FAT_ARROW));
 }
 
-/// What an arm does: what ends in a block needs no comma after it.
+/// Parses the body of a match arm and its comma, which is optional after a block.
+// b,
 #[cycle(grammar)]
 fn arm_value(p: &mut Parser<'_>, condition: bool)
-    requires short { length p.old.input < 2 ^ 64 }
     ensures reads { Reads condition (BlockLike ▸ ⁅ One 'comma' ⁆
         or Expression ! ▸ (One 'comma' or When (next 'r_curly') Nothing or Say (Expected COMMA)))
         p.old p.new }

@@ -1,6 +1,6 @@
 //! Operands, and what stands before and after them.
 
-ghost use Rattle.std.specs.Prelude.{◌≡◌, ◌≤◌, ◌<◌, ◌+◌, ◌*◌, ◌^◌, Bool, IsTrue, true, length};
+ghost use Rattle.std.specs.Prelude.{◌≡◌, ◌≤◌, ◌+◌, Bool, IsTrue, true};
 ghost use Rattle.parser_input.specs.Kind.{raw_of};
 ghost use Rattle.parser_input.specs.Kinds.{CALL_EXPR, FIELD_EXPR, FLOAT_NUMBER, INDEX_EXPR, METHOD_CALL_EXPR, NAME_REF, PREFIX_EXPR, REF_EXPR, TRY_EXPR};
 ghost use Rattle.parser_events.specs.Forest.{ExpectedField};
@@ -9,7 +9,7 @@ ghost use Rattle.rust_grammar.specs.Calls.{Arguments, Atom, Expression, GenericA
 ghost use Rattle.rust_grammar.specs.Notation.{◌or◌, ◌▸◌, ⁅◌⁆, ◌*, ◌!, ◌⟨◌⟩, ◌<⟨◌⟩, ◌before◌, more, next, off};
 ghost use Rattle.rust_grammar.specs.Rule as rules;
 ghost use Rattle.rust_grammar.specs.Rule.{Both, Either, Joint, Kind, One, Say, Split, When};
-ghost use Rattle.rust_grammar.specs.Words.{one, '::', 'dot', 'ident', 'float', 'l_paren', '[', ']', '?', '&', 'mut'};
+ghost use Rattle.rust_grammar.specs.Words.{one, '::', 'ident', 'float', 'l_paren', '[', ']', '&', 'mut'};
 ghost use Rattle.rust_productions.specs.Looks.{tokens, spent};
 ghost use Rattle.rust_productions.specs.Reads.{looks, Anew, Does, Gives, Reads, Saw};
 
@@ -27,10 +27,10 @@ use rust_productions::grammar::{
     take, wrap,
 };
 
-/// An operand of operators, with the operators before it.
+/// Parses an operand with its prefix operators.
+// -!a
 #[cycle(grammar)]
 pub(crate) fn prefixed(p: &mut Parser<'_>, condition: bool)
-    requires short { length p.old.input < 2 ^ 64 }
     requires begins { Saw condition (looks rules.prefixed) p.old true }
     requires some { 1 ≤ tokens p.old }
     ensures gives { Gives rules.prefixed condition p.old p.new }
@@ -46,10 +46,10 @@ pub(crate) fn prefixed(p: &mut Parser<'_>, condition: bool)
     }
 }
 
-/// An operator and the operand after it.
+/// Parses a prefix operator and its operand.
+// -a
 #[cycle(grammar)]
 fn prefix_expr(p: &mut Parser<'_>, operator: SyntaxKind, condition: bool)
-    requires short { length p.old.input < 2 ^ 64 }
     requires some { 1 ≤ tokens p.old }
     ensures reads { Reads condition
         (PREFIX_EXPR ⟨ One (one (raw_of operator)) ▸ Prefixed ! ⟩) p.old p.new }
@@ -62,10 +62,10 @@ fn prefix_expr(p: &mut Parser<'_>, operator: SyntaxKind, condition: bool)
     complete(p, node, SyntaxKind::PREFIX_EXPR);
 }
 
-/// A reference.
+/// Parses a borrow expression.
+// &mut a
 #[cycle(grammar)]
 fn ref_expr(p: &mut Parser<'_>, condition: bool)
-    requires short { length p.old.input < 2 ^ 64 }
     requires some { 1 ≤ tokens p.old }
     ensures reads { Reads condition
         (REF_EXPR ⟨ One '&' ▸ ⁅ One 'mut' ⁆ ▸ Prefixed ! ⟩) p.old p.new }
@@ -79,10 +79,10 @@ fn ref_expr(p: &mut Parser<'_>, condition: bool)
     complete(p, node, SyntaxKind::REF_EXPR);
 }
 
-/// An expression without an operator, with what stands after it.
+/// Parses an expression without operators, with its postfix operators.
+// a.b(c)?
 #[cycle(grammar)]
 fn operand(p: &mut Parser<'_>, condition: bool)
-    requires short { length p.old.input < 2 ^ 64 }
     requires begins { Saw condition (looks rules.atom) p.old true }
     requires some { 1 ≤ tokens p.old }
     ensures anew { Anew condition (Atom ▸ (more rules.postfix) *) p.old p.new }
@@ -95,7 +95,7 @@ fn operand(p: &mut Parser<'_>, condition: bool)
     abandon(p, frame);
 }
 
-/// Whether an expression goes on here: by a call, an index, a `?` or a dot.
+/// Returns `true` if a postfix operator is next: a call, an index, a `?` or a dot.
 fn at_postfix(p: &mut Parser<'_>) -> bool
     ensures sees { (c : Bool) → Saw c (looks rules.postfix) p.old result }
     ensures some { IsTrue result → 1 ≤ tokens p.old }
@@ -117,10 +117,10 @@ fn at_postfix(p: &mut Parser<'_>) -> bool
     }
 }
 
-/// All that stands after an expression.
+/// Parses postfix operators.
+// .b(c)?[d]
 #[cycle(grammar)]
 pub(crate) fn postfixes(p: &mut Parser<'_>, frame: Marker) -> Marker
-    requires short { length p.old.input < 2 ^ 64 }
     requires innermost { IsInnermost frame p.old.nodes }
     ensures reads { (c : Bool) → Reads c ((more rules.postfix) *) p.old p.new }
     ensures marker { IsInnermost result p.new.nodes }
@@ -134,10 +134,10 @@ pub(crate) fn postfixes(p: &mut Parser<'_>, frame: Marker) -> Marker
     frame
 }
 
-/// What stands after an expression.
+/// Parses one postfix operator.
+// [d]
 #[cycle(grammar)]
 pub(crate) fn postfix(p: &mut Parser<'_>, frame: Marker) -> Marker
-    requires short { length p.old.input < 2 ^ 64 }
     requires some { 1 ≤ tokens p.old }
     requires innermost { IsInnermost frame p.old.nodes }
     ensures reads { (c : Bool) → Reads c (more rules.postfix) p.old p.new }
@@ -165,10 +165,10 @@ pub(crate) fn postfix(p: &mut Parser<'_>, frame: Marker) -> Marker
     }
 }
 
-/// An index in its brackets.
+/// Parses the brackets of an index expression.
+// [d]
 #[cycle(grammar)]
 fn index(p: &mut Parser<'_>)
-    requires short { length p.old.input < 2 ^ 64 }
     requires some { 1 ≤ tokens p.old }
     ensures reads { (c : Bool) → Reads c (One '[' ▸ off (Expression !) ▸ One ']' !) p.old p.new }
     ensures left { tokens p.new + 1 ≤ tokens p.old }
@@ -179,7 +179,7 @@ fn index(p: &mut Parser<'_>)
     expect(p, SyntaxKind::R_BRACK);
 }
 
-/// Whether a method's name is next: a word before `(` or `::`.
+/// Returns `true` if the name of a method is next: an identifier before `(` or `::`.
 fn at_method(p: &mut Parser<'_>) -> bool
     ensures sees { (c : Bool) → Saw c
         (Either ('ident' before 'l_paren') ('ident' before '::')) p.old result }
@@ -200,10 +200,10 @@ fn at_method(p: &mut Parser<'_>) -> bool
     false
 }
 
-/// What stands after the dot after an expression.
+/// Parses a field access or a method call after its dot.
+// b(c)
 #[cycle(grammar)]
 fn after_dot(p: &mut Parser<'_>, frame: Marker) -> Marker
-    requires short { length p.old.input < 2 ^ 64 }
     requires innermost { IsInnermost frame p.old.nodes }
     ensures reads { (c : Bool) → Reads c (more rules.after_dot) p.old p.new }
     ensures marker { IsInnermost result p.new.nodes }
@@ -231,10 +231,10 @@ fn after_dot(p: &mut Parser<'_>, frame: Marker) -> Marker
     }
 }
 
-/// A method's name, its generic arguments, and its arguments.
+/// Parses a method call after its dot.
+// b::<u8>(c)
 #[cycle(grammar)]
 fn method_call(p: &mut Parser<'_>)
-    requires short { length p.old.input < 2 ^ 64 }
     requires some { 1 ≤ tokens p.old }
     ensures reads { (c : Bool) → Reads c
         (NAME_REF ⟨ One 'ident' ⟩ ▸ ⁅ GenericArgs ⁆ ▸ Arguments !) p.old p.new }
@@ -246,10 +246,10 @@ fn method_call(p: &mut Parser<'_>)
     expect_arguments(p);
 }
 
-/// Arguments, or the message that they are missing.
+/// Parses call arguments; emits an error if there are none.
+// (a, b)
 #[cycle(grammar)]
 fn expect_arguments(p: &mut Parser<'_>)
-    requires short { length p.old.input < 2 ^ 64 }
     ensures reads { (c : Bool) → Reads c (Arguments !) p.old p.new }
     ensures left { tokens p.new ≤ tokens p.old }
     ensures looks { spent p.new ≤ spent p.old + 1 }
@@ -261,11 +261,11 @@ fn expect_arguments(p: &mut Parser<'_>)
     error(p, Message::Expected(SyntaxKind::ARG_LIST));
 }
 
-/// A float after a dot, which holds a field or two: what stands after its own dot is read on, if it
-/// ends in that.
+/// Parses a float after a dot: one or two field numbers. After a float that ends in a dot, parses
+/// what follows that dot.
+// 0.1
 #[cycle(grammar)]
 fn float(p: &mut Parser<'_>, frame: Marker) -> Marker
-    requires short { length p.old.input < 2 ^ 64 }
     requires float { (c : Bool) → Saw c (Kind 0 FLOAT_NUMBER) p.old true }
     requires some { 1 ≤ tokens p.old }
     requires innermost { IsInnermost frame p.old.nodes }
@@ -284,7 +284,8 @@ fn float(p: &mut Parser<'_>, frame: Marker) -> Marker
     after_dot(p, frame)
 }
 
-/// Closes the node as a field access by the float that is next, and opens one around it.
+/// Completes the node as a field access by the next float, and opens a node around it.
+// 0.1
 fn split(p: &mut Parser<'_>, frame: Marker, joint: bool) -> Marker
     requires float { (c : Bool) → Saw c (Kind 0 FLOAT_NUMBER) p.old true }
     requires joint { (c : Bool) → Saw c (Joint 0) p.old joint }

@@ -1,6 +1,6 @@
 //! Structs and enums.
 
-ghost use Rattle.std.specs.Prelude.{◌≡◌, ◌≤◌, ◌<◌, ◌+◌, ◌*◌, ◌^◌, Bool, length};
+ghost use Rattle.std.specs.Prelude.{◌≤◌, ◌+◌, Bool};
 ghost use Rattle.parser_input.specs.Kinds.{ENUM, STRUCT};
 ghost use Rattle.parser_events.specs.Stack.{IsInnermost};
 ghost use Rattle.rust_grammar.specs.Calls.{GenericParams, Name, RecordFields, TupleFields, Variants, WhereClause};
@@ -18,10 +18,10 @@ use parser_input::syntax_kind::SyntaxKind;
 use rust_productions::grammar::names::expect_name;
 use rust_productions::grammar::{at, complete, error, expect, take};
 
-/// A struct.
+/// Parses a struct, and completes its node.
+// struct S<T> { a: T }
 #[cycle(grammar)]
 pub(crate) fn struct_item(p: &mut Parser<'_>, item: Marker, condition: bool)
-    requires short { length p.old.input < 2 ^ 64 }
     requires some { 1 ≤ tokens p.old }
     requires innermost { IsInnermost item p.old.nodes }
     ensures completes { Completes condition (STRUCT <⟨ One 'struct' ▸ Name ! ▸ ⁅ GenericParams ⁆
@@ -37,10 +37,10 @@ pub(crate) fn struct_item(p: &mut Parser<'_>, item: Marker, condition: bool)
     complete(p, item, SyntaxKind::STRUCT);
 }
 
-/// The fields of a struct, or its `;`.
+/// Parses the fields of a struct, or its `;`.
+// (u8, u8);
 #[cycle(grammar)]
 fn fields(p: &mut Parser<'_>, condition: bool)
-    requires short { length p.old.input < 2 ^ 64 }
     ensures reads { Reads condition (TupleFields ▸ ⁅ WhereClause ⁆ ▸ One 'semi' !
         or ⁅ WhereClause ⁆ ▸ (RecordFields or One 'semi' !)) p.old p.new }
     ensures left { tokens p.new ≤ tokens p.old }
@@ -56,10 +56,10 @@ fn fields(p: &mut Parser<'_>, condition: bool)
     named_fields(p);
 }
 
-/// The named fields of a struct, or the `;` of one that has none.
+/// Parses the named fields of a struct, or its `;`.
+// { a: u8 }
 #[cycle(grammar)]
 fn named_fields(p: &mut Parser<'_>)
-    requires short { length p.old.input < 2 ^ 64 }
     ensures reads { (c : Bool) → Reads c (RecordFields or One 'semi' !) p.old p.new }
     ensures left { tokens p.new ≤ tokens p.old }
     ensures looks { spent p.new ≤ spent p.old + 2 }
@@ -71,10 +71,10 @@ fn named_fields(p: &mut Parser<'_>)
     expect(p, SyntaxKind::SEMICOLON);
 }
 
-/// An enum.
+/// Parses an enum, and completes its node.
+// enum E { A, B(u8) }
 #[cycle(grammar)]
 pub(crate) fn enum_item(p: &mut Parser<'_>, item: Marker, condition: bool)
-    requires short { length p.old.input < 2 ^ 64 }
     requires some { 1 ≤ tokens p.old }
     requires innermost { IsInnermost item p.old.nodes }
     ensures completes { Completes condition (ENUM <⟨ One 'enum' ▸ Name ! ▸ ⁅ GenericParams ⁆
@@ -90,10 +90,10 @@ pub(crate) fn enum_item(p: &mut Parser<'_>, item: Marker, condition: bool)
     complete(p, item, SyntaxKind::ENUM);
 }
 
-/// The variants of an enum, or the message that they are missing.
+/// Parses the variants of an enum; emits an error if there are none.
+// { A, B(u8) }
 #[cycle(grammar)]
 fn expect_variants(p: &mut Parser<'_>)
-    requires short { length p.old.input < 2 ^ 64 }
     ensures reads { (c : Bool) → Reads c (Variants !) p.old p.new }
     ensures left { tokens p.new ≤ tokens p.old }
     ensures looks { spent p.new ≤ spent p.old + 1 }

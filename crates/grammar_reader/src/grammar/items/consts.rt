@@ -1,6 +1,6 @@
 //! Constants, statics and names of types.
 
-ghost use Rattle.std.specs.Prelude.{◌≡◌, ◌≤◌, ◌<◌, ◌+◌, ◌*◌, ◌^◌, Bool, length};
+ghost use Rattle.std.specs.Prelude.{◌≤◌, ◌+◌};
 ghost use Rattle.parser_input.specs.Kinds.{CONST, STATIC, TYPE_ALIAS};
 ghost use Rattle.parser_events.specs.Stack.{IsInnermost};
 ghost use Rattle.rust_grammar.specs.Calls.{AnyType, Bounds, Expression, GenericParams, Name, WhereClause};
@@ -20,10 +20,10 @@ use rust_productions::grammar::names::expect_name;
 use rust_productions::grammar::use_trees::underscore_or_name;
 use rust_productions::grammar::{at, complete, eat, expect, take};
 
-/// A constant.
+/// Parses a constant, and completes its node.
+// const A: u8 = 1;
 #[cycle(grammar)]
 pub(crate) fn const_item(p: &mut Parser<'_>, item: Marker, condition: bool)
-    requires short { length p.old.input < 2 ^ 64 }
     requires some { 1 ≤ tokens p.old }
     requires innermost { IsInnermost item p.old.nodes }
     ensures completes { Completes condition (CONST <⟨ One 'const' ▸ (One '_' or Name !) ▸ One ':' !
@@ -37,10 +37,10 @@ pub(crate) fn const_item(p: &mut Parser<'_>, item: Marker, condition: bool)
     complete(p, item, SyntaxKind::CONST);
 }
 
-/// A static.
+/// Parses a static, and completes its node.
+// static mut A: u8 = 1;
 #[cycle(grammar)]
 pub(crate) fn static_item(p: &mut Parser<'_>, item: Marker, condition: bool)
-    requires short { length p.old.input < 2 ^ 64 }
     requires some { 1 ≤ tokens p.old }
     requires innermost { IsInnermost item p.old.nodes }
     ensures completes { Completes condition (STATIC <⟨ One 'static' ▸ ⁅ One 'mut' ⁆ ▸ Name !
@@ -55,10 +55,10 @@ pub(crate) fn static_item(p: &mut Parser<'_>, item: Marker, condition: bool)
     complete(p, item, SyntaxKind::STATIC);
 }
 
-/// The type and the value of a constant or of a static, up to its `;`.
+/// Parses the type and the optional value of a constant or a static, and its `;`.
+// : u8 = 1;
 #[cycle(grammar)]
 fn typed_value(p: &mut Parser<'_>, condition: bool)
-    requires short { length p.old.input < 2 ^ 64 }
     ensures reads { Reads condition
         (One ':' ! ▸ AnyType ! ▸ ⁅ One '=' ▸ Expression ! ⁆ ▸ One 'semi' !) p.old p.new }
     ensures left { tokens p.new ≤ tokens p.old }
@@ -70,10 +70,10 @@ fn typed_value(p: &mut Parser<'_>, condition: bool)
     expect(p, SyntaxKind::SEMICOLON);
 }
 
-/// The value after a `=`, where there is one.
+/// Parses an optional value with its `=`.
+// = 1
 #[cycle(grammar)]
 pub(crate) fn opt_value(p: &mut Parser<'_>, condition: bool)
-    requires short { length p.old.input < 2 ^ 64 }
     ensures reads { Reads condition ⁅ One '=' ▸ Expression ! ⁆ p.old p.new }
     ensures left { tokens p.new ≤ tokens p.old }
     ensures looks { spent p.new ≤ spent p.old + 1 }
@@ -84,10 +84,10 @@ pub(crate) fn opt_value(p: &mut Parser<'_>, condition: bool)
     }
 }
 
-/// A name for a type.
+/// Parses a type alias, and completes its node.
+// type A<T> = B<T>;
 #[cycle(grammar)]
 pub(crate) fn type_alias(p: &mut Parser<'_>, item: Marker, condition: bool)
-    requires short { length p.old.input < 2 ^ 64 }
     requires some { 1 ≤ tokens p.old }
     requires innermost { IsInnermost item p.old.nodes }
     ensures completes { Completes condition (TYPE_ALIAS <⟨ One 'type' ▸ Name ! ▸ ⁅ GenericParams ⁆

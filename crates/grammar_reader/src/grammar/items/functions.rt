@@ -1,6 +1,6 @@
 //! Functions.
 
-ghost use Rattle.std.specs.Prelude.{◌≡◌, ◌≤◌, ◌<◌, ◌+◌, ◌*◌, ◌^◌, Bool, true, length};
+ghost use Rattle.std.specs.Prelude.{◌≤◌, ◌+◌, Bool, true};
 ghost use Rattle.parser_input.specs.Kinds.{FN};
 ghost use Rattle.parser_events.specs.Stack.{IsInnermost};
 ghost use Rattle.rust_grammar.specs.Calls.{Block, GenericParams, Name, Params, RetType, WhereClause};
@@ -22,10 +22,10 @@ use rust_productions::grammar::items::fn_words;
 use rust_productions::grammar::names::expect_name;
 use rust_productions::grammar::{at, at_pair, complete, error, expect};
 
-/// A function.
+/// Parses a function, and completes its node.
+// const unsafe fn f<T>(a: T) -> T { a }
 #[cycle(grammar)]
 pub(crate) fn fn_item(p: &mut Parser<'_>, item: Marker, condition: bool)
-    requires short { length p.old.input < 2 ^ 64 }
     requires begins { (c : Bool) → Saw c fn_begins p.old true }
     requires some { 1 ≤ tokens p.old }
     requires innermost { IsInnermost item p.old.nodes }
@@ -45,10 +45,10 @@ pub(crate) fn fn_item(p: &mut Parser<'_>, item: Marker, condition: bool)
     complete(p, item, SyntaxKind::FN);
 }
 
-/// The parameters of a function, or the message that they are missing.
+/// Parses function parameters; emits an error if there are none.
+// (a: u8)
 #[cycle(grammar)]
 fn expect_params(p: &mut Parser<'_>)
-    requires short { length p.old.input < 2 ^ 64 }
     ensures reads { (c : Bool) → Reads c (Params !) p.old p.new }
     ensures left { tokens p.new ≤ tokens p.old }
     ensures looks { spent p.new ≤ spent p.old + 1 }
@@ -60,10 +60,10 @@ fn expect_params(p: &mut Parser<'_>)
     error(p, Message::Expected(SyntaxKind::PARAM_LIST));
 }
 
-/// The type that a function gives, where it is said.
+/// Parses an optional return type.
+// -> u8
 #[cycle(grammar)]
 fn opt_ret_type(p: &mut Parser<'_>, condition: bool)
-    requires short { length p.old.input < 2 ^ 64 }
     ensures reads { Reads condition ⁅ RetType ⁆ p.old p.new }
     ensures left { tokens p.new ≤ tokens p.old }
     ensures looks { spent p.new ≤ spent p.old + 2 }
@@ -73,10 +73,10 @@ fn opt_ret_type(p: &mut Parser<'_>, condition: bool)
     }
 }
 
-/// What a function does, or the `;` of one that does not say it.
+/// Parses the body of a function, or its `;`.
+// { a }
 #[cycle(grammar)]
 fn fn_body(p: &mut Parser<'_>)
-    requires short { length p.old.input < 2 ^ 64 }
     ensures reads { (c : Bool) → Reads c (Block or One 'semi' !) p.old p.new }
     ensures left { tokens p.new ≤ tokens p.old }
     ensures looks { spent p.new ≤ spent p.old + 2 }

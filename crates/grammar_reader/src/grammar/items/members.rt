@@ -1,6 +1,6 @@
 //! What stands in structs and enums: variants, and fields with and without names.
 
-ghost use Rattle.std.specs.Prelude.{◌≡◌, ◌≤◌, ◌<◌, ◌+◌, ◌*◌, ◌^◌, Bool, false, true, length};
+ghost use Rattle.std.specs.Prelude.{◌≡◌, ◌≤◌, ◌+◌, Bool, false, true};
 ghost use Rattle.rust_grammar.specs.Calls.{AnyType, Attribute, Name, RecordFields, TupleFields, Visibility};
 ghost use Rattle.rust_grammar.specs.Items as rows;
 ghost use Rattle.rust_grammar.specs.Notation.{◌or◌, ◌▸◌, ⁅◌⁆, ◌*, ◌! };
@@ -18,8 +18,8 @@ use rust_productions::grammar::types::at_type;
 use rust_productions::grammar::visibility::visibility;
 use rust_productions::grammar::{complete, current, expect, start};
 
-/// Whether a variant or a field with a name begins here: with an attribute, with a visibility, or
-/// with its name.
+/// Returns `true` if a variant or a named field starts here: at an attribute, a visibility or a
+/// name.
 pub(crate) fn at_named_member(p: &mut Parser<'_>) -> bool
     ensures sees { (c : Bool) → Saw c
         (begins looks (Attribute * ▸ ⁅ Visibility ⁆ ▸ Name !)) p.old result }
@@ -33,8 +33,7 @@ pub(crate) fn at_named_member(p: &mut Parser<'_>) -> bool
     }
 }
 
-/// Whether a field without a name begins here: with an attribute, with a visibility, or with its
-/// type.
+/// Returns `true` if a tuple field starts here: at an attribute, a visibility or a type.
 pub(crate) fn at_tuple_field(p: &mut Parser<'_>) -> bool
     ensures sees { (c : Bool) → Saw c
         (begins looks (Attribute * ▸ ⁅ Visibility ⁆ ▸ AnyType !)) p.old result }
@@ -48,10 +47,10 @@ pub(crate) fn at_tuple_field(p: &mut Parser<'_>) -> bool
     }
 }
 
-/// A variant.
+/// Parses a variant of an enum.
+// A { a: u8 }
 #[cycle(grammar)]
 pub(crate) fn variant(p: &mut Parser<'_>)
-    requires short { length p.old.input < 2 ^ 64 }
     requires begins { Saw false (begins looks rows.variant) p.old true }
     requires some { 1 ≤ tokens p.old }
     ensures reads { Reads false rows.variant p.old p.new }
@@ -64,10 +63,10 @@ pub(crate) fn variant(p: &mut Parser<'_>)
     complete(p, variant, SyntaxKind::VARIANT);
 }
 
-/// A field with a name.
+/// Parses a named field.
+// pub a: u8
 #[cycle(grammar)]
 pub(crate) fn record_field(p: &mut Parser<'_>)
-    requires short { length p.old.input < 2 ^ 64 }
     requires begins { Saw false (begins looks rows.record_field) p.old true }
     requires some { 1 ≤ tokens p.old }
     ensures reads { Reads false rows.record_field p.old p.new }
@@ -81,10 +80,10 @@ pub(crate) fn record_field(p: &mut Parser<'_>)
     complete(p, field, SyntaxKind::RECORD_FIELD);
 }
 
-/// A field without a name.
+/// Parses a tuple field.
+// pub u8
 #[cycle(grammar)]
 pub(crate) fn tuple_field(p: &mut Parser<'_>)
-    requires short { length p.old.input < 2 ^ 64 }
     requires begins { Saw false (begins looks rows.tuple_field) p.old true }
     requires some { 1 ≤ tokens p.old }
     ensures reads { Reads false rows.tuple_field p.old p.new }
@@ -96,10 +95,10 @@ pub(crate) fn tuple_field(p: &mut Parser<'_>)
     complete(p, field, SyntaxKind::TUPLE_FIELD);
 }
 
-/// The attributes, the visibility and the name of a variant or a field.
+/// Parses the attributes, the visibility and the name of a variant or a field.
+// #[a] pub b
 #[cycle(grammar)]
 fn named(p: &mut Parser<'_>)
-    requires short { length p.old.input < 2 ^ 64 }
     requires begins { Saw false (begins looks (Attribute * ▸ ⁅ Visibility ⁆ ▸ Name !)) p.old true }
     requires some { 1 ≤ tokens p.old }
     ensures reads { Reads false (Attribute * ▸ ⁅ Visibility ⁆ ▸ Name !) p.old p.new }
@@ -119,10 +118,10 @@ fn named(p: &mut Parser<'_>)
     }
 }
 
-/// The attributes, the visibility and the type of a field.
+/// Parses the attributes, the visibility and the type of a tuple field.
+// #[a] pub u8
 #[cycle(grammar)]
 fn typed(p: &mut Parser<'_>)
-    requires short { length p.old.input < 2 ^ 64 }
     requires begins { Saw false
         (begins looks (Attribute * ▸ ⁅ Visibility ⁆ ▸ AnyType !)) p.old true }
     requires some { 1 ≤ tokens p.old }
@@ -143,10 +142,10 @@ fn typed(p: &mut Parser<'_>)
     }
 }
 
-/// The fields of a variant, where it has some.
+/// Parses the optional fields of a variant.
+// (u8)
 #[cycle(grammar)]
 fn opt_fields(p: &mut Parser<'_>)
-    requires short { length p.old.input < 2 ^ 64 }
     ensures reads { (c : Bool) → Reads c ⁅ RecordFields or TupleFields ⁆ p.old p.new }
     ensures left { tokens p.new ≤ tokens p.old }
     ensures looks { spent p.new ≤ spent p.old + 1 }

@@ -1,6 +1,6 @@
 //! Traits and implementations.
 
-ghost use Rattle.std.specs.Prelude.{◌≡◌, ◌≤◌, ◌<◌, ◌+◌, ◌*◌, ◌^◌, Bool, true, length};
+ghost use Rattle.std.specs.Prelude.{◌≤◌, ◌+◌, Bool, true};
 ghost use Rattle.parser_input.specs.Kinds.{IMPL, TRAIT};
 ghost use Rattle.parser_events.specs.Stack.{IsInnermost};
 ghost use Rattle.rust_grammar.specs.Calls.{AnyType, AssocItems, Bounds, GenericParams, Name, WhereClause};
@@ -20,10 +20,10 @@ use rust_productions::grammar::items::unsafe_word;
 use rust_productions::grammar::names::expect_name;
 use rust_productions::grammar::{at, complete, error};
 
-/// An implementation.
+/// Parses an implementation, and completes its node.
+// impl<T> A for B<T> { fn f() {} }
 #[cycle(grammar)]
 pub(crate) fn impl_item(p: &mut Parser<'_>, item: Marker, condition: bool)
-    requires short { length p.old.input < 2 ^ 64 }
     requires begins { (c : Bool) → Saw c (Either (next 'impl') ('unsafe' before 'impl')) p.old true }
     requires some { 1 ≤ tokens p.old }
     requires innermost { IsInnermost item p.old.nodes }
@@ -42,10 +42,10 @@ pub(crate) fn impl_item(p: &mut Parser<'_>, item: Marker, condition: bool)
     complete(p, item, SyntaxKind::IMPL);
 }
 
-/// A trait.
+/// Parses a trait, and completes its node.
+// trait A<T>: B { fn f(); }
 #[cycle(grammar)]
 pub(crate) fn trait_item(p: &mut Parser<'_>, item: Marker, condition: bool)
-    requires short { length p.old.input < 2 ^ 64 }
     requires begins { (c : Bool) → Saw c (Either (next 'trait') ('unsafe' before 'trait')) p.old true }
     requires some { 1 ≤ tokens p.old }
     requires innermost { IsInnermost item p.old.nodes }
@@ -63,10 +63,10 @@ pub(crate) fn trait_item(p: &mut Parser<'_>, item: Marker, condition: bool)
     complete(p, item, SyntaxKind::TRAIT);
 }
 
-/// The items of a trait or of an `impl`, or the message that they are missing.
+/// Parses associated items; emits an error if there are none.
+// { fn f(); }
 #[cycle(grammar)]
 fn expect_assoc_items(p: &mut Parser<'_>)
-    requires short { length p.old.input < 2 ^ 64 }
     ensures reads { (c : Bool) → Reads c (AssocItems !) p.old p.new }
     ensures left { tokens p.new ≤ tokens p.old }
     ensures looks { spent p.new ≤ spent p.old + 1 }

@@ -10,28 +10,24 @@ use Rattle.ra_parser.proofs.entries.read.Goals as goal
 
 pub expression-requires : goal.expression-requires
 expression-requires c = record {
-  short = c.requires.short;
   begins = subst (λ (s : Single). Saw false (looks (single_of s)) c.args.p.now true) c.in-Expression.is c.requires.begins;
   some = c.requires.some;
 }
 
 pub meta-requires : goal.meta-requires
 meta-requires c = record {
-  short = c.requires.short;
   begins = λ d. any-mode (subst (λ (l : Look). Saw false l c.args.p.now true) meta-begins (subst (λ (s : Single). Saw false (looks (single_of s)) c.args.p.now true) c.in-Meta.is c.requires.begins));
   some = c.requires.some;
 }
 
 pub pattern-requires : goal.pattern-requires
 pattern-requires c = record {
-  short = c.requires.short;
   begins = λ d. pattern-mode (subst (λ (s : Single). Saw false (looks (single_of s)) c.args.p.now true) c.in-Pattern.is c.requires.begins);
   some = c.requires.some;
 }
 
 pub any_type-requires : goal.any_type-requires
 any_type-requires c = record {
-  short = c.requires.short;
   begins = subst (λ (s : Single). Saw false (looks (single_of s)) c.args.p.now true) c.in-Type.is c.requires.begins;
   some = c.requires.some;
 }

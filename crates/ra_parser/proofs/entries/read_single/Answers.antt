@@ -1,4 +1,4 @@
-use Rattle.std.proofs.Common.{◌≤◌, false, List, [], ◌∷◌, length, sym, ap, subst, ◌∙◌, arith}
+use Rattle.std.proofs.Common.{◌≤◌, false, List, [], ◌∷◌, length, sym, ap, subst, arith}
 use Rattle.parser_input.specs.Input.{Token}
 use Rattle.parser_events.specs.Forest.{Forest}
 use Rattle.parser_events.specs.Marked.{End, marked}
@@ -7,7 +7,6 @@ use Rattle.rust_productions.specs.Looks.{tokens}
 use Rattle.rust_productions.specs.Stands.{Holds, left}
 use Rattle.rust_productions.proofs.Facts.{saw-so}
 use Rattle.rust_productions.proofs.Seen.{saw-after}
-use Rattle.grammar_reader.proofs.Inputs.{short-still}
 use Rattle.ra_parser.specs.Entries.{single_of}
 use Rattle.ra_parser.proofs.Entered.{from, read_from, no-list, entry-missing, entry-over, entry-whole, opened-seen, seen-from, single-read}
 use Rattle.ra_parser.proofs.Taking.{none-left, some-left}
@@ -18,7 +17,6 @@ stray-requires c = record { marker = c.begins.ensures.same.innermost _ c.start-f
 
 pub read-requires : goal.read-requires
 read-requires c = record {
-  short = short-still _ _ (c.begins.ensures.same.input ∙ c.start-frame.ensures.opens.input) c.requires.short;
   begins = saw-after c.begins.ensures.same (saw-so c.begins.ensures.sees c.if-not-begins.false);
   some = omega (arith, c.begins.ensures.some c.if-not-begins.false, c.begins.ensures.left);
 }

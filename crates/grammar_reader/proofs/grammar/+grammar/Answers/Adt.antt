@@ -1,5 +1,5 @@
 -- Structs and enums, path by path.
-use Rattle.std.proofs.Common.{true, ◌∙◌, arith}
+use Rattle.std.proofs.Common.{true, arith}
 use Rattle.rust_grammar.specs.Expressions.{expressions}
 use Rattle.rust_grammar.specs.Items.{items}
 use Rattle.rust_grammar.specs.Meaning.{begins_below, look_of}
@@ -10,17 +10,10 @@ use Rattle.rust_grammar.specs.Rule.{begins, in_mode, anew, is_silent, passes, sh
 use Rattle.rust_grammar.specs.Statements.{statements}
 use Rattle.rust_grammar.specs.Types.{types}
 use Rattle.rust_grammar.specs.Whole.{rule, whole}
-use Rattle.grammar_reader.proofs.Inputs.{short-still}
 use Rattle.rust_productions.proofs.ByHand.{after-look, completes-wrap, reads-call, reads-then}
 use Rattle.rust_productions.proofs.Choices.{reads-here}
 use Rattle.rust_productions.proofs.Facts.{nothing, saw-so, ◌and◌}
 use Rattle.grammar_reader.proofs.grammar.+grammar.Goals as goal
-
-pub items::adt::struct_item-opt_generic_params-requires : goal.items::adt::struct_item-opt_generic_params-requires
-items::adt::struct_item-opt_generic_params-requires t c = (omega arith, short-still _ _ ((c.expect_name.ensures.reads true).does.input ∙ (c.take.ensures.reads true).does.input) c.requires.short)
-
-pub items::adt::struct_item-fields-requires : goal.items::adt::struct_item-fields-requires
-items::adt::struct_item-fields-requires t c = (omega arith, short-still _ _ ((c.opt_generic_params.ensures.reads true).does.input ∙ (c.expect_name.ensures.reads true).does.input ∙ (c.take.ensures.reads true).does.input) c.requires.short)
 
 pub items::adt::struct_item-complete-requires : goal.items::adt::struct_item-complete-requires
 items::adt::struct_item-complete-requires t c = c.fields.ensures.reads.does.innermost _ ((c.opt_generic_params.ensures.reads true).does.innermost _ ((c.expect_name.ensures.reads true).does.innermost _ ((c.take.ensures.reads true).does.innermost _ c.requires.innermost)))
@@ -28,31 +21,13 @@ items::adt::struct_item-complete-requires t c = c.fields.ensures.reads.does.inne
 pub items::adt::struct_item-returns-clause-completes : goal.items::adt::struct_item-returns-clause-completes
 items::adt::struct_item-returns-clause-completes t c = completes-wrap (reads-then _ (c.take.ensures.reads c.args.condition) (reads-then _ (c.expect_name.ensures.reads c.args.condition) (reads-then _ (c.opt_generic_params.ensures.reads c.args.condition) c.fields.ensures.reads))) c.complete.ensures.closes
 
-pub items::adt::fields-opt_where_clause-requires : goal.items::adt::fields-opt_where_clause-requires
-items::adt::fields-opt_where_clause-requires t c = (omega arith, short-still _ _ ((c.tuple_fields.ensures.gives true).does.input ∙ c.at.ensures.same.input) c.requires.short)
-
 pub items::adt::fields-returns-then-at-clause-reads : goal.items::adt::fields-returns-then-at-clause-reads
 unfolding look_of begins_below whole rule items statements expressions patterns types paths there_at shift passes is_silent begins in_mode anew row one_of any_of no_longer longest is_longer
 items::adt::fields-returns-then-at-clause-reads t c = reads-here (saw-so (c.at.ensures.sees c.args.condition) c.if-at.true and nothing) (after-look _ c.at.ensures.same (reads-then _ (reads-call _ (c.tuple_fields.ensures.gives c.args.condition)) (reads-then _ c.opt_where_clause.ensures.reads (c.expect.ensures.reads c.args.condition))))
 
-pub items::adt::fields-opt_where_clause-requires-2 : goal.items::adt::fields-opt_where_clause-requires-2
-items::adt::fields-opt_where_clause-requires-2 t c = (omega arith, short-still _ _ c.at.ensures.same.input c.requires.short)
-
-pub items::adt::fields-named_fields-requires : goal.items::adt::fields-named_fields-requires
-items::adt::fields-named_fields-requires t c = (omega arith, short-still _ _ (c.opt_where_clause-2.ensures.reads.does.input ∙ c.at.ensures.same.input) c.requires.short)
-
 pub items::adt::fields-returns-clause-reads : goal.items::adt::fields-returns-clause-reads
 unfolding look_of begins_below whole rule items statements expressions patterns types paths there_at shift passes is_silent begins in_mode anew row one_of any_of no_longer longest is_longer
 items::adt::fields-returns-clause-reads t c = reads-here (saw-so (c.at.ensures.sees c.args.condition) c.if-at.false and nothing) (after-look _ c.at.ensures.same (reads-then _ c.opt_where_clause-2.ensures.reads (c.named_fields.ensures.reads c.args.condition)))
-
-pub items::adt::enum_item-opt_generic_params-requires : goal.items::adt::enum_item-opt_generic_params-requires
-items::adt::enum_item-opt_generic_params-requires t c = (omega arith, short-still _ _ ((c.expect_name.ensures.reads true).does.input ∙ (c.take.ensures.reads true).does.input) c.requires.short)
-
-pub items::adt::enum_item-opt_where_clause-requires : goal.items::adt::enum_item-opt_where_clause-requires
-items::adt::enum_item-opt_where_clause-requires t c = (omega arith, short-still _ _ ((c.opt_generic_params.ensures.reads true).does.input ∙ (c.expect_name.ensures.reads true).does.input ∙ (c.take.ensures.reads true).does.input) c.requires.short)
-
-pub items::adt::enum_item-expect_variants-requires : goal.items::adt::enum_item-expect_variants-requires
-items::adt::enum_item-expect_variants-requires t c = (omega arith, short-still _ _ (c.opt_where_clause.ensures.reads.does.input ∙ (c.opt_generic_params.ensures.reads true).does.input ∙ (c.expect_name.ensures.reads true).does.input ∙ (c.take.ensures.reads true).does.input) c.requires.short)
 
 pub items::adt::enum_item-complete-requires : goal.items::adt::enum_item-complete-requires
 items::adt::enum_item-complete-requires t c = (c.expect_variants.ensures.reads true).does.innermost _ (c.opt_where_clause.ensures.reads.does.innermost _ ((c.opt_generic_params.ensures.reads true).does.innermost _ ((c.expect_name.ensures.reads true).does.innermost _ ((c.take.ensures.reads true).does.innermost _ c.requires.innermost))))
@@ -61,7 +36,7 @@ pub items::adt::enum_item-returns-clause-completes : goal.items::adt::enum_item-
 items::adt::enum_item-returns-clause-completes t c = completes-wrap (reads-then _ (c.take.ensures.reads c.args.condition) (reads-then _ (c.expect_name.ensures.reads c.args.condition) (reads-then _ (c.opt_generic_params.ensures.reads c.args.condition) (reads-then _ c.opt_where_clause.ensures.reads (c.expect_variants.ensures.reads c.args.condition))))) c.complete.ensures.closes
 
 pub items::adt::named_fields-record_fields-requires : goal.items::adt::named_fields-record_fields-requires
-items::adt::named_fields-record_fields-requires t c = (omega arith, (short-still _ _ c.at.ensures.same.input c.requires.short, omega (arith, c.at.ensures.left, c.at.ensures.some c.if-at.true (λ e. absurd (omega (arith, e))))))
+items::adt::named_fields-record_fields-requires t c = (omega arith, omega (arith, c.at.ensures.left, c.at.ensures.some c.if-at.true (λ e. absurd (omega (arith, e)))))
 
 pub items::adt::named_fields-returns-then-at-clause-reads : goal.items::adt::named_fields-returns-then-at-clause-reads
 unfolding look_of begins_below whole rule items statements expressions patterns types paths there_at shift passes is_silent begins in_mode anew row one_of any_of no_longer longest is_longer
@@ -72,7 +47,7 @@ unfolding look_of begins_below whole rule items statements expressions patterns 
 items::adt::named_fields-returns-clause-reads t c = λ cond. reads-here (saw-so (c.at.ensures.sees cond) c.if-at.false and nothing) (after-look cond c.at.ensures.same (c.expect.ensures.reads cond))
 
 pub items::adt::expect_variants-variants-requires : goal.items::adt::expect_variants-variants-requires
-items::adt::expect_variants-variants-requires t c = (omega arith, (short-still _ _ c.at.ensures.same.input c.requires.short, omega (arith, c.at.ensures.left, c.at.ensures.some c.if-at.true (λ e. absurd (omega (arith, e))))))
+items::adt::expect_variants-variants-requires t c = (omega arith, omega (arith, c.at.ensures.left, c.at.ensures.some c.if-at.true (λ e. absurd (omega (arith, e)))))
 
 pub items::adt::expect_variants-returns-then-at-clause-reads : goal.items::adt::expect_variants-returns-then-at-clause-reads
 unfolding look_of begins_below whole rule items statements expressions patterns types paths there_at shift passes is_silent begins in_mode anew row one_of any_of no_longer longest is_longer
@@ -83,4 +58,4 @@ unfolding look_of begins_below whole rule items statements expressions patterns 
 items::adt::expect_variants-returns-clause-reads t c = λ cond. reads-here (saw-so (c.at.ensures.sees cond) c.if-at.false and nothing) (after-look cond c.at.ensures.same (c.error.ensures.reads cond))
 
 pub items::adt::fields-tuple_fields-requires : goal.items::adt::fields-tuple_fields-requires
-items::adt::fields-tuple_fields-requires t c = (omega arith, (short-still _ _ c.at.ensures.same.input c.requires.short, omega (arith, c.at.ensures.left, c.at.ensures.some c.if-at.true (λ e. absurd (omega (arith, e))))))
+items::adt::fields-tuple_fields-requires t c = (omega arith, omega (arith, c.at.ensures.left, c.at.ensures.some c.if-at.true (λ e. absurd (omega (arith, e)))))

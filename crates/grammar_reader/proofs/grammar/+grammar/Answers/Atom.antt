@@ -1,5 +1,5 @@
 -- Expressions without an operator, arm by arm.
-use Rattle.std.proofs.Common.{true, false, refl, subst, ◌∙◌, arith}
+use Rattle.std.proofs.Common.{true, false, refl, subst, arith}
 use Rattle.rust_grammar.specs.Rule.{Look}
 use Rattle.rust_grammar.specs.Rule as rules
 use Rattle.rust_grammar.specs.Expressions.{expressions}
@@ -15,7 +15,6 @@ use Rattle.rust_grammar.specs.Whole.{rule, whole}
 use Rattle.grammar_reader.specs.declared.grammar.paths.Mode.TheVariants as modes
 use Rattle.grammar_reader.proofs.PathArgs.{any-mode, paths-begin}
 use Rattle.grammar_reader.proofs.Seeing.{saw-mode}
-use Rattle.grammar_reader.proofs.Inputs.{short-still}
 use Rattle.rust_productions.specs.Reads.{Saw}
 use Rattle.rust_productions.proofs.ByHand.{after-look, does-nothing, does-then, reads-call, reads-else, reads-mode, reads-node, reads-nothing, reads-or, reads-then, reads-wrap}
 use Rattle.rust_productions.proofs.Choices.{reads-here}
@@ -26,14 +25,14 @@ use Rattle.rust_productions.proofs.Ranges.{begins-call}
 use Rattle.grammar_reader.proofs.grammar.+grammar.Goals as goal
 
 pub expressions::atom::inside-paren_expr-requires : goal.expressions::atom::inside-paren_expr-requires
-expressions::atom::inside-paren_expr-requires t c = (omega arith, (short-still _ _ c.current.ensures.same.input c.requires.short, (omega arith, c.current.ensures.same.innermost _ c.requires.innermost)))
+expressions::atom::inside-paren_expr-requires t c = (omega arith, (omega arith, c.current.ensures.same.innermost _ c.requires.innermost))
 
 pub expressions::atom::inside-returns-in-L_PAREN-clause-reads : goal.expressions::atom::inside-returns-in-L_PAREN-clause-reads
 unfolding look_of begins_below whole rule items statements expressions patterns types paths there_at shift passes is_silent begins in_mode anew row one_of any_of no_longer longest is_longer
 expressions::atom::inside-returns-in-L_PAREN-clause-reads t c = reads-here (saw-arm c.in-L_PAREN.is (c.current.ensures.sees c.args.condition) and nothing) (after-look _ c.current.ensures.same (c.paren_expr.ensures.reads c.args.condition))
 
 pub expressions::atom::inside-array_expr-requires : goal.expressions::atom::inside-array_expr-requires
-expressions::atom::inside-array_expr-requires t c = (omega arith, (short-still _ _ c.current.ensures.same.input c.requires.short, omega arith))
+expressions::atom::inside-array_expr-requires t c = (omega arith, omega arith)
 
 pub expressions::atom::inside-returns-in-L_BRACK-clause-reads : goal.expressions::atom::inside-returns-in-L_BRACK-clause-reads
 unfolding look_of begins_below whole rule items statements expressions patterns types paths there_at shift passes is_silent begins in_mode anew row one_of any_of no_longer longest is_longer
@@ -43,7 +42,7 @@ pub expressions::atom::inside-returns-in-L_BRACK-clause-marker : goal.expression
 expressions::atom::inside-returns-in-L_BRACK-clause-marker t c = (c.array_expr.ensures.reads true).does.innermost _ (c.current.ensures.same.innermost _ c.requires.innermost)
 
 pub expressions::atom::inside-value_expr-requires : goal.expressions::atom::inside-value_expr-requires
-expressions::atom::inside-value_expr-requires t c = (omega arith, (short-still _ _ c.current.ensures.same.input c.requires.short, omega arith))
+expressions::atom::inside-value_expr-requires t c = (omega arith, omega arith)
 
 pub expressions::atom::inside-returns-in-RETURN_KW-clause-reads : goal.expressions::atom::inside-returns-in-RETURN_KW-clause-reads
 unfolding look_of begins_below whole rule items statements expressions patterns types paths there_at shift passes is_silent begins in_mode anew row one_of any_of no_longer longest is_longer
@@ -53,7 +52,7 @@ pub expressions::atom::inside-returns-in-RETURN_KW-clause-marker : goal.expressi
 expressions::atom::inside-returns-in-RETURN_KW-clause-marker t c = c.value_expr.ensures.reads.does.innermost _ (c.current.ensures.same.innermost _ c.requires.innermost)
 
 pub expressions::atom::inside-value_expr-requires-in-BREAK_KW : goal.expressions::atom::inside-value_expr-requires-in-BREAK_KW
-expressions::atom::inside-value_expr-requires-in-BREAK_KW t c = (omega arith, (short-still _ _ c.current.ensures.same.input c.requires.short, omega arith))
+expressions::atom::inside-value_expr-requires-in-BREAK_KW t c = (omega arith, omega arith)
 
 pub expressions::atom::inside-returns-in-BREAK_KW-clause-reads : goal.expressions::atom::inside-returns-in-BREAK_KW-clause-reads
 unfolding look_of begins_below whole rule items statements expressions patterns types paths there_at shift passes is_silent begins in_mode anew row one_of any_of no_longer longest is_longer
@@ -70,7 +69,7 @@ pub expressions::atom::inside-returns-in-CONTINUE_KW-clause-marker : goal.expres
 expressions::atom::inside-returns-in-CONTINUE_KW-clause-marker t c = (c.word_type.ensures.reads true).does.innermost _ (c.current.ensures.same.innermost _ c.requires.innermost)
 
 pub expressions::atom::inside-closure_expr-requires : goal.expressions::atom::inside-closure_expr-requires
-expressions::atom::inside-closure_expr-requires t c = (omega arith, (short-still _ _ c.current.ensures.same.input c.requires.short, omega arith))
+expressions::atom::inside-closure_expr-requires t c = (omega arith, omega arith)
 
 pub expressions::atom::inside-returns-in-PIPE-clause-reads : goal.expressions::atom::inside-returns-in-PIPE-clause-reads
 unfolding look_of begins_below whole rule items statements expressions patterns types paths there_at shift passes is_silent begins in_mode anew row one_of any_of no_longer longest is_longer
@@ -80,7 +79,7 @@ pub expressions::atom::inside-returns-in-PIPE-clause-marker : goal.expressions::
 expressions::atom::inside-returns-in-PIPE-clause-marker t c = c.closure_expr.ensures.reads.does.innermost _ (c.current.ensures.same.innermost _ c.requires.innermost)
 
 pub expressions::atom::inside-move_closure-requires : goal.expressions::atom::inside-move_closure-requires
-expressions::atom::inside-move_closure-requires t c = (omega arith, (short-still _ _ c.current.ensures.same.input c.requires.short, omega arith))
+expressions::atom::inside-move_closure-requires t c = (omega arith, omega arith)
 
 pub expressions::atom::inside-returns-in-MOVE_KW-clause-reads : goal.expressions::atom::inside-returns-in-MOVE_KW-clause-reads
 unfolding look_of begins_below whole rule items statements expressions patterns types paths there_at shift passes is_silent begins in_mode anew row one_of any_of no_longer longest is_longer
@@ -90,7 +89,7 @@ pub expressions::atom::inside-returns-in-MOVE_KW-clause-marker : goal.expression
 expressions::atom::inside-returns-in-MOVE_KW-clause-marker t c = c.move_closure.ensures.reads.does.innermost _ (c.current.ensures.same.innermost _ c.requires.innermost)
 
 pub expressions::atom::inside-let_expr-requires : goal.expressions::atom::inside-let_expr-requires
-expressions::atom::inside-let_expr-requires t c = (omega arith, (short-still _ _ c.current.ensures.same.input c.requires.short, omega arith))
+expressions::atom::inside-let_expr-requires t c = (omega arith, omega arith)
 
 pub expressions::atom::inside-returns-in-LET_KW-clause-reads : goal.expressions::atom::inside-returns-in-LET_KW-clause-reads
 unfolding look_of begins_below whole rule items statements expressions patterns types paths there_at shift passes is_silent begins in_mode anew row one_of any_of no_longer longest is_longer
@@ -109,7 +108,7 @@ expressions::atom::inside-returns-then-at_literal t c = record {
 }
 
 pub expressions::atom::inside-block_like-requires : goal.expressions::atom::inside-block_like-requires
-expressions::atom::inside-block_like-requires t c = (omega arith, (short-still _ _ (c.at_block_like.ensures.same.input ∙ c.at_literal.ensures.same.input ∙ c.current.ensures.same.input) c.requires.short, ((λ d. saw-after c.at_block_like.ensures.same (saw-so (c.at_block_like.ensures.sees d) c.if-at_block_like.true)), omega (arith, c.at_block_like.ensures.some c.if-at_block_like.true, c.at_block_like.ensures.left))))
+expressions::atom::inside-block_like-requires t c = (omega arith, ((λ d. saw-after c.at_block_like.ensures.same (saw-so (c.at_block_like.ensures.sees d) c.if-at_block_like.true)), omega (arith, c.at_block_like.ensures.some c.if-at_block_like.true, c.at_block_like.ensures.left)))
 
 pub expressions::atom::inside-returns-then-at_block_like : goal.expressions::atom::inside-returns-then-at_block_like
 unfolding look_of begins_below whole rule items statements expressions patterns types paths there_at shift passes is_silent begins in_mode anew row one_of any_of no_longer longest is_longer
@@ -126,10 +125,7 @@ expressions::atom::inside-path_expr-requires t c =
     let seen = begins-else rules.expr_path rules.atom refl (saw-not c.in_default.not-L_PAREN (c.current.ensures.sees c.args.condition) and saw-not c.in_default.not-L_BRACK (c.current.ensures.sees c.args.condition) and saw-not c.in_default.not-RETURN_KW (c.current.ensures.sees c.args.condition) and saw-not c.in_default.not-BREAK_KW (c.current.ensures.sees c.args.condition) and saw-not c.in_default.not-CONTINUE_KW (c.current.ensures.sees c.args.condition) and saw-not c.in_default.not-PIPE (c.current.ensures.sees c.args.condition) and saw-not c.in_default.not-MOVE_KW (c.current.ensures.sees c.args.condition) and saw-not c.in_default.not-LET_KW (c.current.ensures.sees c.args.condition) and begun rules.literal (saw-before c.current.ensures.same (saw-so (c.at_literal.ensures.sees c.args.condition) c.if-at_literal.false)) (begun rules.block_like (saw-before c.current.ensures.same (saw-before c.at_literal.ensures.same (saw-so (c.at_block_like.ensures.sees c.args.condition) c.if-at_block_like.false))) nothing)) c.requires.begins refl in
     let path = subst (λ (l : Look). Saw c.args.condition l c.args.p.now true) (paths-begin modes.Expr) seen in (
       omega arith,
-      (
-        short-still _ _ (c.at_block_like.ensures.same.input ∙ c.at_literal.ensures.same.input ∙ c.current.ensures.same.input) c.requires.short,
-        ((λ d. saw-after c.at_block_like.ensures.same (saw-after c.at_literal.ensures.same (saw-after c.current.ensures.same (any-mode path)))), (omega arith, c.at_block_like.ensures.same.innermost _ (c.at_literal.ensures.same.innermost _ (c.current.ensures.same.innermost _ c.requires.innermost)))),
-      ),
+      ((λ d. saw-after c.at_block_like.ensures.same (saw-after c.at_literal.ensures.same (saw-after c.current.ensures.same (any-mode path)))), (omega arith, c.at_block_like.ensures.same.innermost _ (c.at_literal.ensures.same.innermost _ (c.current.ensures.same.innermost _ c.requires.innermost)))),
     )
 
 pub expressions::atom::inside-returns-else-at_block_like : goal.expressions::atom::inside-returns-else-at_block_like
@@ -142,10 +138,10 @@ expressions::atom::inside-returns-else-at_block_like t c = record {
 }
 
 pub expressions::atom::path_expr-path_with_args-requires : goal.expressions::atom::path_expr-path_with_args-requires
-expressions::atom::path_expr-path_with_args-requires t c = (omega arith, (c.requires.short, (c.requires.begins, c.requires.some)))
+expressions::atom::path_expr-path_with_args-requires t c = (omega arith, (c.requires.begins, c.requires.some))
 
 pub expressions::atom::path_expr-after_path-requires : goal.expressions::atom::path_expr-after_path-requires
-expressions::atom::path_expr-after_path-requires t c = (omega arith, (short-still _ _ (c.path_with_args.ensures.gives true).does.input c.requires.short, (c.path_with_args.ensures.gives true).does.innermost _ c.requires.innermost))
+expressions::atom::path_expr-after_path-requires t c = (omega arith, (c.path_with_args.ensures.gives true).does.innermost _ c.requires.innermost)
 
 pub expressions::atom::path_expr-returns-clause-reads : goal.expressions::atom::path_expr-returns-clause-reads
 expressions::atom::path_expr-returns-clause-reads t c = (reads-then _ (reads-call _ (c.path_with_args.ensures.gives c.args.condition)) c.after_path.ensures.reads)
@@ -160,7 +156,7 @@ pub expressions::atom::after_path-wrap-requires-then-condition : goal.expression
 expressions::atom::after_path-wrap-requires-then-condition t c = c.at.ensures.same.innermost _ (c.at_pair.ensures.same.innermost _ c.requires.innermost)
 
 pub expressions::atom::after_path-field_values-requires : goal.expressions::atom::after_path-field_values-requires
-expressions::atom::after_path-field_values-requires t c = (omega arith, (short-still _ _ (c.at-2.ensures.same.input ∙ c.at.ensures.same.input ∙ c.at_pair.ensures.same.input) c.requires.short, omega arith))
+expressions::atom::after_path-field_values-requires t c = (omega arith, omega arith)
 
 pub expressions::atom::after_path-wrap-requires-then-at-2 : goal.expressions::atom::after_path-wrap-requires-then-at-2
 expressions::atom::after_path-wrap-requires-then-at-2 t c = (c.field_values.ensures.gives true).does.innermost _ (c.at-2.ensures.same.innermost _ (c.at.ensures.same.innermost _ (c.at_pair.ensures.same.innermost _ c.requires.innermost)))
@@ -189,7 +185,7 @@ unfolding look_of begins_below whole rule items statements expressions patterns 
 expressions::atom::after_path-returns-clause-reads t c = reads-here (saw-always (saw-so (c.at_pair.ensures.sees c.args.condition) c.if-at_pair.false) and saw-before c.at_pair.ensures.same (saw-so (c.at.ensures.sees c.args.condition) c.if-at.false) and saw-condition c.if-condition.false and saw-before c.at_pair.ensures.same (saw-before c.at.ensures.same (saw-so (c.at-2.ensures.sees c.args.condition) c.if-at-2.false)) and nothing) (reads-wrap _ (reads-nothing _ (does-then c.at_pair.ensures.same (does-then c.at.ensures.same c.at-2.ensures.same))) c.wrap-2.ensures.wraps)
 
 pub expressions::atom::paren_expr-after_paren-requires : goal.expressions::atom::paren_expr-after_paren-requires
-expressions::atom::paren_expr-after_paren-requires t c = (omega arith, (short-still _ _ (c.take.ensures.reads true).does.input c.requires.short, (c.take.ensures.reads true).does.innermost _ c.requires.innermost))
+expressions::atom::paren_expr-after_paren-requires t c = (omega arith, (c.take.ensures.reads true).does.innermost _ c.requires.innermost)
 
 pub expressions::atom::paren_expr-returns-clause-reads : goal.expressions::atom::paren_expr-returns-clause-reads
 expressions::atom::paren_expr-returns-clause-reads t c = λ cond. (reads-then cond (c.take.ensures.reads cond) (c.after_paren.ensures.reads cond))
@@ -197,11 +193,8 @@ expressions::atom::paren_expr-returns-clause-reads t c = λ cond. (reads-then co
 pub expressions::atom::after_paren-wrap-requires : goal.expressions::atom::after_paren-wrap-requires
 expressions::atom::after_paren-wrap-requires t c = (c.take.ensures.reads true).does.innermost _ (c.at.ensures.same.innermost _ c.requires.innermost)
 
-pub expressions::atom::after_paren-expect_expression-requires : goal.expressions::atom::after_paren-expect_expression-requires
-expressions::atom::after_paren-expect_expression-requires t c = (omega arith, short-still _ _ c.at.ensures.same.input c.requires.short)
-
 pub expressions::atom::after_paren-after_first-requires : goal.expressions::atom::after_paren-after_first-requires
-expressions::atom::after_paren-after_first-requires t c = (omega arith, (short-still _ _ (c.expect_expression.ensures.reads.does.input ∙ c.at.ensures.same.input) c.requires.short, c.expect_expression.ensures.reads.does.innermost _ (c.at.ensures.same.innermost _ c.requires.innermost)))
+expressions::atom::after_paren-after_first-requires t c = (omega arith, c.expect_expression.ensures.reads.does.innermost _ (c.at.ensures.same.innermost _ c.requires.innermost))
 
 pub expressions::atom::after_paren-returns-then-at-clause-reads : goal.expressions::atom::after_paren-returns-then-at-clause-reads
 unfolding look_of begins_below whole rule items statements expressions patterns types paths there_at shift passes is_silent begins in_mode anew row one_of any_of no_longer longest is_longer
@@ -212,7 +205,7 @@ unfolding look_of begins_below whole rule items statements expressions patterns 
 expressions::atom::after_paren-returns-clause-reads t c = λ cond. reads-here (saw-so (c.at.ensures.sees cond) c.if-at.false and nothing) (after-look cond c.at.ensures.same (reads-then cond (reads-mode cond c.expect_expression.ensures.reads) (c.after_first.ensures.reads cond)))
 
 pub expressions::atom::after_first-rest_of_list-requires : goal.expressions::atom::after_first-rest_of_list-requires
-expressions::atom::after_first-rest_of_list-requires t c = (omega arith, (short-still _ _ ((c.take.ensures.reads true).does.input ∙ c.at.ensures.same.input) c.requires.short, omega arith))
+expressions::atom::after_first-rest_of_list-requires t c = (omega arith, omega arith)
 
 pub expressions::atom::after_first-wrap-requires : goal.expressions::atom::after_first-wrap-requires
 expressions::atom::after_first-wrap-requires t c = (c.rest_of_list.ensures.reads true).does.innermost _ ((c.take.ensures.reads true).does.innermost _ (c.at.ensures.same.innermost _ c.requires.innermost))
@@ -228,9 +221,6 @@ pub expressions::atom::after_first-returns-clause-reads : goal.expressions::atom
 unfolding look_of begins_below whole rule items statements expressions patterns types paths there_at shift passes is_silent begins in_mode anew row one_of any_of no_longer longest is_longer
 expressions::atom::after_first-returns-clause-reads t c = λ cond. reads-here (saw-so (c.at.ensures.sees cond) c.if-at.false and nothing) (after-look cond c.at.ensures.same (reads-wrap cond (c.expect.ensures.reads cond) c.wrap-2.ensures.wraps))
 
-pub expressions::atom::array_expr-array_elements-requires : goal.expressions::atom::array_expr-array_elements-requires
-expressions::atom::array_expr-array_elements-requires t c = (omega arith, short-still _ _ ((c.take.ensures.reads true).does.input ∙ c.start-node.ensures.opens.input) c.requires.short)
-
 pub expressions::atom::array_expr-complete-requires : goal.expressions::atom::array_expr-complete-requires
 expressions::atom::array_expr-complete-requires t c = (c.array_elements.ensures.reads true).does.innermost _ ((c.take.ensures.reads true).does.innermost _ c.start-node.ensures.marker)
 
@@ -238,10 +228,7 @@ pub expressions::atom::array_expr-returns-clause-reads : goal.expressions::atom:
 expressions::atom::array_expr-returns-clause-reads t c = λ cond. reads-node cond c.start-node.ensures.opens (reads-then cond (c.take.ensures.reads cond) (c.array_elements.ensures.reads cond)) c.complete.ensures.closes
 
 pub expressions::atom::array_elements-expression-requires : goal.expressions::atom::array_elements-expression-requires
-expressions::atom::array_elements-expression-requires t c = (omega arith, (short-still _ _ (c.at_expression.ensures.same.input) c.requires.short, (saw-after c.at_expression.ensures.same (saw-so c.at_expression.ensures.sees c.if-at_expression.true), omega (arith, c.at_expression.ensures.some c.if-at_expression.true, c.at_expression.ensures.left))))
-
-pub expressions::atom::array_elements-after_element-requires : goal.expressions::atom::array_elements-after_element-requires
-expressions::atom::array_elements-after_element-requires t c = (omega arith, short-still _ _ (c.expression.ensures.gives.does.input ∙ c.at_expression.ensures.same.input) c.requires.short)
+expressions::atom::array_elements-expression-requires t c = (omega arith, (saw-after c.at_expression.ensures.same (saw-so c.at_expression.ensures.sees c.if-at_expression.true), omega (arith, c.at_expression.ensures.some c.if-at_expression.true, c.at_expression.ensures.left)))
 
 pub expressions::atom::array_elements-returns-then-at_expression-clause-reads : goal.expressions::atom::array_elements-returns-then-at_expression-clause-reads
 unfolding look_of begins_below whole rule items statements expressions patterns types paths there_at shift passes is_silent begins in_mode anew row one_of any_of no_longer longest is_longer
@@ -251,11 +238,8 @@ pub expressions::atom::array_elements-returns-clause-reads : goal.expressions::a
 unfolding look_of begins_below whole rule items statements expressions patterns types paths there_at shift passes is_silent begins in_mode anew row one_of any_of no_longer longest is_longer
 expressions::atom::array_elements-returns-clause-reads t c = λ cond. reads-else cond (saw-mode (begins-call rules.expression (saw-so c.at_expression.ensures.sees c.if-at_expression.false))) (after-look cond c.at_expression.ensures.same (c.expect.ensures.reads cond))
 
-pub expressions::atom::after_element-expect_expression-requires : goal.expressions::atom::after_element-expect_expression-requires
-expressions::atom::after_element-expect_expression-requires t c = (omega arith, short-still _ _ ((c.take.ensures.reads true).does.input ∙ c.at.ensures.same.input) c.requires.short)
-
 pub expressions::atom::after_element-rest_of_list-requires : goal.expressions::atom::after_element-rest_of_list-requires
-expressions::atom::after_element-rest_of_list-requires t c = (omega arith, (short-still _ _ ((c.take-then-at-2.ensures.reads true).does.input ∙ c.at-2.ensures.same.input ∙ c.at.ensures.same.input) c.requires.short, omega arith))
+expressions::atom::after_element-rest_of_list-requires t c = (omega arith, omega arith)
 
 pub expressions::atom::after_element-returns-then-at-clause-reads : goal.expressions::atom::after_element-returns-then-at-clause-reads
 unfolding look_of begins_below whole rule items statements expressions patterns types paths there_at shift passes is_silent begins in_mode anew row one_of any_of no_longer longest is_longer
@@ -269,9 +253,6 @@ pub expressions::atom::after_element-returns-clause-reads : goal.expressions::at
 unfolding look_of begins_below whole rule items statements expressions patterns types paths there_at shift passes is_silent begins in_mode anew row one_of any_of no_longer longest is_longer
 expressions::atom::after_element-returns-clause-reads t c = λ cond. reads-here (saw-so (c.at.ensures.sees cond) c.if-at.false and saw-before c.at.ensures.same (saw-so (c.at-2.ensures.sees cond) c.if-at-2.false) and nothing) (after-look cond c.at.ensures.same (after-look cond c.at-2.ensures.same (c.expect-2.ensures.reads cond)))
 
-pub expressions::atom::value_expr-opt_value-requires : goal.expressions::atom::value_expr-opt_value-requires
-expressions::atom::value_expr-opt_value-requires t c = (omega arith, short-still _ _ ((c.take.ensures.reads true).does.input ∙ c.start-node.ensures.opens.input) c.requires.short)
-
 pub expressions::atom::value_expr-complete-requires : goal.expressions::atom::value_expr-complete-requires
 expressions::atom::value_expr-complete-requires t c = c.opt_value.ensures.reads.does.innermost _ ((c.take.ensures.reads true).does.innermost _ c.start-node.ensures.marker)
 
@@ -279,7 +260,7 @@ pub expressions::atom::value_expr-returns-clause-reads : goal.expressions::atom:
 expressions::atom::value_expr-returns-clause-reads t c = reads-node _ c.start-node.ensures.opens (reads-then _ (c.take.ensures.reads c.args.condition) c.opt_value.ensures.reads) c.complete.ensures.closes
 
 pub expressions::atom::opt_value-operation-requires : goal.expressions::atom::opt_value-operation-requires
-expressions::atom::opt_value-operation-requires t c = (omega arith, (short-still _ _ (c.at_operation.ensures.same.input ∙ c.at_body.ensures.same.input) c.requires.short, (saw-after c.at_operation.ensures.same (saw-so c.at_operation.ensures.sees c.if-at_operation.true), omega (arith, c.at_operation.ensures.some c.if-at_operation.true, c.at_operation.ensures.left))))
+expressions::atom::opt_value-operation-requires t c = (omega arith, (saw-after c.at_operation.ensures.same (saw-so c.at_operation.ensures.sees c.if-at_operation.true), omega (arith, c.at_operation.ensures.some c.if-at_operation.true, c.at_operation.ensures.left)))
 
 pub expressions::atom::opt_value-returns-then-at_body-clause-reads : goal.expressions::atom::opt_value-returns-then-at_body-clause-reads
 unfolding look_of begins_below whole rule items statements expressions patterns types paths there_at shift passes is_silent begins in_mode anew row one_of any_of no_longer longest is_longer
@@ -294,22 +275,13 @@ unfolding look_of begins_below whole rule items statements expressions patterns 
 expressions::atom::opt_value-returns-else-at_operation-clause-reads t c = reads-here (saw-so c.at_body.ensures.sees c.if-at_body.false and begun rules.operation (saw-before c.at_body.ensures.same (saw-so c.at_operation.ensures.sees c.if-at_operation.false)) nothing) (reads-nothing _ (does-then c.at_body.ensures.same c.at_operation.ensures.same))
 
 pub expressions::closures::closure_expr-closure_params-requires : goal.expressions::closures::closure_expr-closure_params-requires
-expressions::closures::closure_expr-closure_params-requires t c = (omega arith, (short-still _ _ c.start-node.ensures.opens.input c.requires.short, omega arith))
-
-pub expressions::closures::closure_expr-closure_body-requires : goal.expressions::closures::closure_expr-closure_body-requires
-expressions::closures::closure_expr-closure_body-requires t c = (omega arith, short-still _ _ ((c.closure_params.ensures.reads true).does.input ∙ c.start-node.ensures.opens.input) c.requires.short)
+expressions::closures::closure_expr-closure_params-requires t c = (omega arith, omega arith)
 
 pub expressions::closures::closure_expr-complete-requires : goal.expressions::closures::closure_expr-complete-requires
 expressions::closures::closure_expr-complete-requires t c = c.closure_body.ensures.reads.does.innermost _ ((c.closure_params.ensures.reads true).does.innermost _ c.start-node.ensures.marker)
 
 pub expressions::closures::closure_expr-returns-clause-reads : goal.expressions::closures::closure_expr-returns-clause-reads
 expressions::closures::closure_expr-returns-clause-reads t c = reads-node _ c.start-node.ensures.opens (reads-then _ (c.closure_params.ensures.reads c.args.condition) c.closure_body.ensures.reads) c.complete.ensures.closes
-
-pub expressions::closures::move_closure-expect_closure_params-requires : goal.expressions::closures::move_closure-expect_closure_params-requires
-expressions::closures::move_closure-expect_closure_params-requires t c = (omega arith, short-still _ _ ((c.take.ensures.reads true).does.input ∙ c.start-node.ensures.opens.input) c.requires.short)
-
-pub expressions::closures::move_closure-closure_body-requires : goal.expressions::closures::move_closure-closure_body-requires
-expressions::closures::move_closure-closure_body-requires t c = (omega arith, short-still _ _ ((c.expect_closure_params.ensures.reads true).does.input ∙ (c.take.ensures.reads true).does.input ∙ c.start-node.ensures.opens.input) c.requires.short)
 
 pub expressions::closures::move_closure-complete-requires : goal.expressions::closures::move_closure-complete-requires
 expressions::closures::move_closure-complete-requires t c = c.closure_body.ensures.reads.does.innermost _ ((c.expect_closure_params.ensures.reads true).does.innermost _ ((c.take.ensures.reads true).does.innermost _ c.start-node.ensures.marker))
@@ -318,7 +290,7 @@ pub expressions::closures::move_closure-returns-clause-reads : goal.expressions:
 expressions::closures::move_closure-returns-clause-reads t c = reads-node _ c.start-node.ensures.opens (reads-then _ (c.take.ensures.reads c.args.condition) (reads-then _ (c.expect_closure_params.ensures.reads c.args.condition) c.closure_body.ensures.reads)) c.complete.ensures.closes
 
 pub expressions::closures::expect_closure_params-closure_params-requires : goal.expressions::closures::expect_closure_params-closure_params-requires
-expressions::closures::expect_closure_params-closure_params-requires t c = (omega arith, (short-still _ _ c.at.ensures.same.input c.requires.short, omega arith))
+expressions::closures::expect_closure_params-closure_params-requires t c = (omega arith, omega arith)
 
 pub expressions::closures::expect_closure_params-returns-then-at-clause-reads : goal.expressions::closures::expect_closure_params-returns-then-at-clause-reads
 unfolding look_of begins_below whole rule items statements expressions patterns types paths there_at shift passes is_silent begins in_mode anew row one_of any_of no_longer longest is_longer
@@ -329,7 +301,7 @@ unfolding look_of begins_below whole rule items statements expressions patterns 
 expressions::closures::expect_closure_params-returns-clause-reads t c = λ cond. reads-here (saw-so (c.at.ensures.sees cond) c.if-at.false and nothing) (after-look cond c.at.ensures.same (c.error.ensures.reads cond))
 
 pub expressions::closures::closure_params-rest_of_list-requires : goal.expressions::closures::closure_params-rest_of_list-requires
-expressions::closures::closure_params-rest_of_list-requires t c = (omega arith, (short-still _ _ ((c.take.ensures.reads true).does.input ∙ c.start-list.ensures.opens.input) c.requires.short, omega arith))
+expressions::closures::closure_params-rest_of_list-requires t c = (omega arith, omega arith)
 
 pub expressions::closures::closure_params-complete-requires : goal.expressions::closures::closure_params-complete-requires
 expressions::closures::closure_params-complete-requires t c = (c.rest_of_list.ensures.reads true).does.innermost _ ((c.take.ensures.reads true).does.innermost _ c.start-list.ensures.marker)
@@ -338,19 +310,13 @@ pub expressions::closures::closure_params-returns-clause-reads : goal.expression
 expressions::closures::closure_params-returns-clause-reads t c = λ cond. reads-node cond c.start-list.ensures.opens (reads-then cond (c.take.ensures.reads cond) (c.rest_of_list.ensures.reads cond)) c.complete.ensures.closes
 
 pub expressions::closures::closure_param-single_pattern-requires : goal.expressions::closures::closure_param-single_pattern-requires
-expressions::closures::closure_param-single_pattern-requires t c = (omega arith, (short-still _ _ c.start-node.ensures.opens.input c.requires.short, ((λ d. saw-inside c.start-node.ensures.opens (c.requires.begins d)), omega arith)))
-
-pub expressions::closures::closure_param-opt_type-requires : goal.expressions::closures::closure_param-opt_type-requires
-expressions::closures::closure_param-opt_type-requires t c = (omega arith, short-still _ _ ((c.single_pattern.ensures.gives true).does.input ∙ c.start-node.ensures.opens.input) c.requires.short)
+expressions::closures::closure_param-single_pattern-requires t c = (omega arith, ((λ d. saw-inside c.start-node.ensures.opens (c.requires.begins d)), omega arith))
 
 pub expressions::closures::closure_param-complete-requires : goal.expressions::closures::closure_param-complete-requires
 expressions::closures::closure_param-complete-requires t c = c.opt_type.ensures.reads.does.innermost _ ((c.single_pattern.ensures.gives true).does.innermost _ c.start-node.ensures.marker)
 
 pub expressions::closures::closure_param-returns-clause-reads : goal.expressions::closures::closure_param-returns-clause-reads
 expressions::closures::closure_param-returns-clause-reads t c = reads-node _ c.start-node.ensures.opens (reads-then _ (reads-call _ (c.single_pattern.ensures.gives false)) c.opt_type.ensures.reads) c.complete.ensures.closes
-
-pub expressions::closures::opt_type-expect_type-requires : goal.expressions::closures::opt_type-expect_type-requires
-expressions::closures::opt_type-expect_type-requires t c = (omega arith, short-still _ _ ((c.take.ensures.reads true).does.input ∙ c.at.ensures.same.input) c.requires.short)
 
 pub expressions::closures::opt_type-returns-then-at-clause-reads : goal.expressions::closures::opt_type-returns-then-at-clause-reads
 unfolding look_of begins_below whole rule items statements expressions patterns types paths there_at shift passes is_silent begins in_mode anew row one_of any_of no_longer longest is_longer
@@ -361,13 +327,7 @@ unfolding look_of begins_below whole rule items statements expressions patterns 
 expressions::closures::opt_type-returns-else-at-clause-reads t c = reads-here (saw-so (c.at.ensures.sees c.args.condition) c.if-at.false and nothing) (reads-nothing _ c.at.ensures.same)
 
 pub expressions::closures::closure_body-ret_type-requires : goal.expressions::closures::closure_body-ret_type-requires
-expressions::closures::closure_body-ret_type-requires t c = (omega arith, (short-still _ _ c.at_pair.ensures.same.input c.requires.short, omega arith))
-
-pub expressions::closures::closure_body-expect_block-requires : goal.expressions::closures::closure_body-expect_block-requires
-expressions::closures::closure_body-expect_block-requires t c = (omega arith, short-still _ _ (c.ret_type.ensures.gives.does.input ∙ c.at_pair.ensures.same.input) c.requires.short)
-
-pub expressions::closures::closure_body-expect_expression-requires : goal.expressions::closures::closure_body-expect_expression-requires
-expressions::closures::closure_body-expect_expression-requires t c = (omega arith, short-still _ _ c.at_pair.ensures.same.input c.requires.short)
+expressions::closures::closure_body-ret_type-requires t c = (omega arith, omega arith)
 
 pub expressions::closures::closure_body-returns-then-at_pair-clause-reads : goal.expressions::closures::closure_body-returns-then-at_pair-clause-reads
 unfolding look_of begins_below whole rule items statements expressions patterns types paths there_at shift passes is_silent begins in_mode anew row one_of any_of no_longer longest is_longer
@@ -376,12 +336,6 @@ expressions::closures::closure_body-returns-then-at_pair-clause-reads t c = read
 pub expressions::closures::closure_body-returns-clause-reads : goal.expressions::closures::closure_body-returns-clause-reads
 unfolding look_of begins_below whole rule items statements expressions patterns types paths there_at shift passes is_silent begins in_mode anew row one_of any_of no_longer longest is_longer
 expressions::closures::closure_body-returns-clause-reads t c = reads-here (saw-so (c.at_pair.ensures.sees c.args.condition) c.if-at_pair.false and nothing) (after-look _ c.at_pair.ensures.same c.expect_expression.ensures.reads)
-
-pub expressions::atom::let_expr-expect_pattern-requires : goal.expressions::atom::let_expr-expect_pattern-requires
-expressions::atom::let_expr-expect_pattern-requires t c = (omega arith, short-still _ _ ((c.take.ensures.reads true).does.input ∙ c.start-node.ensures.opens.input) c.requires.short)
-
-pub expressions::atom::let_expr-expect_expression-requires : goal.expressions::atom::let_expr-expect_expression-requires
-expressions::atom::let_expr-expect_expression-requires t c = (omega arith, short-still _ _ ((c.expect.ensures.reads true).does.input ∙ (c.expect_pattern.ensures.reads true).does.input ∙ (c.take.ensures.reads true).does.input ∙ c.start-node.ensures.opens.input) c.requires.short)
 
 pub expressions::atom::let_expr-complete-requires : goal.expressions::atom::let_expr-complete-requires
 expressions::atom::let_expr-complete-requires t c = c.expect_expression.ensures.reads.does.innermost _ ((c.expect.ensures.reads true).does.innermost _ ((c.expect_pattern.ensures.reads true).does.innermost _ ((c.take.ensures.reads true).does.innermost _ c.start-node.ensures.marker)))

@@ -1,5 +1,5 @@
 -- Attributes.
-use Rattle.std.proofs.Common.{true, false, refl, ◌∙◌, arith}
+use Rattle.std.proofs.Common.{true, false, refl, arith}
 use Rattle.rust_grammar.specs.Rule as rules
 use Rattle.rust_grammar.specs.Expressions.{expressions}
 use Rattle.rust_grammar.specs.Items.{items}
@@ -11,16 +11,12 @@ use Rattle.rust_grammar.specs.Rule.{begins, in_mode, anew, is_silent, passes, sh
 use Rattle.rust_grammar.specs.Statements.{statements}
 use Rattle.rust_grammar.specs.Types.{types}
 use Rattle.rust_grammar.specs.Whole.{rule, whole}
-use Rattle.grammar_reader.proofs.Inputs.{short-still}
 use Rattle.rust_productions.proofs.Begins.{saw-meta}
 use Rattle.rust_productions.proofs.ByHand.{after-look, does-then, reads-call, reads-mode, reads-node, reads-nothing, reads-then}
 use Rattle.rust_productions.proofs.Choices.{anew-after, gives-anew, reads-here}
 use Rattle.rust_productions.proofs.Facts.{begun, nothing, saw-so, ◌and◌}
 use Rattle.rust_productions.proofs.Seen.{saw-after, saw-before, saw-inside}
 use Rattle.grammar_reader.proofs.grammar.+grammar.Goals as goal
-
-pub attributes::attribute-expect_meta-requires : goal.attributes::attribute-expect_meta-requires
-attributes::attribute-expect_meta-requires t c = (omega arith, short-still _ _ ((c.expect.ensures.reads true).does.input ∙ (c.eat.ensures.reads true).does.input ∙ (c.take.ensures.reads true).does.input ∙ c.start-attribute.ensures.opens.input) c.requires.short)
 
 pub attributes::attribute-complete-requires : goal.attributes::attribute-complete-requires
 attributes::attribute-complete-requires t c = (c.expect-2.ensures.reads true).does.innermost _ (c.expect_meta.ensures.reads.does.innermost _ ((c.expect.ensures.reads true).does.innermost _ ((c.eat.ensures.reads true).does.innermost _ ((c.take.ensures.reads true).does.innermost _ c.start-attribute.ensures.marker))))
@@ -31,7 +27,7 @@ attributes::attribute-returns-clause-gives t c = λ cond. gives-anew (anew-after
     (reads-then cond (c.take.ensures.reads cond) (reads-then cond (c.eat.ensures.reads cond) (reads-then cond (c.expect.ensures.reads cond) (reads-then cond (reads-mode cond c.expect_meta.ensures.reads) (c.expect-2.ensures.reads cond))))) c.complete.ensures.closes))
 
 pub attributes::expect_meta-meta-requires : goal.attributes::expect_meta-meta-requires
-attributes::expect_meta-meta-requires t c = (omega arith, (short-still _ _ c.at_path.ensures.same.input c.requires.short, (λ cond. saw-after c.at_path.ensures.same (saw-so (c.at_path.ensures.sees cond) c.if-at_path.true), omega (arith, c.at_path.ensures.some c.if-at_path.true, c.at_path.ensures.left))))
+attributes::expect_meta-meta-requires t c = (omega arith, (λ cond. saw-after c.at_path.ensures.same (saw-so (c.at_path.ensures.sees cond) c.if-at_path.true), omega (arith, c.at_path.ensures.some c.if-at_path.true, c.at_path.ensures.left)))
 
 pub attributes::expect_meta-returns-then-at_path-clause-reads : goal.attributes::expect_meta-returns-then-at_path-clause-reads
 unfolding look_of begins_below whole rule items statements expressions patterns types paths there_at shift passes is_silent begins in_mode anew row one_of any_of no_longer longest is_longer
@@ -44,18 +40,12 @@ attributes::expect_meta-returns-clause-reads t c = reads-here (begun rules.meta 
 pub attributes::meta-path-requires-clause-begins : goal.attributes::meta-path-requires-clause-begins
 attributes::meta-path-requires-clause-begins t c = λ cond. saw-inside c.start-meta.ensures.opens (c.requires.begins cond)
 
-pub attributes::meta-opt_value-requires : goal.attributes::meta-opt_value-requires
-attributes::meta-opt_value-requires t c = (omega arith, short-still _ _ ((c.path.ensures.gives true).does.input ∙ c.start-meta.ensures.opens.input) c.requires.short)
-
 pub attributes::meta-complete-requires : goal.attributes::meta-complete-requires
 attributes::meta-complete-requires t c = c.opt_value.ensures.reads.does.innermost _ ((c.path.ensures.gives true).does.innermost _ c.start-meta.ensures.marker)
 
 pub attributes::meta-returns-clause-gives : goal.attributes::meta-returns-clause-gives
 unfolding look_of begins_below whole rule items statements expressions patterns types paths there_at shift passes is_silent begins in_mode anew row one_of any_of no_longer longest is_longer
 attributes::meta-returns-clause-gives t c = gives-anew (anew-after refl (reads-node _ c.start-meta.ensures.opens (reads-then _ (reads-call _ (c.path.ensures.gives _)) c.opt_value.ensures.reads) c.complete.ensures.closes))
-
-pub attributes::opt_value-expect_expression-requires : goal.attributes::opt_value-expect_expression-requires
-attributes::opt_value-expect_expression-requires t c = (omega arith, short-still _ _ ((c.take.ensures.reads true).does.input ∙ c.at.ensures.same.input) c.requires.short)
 
 pub attributes::opt_value-returns-then-at-clause-reads : goal.attributes::opt_value-returns-then-at-clause-reads
 unfolding look_of begins_below whole rule items statements expressions patterns types paths there_at shift passes is_silent begins in_mode anew row one_of any_of no_longer longest is_longer

@@ -1,5 +1,5 @@
 -- Blocks, statement by statement.
-use Rattle.std.proofs.Common.{true, false, refl, ◌∙◌, arith}
+use Rattle.std.proofs.Common.{true, false, refl, arith}
 use Rattle.std.proofs.lemmas.Bool.{ltb-true, ltb-false}
 use Rattle.rust_grammar.specs.Expressions.{expressions}
 use Rattle.rust_grammar.specs.Items.{items}
@@ -14,7 +14,6 @@ use Rattle.rust_grammar.specs.Rule.{Call}
 use Rattle.rust_grammar.specs.Whole.{rule, whole}
 use Rattle.grammar_reader.specs.Told.{listing_of}
 use Rattle.grammar_reader.proofs.Ends.{left-within, over, over-at-end, some-within, statement-begins, within}
-use Rattle.grammar_reader.proofs.Inputs.{short-still}
 use Rattle.rust_productions.specs.Looks.{tokens}
 use Rattle.rust_productions.proofs.ByHand.{after-look, reads-call, reads-mode, reads-node, reads-then, reads-unless}
 use Rattle.rust_productions.proofs.Choices.{anew-after, gives-anew}
@@ -26,7 +25,7 @@ pub expressions::blocks::statement_turn-returns-then-at_end_of-clause-ends : goa
 expressions::blocks::statement_turn-returns-then-at_end_of-clause-ends t c = λ e. last-turn false _ (over-at-end c.args.end _) _ _ _ first-turn (over (Call (listing_of c.args.end).one) (saw-so (c.at_end_of.ensures.sees false) c.if-at_end_of.true)) c.at_end_of.ensures.same
 
 pub expressions::blocks::statement_turn-statement-requires : goal.expressions::blocks::statement_turn-statement-requires
-expressions::blocks::statement_turn-statement-requires t c = (omega arith, (short-still _ _ c.at_end_of.ensures.same.input c.requires.short, omega (arith, some-within c.args.end (saw-so (c.at_end_of.ensures.sees false) c.if-at_end_of.false), c.at_end_of.ensures.left)))
+expressions::blocks::statement_turn-statement-requires t c = (omega arith, omega (arith, some-within c.args.end (saw-so (c.at_end_of.ensures.sees false) c.if-at_end_of.false), c.at_end_of.ensures.left))
 
 pub expressions::blocks::statement_turn-returns-clause-goes : goal.expressions::blocks::statement_turn-returns-clause-goes
 unfolding tokens
@@ -54,7 +53,6 @@ expressions::blocks::statement_turn-returns-clause-pays t c = λ e. omega (arith
 
 pub expressions::blocks::statements-turns-preserved : goal.expressions::blocks::statements-turns-preserved
 expressions::blocks::statements-turns-preserved t c = record {
-  input = c.statement_turn.ensures.input ∙ c.turns.invariant.input;
   innermost = λ n i. c.statement_turn.ensures.innermost n (c.turns.invariant.innermost n i);
   goes = record { rest = λ end p. c.turns.invariant.goes.rest end ((c.statement_turn.ensures.goes c.turns-test.true).rest end p) };
   left = omega (arith, c.turns.invariant.left, c.statement_turn.ensures.left);
@@ -63,9 +61,6 @@ expressions::blocks::statements-turns-preserved t c = record {
 
 pub expressions::blocks::statements-returns-clause-reads : goal.expressions::blocks::statements-returns-clause-reads
 expressions::blocks::statements-returns-clause-reads t c = c.turns.invariant.goes.rest _ (c.statement_turn.ensures.ends c.turns-test.false)
-
-pub expressions::blocks::statement_list-statements-requires : goal.expressions::blocks::statement_list-statements-requires
-expressions::blocks::statement_list-statements-requires t c = (omega arith, short-still _ _ ((c.take.ensures.reads true).does.input ∙ c.start-list.ensures.opens.input) c.requires.short)
 
 pub expressions::blocks::statement_list-complete-requires : goal.expressions::blocks::statement_list-complete-requires
 expressions::blocks::statement_list-complete-requires t c = (c.expect.ensures.reads true).does.innermost _ (c.statements.ensures.reads.does.innermost _ ((c.take.ensures.reads true).does.innermost _ c.start-list.ensures.marker))

@@ -1,5 +1,5 @@
 -- Constants, statics and names of types, path by path.
-use Rattle.std.proofs.Common.{true, ◌∙◌, arith}
+use Rattle.std.proofs.Common.{true, arith}
 use Rattle.rust_grammar.specs.Expressions.{expressions}
 use Rattle.rust_grammar.specs.Items.{items}
 use Rattle.rust_grammar.specs.Meaning.{begins_below, look_of}
@@ -10,14 +10,10 @@ use Rattle.rust_grammar.specs.Rule.{begins, in_mode, anew, is_silent, passes, sh
 use Rattle.rust_grammar.specs.Statements.{statements}
 use Rattle.rust_grammar.specs.Types.{types}
 use Rattle.rust_grammar.specs.Whole.{rule, whole}
-use Rattle.grammar_reader.proofs.Inputs.{short-still}
 use Rattle.rust_productions.proofs.ByHand.{after-look, completes-wrap, reads-nothing, reads-then}
 use Rattle.rust_productions.proofs.Choices.{reads-here}
 use Rattle.rust_productions.proofs.Facts.{nothing, saw-so, ◌and◌}
 use Rattle.grammar_reader.proofs.grammar.+grammar.Goals as goal
-
-pub items::consts::const_item-typed_value-requires : goal.items::consts::const_item-typed_value-requires
-items::consts::const_item-typed_value-requires t c = (omega arith, short-still _ _ ((c.underscore_or_name.ensures.reads true).does.input ∙ (c.take.ensures.reads true).does.input) c.requires.short)
 
 pub items::consts::const_item-complete-requires : goal.items::consts::const_item-complete-requires
 items::consts::const_item-complete-requires t c = c.typed_value.ensures.reads.does.innermost _ ((c.underscore_or_name.ensures.reads true).does.innermost _ ((c.take.ensures.reads true).does.innermost _ c.requires.innermost))
@@ -25,26 +21,14 @@ items::consts::const_item-complete-requires t c = c.typed_value.ensures.reads.do
 pub items::consts::const_item-returns-clause-completes : goal.items::consts::const_item-returns-clause-completes
 items::consts::const_item-returns-clause-completes t c = completes-wrap (reads-then _ (c.take.ensures.reads c.args.condition) (reads-then _ (c.underscore_or_name.ensures.reads c.args.condition) c.typed_value.ensures.reads)) c.complete.ensures.closes
 
-pub items::consts::static_item-typed_value-requires : goal.items::consts::static_item-typed_value-requires
-items::consts::static_item-typed_value-requires t c = (omega arith, short-still _ _ ((c.expect_name.ensures.reads true).does.input ∙ (c.eat.ensures.reads true).does.input ∙ (c.take.ensures.reads true).does.input) c.requires.short)
-
 pub items::consts::static_item-complete-requires : goal.items::consts::static_item-complete-requires
 items::consts::static_item-complete-requires t c = c.typed_value.ensures.reads.does.innermost _ ((c.expect_name.ensures.reads true).does.innermost _ ((c.eat.ensures.reads true).does.innermost _ ((c.take.ensures.reads true).does.innermost _ c.requires.innermost)))
 
 pub items::consts::static_item-returns-clause-completes : goal.items::consts::static_item-returns-clause-completes
 items::consts::static_item-returns-clause-completes t c = completes-wrap (reads-then _ (c.take.ensures.reads c.args.condition) (reads-then _ (c.eat.ensures.reads c.args.condition) (reads-then _ (c.expect_name.ensures.reads c.args.condition) c.typed_value.ensures.reads))) c.complete.ensures.closes
 
-pub items::consts::typed_value-expect_type-requires : goal.items::consts::typed_value-expect_type-requires
-items::consts::typed_value-expect_type-requires t c = (omega arith, short-still _ _ (c.expect.ensures.reads true).does.input c.requires.short)
-
-pub items::consts::typed_value-opt_value-requires : goal.items::consts::typed_value-opt_value-requires
-items::consts::typed_value-opt_value-requires t c = (omega arith, short-still _ _ (c.expect_type.ensures.reads.does.input ∙ (c.expect.ensures.reads true).does.input) c.requires.short)
-
 pub items::consts::typed_value-returns-clause-reads : goal.items::consts::typed_value-returns-clause-reads
 items::consts::typed_value-returns-clause-reads t c = (reads-then _ (c.expect.ensures.reads c.args.condition) (reads-then _ c.expect_type.ensures.reads (reads-then _ c.opt_value.ensures.reads (c.expect-2.ensures.reads c.args.condition))))
-
-pub items::consts::opt_value-expect_expression-requires : goal.items::consts::opt_value-expect_expression-requires
-items::consts::opt_value-expect_expression-requires t c = (omega arith, short-still _ _ ((c.take.ensures.reads true).does.input ∙ c.at.ensures.same.input) c.requires.short)
 
 pub items::consts::opt_value-returns-then-at-clause-reads : goal.items::consts::opt_value-returns-then-at-clause-reads
 unfolding look_of begins_below whole rule items statements expressions patterns types paths there_at shift passes is_silent begins in_mode anew row one_of any_of no_longer longest is_longer
@@ -54,17 +38,8 @@ pub items::consts::opt_value-returns-else-at-clause-reads : goal.items::consts::
 unfolding look_of begins_below whole rule items statements expressions patterns types paths there_at shift passes is_silent begins in_mode anew row one_of any_of no_longer longest is_longer
 items::consts::opt_value-returns-else-at-clause-reads t c = reads-here (saw-so (c.at.ensures.sees c.args.condition) c.if-at.false and nothing) (reads-nothing _ c.at.ensures.same)
 
-pub items::consts::type_alias-opt_generic_params-requires : goal.items::consts::type_alias-opt_generic_params-requires
-items::consts::type_alias-opt_generic_params-requires t c = (omega arith, short-still _ _ ((c.expect_name.ensures.reads true).does.input ∙ (c.take.ensures.reads true).does.input) c.requires.short)
-
-pub items::consts::type_alias-bounds_after_colon-requires : goal.items::consts::type_alias-bounds_after_colon-requires
-items::consts::type_alias-bounds_after_colon-requires t c = (omega arith, short-still _ _ ((c.opt_generic_params.ensures.reads true).does.input ∙ (c.expect_name.ensures.reads true).does.input ∙ (c.take.ensures.reads true).does.input) c.requires.short)
-
-pub items::consts::type_alias-opt_where_clause-requires : goal.items::consts::type_alias-opt_where_clause-requires
-items::consts::type_alias-opt_where_clause-requires t c = (omega arith, short-still _ _ ((c.bounds_after_colon.ensures.reads true).does.input ∙ (c.opt_generic_params.ensures.reads true).does.input ∙ (c.expect_name.ensures.reads true).does.input ∙ (c.take.ensures.reads true).does.input) c.requires.short)
-
 pub items::consts::type_alias-opt_type_after-requires : goal.items::consts::type_alias-opt_type_after-requires
-items::consts::type_alias-opt_type_after-requires t c = (omega arith, (short-still _ _ (c.opt_where_clause.ensures.reads.does.input ∙ (c.bounds_after_colon.ensures.reads true).does.input ∙ (c.opt_generic_params.ensures.reads true).does.input ∙ (c.expect_name.ensures.reads true).does.input ∙ (c.take.ensures.reads true).does.input) c.requires.short, omega arith))
+items::consts::type_alias-opt_type_after-requires t c = (omega arith, omega arith)
 
 pub items::consts::type_alias-complete-requires : goal.items::consts::type_alias-complete-requires
 items::consts::type_alias-complete-requires t c = (c.expect.ensures.reads true).does.innermost _ (c.opt_type_after.ensures.reads.does.innermost _ (c.opt_where_clause.ensures.reads.does.innermost _ ((c.bounds_after_colon.ensures.reads true).does.innermost _ ((c.opt_generic_params.ensures.reads true).does.innermost _ ((c.expect_name.ensures.reads true).does.innermost _ ((c.take.ensures.reads true).does.innermost _ c.requires.innermost))))))

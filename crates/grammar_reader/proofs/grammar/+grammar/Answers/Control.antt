@@ -1,5 +1,5 @@
 -- Expressions that end in a block.
-use Rattle.std.proofs.Common.{true, false, [], ◌∷◌, refl, ◌∙◌, arith}
+use Rattle.std.proofs.Common.{true, false, [], ◌∷◌, refl, arith}
 use Rattle.parser_events.specs.Forest.{ExpectedMatchArm}
 use Rattle.rust_grammar.specs.Calls.{MatchArm}
 use Rattle.rust_grammar.specs.Notation.{◌or◌, until}
@@ -17,7 +17,6 @@ use Rattle.rust_grammar.specs.Statements.{statements}
 use Rattle.rust_grammar.specs.Types.{types}
 use Rattle.rust_grammar.specs.Whole.{rule, whole}
 use Rattle.grammar_reader.proofs.Seeing.{arm-there, begun-anew, left-there, some-left, three-left}
-use Rattle.grammar_reader.proofs.Inputs.{short-still}
 use Rattle.rust_productions.specs.Looks.{tokens}
 use Rattle.rust_productions.specs.Reads.{looks}
 use Rattle.rust_productions.proofs.ByHand.{after-look, reads-call, reads-mode, reads-node, reads-nothing, reads-then}
@@ -29,49 +28,49 @@ use Rattle.rust_productions.proofs.Turns.{first-turn, last-turn, next-turn}
 use Rattle.grammar_reader.proofs.grammar.+grammar.Goals as goal
 
 pub expressions::control::block_like-block-requires : goal.expressions::control::block_like-block-requires
-expressions::control::block_like-block-requires t c = (omega arith, (short-still _ _ c.current.ensures.same.input c.requires.short, omega arith))
+expressions::control::block_like-block-requires t c = (omega arith, omega arith)
 
 pub expressions::control::block_like-returns-in-L_CURLY-clause-gives : goal.expressions::control::block_like-returns-in-L_CURLY-clause-gives
 unfolding look_of begins_below whole rule items statements expressions patterns types paths there_at shift passes is_silent begins in_mode anew row one_of any_of no_longer longest is_longer
 expressions::control::block_like-returns-in-L_CURLY-clause-gives t c = λ cond. gives-anew (anew-after refl (reads-here (saw-arm c.in-L_CURLY.is (c.current.ensures.sees cond) and nothing) (after-look cond c.current.ensures.same (reads-call cond (c.block.ensures.gives cond)))))
 
 pub expressions::control::block_like-unsafe_block-requires : goal.expressions::control::block_like-unsafe_block-requires
-expressions::control::block_like-unsafe_block-requires t c = (omega arith, (short-still _ _ c.current.ensures.same.input c.requires.short, omega arith))
+expressions::control::block_like-unsafe_block-requires t c = (omega arith, omega arith)
 
 pub expressions::control::block_like-returns-in-UNSAFE_KW-clause-gives : goal.expressions::control::block_like-returns-in-UNSAFE_KW-clause-gives
 unfolding look_of begins_below whole rule items statements expressions patterns types paths there_at shift passes is_silent begins in_mode anew row one_of any_of no_longer longest is_longer
 expressions::control::block_like-returns-in-UNSAFE_KW-clause-gives t c = λ cond. gives-anew (anew-after refl (reads-here (saw-arm c.in-UNSAFE_KW.is (c.current.ensures.sees cond) and nothing) (after-look cond c.current.ensures.same (c.unsafe_block.ensures.reads cond))))
 
 pub expressions::control::block_like-if_expr-requires : goal.expressions::control::block_like-if_expr-requires
-expressions::control::block_like-if_expr-requires t c = (omega arith, (short-still _ _ c.current.ensures.same.input c.requires.short, omega arith))
+expressions::control::block_like-if_expr-requires t c = (omega arith, omega arith)
 
 pub expressions::control::block_like-returns-in-IF_KW-clause-gives : goal.expressions::control::block_like-returns-in-IF_KW-clause-gives
 unfolding look_of begins_below whole rule items statements expressions patterns types paths there_at shift passes is_silent begins in_mode anew row one_of any_of no_longer longest is_longer
 expressions::control::block_like-returns-in-IF_KW-clause-gives t c = λ cond. gives-anew (anew-after refl (reads-here (saw-arm c.in-IF_KW.is (c.current.ensures.sees cond) and nothing) (after-look cond c.current.ensures.same (reads-call cond (c.if_expr.ensures.gives cond)))))
 
 pub expressions::control::block_like-while_expr-requires : goal.expressions::control::block_like-while_expr-requires
-expressions::control::block_like-while_expr-requires t c = (omega arith, (short-still _ _ c.current.ensures.same.input c.requires.short, omega arith))
+expressions::control::block_like-while_expr-requires t c = (omega arith, omega arith)
 
 pub expressions::control::block_like-returns-in-WHILE_KW-clause-gives : goal.expressions::control::block_like-returns-in-WHILE_KW-clause-gives
 unfolding look_of begins_below whole rule items statements expressions patterns types paths there_at shift passes is_silent begins in_mode anew row one_of any_of no_longer longest is_longer
 expressions::control::block_like-returns-in-WHILE_KW-clause-gives t c = λ cond. gives-anew (anew-after refl (reads-here (saw-arm c.in-WHILE_KW.is (c.current.ensures.sees cond) and nothing) (after-look cond c.current.ensures.same (c.while_expr.ensures.reads cond))))
 
 pub expressions::control::block_like-loop_expr-requires : goal.expressions::control::block_like-loop_expr-requires
-expressions::control::block_like-loop_expr-requires t c = (omega arith, (short-still _ _ c.current.ensures.same.input c.requires.short, omega arith))
+expressions::control::block_like-loop_expr-requires t c = (omega arith, omega arith)
 
 pub expressions::control::block_like-returns-in-LOOP_KW-clause-gives : goal.expressions::control::block_like-returns-in-LOOP_KW-clause-gives
 unfolding look_of begins_below whole rule items statements expressions patterns types paths there_at shift passes is_silent begins in_mode anew row one_of any_of no_longer longest is_longer
 expressions::control::block_like-returns-in-LOOP_KW-clause-gives t c = λ cond. gives-anew (anew-after refl (reads-here (saw-arm c.in-LOOP_KW.is (c.current.ensures.sees cond) and nothing) (after-look cond c.current.ensures.same (c.loop_expr.ensures.reads cond))))
 
 pub expressions::control::block_like-for_expr-requires : goal.expressions::control::block_like-for_expr-requires
-expressions::control::block_like-for_expr-requires t c = (omega arith, (short-still _ _ c.current.ensures.same.input c.requires.short, omega arith))
+expressions::control::block_like-for_expr-requires t c = (omega arith, omega arith)
 
 pub expressions::control::block_like-returns-in-FOR_KW-clause-gives : goal.expressions::control::block_like-returns-in-FOR_KW-clause-gives
 unfolding look_of begins_below whole rule items statements expressions patterns types paths there_at shift passes is_silent begins in_mode anew row one_of any_of no_longer longest is_longer
 expressions::control::block_like-returns-in-FOR_KW-clause-gives t c = λ cond. gives-anew (anew-after refl (reads-here (saw-arm c.in-FOR_KW.is (c.current.ensures.sees cond) and nothing) (after-look cond c.current.ensures.same (c.for_expr.ensures.reads cond))))
 
 pub expressions::control::block_like-match_expr-requires : goal.expressions::control::block_like-match_expr-requires
-expressions::control::block_like-match_expr-requires t c = (omega arith, (short-still _ _ c.current.ensures.same.input c.requires.short, omega arith))
+expressions::control::block_like-match_expr-requires t c = (omega arith, omega arith)
 
 pub expressions::control::block_like-returns-in-MATCH_KW-clause-gives : goal.expressions::control::block_like-returns-in-MATCH_KW-clause-gives
 unfolding look_of begins_below whole rule items statements expressions patterns types paths there_at shift passes is_silent begins in_mode anew row one_of any_of no_longer longest is_longer
@@ -86,7 +85,7 @@ unfolding look_of begins_below whole rule items statements expressions patterns 
 expressions::control::block_like-returns-in_default-clause-gives t c = λ cond. gives-anew (anew-after refl (reads-here (saw-not c.in_default.not-L_CURLY (c.current.ensures.sees cond) and saw-not c.in_default.not-UNSAFE_KW (c.current.ensures.sees cond) and saw-not c.in_default.not-IF_KW (c.current.ensures.sees cond) and saw-not c.in_default.not-WHILE_KW (c.current.ensures.sees cond) and saw-not c.in_default.not-LOOP_KW (c.current.ensures.sees cond) and saw-not c.in_default.not-FOR_KW (c.current.ensures.sees cond) and saw-not c.in_default.not-MATCH_KW (c.current.ensures.sees cond) and nothing) (after-look cond c.current.ensures.same (c.macro_block.ensures.reads cond))))
 
 pub expressions::control::expect_statement_list-statement_list-requires : goal.expressions::control::expect_statement_list-statement_list-requires
-expressions::control::expect_statement_list-statement_list-requires t c = (omega arith, (short-still _ _ c.at.ensures.same.input c.requires.short, omega arith))
+expressions::control::expect_statement_list-statement_list-requires t c = (omega arith, omega arith)
 
 pub expressions::control::expect_statement_list-returns-then-at-clause-reads : goal.expressions::control::expect_statement_list-returns-then-at-clause-reads
 unfolding look_of begins_below whole rule items statements expressions patterns types paths there_at shift passes is_silent begins in_mode anew row one_of any_of no_longer longest is_longer
@@ -97,7 +96,7 @@ unfolding look_of begins_below whole rule items statements expressions patterns 
 expressions::control::expect_statement_list-returns-clause-reads t c = λ cond. reads-here (saw-so (c.at.ensures.sees cond) c.if-at.false and nothing) (after-look cond c.at.ensures.same (c.error.ensures.reads cond))
 
 pub expressions::control::expect_block-block-requires : goal.expressions::control::expect_block-block-requires
-expressions::control::expect_block-block-requires t c = (omega arith, (short-still _ _ c.at.ensures.same.input c.requires.short, omega arith))
+expressions::control::expect_block-block-requires t c = (omega arith, omega arith)
 
 pub expressions::control::expect_block-returns-then-at-clause-reads : goal.expressions::control::expect_block-returns-then-at-clause-reads
 unfolding look_of begins_below whole rule items statements expressions patterns types paths there_at shift passes is_silent begins in_mode anew row one_of any_of no_longer longest is_longer
@@ -108,7 +107,7 @@ unfolding look_of begins_below whole rule items statements expressions patterns 
 expressions::control::expect_block-returns-clause-reads t c = λ cond. reads-here (saw-so (c.at.ensures.sees cond) c.if-at.false and nothing) (after-look cond c.at.ensures.same (c.error.ensures.reads cond))
 
 pub expressions::control::expect_match_arms-match_arms-requires : goal.expressions::control::expect_match_arms-match_arms-requires
-expressions::control::expect_match_arms-match_arms-requires t c = (omega arith, (short-still _ _ c.at.ensures.same.input c.requires.short, omega arith))
+expressions::control::expect_match_arms-match_arms-requires t c = (omega arith, omega arith)
 
 pub expressions::control::expect_match_arms-returns-then-at-clause-reads : goal.expressions::control::expect_match_arms-returns-then-at-clause-reads
 unfolding look_of begins_below whole rule items statements expressions patterns types paths there_at shift passes is_silent begins in_mode anew row one_of any_of no_longer longest is_longer
@@ -118,20 +117,11 @@ pub expressions::control::expect_match_arms-returns-clause-reads : goal.expressi
 unfolding look_of begins_below whole rule items statements expressions patterns types paths there_at shift passes is_silent begins in_mode anew row one_of any_of no_longer longest is_longer
 expressions::control::expect_match_arms-returns-clause-reads t c = λ cond. reads-here (saw-so (c.at.ensures.sees cond) c.if-at.false and nothing) (after-look cond c.at.ensures.same (c.error.ensures.reads cond))
 
-pub expressions::control::unsafe_block-expect_statement_list-requires : goal.expressions::control::unsafe_block-expect_statement_list-requires
-expressions::control::unsafe_block-expect_statement_list-requires t c = (omega arith, short-still _ _ ((c.take.ensures.reads true).does.input ∙ c.start-node.ensures.opens.input) c.requires.short)
-
 pub expressions::control::unsafe_block-complete-requires : goal.expressions::control::unsafe_block-complete-requires
 expressions::control::unsafe_block-complete-requires t c = (c.expect_statement_list.ensures.reads true).does.innermost _ ((c.take.ensures.reads true).does.innermost _ c.start-node.ensures.marker)
 
 pub expressions::control::unsafe_block-returns-clause-reads : goal.expressions::control::unsafe_block-returns-clause-reads
 expressions::control::unsafe_block-returns-clause-reads t c = λ cond. reads-node cond c.start-node.ensures.opens (reads-then cond (c.take.ensures.reads cond) (c.expect_statement_list.ensures.reads cond)) c.complete.ensures.closes
-
-pub expressions::control::while_expr-expect_condition-requires : goal.expressions::control::while_expr-expect_condition-requires
-expressions::control::while_expr-expect_condition-requires t c = (omega arith, short-still _ _ ((c.take.ensures.reads true).does.input ∙ c.start-node.ensures.opens.input) c.requires.short)
-
-pub expressions::control::while_expr-expect_block-requires : goal.expressions::control::while_expr-expect_block-requires
-expressions::control::while_expr-expect_block-requires t c = (omega arith, short-still _ _ ((c.expect_condition.ensures.reads true).does.input ∙ (c.take.ensures.reads true).does.input ∙ c.start-node.ensures.opens.input) c.requires.short)
 
 pub expressions::control::while_expr-complete-requires : goal.expressions::control::while_expr-complete-requires
 expressions::control::while_expr-complete-requires t c = (c.expect_block.ensures.reads true).does.innermost _ ((c.expect_condition.ensures.reads true).does.innermost _ ((c.take.ensures.reads true).does.innermost _ c.start-node.ensures.marker))
@@ -139,20 +129,11 @@ expressions::control::while_expr-complete-requires t c = (c.expect_block.ensures
 pub expressions::control::while_expr-returns-clause-reads : goal.expressions::control::while_expr-returns-clause-reads
 expressions::control::while_expr-returns-clause-reads t c = λ cond. reads-node cond c.start-node.ensures.opens (reads-then cond (c.take.ensures.reads cond) (reads-then cond (c.expect_condition.ensures.reads cond) (c.expect_block.ensures.reads cond))) c.complete.ensures.closes
 
-pub expressions::control::loop_expr-expect_block-requires : goal.expressions::control::loop_expr-expect_block-requires
-expressions::control::loop_expr-expect_block-requires t c = (omega arith, short-still _ _ ((c.take.ensures.reads true).does.input ∙ c.start-node.ensures.opens.input) c.requires.short)
-
 pub expressions::control::loop_expr-complete-requires : goal.expressions::control::loop_expr-complete-requires
 expressions::control::loop_expr-complete-requires t c = (c.expect_block.ensures.reads true).does.innermost _ ((c.take.ensures.reads true).does.innermost _ c.start-node.ensures.marker)
 
 pub expressions::control::loop_expr-returns-clause-reads : goal.expressions::control::loop_expr-returns-clause-reads
 expressions::control::loop_expr-returns-clause-reads t c = λ cond. reads-node cond c.start-node.ensures.opens (reads-then cond (c.take.ensures.reads cond) (c.expect_block.ensures.reads cond)) c.complete.ensures.closes
-
-pub expressions::control::match_expr-expect_condition-requires : goal.expressions::control::match_expr-expect_condition-requires
-expressions::control::match_expr-expect_condition-requires t c = (omega arith, short-still _ _ ((c.take.ensures.reads true).does.input ∙ c.start-node.ensures.opens.input) c.requires.short)
-
-pub expressions::control::match_expr-expect_match_arms-requires : goal.expressions::control::match_expr-expect_match_arms-requires
-expressions::control::match_expr-expect_match_arms-requires t c = (omega arith, short-still _ _ ((c.expect_condition.ensures.reads true).does.input ∙ (c.take.ensures.reads true).does.input ∙ c.start-node.ensures.opens.input) c.requires.short)
 
 pub expressions::control::match_expr-complete-requires : goal.expressions::control::match_expr-complete-requires
 expressions::control::match_expr-complete-requires t c = (c.expect_match_arms.ensures.reads true).does.innermost _ ((c.expect_condition.ensures.reads true).does.innermost _ ((c.take.ensures.reads true).does.innermost _ c.start-node.ensures.marker))
@@ -160,29 +141,11 @@ expressions::control::match_expr-complete-requires t c = (c.expect_match_arms.en
 pub expressions::control::match_expr-returns-clause-reads : goal.expressions::control::match_expr-returns-clause-reads
 expressions::control::match_expr-returns-clause-reads t c = λ cond. reads-node cond c.start-node.ensures.opens (reads-then cond (c.take.ensures.reads cond) (reads-then cond (c.expect_condition.ensures.reads cond) (c.expect_match_arms.ensures.reads cond))) c.complete.ensures.closes
 
-pub expressions::control::for_expr-expect_pattern-requires : goal.expressions::control::for_expr-expect_pattern-requires
-expressions::control::for_expr-expect_pattern-requires t c = (omega arith, short-still _ _ ((c.take.ensures.reads true).does.input ∙ c.start-node.ensures.opens.input) c.requires.short)
-
-pub expressions::control::for_expr-expect_condition-requires : goal.expressions::control::for_expr-expect_condition-requires
-expressions::control::for_expr-expect_condition-requires t c = (omega arith, short-still _ _ ((c.expect.ensures.reads true).does.input ∙ (c.expect_pattern.ensures.reads true).does.input ∙ (c.take.ensures.reads true).does.input ∙ c.start-node.ensures.opens.input) c.requires.short)
-
-pub expressions::control::for_expr-expect_block-requires : goal.expressions::control::for_expr-expect_block-requires
-expressions::control::for_expr-expect_block-requires t c = (omega arith, short-still _ _ ((c.expect_condition.ensures.reads true).does.input ∙ (c.expect.ensures.reads true).does.input ∙ (c.expect_pattern.ensures.reads true).does.input ∙ (c.take.ensures.reads true).does.input ∙ c.start-node.ensures.opens.input) c.requires.short)
-
 pub expressions::control::for_expr-complete-requires : goal.expressions::control::for_expr-complete-requires
 expressions::control::for_expr-complete-requires t c = (c.expect_block.ensures.reads true).does.innermost _ ((c.expect_condition.ensures.reads true).does.innermost _ ((c.expect.ensures.reads true).does.innermost _ ((c.expect_pattern.ensures.reads true).does.innermost _ ((c.take.ensures.reads true).does.innermost _ c.start-node.ensures.marker))))
 
 pub expressions::control::for_expr-returns-clause-reads : goal.expressions::control::for_expr-returns-clause-reads
 expressions::control::for_expr-returns-clause-reads t c = λ cond. reads-node cond c.start-node.ensures.opens (reads-then cond (c.take.ensures.reads cond) (reads-then cond (c.expect_pattern.ensures.reads cond) (reads-then cond (c.expect.ensures.reads cond) (reads-then cond (c.expect_condition.ensures.reads cond) (c.expect_block.ensures.reads cond))))) c.complete.ensures.closes
-
-pub expressions::control::if_expr-expect_condition-requires : goal.expressions::control::if_expr-expect_condition-requires
-expressions::control::if_expr-expect_condition-requires t c = (omega arith, short-still _ _ ((c.take.ensures.reads true).does.input ∙ c.start-node.ensures.opens.input) c.requires.short)
-
-pub expressions::control::if_expr-expect_block-requires : goal.expressions::control::if_expr-expect_block-requires
-expressions::control::if_expr-expect_block-requires t c = (omega arith, short-still _ _ ((c.expect_condition.ensures.reads true).does.input ∙ (c.take.ensures.reads true).does.input ∙ c.start-node.ensures.opens.input) c.requires.short)
-
-pub expressions::control::if_expr-opt_else-requires : goal.expressions::control::if_expr-opt_else-requires
-expressions::control::if_expr-opt_else-requires t c = (omega arith, short-still _ _ ((c.expect_block.ensures.reads true).does.input ∙ (c.expect_condition.ensures.reads true).does.input ∙ (c.take.ensures.reads true).does.input ∙ c.start-node.ensures.opens.input) c.requires.short)
 
 pub expressions::control::if_expr-complete-requires : goal.expressions::control::if_expr-complete-requires
 expressions::control::if_expr-complete-requires t c = (c.opt_else.ensures.reads true).does.innermost _ ((c.expect_block.ensures.reads true).does.innermost _ ((c.expect_condition.ensures.reads true).does.innermost _ ((c.take.ensures.reads true).does.innermost _ c.start-node.ensures.marker)))
@@ -190,9 +153,6 @@ expressions::control::if_expr-complete-requires t c = (c.opt_else.ensures.reads 
 pub expressions::control::if_expr-returns-clause-gives : goal.expressions::control::if_expr-returns-clause-gives
 unfolding look_of begins_below whole rule items statements expressions patterns types paths there_at shift passes is_silent begins in_mode anew row one_of any_of no_longer longest is_longer
 expressions::control::if_expr-returns-clause-gives t c = λ cond. gives-anew (anew-after refl (reads-node cond c.start-node.ensures.opens (reads-then cond (c.take.ensures.reads cond) (reads-then cond (c.expect_condition.ensures.reads cond) (reads-then cond (c.expect_block.ensures.reads cond) (c.opt_else.ensures.reads cond)))) c.complete.ensures.closes))
-
-pub expressions::control::opt_else-after_else-requires : goal.expressions::control::opt_else-after_else-requires
-expressions::control::opt_else-after_else-requires t c = (omega arith, short-still _ _ ((c.take.ensures.reads true).does.input ∙ c.at.ensures.same.input) c.requires.short)
 
 pub expressions::control::opt_else-returns-then-at-clause-reads : goal.expressions::control::opt_else-returns-then-at-clause-reads
 unfolding look_of begins_below whole rule items statements expressions patterns types paths there_at shift passes is_silent begins in_mode anew row one_of any_of no_longer longest is_longer
@@ -203,10 +163,7 @@ unfolding look_of begins_below whole rule items statements expressions patterns 
 expressions::control::opt_else-returns-else-at-clause-reads t c = λ cond. reads-here (saw-so (c.at.ensures.sees cond) c.if-at.false and nothing) (reads-nothing cond c.at.ensures.same)
 
 pub expressions::control::after_else-if_expr-requires : goal.expressions::control::after_else-if_expr-requires
-expressions::control::after_else-if_expr-requires t c = (omega arith, (short-still _ _ c.at.ensures.same.input c.requires.short, omega arith))
-
-pub expressions::control::after_else-expect_block-requires : goal.expressions::control::after_else-expect_block-requires
-expressions::control::after_else-expect_block-requires t c = (omega arith, short-still _ _ c.at.ensures.same.input c.requires.short)
+expressions::control::after_else-if_expr-requires t c = (omega arith, omega arith)
 
 pub expressions::control::after_else-returns-then-at-clause-reads : goal.expressions::control::after_else-returns-then-at-clause-reads
 unfolding look_of begins_below whole rule items statements expressions patterns types paths there_at shift passes is_silent begins in_mode anew row one_of any_of no_longer longest is_longer
@@ -215,9 +172,6 @@ expressions::control::after_else-returns-then-at-clause-reads t c = λ cond. rea
 pub expressions::control::after_else-returns-clause-reads : goal.expressions::control::after_else-returns-clause-reads
 unfolding look_of begins_below whole rule items statements expressions patterns types paths there_at shift passes is_silent begins in_mode anew row one_of any_of no_longer longest is_longer
 expressions::control::after_else-returns-clause-reads t c = λ cond. reads-here (saw-so (c.at.ensures.sees cond) c.if-at.false and nothing) (after-look cond c.at.ensures.same (c.expect_block.ensures.reads cond))
-
-pub expressions::control::match_arms-arms-requires : goal.expressions::control::match_arms-arms-requires
-expressions::control::match_arms-arms-requires t c = (omega arith, short-still _ _ ((c.take.ensures.reads true).does.input ∙ c.start-list.ensures.opens.input) c.requires.short)
 
 pub expressions::control::match_arms-complete-requires : goal.expressions::control::match_arms-complete-requires
 expressions::control::match_arms-complete-requires t c = (c.expect.ensures.reads true).does.innermost _ (c.arms.ensures.reads.does.innermost _ ((c.take.ensures.reads true).does.innermost _ c.start-list.ensures.marker))
@@ -228,7 +182,6 @@ expressions::control::match_arms-returns-clause-gives t c = λ cond. gives-anew 
 
 pub expressions::control::arms-turns-preserved : goal.expressions::control::arms-turns-preserved
 expressions::control::arms-turns-preserved t c = record {
-  input = c.arm_turn.ensures.input ∙ c.turns.invariant.input;
   innermost = λ n i. c.arm_turn.ensures.innermost n (c.turns.invariant.innermost n i);
   goes = record { rest = λ end p. c.turns.invariant.goes.rest end ((c.arm_turn.ensures.goes c.turns-test.true).rest end p) };
   left = omega (arith, c.turns.invariant.left, c.arm_turn.ensures.left);
@@ -245,14 +198,11 @@ expressions::control::arm_turn-returns-then-at_list_end-clause-ends t c = λ e. 
 pub expressions::control::arm_turn-match_arm-requires : goal.expressions::control::arm_turn-match_arm-requires
 unfolding look_of begins_below whole rule items statements expressions patterns types paths there_at shift passes is_silent begins in_mode anew row one_of any_of no_longer longest is_longer
 expressions::control::arm_turn-match_arm-requires t c =
-    (omega arith, (short-still _ _ (c.at_pattern.ensures.same.input ∙ c.at_list_end.ensures.same.input) c.requires.short, ((λ d. saw-after c.at_pattern.ensures.same (saw-so (c.at_pattern.ensures.sees d) c.if-at_pattern.true)), omega (arith, c.at_pattern.ensures.some c.if-at_pattern.true, c.at_pattern.ensures.left))))
+    (omega arith, ((λ d. saw-after c.at_pattern.ensures.same (saw-so (c.at_pattern.ensures.sees d) c.if-at_pattern.true)), omega (arith, c.at_pattern.ensures.some c.if-at_pattern.true, c.at_pattern.ensures.left)))
 
 pub expressions::control::arm_turn-returns-then-at_pattern-clause-goes : goal.expressions::control::arm_turn-returns-then-at_pattern-clause-goes
 unfolding tokens look_of begins_below whole rule items statements expressions patterns types paths there_at shift passes is_silent begins in_mode anew row one_of any_of no_longer longest is_longer
 expressions::control::arm_turn-returns-then-at_pattern-clause-goes t c = λ e. next-turn false (Unless (until 'r_curly') (MatchArm or Skip ExpectedMatchArm)) (ends-at-end false (Unless (until 'r_curly') (MatchArm or Skip ExpectedMatchArm)) refl) _ _ _ first-turn (starts-here (Unless (until 'r_curly') (MatchArm or Skip ExpectedMatchArm)) (saw-so (c.at_list_end.ensures.sees false) c.if-at_list_end.false and begun-anew rules.match_arm (saw-before c.at_list_end.ensures.same (arm-there (saw-so (c.at_pattern.ensures.sees false) c.if-at_pattern.true))) nothing) refl) (reads-here (begun-anew rules.match_arm (saw-before c.at_list_end.ensures.same (arm-there (saw-so (c.at_pattern.ensures.sees false) c.if-at_pattern.true))) nothing) (after-look false c.at_list_end.ensures.same (after-look false c.at_pattern.ensures.same (reads-call false c.match_arm.ensures.gives)))) (omega (arith, c.match_arm.ensures.left, c.at_pattern.ensures.left, c.at_list_end.ensures.left))
-
-pub expressions::control::arm_turn-returns-then-at_pattern-clause-input : goal.expressions::control::arm_turn-returns-then-at_pattern-clause-input
-expressions::control::arm_turn-returns-then-at_pattern-clause-input t c = c.match_arm.ensures.gives.does.input ∙ c.at_pattern.ensures.same.input ∙ c.at_list_end.ensures.same.input
 
 pub expressions::control::arm_turn-returns-then-at_pattern-clause-innermost : goal.expressions::control::arm_turn-returns-then-at_pattern-clause-innermost
 expressions::control::arm_turn-returns-then-at_pattern-clause-innermost t c = λ n i. c.match_arm.ensures.gives.does.innermost n (c.at_pattern.ensures.same.innermost n (c.at_list_end.ensures.same.innermost n i))
@@ -269,9 +219,6 @@ expressions::control::arm_turn-skip-requires t c = omega (arith, some-left 'r_cu
 pub expressions::control::arm_turn-returns-clause-goes : goal.expressions::control::arm_turn-returns-clause-goes
 unfolding tokens look_of begins_below whole rule items statements expressions patterns types paths there_at shift passes is_silent begins in_mode anew row one_of any_of no_longer longest is_longer
 expressions::control::arm_turn-returns-clause-goes t c = λ e. next-turn false (Unless (until 'r_curly') (MatchArm or Skip ExpectedMatchArm)) (ends-at-end false (Unless (until 'r_curly') (MatchArm or Skip ExpectedMatchArm)) refl) _ _ _ first-turn (starts-here (Unless (until 'r_curly') (MatchArm or Skip ExpectedMatchArm)) (saw-so (c.at_list_end.ensures.sees false) c.if-at_list_end.false and left-there 'r_curly' (saw-so (c.at_list_end.ensures.sees false) c.if-at_list_end.false) and begun-anew rules.match_arm (saw-before c.at_list_end.ensures.same (arm-there (saw-so (c.at_pattern.ensures.sees false) c.if-at_pattern.false))) nothing) refl) (reads-here (begun-anew rules.match_arm (saw-before c.at_list_end.ensures.same (arm-there (saw-so (c.at_pattern.ensures.sees false) c.if-at_pattern.false))) nothing) (after-look false c.at_list_end.ensures.same (after-look false c.at_pattern.ensures.same (c.skip.ensures.reads false)))) (omega (arith, c.skip.ensures.left, c.at_pattern.ensures.left, c.at_list_end.ensures.left))
-
-pub expressions::control::arm_turn-returns-clause-input : goal.expressions::control::arm_turn-returns-clause-input
-expressions::control::arm_turn-returns-clause-input t c = (c.skip.ensures.reads false).does.input ∙ c.at_pattern.ensures.same.input ∙ c.at_list_end.ensures.same.input
 
 pub expressions::control::arm_turn-returns-clause-innermost : goal.expressions::control::arm_turn-returns-clause-innermost
 expressions::control::arm_turn-returns-clause-innermost t c = λ n i. (c.skip.ensures.reads false).does.innermost n (c.at_pattern.ensures.same.innermost n (c.at_list_end.ensures.same.innermost n i))

@@ -1,5 +1,5 @@
 -- Expressions, path by path.
-use Rattle.std.proofs.Common.{◌≡◌, ℕ, Bool, true, false, nat_eq, Option, refl, sym, subst, ◌∙◌, arith}
+use Rattle.std.proofs.Common.{◌≡◌, ℕ, Bool, true, false, nat_eq, Option, refl, sym, subst, arith}
 use Rattle.std.proofs.lemmas.Bool.{eq-eqb, eqb-true}
 use Rattle.parser_events.specs.Forest.{ExpectedExpression}
 use Rattle.rust_grammar.specs.Meaning.{read}
@@ -8,7 +8,6 @@ use Rattle.rust_grammar.specs.Rule.{Call, Want, begins}
 use Rattle.grammar_reader.specs.Told.{level_of}
 use Rattle.grammar_reader.specs.declared.grammar.expressions.Level.{Level}
 use Rattle.grammar_reader.proofs.Seeing.{reads-expected}
-use Rattle.grammar_reader.proofs.Inputs.{short-still}
 use Rattle.rust_productions.specs.Layers.{layer_at, layers, operators_at}
 use Rattle.rust_productions.specs.Operators.{IsMark}
 use Rattle.rust_productions.specs.Reads.{Reads}
@@ -22,40 +21,34 @@ use Rattle.rust_productions.proofs.Seen.{saw-after, saw-inside}
 use Rattle.grammar_reader.proofs.grammar.+grammar.Goals as goal
 
 pub expressions::expect_expression-expect_layer-requires : goal.expressions::expect_expression-expect_layer-requires
-expressions::expect_expression-expect_layer-requires t c = (omega arith, (c.requires.short, omega arith))
+expressions::expect_expression-expect_layer-requires t c = (omega arith, omega arith)
 
 pub expressions::expect_expression-returns-in-Comparison-clause-reads : goal.expressions::expect_expression-returns-in-Comparison-clause-reads
 unfolding layer_at layers
 expressions::expect_expression-returns-in-Comparison-clause-reads t c = subst (λ (l : Level). Reads c.args.condition (Want (Call (level_of l)) ExpectedExpression) c.args.p.now c.expect_layer.new.p) (sym c.in-Comparison.is) c.expect_layer.ensures.reads
 
 pub expressions::expect_expression-expect_layer-requires-in-Disjunction : goal.expressions::expect_expression-expect_layer-requires-in-Disjunction
-expressions::expect_expression-expect_layer-requires-in-Disjunction t c = (omega arith, (c.requires.short, omega arith))
+expressions::expect_expression-expect_layer-requires-in-Disjunction t c = (omega arith, omega arith)
 
 pub expressions::expect_expression-returns-in-Disjunction-clause-reads : goal.expressions::expect_expression-returns-in-Disjunction-clause-reads
 unfolding layer_at layers
 expressions::expect_expression-returns-in-Disjunction-clause-reads t c = subst (λ (l : Level). Reads c.args.condition (Want (Call (level_of l)) ExpectedExpression) c.args.p.now c.expect_layer-in-Disjunction.new.p) (sym c.in-Disjunction.is) c.expect_layer-in-Disjunction.ensures.reads
 
-pub expressions::expect_expression-expect_any-requires : goal.expressions::expect_expression-expect_any-requires
-expressions::expect_expression-expect_any-requires t c = (omega arith, c.requires.short)
-
 pub expressions::expect_expression-returns-in-Expression-clause-reads : goal.expressions::expect_expression-returns-in-Expression-clause-reads
 expressions::expect_expression-returns-in-Expression-clause-reads t c = subst (λ (l : Level). Reads c.args.condition (Want (Call (level_of l)) ExpectedExpression) c.args.p.now c.expect_any.new.p) (sym c.in-Expression.is) c.expect_any.ensures.reads
-
-pub expressions::expect_expression-expect_operation-requires : goal.expressions::expect_expression-expect_operation-requires
-expressions::expect_expression-expect_operation-requires t c = (omega arith, c.requires.short)
 
 pub expressions::expect_expression-returns-in-Operation-clause-reads : goal.expressions::expect_expression-returns-in-Operation-clause-reads
 expressions::expect_expression-returns-in-Operation-clause-reads t c = subst (λ (l : Level). Reads c.args.condition (Want (Call (level_of l)) ExpectedExpression) c.args.p.now c.expect_operation.new.p) (sym c.in-Operation.is) c.expect_operation.ensures.reads
 
 pub expressions::expect_expression-expect_layer-requires-in-Prefixed : goal.expressions::expect_expression-expect_layer-requires-in-Prefixed
-expressions::expect_expression-expect_layer-requires-in-Prefixed t c = (omega arith, (c.requires.short, omega arith))
+expressions::expect_expression-expect_layer-requires-in-Prefixed t c = (omega arith, omega arith)
 
 pub expressions::expect_expression-returns-in-Prefixed-clause-reads : goal.expressions::expect_expression-returns-in-Prefixed-clause-reads
 unfolding layer_at layers
 expressions::expect_expression-returns-in-Prefixed-clause-reads t c = subst (λ (l : Level). Reads c.args.condition (Want (Call (level_of l)) ExpectedExpression) c.args.p.now c.expect_layer-in-Prefixed.new.p) (sym c.in-Prefixed.is) c.expect_layer-in-Prefixed.ensures.reads
 
 pub expressions::expect_any-expression-requires : goal.expressions::expect_any-expression-requires
-expressions::expect_any-expression-requires t c = (omega arith, (short-still _ _ c.at_expression.ensures.same.input c.requires.short, (saw-after c.at_expression.ensures.same (saw-so c.at_expression.ensures.sees c.if-at_expression.true), omega (arith, c.at_expression.ensures.some c.if-at_expression.true, c.at_expression.ensures.left))))
+expressions::expect_any-expression-requires t c = (omega arith, (saw-after c.at_expression.ensures.same (saw-so c.at_expression.ensures.sees c.if-at_expression.true), omega (arith, c.at_expression.ensures.some c.if-at_expression.true, c.at_expression.ensures.left)))
 
 pub expressions::expect_any-returns-then-at_expression-clause-reads : goal.expressions::expect_any-returns-then-at_expression-clause-reads
 expressions::expect_any-returns-then-at_expression-clause-reads t c = reads-want _ (begins-call rules.expression (saw-so c.at_expression.ensures.sees c.if-at_expression.true)) (after-look _ c.at_expression.ensures.same (reads-call _ c.expression.ensures.gives))
@@ -64,7 +57,7 @@ pub expressions::expect_any-returns-clause-reads : goal.expressions::expect_any-
 expressions::expect_any-returns-clause-reads t c = reads-missing _ (begins-call rules.expression (saw-so c.at_expression.ensures.sees c.if-at_expression.false)) (after-look _ c.at_expression.ensures.same (c.error.ensures.reads _))
 
 pub expressions::expect_operation-operation-requires : goal.expressions::expect_operation-operation-requires
-expressions::expect_operation-operation-requires t c = (omega arith, (short-still _ _ c.at_operation.ensures.same.input c.requires.short, (saw-after c.at_operation.ensures.same (saw-so c.at_operation.ensures.sees c.if-at_operation.true), omega (arith, c.at_operation.ensures.some c.if-at_operation.true, c.at_operation.ensures.left))))
+expressions::expect_operation-operation-requires t c = (omega arith, (saw-after c.at_operation.ensures.same (saw-so c.at_operation.ensures.sees c.if-at_operation.true), omega (arith, c.at_operation.ensures.some c.if-at_operation.true, c.at_operation.ensures.left)))
 
 pub expressions::expect_operation-returns-then-at_operation-clause-reads : goal.expressions::expect_operation-returns-then-at_operation-clause-reads
 expressions::expect_operation-returns-then-at_operation-clause-reads t c = reads-want _ (begins-call rules.operation (saw-so c.at_operation.ensures.sees c.if-at_operation.true)) (after-look _ c.at_operation.ensures.same (reads-call _ c.operation.ensures.gives))
@@ -76,13 +69,13 @@ pub expressions::expect_condition-returns-clause-reads : goal.expressions::expec
 expressions::expect_condition-returns-clause-reads t c = λ cond. reads-expected cond c.expect_expression.ensures.reads
 
 pub expressions::expression-operation-requires : goal.expressions::expression-operation-requires
-expressions::expression-operation-requires t c = (omega arith, (c.requires.short, (saw-operation c.requires.begins, omega arith)))
+expressions::expression-operation-requires t c = (omega arith, (saw-operation c.requires.begins, omega arith))
 
 pub expressions::expression-returns-clause-gives : goal.expressions::expression-returns-clause-gives
 expressions::expression-returns-clause-gives t c = gives-expression c.operation.ensures.gives
 
 pub expressions::operation-range-requires : goal.expressions::operation-range-requires
-expressions::operation-range-requires t c = (omega arith, (short-still _ _ c.range_mark.ensures.same.input c.requires.short, mark-after c.range_mark.ensures.same (subst (λ (m : Option RangeMark). IsMark m c.args.p.now) c.in-Some.is c.range_mark.ensures.mark)))
+expressions::operation-range-requires t c = (omega arith, mark-after c.range_mark.ensures.same (subst (λ (m : Option RangeMark). IsMark m c.args.p.now) c.in-Some.is c.range_mark.ensures.mark))
 
 pub expressions::operation-returns-in-Some-clause-gives : goal.expressions::operation-returns-in-Some-clause-gives
 expressions::operation-returns-in-Some-clause-gives t c = gives-look c.range_mark.ensures.same c.range.ensures.gives
@@ -90,25 +83,25 @@ expressions::operation-returns-in-Some-clause-gives t c = gives-look c.range_mar
 pub expressions::operation-operands-requires : goal.expressions::operation-operands-requires
 expressions::operation-operands-requires t c =
     let unmarked = subst (λ (m : Option RangeMark). IsMark m c.args.p.now) c.in-None.is c.range_mark.ensures.mark in
-    (omega arith, (short-still _ _ c.range_mark.ensures.same.input c.requires.short, (mark-after c.range_mark.ensures.same unmarked, (saw-after c.range_mark.ensures.same (operand-begun unmarked c.requires.begins), omega (arith, c.requires.some, c.range_mark.ensures.left)))))
+    (omega arith, (mark-after c.range_mark.ensures.same unmarked, (saw-after c.range_mark.ensures.same (operand-begun unmarked c.requires.begins), omega (arith, c.requires.some, c.range_mark.ensures.left))))
 
 pub expressions::operation-returns-in-None-clause-gives : goal.expressions::operation-returns-in-None-clause-gives
 expressions::operation-returns-in-None-clause-gives t c = gives-look c.range_mark.ensures.same c.operands.ensures.gives
 
 pub expressions::operands-prefixed-requires : goal.expressions::operands-prefixed-requires
-expressions::operands-prefixed-requires t c = (omega arith, (short-still _ _ c.start-frame.ensures.opens.input c.requires.short, (saw-inside c.start-frame.ensures.opens c.requires.begins, omega arith)))
+expressions::operands-prefixed-requires t c = (omega arith, (saw-inside c.start-frame.ensures.opens c.requires.begins, omega arith))
 
 pub expressions::operands-climb-frame-requires : goal.expressions::operands-climb-frame-requires
-expressions::operands-climb-frame-requires t c = (omega arith, (short-still _ _ (c.prefixed.ensures.gives.does.input ∙ c.start-frame.ensures.opens.input) c.requires.short, (omega arith, c.prefixed.ensures.gives.does.innermost _ c.start-frame.ensures.marker)))
+expressions::operands-climb-frame-requires t c = (omega arith, (omega arith, c.prefixed.ensures.gives.does.innermost _ c.start-frame.ensures.marker))
 
 pub expressions::operands-operation_tail-frame-requires : goal.expressions::operands-operation_tail-frame-requires
-expressions::operands-operation_tail-frame-requires t c = (omega arith, (short-still _ _ (c.climb-frame.ensures.reads.does.input ∙ c.prefixed.ensures.gives.does.input ∙ c.start-frame.ensures.opens.input) c.requires.short, c.climb-frame.ensures.marker))
+expressions::operands-operation_tail-frame-requires t c = (omega arith, c.climb-frame.ensures.marker)
 
 pub expressions::operands-returns-clause-gives : goal.expressions::operands-returns-clause-gives
 expressions::operands-returns-clause-gives t c = gives-operands c.requires.unmarked c.requires.begins c.start-frame.ensures.opens (reads-call _ c.prefixed.ensures.gives) c.climb-frame.ensures.reads c.operation_tail-frame.ensures.reads c.abandon.ensures.leaves
 
 pub expressions::range-range_end-more-requires : goal.expressions::range-range_end-more-requires
-expressions::range-range_end-more-requires t c = (omega arith, (short-still _ _ (c.start-range.ensures.opens.input ∙ c.start-frame.ensures.opens.input) c.requires.short, mark-inside c.start-range.ensures.opens (mark-inside c.start-frame.ensures.opens c.requires.marked)))
+expressions::range-range_end-more-requires t c = (omega arith, mark-inside c.start-range.ensures.opens (mark-inside c.start-frame.ensures.opens c.requires.marked))
 
 pub expressions::range-complete-requires : goal.expressions::range-complete-requires
 expressions::range-complete-requires t c = c.range_end-more.ensures.innermost _ c.start-range.ensures.marker
@@ -117,7 +110,7 @@ pub expressions::range-abandon-requires : goal.expressions::range-abandon-requir
 expressions::range-abandon-requires t c = c.complete.ensures.closes.innermost _ (c.range_end-more.ensures.innermost _ (c.start-range.ensures.opens.innermost _ c.start-frame.ensures.marker))
 
 pub expressions::range-operation_tail-frame-requires : goal.expressions::range-operation_tail-frame-requires
-expressions::range-operation_tail-frame-requires t c = (omega arith, (short-still _ _ (c.complete.ensures.closes.input ∙ c.range_end-more.ensures.input ∙ c.start-range.ensures.opens.input ∙ c.start-frame.ensures.opens.input) c.requires.short, c.complete.ensures.closes.innermost _ (c.range_end-more.ensures.innermost _ (c.start-range.ensures.opens.innermost _ c.start-frame.ensures.marker))))
+expressions::range-operation_tail-frame-requires t c = (omega arith, c.complete.ensures.closes.innermost _ (c.range_end-more.ensures.innermost _ (c.start-range.ensures.opens.innermost _ c.start-frame.ensures.marker)))
 
 pub expressions::range-returns-then-not-more-clause-gives : goal.expressions::range-returns-then-not-more-clause-gives
 expressions::range-returns-then-not-more-clause-gives t c = gives-anew (anew-inside c.start-frame.ensures.opens (reads-range-alone c.args.mark (mark-inside c.start-frame.ensures.opens c.requires.marked) (saw-outside c.start-range.ensures.opens (saw-so c.range_end-more.ensures.near c.if-not-more.true)) (reads-node _ c.start-range.ensures.opens (c.range_end-more.ensures.alone c.if-not-more.true) c.complete.ensures.closes)) c.abandon.ensures.leaves)
@@ -126,7 +119,7 @@ pub expressions::range-returns-clause-gives : goal.expressions::range-returns-cl
 expressions::range-returns-clause-gives t c = gives-anew (anew-inside c.start-frame.ensures.opens (reads-range c.args.mark (mark-inside c.start-frame.ensures.opens c.requires.marked) (saw-outside c.start-range.ensures.opens (saw-so c.range_end-more.ensures.near c.if-not-more.false)) (reads-then _ (reads-node _ c.start-range.ensures.opens (c.range_end-more.ensures.to c.if-not-more.false) c.complete.ensures.closes) c.operation_tail-frame.ensures.reads)) c.abandon-2.ensures.leaves)
 
 pub expressions::range_end-layers-requires : goal.expressions::range_end-layers-requires
-expressions::range_end-layers-requires t c = (omega arith, (short-still _ _ (c.at_range_operand.ensures.same.input ∙ (c.take_mark.ensures.reads true).does.input) c.requires.short, (saw-after c.at_range_operand.ensures.same (c.at_range_operand.ensures.operand c.if-at_range_operand.true), (omega (arith, c.at_range_operand.ensures.some c.if-at_range_operand.true, c.at_range_operand.ensures.left), omega arith))))
+expressions::range_end-layers-requires t c = (omega arith, (saw-after c.at_range_operand.ensures.same (c.at_range_operand.ensures.operand c.if-at_range_operand.true), (omega (arith, c.at_range_operand.ensures.some c.if-at_range_operand.true, c.at_range_operand.ensures.left), omega arith)))
 
 pub expressions::range_end-returns-then-at_range_operand-clause-near : goal.expressions::range_end-returns-then-at_range_operand-clause-near
 expressions::range_end-returns-then-at_range_operand-clause-near t c = range-near c.args.mark c.requires.marked (c.take_mark.ensures.reads true) (saw-so c.at_range_operand.ensures.sees c.if-at_range_operand.true)
@@ -138,23 +131,14 @@ pub expressions::range_end-returns-then-at_range_operand-clause-to : goal.expres
 unfolding layer_at layers
 expressions::range_end-returns-then-at_range_operand-clause-to t c = λ is. reads-then _ (c.take_mark.ensures.reads _) (after-look _ c.at_range_operand.ensures.same (reads-unless _ (reads-call _ c.layers.ensures.gives)))
 
-pub expressions::range_end-returns-then-at_range_operand-clause-input : goal.expressions::range_end-returns-then-at_range_operand-clause-input
-expressions::range_end-returns-then-at_range_operand-clause-input t c = c.layers.ensures.gives.does.input ∙ c.at_range_operand.ensures.same.input ∙ (c.take_mark.ensures.reads true).does.input
-
 pub expressions::range_end-returns-then-at_range_operand-clause-innermost : goal.expressions::range_end-returns-then-at_range_operand-clause-innermost
 expressions::range_end-returns-then-at_range_operand-clause-innermost t c = λ n i. c.layers.ensures.gives.does.innermost n (c.at_range_operand.ensures.same.innermost n ((c.take_mark.ensures.reads true).does.innermost n i))
 
 pub expressions::range_end-returns-clause-alone : goal.expressions::range_end-returns-clause-alone
 expressions::range_end-returns-clause-alone t c = λ is. reads-before-look (c.take_mark.ensures.reads _) c.at_range_operand.ensures.same
 
-pub expressions::range_end-returns-clause-input : goal.expressions::range_end-returns-clause-input
-expressions::range_end-returns-clause-input t c = c.at_range_operand.ensures.same.input ∙ (c.take_mark.ensures.reads true).does.input
-
 pub expressions::range_end-returns-clause-innermost : goal.expressions::range_end-returns-clause-innermost
 expressions::range_end-returns-clause-innermost t c = λ n i. c.at_range_operand.ensures.same.innermost n ((c.take_mark.ensures.reads true).does.innermost n i)
-
-pub expressions::opt_assignment-expect_operation-requires : goal.expressions::opt_assignment-expect_operation-requires
-expressions::opt_assignment-expect_operation-requires t c = (omega arith, short-still _ _ (c.take_operator.ensures.reads true).does.input c.requires.short)
 
 pub expressions::opt_assignment-wrap-requires : goal.expressions::opt_assignment-wrap-requires
 expressions::opt_assignment-wrap-requires t c = c.expect_operation.ensures.reads.does.innermost _ ((c.take_operator.ensures.reads true).does.innermost _ c.requires.innermost)
@@ -177,17 +161,16 @@ expressions::opt_assignment-returns-clause-reads t c =
     (reads-wrap _ (reads-then _ (subst (λ (h : ℕ). Reads c.args.condition (operators_at h) c.args.p.now c.take_operator.new.p) is (c.take_operator.ensures.reads _)) c.expect_operation.ensures.reads) c.wrap.ensures.wraps)
 
 pub expressions::pipe_tail-expect_expression-requires : goal.expressions::pipe_tail-expect_expression-requires
-expressions::pipe_tail-expect_expression-requires t c = (omega (arith, c.pipes.invariant.left, c.take_operator.ensures.left, c.current_op-operator.ensures.left), short-still _ _ ((c.take_operator.ensures.reads true).does.input ∙ c.pipes.invariant.input ∙ c.current_op-operator.ensures.same.input) c.requires.short)
+expressions::pipe_tail-expect_expression-requires t c = omega (arith, c.pipes.invariant.left, c.take_operator.ensures.left, c.current_op-operator.ensures.left)
 
 pub expressions::pipe_tail-wrap-frame-requires : goal.expressions::pipe_tail-wrap-frame-requires
 expressions::pipe_tail-wrap-frame-requires t c = c.expect_expression.ensures.reads.does.innermost _ ((c.take_operator.ensures.reads true).does.innermost _ c.pipes.invariant.marker)
 
 pub expressions::pipe_tail-opt_assignment-requires : goal.expressions::pipe_tail-opt_assignment-requires
-expressions::pipe_tail-opt_assignment-requires t c = (omega (arith, c.pipes.invariant.left, c.current_op-operator.ensures.left), (short-still _ _ (c.pipes.invariant.input ∙ c.current_op-operator.ensures.same.input) c.requires.short, (c.pipes.invariant.next, c.pipes.invariant.marker)))
+expressions::pipe_tail-opt_assignment-requires t c = (omega (arith, c.pipes.invariant.left, c.current_op-operator.ensures.left), (c.pipes.invariant.next, c.pipes.invariant.marker))
 
 pub expressions::pipe_tail-pipes-init : goal.expressions::pipe_tail-pipes-init
 expressions::pipe_tail-pipes-init t c = record {
-  input = refl;
   marker = c.current_op-operator.ensures.same.innermost _ c.requires.innermost;
   next = next-after c.current_op-operator.ensures.same c.current_op-operator.ensures.next;
   goes = record { rest = λ end p. p };
@@ -199,7 +182,6 @@ pub expressions::pipe_tail-pipes-preserved : goal.expressions::pipe_tail-pipes-p
 expressions::pipe_tail-pipes-preserved t c =
     let is : c.pipes.operator.height ≡ 11 = omega arith in
     record {
-      input = c.current_op-operator-in-pipes.ensures.same.input ∙ c.wrap-frame.ensures.wraps.input ∙ c.expect_expression.ensures.reads.does.input ∙ (c.take_operator.ensures.reads true).does.input ∙ c.pipes.invariant.input;
       marker = c.current_op-operator-in-pipes.ensures.same.innermost _ c.wrap-frame.ensures.marker;
       next = next-after c.current_op-operator-in-pipes.ensures.same c.current_op-operator-in-pipes.ensures.next;
       goes = record {
@@ -221,7 +203,6 @@ expressions::pipe_tail-returns-clause-looks t c = omega (arith, c.pipes.invarian
 
 pub expressions::operation_tail-ranges-2-init : goal.expressions::operation_tail-ranges-2-init
 expressions::operation_tail-ranges-2-init t c = record {
-  input = refl;
   marker = c.range_mark-mark.ensures.same.innermost _ c.requires.innermost;
   mark = mark-after c.range_mark-mark.ensures.same c.range_mark-mark.ensures.mark;
   goes = record { rest = λ end p. p };
@@ -233,7 +214,6 @@ pub expressions::operation_tail-ranges-2-preserved : goal.expressions::operation
 expressions::operation_tail-ranges-2-preserved t c =
     let marked = subst (λ (m : Option RangeMark). IsMark m c.ranges-2.p) c.in-Some.is c.ranges-2.invariant.mark in
     record {
-      input = c.range_mark-mark-in-Some.ensures.same.input ∙ c.wrap-frame.ensures.wraps.input ∙ c.range_end-more.ensures.input ∙ c.ranges-2.invariant.input;
       marker = c.range_mark-mark-in-Some.ensures.same.innermost _ c.wrap-frame.ensures.marker;
       mark = mark-after c.range_mark-mark-in-Some.ensures.same c.range_mark-mark-in-Some.ensures.mark;
       goes = record {

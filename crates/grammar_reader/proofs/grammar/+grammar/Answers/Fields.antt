@@ -1,5 +1,5 @@
 -- Fields of expressions and of patterns.
-use Rattle.std.proofs.Common.{true, refl, subst, ◌∙◌, arith}
+use Rattle.std.proofs.Common.{true, refl, subst, arith}
 use Rattle.rust_grammar.specs.Rule as rules
 use Rattle.rust_grammar.specs.Expressions.{expressions}
 use Rattle.rust_grammar.specs.Items.{items}
@@ -17,7 +17,6 @@ use Rattle.rust_grammar.specs.Rule.{Look, One}
 use Rattle.rust_grammar.specs.Words.{'mut', 'ref'}
 use Rattle.grammar_reader.specs.declared.grammar.paths.Mode.TheVariants as modes
 use Rattle.grammar_reader.proofs.PathArgs.{any-mode, paths-begin}
-use Rattle.grammar_reader.proofs.Inputs.{short-still}
 use Rattle.rust_productions.specs.Reads.{looks, Saw}
 use Rattle.rust_productions.proofs.ByHand.{after-look, reads-call, reads-node, reads-nothing, reads-then}
 use Rattle.rust_productions.proofs.Choices.{anew-after, gives-anew, reads-here}
@@ -26,14 +25,14 @@ use Rattle.rust_productions.proofs.Seen.{begins-else, saw-after, saw-before, saw
 use Rattle.grammar_reader.proofs.grammar.+grammar.Goals as goal
 
 pub fields::field_value-named_value-requires : goal.fields::field_value-named_value-requires
-fields::field_value-named_value-requires t c = (omega arith, (short-still _ _ c.at_named_field.ensures.same.input c.requires.short, omega (arith, c.at_named_field.ensures.some c.if-at_named_field.true, c.at_named_field.ensures.left)))
+fields::field_value-named_value-requires t c = (omega arith, omega (arith, c.at_named_field.ensures.some c.if-at_named_field.true, c.at_named_field.ensures.left))
 
 pub fields::field_value-returns-then-at_named_field-clause-gives : goal.fields::field_value-returns-then-at_named_field-clause-gives
 unfolding look_of begins_below whole rule items statements expressions patterns types paths there_at shift passes is_silent begins in_mode anew row one_of any_of no_longer longest is_longer
 fields::field_value-returns-then-at_named_field-clause-gives t c = gives-anew (anew-after refl (reads-here (saw-so (c.at_named_field.ensures.sees c.args.condition) c.if-at_named_field.true and nothing) (after-look _ c.at_named_field.ensures.same c.named_value.ensures.reads)))
 
 pub fields::field_value-other_fields-requires : goal.fields::field_value-other_fields-requires
-fields::field_value-other_fields-requires t c = (omega arith, (short-still _ _ (c.at_pair.ensures.same.input ∙ c.at_named_field.ensures.same.input) c.requires.short, omega (arith, c.at_pair.ensures.some c.if-at_pair.true (λ e. absurd (omega (arith, e))), c.at_pair.ensures.left, c.at_named_field.ensures.left)))
+fields::field_value-other_fields-requires t c = (omega arith, omega (arith, c.at_pair.ensures.some c.if-at_pair.true (λ e. absurd (omega (arith, e))), c.at_pair.ensures.left, c.at_named_field.ensures.left))
 
 pub fields::field_value-returns-then-at_pair-clause-gives : goal.fields::field_value-returns-then-at_pair-clause-gives
 unfolding look_of begins_below whole rule items statements expressions patterns types paths there_at shift passes is_silent begins in_mode anew row one_of any_of no_longer longest is_longer
@@ -41,14 +40,11 @@ fields::field_value-returns-then-at_pair-clause-gives t c = gives-anew (anew-aft
 
 pub fields::field_value-path_value-requires : goal.fields::field_value-path_value-requires
 unfolding look_of begins_below whole rule items statements expressions patterns types paths there_at shift passes is_silent begins in_mode anew row one_of any_of no_longer longest is_longer
-fields::field_value-path_value-requires t c = (omega arith, (short-still _ _ (c.at_pair.ensures.same.input ∙ c.at_named_field.ensures.same.input) c.requires.short, ((λ d. saw-after c.at_pair.ensures.same (saw-after c.at_named_field.ensures.same (any-mode (subst (λ (l : Look). Saw c.args.condition l c.args.p.now true) (paths-begin modes.Expr) (begins-else rules.expr_path rules.field_value refl (saw-so (c.at_named_field.ensures.sees c.args.condition) c.if-at_named_field.false and saw-before c.at_named_field.ensures.same (saw-so (c.at_pair.ensures.sees c.args.condition) c.if-at_pair.false) and nothing) c.requires.begins refl))))), omega arith)))
+fields::field_value-path_value-requires t c = (omega arith, ((λ d. saw-after c.at_pair.ensures.same (saw-after c.at_named_field.ensures.same (any-mode (subst (λ (l : Look). Saw c.args.condition l c.args.p.now true) (paths-begin modes.Expr) (begins-else rules.expr_path rules.field_value refl (saw-so (c.at_named_field.ensures.sees c.args.condition) c.if-at_named_field.false and saw-before c.at_named_field.ensures.same (saw-so (c.at_pair.ensures.sees c.args.condition) c.if-at_pair.false) and nothing) c.requires.begins refl))))), omega arith))
 
 pub fields::field_value-returns-clause-gives : goal.fields::field_value-returns-clause-gives
 unfolding look_of begins_below whole rule items statements expressions patterns types paths there_at shift passes is_silent begins in_mode anew row one_of any_of no_longer longest is_longer
 fields::field_value-returns-clause-gives t c = gives-anew (anew-after refl (reads-here (saw-so (c.at_named_field.ensures.sees c.args.condition) c.if-at_named_field.false and saw-before c.at_named_field.ensures.same (saw-so (c.at_pair.ensures.sees c.args.condition) c.if-at_pair.false) and begun rules.expr_path (begins-else rules.expr_path rules.field_value refl (saw-so (c.at_named_field.ensures.sees c.args.condition) c.if-at_named_field.false and saw-before c.at_named_field.ensures.same (saw-so (c.at_pair.ensures.sees c.args.condition) c.if-at_pair.false) and nothing) c.requires.begins refl) nothing) (after-look _ c.at_named_field.ensures.same (after-look _ c.at_pair.ensures.same (c.path_value.ensures.reads c.args.condition)))))
-
-pub fields::named_value-expect_expression-requires : goal.fields::named_value-expect_expression-requires
-fields::named_value-expect_expression-requires t c = (omega arith, short-still _ _ ((c.take.ensures.reads true).does.input ∙ (c.name_of_field.ensures.reads true).does.input ∙ c.start-node.ensures.opens.input) c.requires.short)
 
 pub fields::named_value-complete-requires : goal.fields::named_value-complete-requires
 fields::named_value-complete-requires t c = c.expect_expression.ensures.reads.does.innermost _ ((c.take.ensures.reads true).does.innermost _ ((c.name_of_field.ensures.reads true).does.innermost _ c.start-node.ensures.marker))
@@ -56,14 +52,11 @@ fields::named_value-complete-requires t c = c.expect_expression.ensures.reads.do
 pub fields::named_value-returns-clause-reads : goal.fields::named_value-returns-clause-reads
 fields::named_value-returns-clause-reads t c = reads-node _ c.start-node.ensures.opens (reads-then _ (c.name_of_field.ensures.reads c.args.condition) (reads-then _ (c.take.ensures.reads c.args.condition) c.expect_expression.ensures.reads)) c.complete.ensures.closes
 
-pub fields::other_fields-opt_expression-requires : goal.fields::other_fields-opt_expression-requires
-fields::other_fields-opt_expression-requires t c = (omega arith, short-still _ _ (c.take_pair.ensures.reads true 0 0).does.input c.requires.short)
-
 pub fields::other_fields-returns-clause-reads : goal.fields::other_fields-returns-clause-reads
 fields::other_fields-returns-clause-reads t c = (reads-then _ (c.take_pair.ensures.reads c.args.condition _ _) c.opt_expression.ensures.reads)
 
 pub fields::opt_expression-expression-requires : goal.fields::opt_expression-expression-requires
-fields::opt_expression-expression-requires t c = (omega arith, (short-still _ _ c.at_expression.ensures.same.input c.requires.short, (saw-after c.at_expression.ensures.same (saw-so c.at_expression.ensures.sees c.if-at_expression.true), omega (arith, c.at_expression.ensures.some c.if-at_expression.true, c.at_expression.ensures.left))))
+fields::opt_expression-expression-requires t c = (omega arith, (saw-after c.at_expression.ensures.same (saw-so c.at_expression.ensures.sees c.if-at_expression.true), omega (arith, c.at_expression.ensures.some c.if-at_expression.true, c.at_expression.ensures.left)))
 
 pub fields::opt_expression-returns-then-at_expression-clause-reads : goal.fields::opt_expression-returns-then-at_expression-clause-reads
 unfolding look_of begins_below whole rule items statements expressions patterns types paths there_at shift passes is_silent begins in_mode anew row one_of any_of no_longer longest is_longer
@@ -74,7 +67,7 @@ unfolding look_of begins_below whole rule items statements expressions patterns 
 fields::opt_expression-returns-else-at_expression-clause-reads t c = reads-here (begun rules.expression (saw-so c.at_expression.ensures.sees c.if-at_expression.false) nothing) (reads-nothing _ c.at_expression.ensures.same)
 
 pub fields::path_value-path_with_args-requires : goal.fields::path_value-path_with_args-requires
-fields::path_value-path_with_args-requires t c = (omega arith, (short-still _ _ (c.start-value.ensures.opens.input ∙ c.start-node.ensures.opens.input) c.requires.short, ((λ d. saw-inside c.start-value.ensures.opens (saw-inside c.start-node.ensures.opens (c.requires.begins d))), omega arith)))
+fields::path_value-path_with_args-requires t c = (omega arith, ((λ d. saw-inside c.start-value.ensures.opens (saw-inside c.start-node.ensures.opens (c.requires.begins d))), omega arith))
 
 pub fields::path_value-complete-requires : goal.fields::path_value-complete-requires
 fields::path_value-complete-requires t c = (c.path_with_args.ensures.gives true).does.innermost _ c.start-value.ensures.marker
@@ -90,7 +83,7 @@ unfolding look_of begins_below whole rule items statements expressions patterns 
 fields::pattern_field-returns-then-at_pair-clause-gives t c = λ cond. gives-anew (anew-after refl (reads-here (saw-so (c.at_pair.ensures.sees cond) c.if-at_pair.true and nothing) (after-look cond c.at_pair.ensures.same (c.rest_pat.ensures.reads cond))))
 
 pub fields::pattern_field-named_pattern-requires : goal.fields::pattern_field-named_pattern-requires
-fields::pattern_field-named_pattern-requires t c = (omega arith, (short-still _ _ (c.at_named_field.ensures.same.input ∙ c.at_pair.ensures.same.input) c.requires.short, omega (arith, c.at_named_field.ensures.some c.if-at_named_field.true, c.at_named_field.ensures.left, c.at_pair.ensures.left)))
+fields::pattern_field-named_pattern-requires t c = (omega arith, omega (arith, c.at_named_field.ensures.some c.if-at_named_field.true, c.at_named_field.ensures.left, c.at_pair.ensures.left))
 
 pub fields::pattern_field-returns-then-at_named_field-clause-gives : goal.fields::pattern_field-returns-then-at_named_field-clause-gives
 unfolding look_of begins_below whole rule items statements expressions patterns types paths there_at shift passes is_silent begins in_mode anew row one_of any_of no_longer longest is_longer
@@ -103,9 +96,6 @@ fields::pattern_field-shorthand-requires-clause-begins t c = λ cond. saw-after 
 pub fields::pattern_field-returns-clause-gives : goal.fields::pattern_field-returns-clause-gives
 unfolding look_of begins_below whole rule items statements expressions patterns types paths there_at shift passes is_silent begins in_mode anew row one_of any_of no_longer longest is_longer
 fields::pattern_field-returns-clause-gives t c = λ cond. gives-anew (anew-after refl (reads-here (saw-so (c.at_pair.ensures.sees cond) c.if-at_pair.false and saw-before c.at_pair.ensures.same (saw-so (c.at_named_field.ensures.sees cond) c.if-at_named_field.false) and nothing) (after-look cond c.at_pair.ensures.same (after-look cond c.at_named_field.ensures.same (c.shorthand.ensures.reads cond)))))
-
-pub fields::named_pattern-expect_pattern-requires : goal.fields::named_pattern-expect_pattern-requires
-fields::named_pattern-expect_pattern-requires t c = (omega arith, short-still _ _ ((c.take.ensures.reads true).does.input ∙ (c.name_of_field.ensures.reads true).does.input ∙ c.start-node.ensures.opens.input) c.requires.short)
 
 pub fields::named_pattern-complete-requires : goal.fields::named_pattern-complete-requires
 fields::named_pattern-complete-requires t c = (c.expect_pattern.ensures.reads true).does.innermost _ ((c.take.ensures.reads true).does.innermost _ ((c.name_of_field.ensures.reads true).does.innermost _ c.start-node.ensures.marker))

@@ -1,5 +1,5 @@
 -- Functions, path by path.
-use Rattle.std.proofs.Common.{true, ◌∙◌, arith}
+use Rattle.std.proofs.Common.{true, arith}
 use Rattle.rust_grammar.specs.Expressions.{expressions}
 use Rattle.rust_grammar.specs.Items.{items}
 use Rattle.rust_grammar.specs.Meaning.{begins_below, look_of}
@@ -10,7 +10,6 @@ use Rattle.rust_grammar.specs.Rule.{begins, in_mode, anew, is_silent, passes, sh
 use Rattle.rust_grammar.specs.Statements.{statements}
 use Rattle.rust_grammar.specs.Types.{types}
 use Rattle.rust_grammar.specs.Whole.{rule, whole}
-use Rattle.grammar_reader.proofs.Inputs.{short-still}
 use Rattle.rust_productions.proofs.ByHand.{after-look, completes-wrap, reads-call, reads-nothing, reads-then}
 use Rattle.rust_productions.proofs.Choices.{reads-here}
 use Rattle.rust_productions.proofs.Facts.{nothing, saw-so, ◌and◌}
@@ -20,21 +19,6 @@ use Rattle.grammar_reader.proofs.grammar.+grammar.Goals as goal
 pub items::functions::fn_item-fn_words-requires : goal.items::functions::fn_item-fn_words-requires
 items::functions::fn_item-fn_words-requires t c = record { begins = c.requires.begins; some = c.requires.some }
 
-pub items::functions::fn_item-opt_generic_params-requires : goal.items::functions::fn_item-opt_generic_params-requires
-items::functions::fn_item-opt_generic_params-requires t c = (omega arith, short-still _ _ ((c.expect_name.ensures.reads true).does.input ∙ (c.fn_words.ensures.reads true).does.input) c.requires.short)
-
-pub items::functions::fn_item-expect_params-requires : goal.items::functions::fn_item-expect_params-requires
-items::functions::fn_item-expect_params-requires t c = (omega arith, short-still _ _ ((c.opt_generic_params.ensures.reads true).does.input ∙ (c.expect_name.ensures.reads true).does.input ∙ (c.fn_words.ensures.reads true).does.input) c.requires.short)
-
-pub items::functions::fn_item-opt_ret_type-requires : goal.items::functions::fn_item-opt_ret_type-requires
-items::functions::fn_item-opt_ret_type-requires t c = (omega arith, short-still _ _ ((c.expect_params.ensures.reads true).does.input ∙ (c.opt_generic_params.ensures.reads true).does.input ∙ (c.expect_name.ensures.reads true).does.input ∙ (c.fn_words.ensures.reads true).does.input) c.requires.short)
-
-pub items::functions::fn_item-opt_where_clause-requires : goal.items::functions::fn_item-opt_where_clause-requires
-items::functions::fn_item-opt_where_clause-requires t c = (omega arith, short-still _ _ (c.opt_ret_type.ensures.reads.does.input ∙ (c.expect_params.ensures.reads true).does.input ∙ (c.opt_generic_params.ensures.reads true).does.input ∙ (c.expect_name.ensures.reads true).does.input ∙ (c.fn_words.ensures.reads true).does.input) c.requires.short)
-
-pub items::functions::fn_item-fn_body-requires : goal.items::functions::fn_item-fn_body-requires
-items::functions::fn_item-fn_body-requires t c = (omega arith, short-still _ _ (c.opt_where_clause.ensures.reads.does.input ∙ c.opt_ret_type.ensures.reads.does.input ∙ (c.expect_params.ensures.reads true).does.input ∙ (c.opt_generic_params.ensures.reads true).does.input ∙ (c.expect_name.ensures.reads true).does.input ∙ (c.fn_words.ensures.reads true).does.input) c.requires.short)
-
 pub items::functions::fn_item-complete-requires : goal.items::functions::fn_item-complete-requires
 items::functions::fn_item-complete-requires t c = (c.fn_body.ensures.reads true).does.innermost _ (c.opt_where_clause.ensures.reads.does.innermost _ (c.opt_ret_type.ensures.reads.does.innermost _ ((c.expect_params.ensures.reads true).does.innermost _ ((c.opt_generic_params.ensures.reads true).does.innermost _ ((c.expect_name.ensures.reads true).does.innermost _ ((c.fn_words.ensures.reads true).does.innermost _ c.requires.innermost))))))
 
@@ -42,7 +26,7 @@ pub items::functions::fn_item-returns-clause-completes : goal.items::functions::
 items::functions::fn_item-returns-clause-completes t c = completes-wrap (reads-three _ (c.fn_words.ensures.reads c.args.condition) (reads-then _ (c.expect_name.ensures.reads c.args.condition) (reads-then _ (c.opt_generic_params.ensures.reads c.args.condition) (reads-then _ (c.expect_params.ensures.reads c.args.condition) (reads-then _ c.opt_ret_type.ensures.reads (reads-then _ c.opt_where_clause.ensures.reads (c.fn_body.ensures.reads c.args.condition))))))) c.complete.ensures.closes
 
 pub items::functions::expect_params-params-requires : goal.items::functions::expect_params-params-requires
-items::functions::expect_params-params-requires t c = (omega arith, (short-still _ _ c.at.ensures.same.input c.requires.short, omega arith))
+items::functions::expect_params-params-requires t c = (omega arith, omega arith)
 
 pub items::functions::expect_params-returns-then-at-clause-reads : goal.items::functions::expect_params-returns-then-at-clause-reads
 unfolding look_of begins_below whole rule items statements expressions patterns types paths there_at shift passes is_silent begins in_mode anew row one_of any_of no_longer longest is_longer
@@ -53,7 +37,7 @@ unfolding look_of begins_below whole rule items statements expressions patterns 
 items::functions::expect_params-returns-clause-reads t c = λ cond. reads-here (saw-so (c.at.ensures.sees cond) c.if-at.false and nothing) (after-look cond c.at.ensures.same (c.error.ensures.reads cond))
 
 pub items::functions::opt_ret_type-ret_type-requires : goal.items::functions::opt_ret_type-ret_type-requires
-items::functions::opt_ret_type-ret_type-requires t c = (omega arith, (short-still _ _ c.at_pair.ensures.same.input c.requires.short, omega arith))
+items::functions::opt_ret_type-ret_type-requires t c = (omega arith, omega arith)
 
 pub items::functions::opt_ret_type-returns-then-at_pair-clause-reads : goal.items::functions::opt_ret_type-returns-then-at_pair-clause-reads
 unfolding look_of begins_below whole rule items statements expressions patterns types paths there_at shift passes is_silent begins in_mode anew row one_of any_of no_longer longest is_longer
@@ -64,7 +48,7 @@ unfolding look_of begins_below whole rule items statements expressions patterns 
 items::functions::opt_ret_type-returns-else-at_pair-clause-reads t c = reads-here (saw-so (c.at_pair.ensures.sees c.args.condition) c.if-at_pair.false and nothing) (reads-nothing _ c.at_pair.ensures.same)
 
 pub items::functions::fn_body-block-requires : goal.items::functions::fn_body-block-requires
-items::functions::fn_body-block-requires t c = (omega arith, (short-still _ _ c.at.ensures.same.input c.requires.short, omega arith))
+items::functions::fn_body-block-requires t c = (omega arith, omega arith)
 
 pub items::functions::fn_body-returns-then-at-clause-reads : goal.items::functions::fn_body-returns-then-at-clause-reads
 unfolding look_of begins_below whole rule items statements expressions patterns types paths there_at shift passes is_silent begins in_mode anew row one_of any_of no_longer longest is_longer

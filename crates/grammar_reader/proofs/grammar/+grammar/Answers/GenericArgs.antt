@@ -1,5 +1,5 @@
 -- Generic arguments.
-use Rattle.std.proofs.Common.{true, refl, ◌∙◌, arith}
+use Rattle.std.proofs.Common.{true, refl, arith}
 use Rattle.rust_grammar.specs.Rule as rules
 use Rattle.rust_grammar.specs.Expressions.{expressions}
 use Rattle.rust_grammar.specs.Items.{items}
@@ -11,7 +11,6 @@ use Rattle.rust_grammar.specs.Rule.{begins, in_mode, anew, is_silent, passes, sh
 use Rattle.rust_grammar.specs.Statements.{statements}
 use Rattle.rust_grammar.specs.Types.{types}
 use Rattle.rust_grammar.specs.Whole.{rule, whole}
-use Rattle.grammar_reader.proofs.Inputs.{short-still}
 use Rattle.rust_productions.proofs.ByHand.{after-look, reads-call, reads-node, reads-then}
 use Rattle.rust_productions.proofs.Choices.{anew-after, gives-anew, reads-here}
 use Rattle.rust_productions.proofs.Facts.{begun, nothing, saw-so, ◌and◌}
@@ -28,7 +27,7 @@ unfolding look_of begins_below whole rule items statements expressions patterns 
 generic_args::generic_arg-returns-in-MINUS-clause-gives t c = gives-anew (anew-after refl (reads-here (saw-arm c.in-MINUS.is (c.current.ensures.sees c.args.condition) and nothing) (after-look _ c.current.ensures.same (c.negative_arg.ensures.reads c.args.condition))))
 
 pub generic_args::generic_arg-word_arg-requires : goal.generic_args::generic_arg-word_arg-requires
-generic_args::generic_arg-word_arg-requires t c = (omega arith, (short-still _ _ c.current.ensures.same.input c.requires.short, (saw-after c.current.ensures.same (saw-arm c.in-IDENT.is (c.current.ensures.sees c.args.condition)), omega arith)))
+generic_args::generic_arg-word_arg-requires t c = (omega arith, (saw-after c.current.ensures.same (saw-arm c.in-IDENT.is (c.current.ensures.sees c.args.condition)), omega arith))
 
 pub generic_args::generic_arg-returns-in-IDENT-clause-gives : goal.generic_args::generic_arg-returns-in-IDENT-clause-gives
 unfolding look_of begins_below whole rule items statements expressions patterns types paths there_at shift passes is_silent begins in_mode anew row one_of any_of no_longer longest is_longer
@@ -40,14 +39,14 @@ generic_args::generic_arg-returns-then-at_literal-clause-gives t c = gives-anew 
 
 pub generic_args::generic_arg-type_arg-requires : goal.generic_args::generic_arg-type_arg-requires
 unfolding look_of begins_below whole rule items statements expressions patterns types paths there_at shift passes is_silent begins in_mode anew row one_of any_of no_longer longest is_longer
-generic_args::generic_arg-type_arg-requires t c = (omega arith, (short-still _ _ (c.at_literal.ensures.same.input ∙ c.current.ensures.same.input) c.requires.short, (saw-after c.at_literal.ensures.same (saw-after c.current.ensures.same (begins-else rules.any_type rules.generic_arg refl (saw-not c.in_default.not-LIFETIME_IDENT (c.current.ensures.sees c.args.condition) and saw-not c.in_default.not-MINUS (c.current.ensures.sees c.args.condition) and saw-not c.in_default.not-IDENT (c.current.ensures.sees c.args.condition) and begun rules.literal (saw-before c.current.ensures.same (saw-so (c.at_literal.ensures.sees c.args.condition) c.if-at_literal.false)) nothing) c.requires.begins refl)), omega arith)))
+generic_args::generic_arg-type_arg-requires t c = (omega arith, (saw-after c.at_literal.ensures.same (saw-after c.current.ensures.same (begins-else rules.any_type rules.generic_arg refl (saw-not c.in_default.not-LIFETIME_IDENT (c.current.ensures.sees c.args.condition) and saw-not c.in_default.not-MINUS (c.current.ensures.sees c.args.condition) and saw-not c.in_default.not-IDENT (c.current.ensures.sees c.args.condition) and begun rules.literal (saw-before c.current.ensures.same (saw-so (c.at_literal.ensures.sees c.args.condition) c.if-at_literal.false)) nothing) c.requires.begins refl)), omega arith))
 
 pub generic_args::generic_arg-returns-else-at_literal-clause-gives : goal.generic_args::generic_arg-returns-else-at_literal-clause-gives
 unfolding look_of begins_below whole rule items statements expressions patterns types paths there_at shift passes is_silent begins in_mode anew row one_of any_of no_longer longest is_longer
 generic_args::generic_arg-returns-else-at_literal-clause-gives t c = gives-anew (anew-after refl (reads-here (saw-not c.in_default.not-LIFETIME_IDENT (c.current.ensures.sees c.args.condition) and saw-not c.in_default.not-MINUS (c.current.ensures.sees c.args.condition) and saw-not c.in_default.not-IDENT (c.current.ensures.sees c.args.condition) and begun rules.literal (saw-before c.current.ensures.same (saw-so (c.at_literal.ensures.sees c.args.condition) c.if-at_literal.false)) nothing) (after-look _ c.current.ensures.same (after-look _ c.at_literal.ensures.same c.type_arg.ensures.reads))))
 
 pub generic_args::word_arg-assoc_type_arg-requires : goal.generic_args::word_arg-assoc_type_arg-requires
-generic_args::word_arg-assoc_type_arg-requires t c = (omega arith, (short-still _ _ c.at_second.ensures.same.input c.requires.short, omega (arith, c.at_second.ensures.some c.if-at_second.true (λ e. absurd (omega (arith, e))), c.at_second.ensures.left)))
+generic_args::word_arg-assoc_type_arg-requires t c = (omega arith, omega (arith, c.at_second.ensures.some c.if-at_second.true (λ e. absurd (omega (arith, e))), c.at_second.ensures.left))
 
 pub generic_args::word_arg-returns-then-at_second-clause-reads : goal.generic_args::word_arg-returns-then-at_second-clause-reads
 unfolding look_of begins_below whole rule items statements expressions patterns types paths there_at shift passes is_silent begins in_mode anew row one_of any_of no_longer longest is_longer
@@ -55,14 +54,11 @@ generic_args::word_arg-returns-then-at_second-clause-reads t c = reads-here (c.r
 
 pub generic_args::word_arg-type_arg-requires : goal.generic_args::word_arg-type_arg-requires
 unfolding look_of begins_below whole rule items statements expressions patterns types paths there_at shift passes is_silent begins in_mode anew row one_of any_of no_longer longest is_longer
-generic_args::word_arg-type_arg-requires t c = (omega arith, (short-still _ _ c.at_second.ensures.same.input c.requires.short, (saw-after c.at_second.ensures.same (begins-here rules.any_type refl (c.requires.word and nothing) refl), omega arith)))
+generic_args::word_arg-type_arg-requires t c = (omega arith, (saw-after c.at_second.ensures.same (begins-here rules.any_type refl (c.requires.word and nothing) refl), omega arith))
 
 pub generic_args::word_arg-returns-clause-reads : goal.generic_args::word_arg-returns-clause-reads
 unfolding look_of begins_below whole rule items statements expressions patterns types paths there_at shift passes is_silent begins in_mode anew row one_of any_of no_longer longest is_longer
 generic_args::word_arg-returns-clause-reads t c = reads-here (c.requires.word and saw-so (c.at_second.ensures.sees c.args.condition) c.if-at_second.false and nothing) (after-look _ c.at_second.ensures.same c.type_arg.ensures.reads)
-
-pub generic_args::assoc_type_arg-expect_type-requires : goal.generic_args::assoc_type_arg-expect_type-requires
-generic_args::assoc_type_arg-expect_type-requires t c = (omega arith, short-still _ _ ((c.take.ensures.reads true).does.input ∙ (c.word_type.ensures.reads true).does.input ∙ c.start-node.ensures.opens.input) c.requires.short)
 
 pub generic_args::assoc_type_arg-complete-requires : goal.generic_args::assoc_type_arg-complete-requires
 generic_args::assoc_type_arg-complete-requires t c = c.expect_type.ensures.reads.does.innermost _ ((c.take.ensures.reads true).does.innermost _ ((c.word_type.ensures.reads true).does.innermost _ c.start-node.ensures.marker))
@@ -71,7 +67,7 @@ pub generic_args::assoc_type_arg-returns-clause-reads : goal.generic_args::assoc
 generic_args::assoc_type_arg-returns-clause-reads t c = reads-node _ c.start-node.ensures.opens (reads-then _ (c.word_type.ensures.reads c.args.condition) (reads-then _ (c.take.ensures.reads c.args.condition) c.expect_type.ensures.reads)) c.complete.ensures.closes
 
 pub generic_args::type_arg-any_type-requires : goal.generic_args::type_arg-any_type-requires
-generic_args::type_arg-any_type-requires t c = (omega arith, (short-still _ _ c.start-node.ensures.opens.input c.requires.short, (saw-inside c.start-node.ensures.opens c.requires.begins, omega arith)))
+generic_args::type_arg-any_type-requires t c = (omega arith, (saw-inside c.start-node.ensures.opens c.requires.begins, omega arith))
 
 pub generic_args::type_arg-complete-requires : goal.generic_args::type_arg-complete-requires
 generic_args::type_arg-complete-requires t c = c.any_type.ensures.gives.does.innermost _ c.start-node.ensures.marker

@@ -1,5 +1,5 @@
 -- Generic parameters, bounds and `where`.
-use Rattle.std.proofs.Common.{true, false, refl, sym, subst, ◌∙◌, arith}
+use Rattle.std.proofs.Common.{true, false, refl, sym, subst, arith}
 use Rattle.rust_grammar.specs.Rule as rules
 use Rattle.rust_grammar.specs.Expressions.{expressions}
 use Rattle.rust_grammar.specs.Items.{items}
@@ -17,7 +17,6 @@ use Rattle.rust_grammar.specs.Rule.{Look, One}
 use Rattle.rust_grammar.specs.Words.{'comma', '+'}
 use Rattle.grammar_reader.specs.declared.grammar.paths.Mode.TheVariants as modes
 use Rattle.grammar_reader.proofs.PathArgs.{paths-begin}
-use Rattle.grammar_reader.proofs.Inputs.{short-still}
 use Rattle.rust_productions.specs.Looks.{tokens}
 use Rattle.rust_productions.specs.Reads.{Saw}
 use Rattle.rust_productions.proofs.ByHand.{after-look, reads-call, reads-node, reads-nothing, reads-then}
@@ -29,7 +28,7 @@ use Rattle.rust_productions.proofs.Turns.{last-turn, next-turn}
 use Rattle.grammar_reader.proofs.grammar.+grammar.Goals as goal
 
 pub generic_params::bound-lifetime_or_path-requires : goal.generic_params::bound-lifetime_or_path-requires
-generic_params::bound-lifetime_or_path-requires t c = (omega arith, (short-still _ _ c.start-node.ensures.opens.input c.requires.short, ((λ d. saw-inside c.start-node.ensures.opens (c.requires.begins d)), omega arith)))
+generic_params::bound-lifetime_or_path-requires t c = (omega arith, ((λ d. saw-inside c.start-node.ensures.opens (c.requires.begins d)), omega arith))
 
 pub generic_params::bound-complete-requires : goal.generic_params::bound-complete-requires
 generic_params::bound-complete-requires t c = (c.lifetime_or_path.ensures.reads true).does.innermost _ c.start-node.ensures.marker
@@ -43,7 +42,7 @@ unfolding look_of begins_below whole rule items statements expressions patterns 
 generic_params::lifetime_or_path-returns-in-LIFETIME_IDENT-clause-reads t c = λ cond. reads-here (saw-arm c.in-LIFETIME_IDENT.is (c.current.ensures.sees cond) and nothing) (after-look cond c.current.ensures.same (reads-call cond (c.lifetime.ensures.gives cond)))
 
 pub generic_params::lifetime_or_path-path_after_question-requires : goal.generic_params::lifetime_or_path-path_after_question-requires
-generic_params::lifetime_or_path-path_after_question-requires t c = (omega arith, (short-still _ _ c.current.ensures.same.input c.requires.short, omega arith))
+generic_params::lifetime_or_path-path_after_question-requires t c = (omega arith, omega arith)
 
 pub generic_params::lifetime_or_path-returns-in-QUESTION-clause-reads : goal.generic_params::lifetime_or_path-returns-in-QUESTION-clause-reads
 unfolding look_of begins_below whole rule items statements expressions patterns types paths there_at shift passes is_silent begins in_mode anew row one_of any_of no_longer longest is_longer
@@ -51,20 +50,17 @@ generic_params::lifetime_or_path-returns-in-QUESTION-clause-reads t c = λ cond.
 
 pub generic_params::lifetime_or_path-path_type-requires : goal.generic_params::lifetime_or_path-path_type-requires
 unfolding look_of begins_below whole rule items statements expressions patterns types paths there_at shift passes is_silent begins in_mode anew row one_of any_of no_longer longest is_longer
-generic_params::lifetime_or_path-path_type-requires t c = (omega arith, (short-still _ _ c.current.ensures.same.input c.requires.short, ((λ d. saw-after c.current.ensures.same (subst (λ (l : Look). Saw d l c.args.p.now true) (paths-begin modes.Type) (begins-else rules.type_path rules.bound refl (saw-not c.in_default.not-LIFETIME_IDENT (c.current.ensures.sees d) and saw-not c.in_default.not-QUESTION (c.current.ensures.sees d) and nothing) (c.requires.begins d) refl))), omega arith)))
+generic_params::lifetime_or_path-path_type-requires t c = (omega arith, ((λ d. saw-after c.current.ensures.same (subst (λ (l : Look). Saw d l c.args.p.now true) (paths-begin modes.Type) (begins-else rules.type_path rules.bound refl (saw-not c.in_default.not-LIFETIME_IDENT (c.current.ensures.sees d) and saw-not c.in_default.not-QUESTION (c.current.ensures.sees d) and nothing) (c.requires.begins d) refl))), omega arith))
 
 pub generic_params::lifetime_or_path-returns-in_default-clause-reads : goal.generic_params::lifetime_or_path-returns-in_default-clause-reads
 unfolding look_of begins_below whole rule items statements expressions patterns types paths there_at shift passes is_silent begins in_mode anew row one_of any_of no_longer longest is_longer
 generic_params::lifetime_or_path-returns-in_default-clause-reads t c = λ cond. reads-here (saw-not c.in_default.not-LIFETIME_IDENT (c.current.ensures.sees cond) and saw-not c.in_default.not-QUESTION (c.current.ensures.sees cond) and (begun rules.type_path (begins-else rules.type_path rules.bound refl (saw-not c.in_default.not-LIFETIME_IDENT (c.current.ensures.sees cond) and saw-not c.in_default.not-QUESTION (c.current.ensures.sees cond) and nothing) (c.requires.begins cond) refl) nothing)) (after-look cond c.current.ensures.same (c.path_type.ensures.reads cond))
 
-pub generic_params::path_after_question-expect_path_type-requires : goal.generic_params::path_after_question-expect_path_type-requires
-generic_params::path_after_question-expect_path_type-requires t c = (omega arith, short-still _ _ (c.take.ensures.reads true).does.input c.requires.short)
-
 pub generic_params::path_after_question-returns-clause-reads : goal.generic_params::path_after_question-returns-clause-reads
 generic_params::path_after_question-returns-clause-reads t c = λ cond. (reads-then cond (c.take.ensures.reads cond) (c.expect_path_type.ensures.reads cond))
 
 pub generic_params::expect_path_type-path_type-requires : goal.generic_params::expect_path_type-path_type-requires
-generic_params::expect_path_type-path_type-requires t c = (omega arith, (short-still _ _ c.at_path.ensures.same.input c.requires.short, ((λ d. saw-after c.at_path.ensures.same (saw-so (c.at_path.ensures.sees d) c.if-at_path.true)), omega (arith, c.at_path.ensures.some c.if-at_path.true, c.at_path.ensures.left))))
+generic_params::expect_path_type-path_type-requires t c = (omega arith, ((λ d. saw-after c.at_path.ensures.same (saw-so (c.at_path.ensures.sees d) c.if-at_path.true)), omega (arith, c.at_path.ensures.some c.if-at_path.true, c.at_path.ensures.left)))
 
 pub generic_params::expect_path_type-returns-then-at_path-clause-reads : goal.generic_params::expect_path_type-returns-then-at_path-clause-reads
 unfolding look_of begins_below whole rule items statements expressions patterns types paths there_at shift passes is_silent begins in_mode anew row one_of any_of no_longer longest is_longer
@@ -74,9 +70,6 @@ pub generic_params::expect_path_type-returns-clause-reads : goal.generic_params:
 unfolding look_of begins_below whole rule items statements expressions patterns types paths there_at shift passes is_silent begins in_mode anew row one_of any_of no_longer longest is_longer
 generic_params::expect_path_type-returns-clause-reads t c = λ cond. reads-here (begun rules.type_path (subst (λ (l : Look). Saw cond l c.args.p.now false) (sym (paths-begin modes.Type)) (saw-so (c.at_path.ensures.sees cond) c.if-at_path.false)) nothing) (after-look cond c.at_path.ensures.same (c.error.ensures.reads cond))
 
-pub generic_params::bounds-opt_bounds-requires : goal.generic_params::bounds-opt_bounds-requires
-generic_params::bounds-opt_bounds-requires t c = (omega arith, short-still _ _ c.start-list.ensures.opens.input c.requires.short)
-
 pub generic_params::bounds-complete-requires : goal.generic_params::bounds-complete-requires
 generic_params::bounds-complete-requires t c = (c.opt_bounds.ensures.reads true).does.innermost _ c.start-list.ensures.marker
 
@@ -85,10 +78,7 @@ unfolding look_of begins_below whole rule items statements expressions patterns 
 generic_params::bounds-returns-clause-gives t c = λ cond. gives-anew (anew-after refl (reads-node cond c.start-list.ensures.opens (c.opt_bounds.ensures.reads cond) c.complete.ensures.closes))
 
 pub generic_params::opt_bounds-bound-requires : goal.generic_params::opt_bounds-bound-requires
-generic_params::opt_bounds-bound-requires t c = (omega arith, (short-still _ _ c.at_bound.ensures.same.input c.requires.short, ((λ d. saw-after c.at_bound.ensures.same (saw-so (c.at_bound.ensures.sees d) c.if-at_bound.true)), omega (arith, c.at_bound.ensures.some c.if-at_bound.true, c.at_bound.ensures.left))))
-
-pub generic_params::opt_bounds-further_bounds-requires : goal.generic_params::opt_bounds-further_bounds-requires
-generic_params::opt_bounds-further_bounds-requires t c = (omega arith, short-still _ _ ((c.bound.ensures.gives true).does.input ∙ c.at_bound.ensures.same.input) c.requires.short)
+generic_params::opt_bounds-bound-requires t c = (omega arith, ((λ d. saw-after c.at_bound.ensures.same (saw-so (c.at_bound.ensures.sees d) c.if-at_bound.true)), omega (arith, c.at_bound.ensures.some c.if-at_bound.true, c.at_bound.ensures.left)))
 
 pub generic_params::opt_bounds-returns-then-at_bound-clause-reads : goal.generic_params::opt_bounds-returns-then-at_bound-clause-reads
 unfolding look_of begins_below whole rule items statements expressions patterns types paths there_at shift passes is_silent begins in_mode anew row one_of any_of no_longer longest is_longer
@@ -101,7 +91,6 @@ generic_params::opt_bounds-returns-else-at_bound-clause-reads t c = λ cond. rea
 pub generic_params::further_bounds-turns-preserved : goal.generic_params::further_bounds-turns-preserved
 unfolding tokens look_of begins_below whole rule items statements expressions patterns types paths there_at shift passes is_silent begins in_mode anew row one_of any_of no_longer longest is_longer
 generic_params::further_bounds-turns-preserved t c = record {
-  input = (c.further_bound.ensures.reads true).does.input ∙ c.at.ensures.same.input ∙ c.turns.invariant.input;
   goes = λ cond. next-turn cond (One '+' ▸ ⁅ Bound ⁆) (ends-at-end cond (One '+' ▸ ⁅ Bound ⁆) refl) _ _ _ (c.turns.invariant.goes cond) (saw-so (c.at.ensures.sees cond) c.turns-test.true)
       (after-look cond c.at.ensures.same (c.further_bound.ensures.reads cond)) (omega (arith, c.further_bound.ensures.left, c.at.ensures.left));
   left = omega (arith, c.turns.invariant.left, c.further_bound.ensures.left, c.at.ensures.left);
@@ -112,14 +101,11 @@ pub generic_params::further_bounds-returns-clause-reads : goal.generic_params::f
 unfolding look_of begins_below whole rule items statements expressions patterns types paths there_at shift passes is_silent begins in_mode anew row one_of any_of no_longer longest is_longer
 generic_params::further_bounds-returns-clause-reads t c = λ cond. last-turn cond (One '+' ▸ ⁅ Bound ⁆) (ends-at-end cond (One '+' ▸ ⁅ Bound ⁆) refl) _ _ _ (c.turns.invariant.goes cond) (saw-so (c.at.ensures.sees cond) c.turns-test.false) c.at.ensures.same
 
-pub generic_params::further_bound-opt_bound-requires : goal.generic_params::further_bound-opt_bound-requires
-generic_params::further_bound-opt_bound-requires t c = (omega arith, short-still _ _ (c.take.ensures.reads true).does.input c.requires.short)
-
 pub generic_params::further_bound-returns-clause-reads : goal.generic_params::further_bound-returns-clause-reads
 generic_params::further_bound-returns-clause-reads t c = λ cond. (reads-then cond (c.take.ensures.reads cond) (c.opt_bound.ensures.reads cond))
 
 pub generic_params::opt_bound-bound-requires : goal.generic_params::opt_bound-bound-requires
-generic_params::opt_bound-bound-requires t c = (omega arith, (short-still _ _ c.at_bound.ensures.same.input c.requires.short, ((λ d. saw-after c.at_bound.ensures.same (saw-so (c.at_bound.ensures.sees d) c.if-at_bound.true)), omega (arith, c.at_bound.ensures.some c.if-at_bound.true, c.at_bound.ensures.left))))
+generic_params::opt_bound-bound-requires t c = (omega arith, ((λ d. saw-after c.at_bound.ensures.same (saw-so (c.at_bound.ensures.sees d) c.if-at_bound.true)), omega (arith, c.at_bound.ensures.some c.if-at_bound.true, c.at_bound.ensures.left)))
 
 pub generic_params::opt_bound-returns-then-at_bound-clause-reads : goal.generic_params::opt_bound-returns-then-at_bound-clause-reads
 unfolding look_of begins_below whole rule items statements expressions patterns types paths there_at shift passes is_silent begins in_mode anew row one_of any_of no_longer longest is_longer
@@ -129,9 +115,6 @@ pub generic_params::opt_bound-returns-else-at_bound-clause-reads : goal.generic_
 unfolding look_of begins_below whole rule items statements expressions patterns types paths there_at shift passes is_silent begins in_mode anew row one_of any_of no_longer longest is_longer
 generic_params::opt_bound-returns-else-at_bound-clause-reads t c = λ cond. reads-here (begun rules.bound (saw-so (c.at_bound.ensures.sees cond) c.if-at_bound.false) nothing) (reads-nothing cond c.at_bound.ensures.same)
 
-pub generic_params::bounds_after_colon-bounds-requires : goal.generic_params::bounds_after_colon-bounds-requires
-generic_params::bounds_after_colon-bounds-requires t c = (omega arith, short-still _ _ ((c.take.ensures.reads true).does.input ∙ c.at.ensures.same.input) c.requires.short)
-
 pub generic_params::bounds_after_colon-returns-then-at-clause-reads : goal.generic_params::bounds_after_colon-returns-then-at-clause-reads
 unfolding look_of begins_below whole rule items statements expressions patterns types paths there_at shift passes is_silent begins in_mode anew row one_of any_of no_longer longest is_longer
 generic_params::bounds_after_colon-returns-then-at-clause-reads t c = λ cond. reads-here (saw-so (c.at.ensures.sees cond) c.if-at.true and nothing) (after-look cond c.at.ensures.same (reads-then cond (c.take.ensures.reads cond) (reads-call cond (c.bounds.ensures.gives cond))))
@@ -140,20 +123,14 @@ pub generic_params::bounds_after_colon-returns-else-at-clause-reads : goal.gener
 unfolding look_of begins_below whole rule items statements expressions patterns types paths there_at shift passes is_silent begins in_mode anew row one_of any_of no_longer longest is_longer
 generic_params::bounds_after_colon-returns-else-at-clause-reads t c = λ cond. reads-here (saw-so (c.at.ensures.sees cond) c.if-at.false and nothing) (reads-nothing cond c.at.ensures.same)
 
-pub generic_params::lifetime_param-bounds_after_colon-requires : goal.generic_params::lifetime_param-bounds_after_colon-requires
-generic_params::lifetime_param-bounds_after_colon-requires t c = (omega arith, short-still _ _ ((c.lifetime.ensures.gives true).does.input ∙ c.start-node.ensures.opens.input) c.requires.short)
-
 pub generic_params::lifetime_param-complete-requires : goal.generic_params::lifetime_param-complete-requires
 generic_params::lifetime_param-complete-requires t c = (c.bounds_after_colon.ensures.reads true).does.innermost _ ((c.lifetime.ensures.gives true).does.innermost _ c.start-node.ensures.marker)
 
 pub generic_params::lifetime_param-returns-clause-reads : goal.generic_params::lifetime_param-returns-clause-reads
 generic_params::lifetime_param-returns-clause-reads t c = λ cond. reads-node cond c.start-node.ensures.opens (reads-then cond (reads-call cond (c.lifetime.ensures.gives cond)) (c.bounds_after_colon.ensures.reads cond)) c.complete.ensures.closes
 
-pub generic_params::type_param-bounds_after_colon-requires : goal.generic_params::type_param-bounds_after_colon-requires
-generic_params::type_param-bounds_after_colon-requires t c = (omega arith, short-still _ _ ((c.name.ensures.gives true).does.input ∙ c.start-node.ensures.opens.input) c.requires.short)
-
 pub generic_params::type_param-opt_type_after-requires : goal.generic_params::type_param-opt_type_after-requires
-generic_params::type_param-opt_type_after-requires t c = (omega arith, (short-still _ _ ((c.bounds_after_colon.ensures.reads true).does.input ∙ (c.name.ensures.gives true).does.input ∙ c.start-node.ensures.opens.input) c.requires.short, omega arith))
+generic_params::type_param-opt_type_after-requires t c = (omega arith, omega arith)
 
 pub generic_params::type_param-complete-requires : goal.generic_params::type_param-complete-requires
 generic_params::type_param-complete-requires t c = c.opt_type_after.ensures.reads.does.innermost _ ((c.bounds_after_colon.ensures.reads true).does.innermost _ ((c.name.ensures.gives true).does.innermost _ c.start-node.ensures.marker))
@@ -162,10 +139,10 @@ pub generic_params::type_param-returns-clause-reads : goal.generic_params::type_
 generic_params::type_param-returns-clause-reads t c = reads-node _ c.start-node.ensures.opens (reads-then _ (reads-call _ (c.name.ensures.gives c.args.condition)) (reads-then _ (c.bounds_after_colon.ensures.reads c.args.condition) c.opt_type_after.ensures.reads)) c.complete.ensures.closes
 
 pub generic_params::generic_param-lifetime_param-requires : goal.generic_params::generic_param-lifetime_param-requires
-generic_params::generic_param-lifetime_param-requires t c = (omega arith, (short-still _ _ c.at.ensures.same.input c.requires.short, omega arith))
+generic_params::generic_param-lifetime_param-requires t c = (omega arith, omega arith)
 
 pub generic_params::generic_param-type_param-requires : goal.generic_params::generic_param-type_param-requires
-generic_params::generic_param-type_param-requires t c = (omega arith, (short-still _ _ c.at.ensures.same.input c.requires.short, omega arith))
+generic_params::generic_param-type_param-requires t c = (omega arith, omega arith)
 
 pub generic_params::generic_param-returns-then-at-clause-gives : goal.generic_params::generic_param-returns-then-at-clause-gives
 unfolding look_of begins_below whole rule items statements expressions patterns types paths there_at shift passes is_silent begins in_mode anew row one_of any_of no_longer longest is_longer
@@ -177,7 +154,7 @@ generic_params::generic_param-returns-clause-gives t c = gives-anew (anew-after 
 
 pub generic_params::lifetime_or_type-any_type-requires : goal.generic_params::lifetime_or_type-any_type-requires
 unfolding look_of begins_below whole rule items statements expressions patterns types paths there_at shift passes is_silent begins in_mode anew row one_of any_of no_longer longest is_longer
-generic_params::lifetime_or_type-any_type-requires t c = (omega arith, (short-still _ _ c.at.ensures.same.input c.requires.short, (saw-after c.at.ensures.same (begins-else rules.any_type rules.where_pred refl (saw-so (c.at.ensures.sees c.args.condition) c.if-at.false and nothing) c.requires.begins refl), omega arith)))
+generic_params::lifetime_or_type-any_type-requires t c = (omega arith, (saw-after c.at.ensures.same (begins-else rules.any_type rules.where_pred refl (saw-so (c.at.ensures.sees c.args.condition) c.if-at.false and nothing) c.requires.begins refl), omega arith))
 
 pub generic_params::lifetime_or_type-returns-then-at-clause-reads : goal.generic_params::lifetime_or_type-returns-then-at-clause-reads
 unfolding look_of begins_below whole rule items statements expressions patterns types paths there_at shift passes is_silent begins in_mode anew row one_of any_of no_longer longest is_longer
@@ -188,10 +165,7 @@ unfolding look_of begins_below whole rule items statements expressions patterns 
 generic_params::lifetime_or_type-returns-clause-reads t c = reads-here (saw-so (c.at.ensures.sees c.args.condition) c.if-at.false and nothing) (after-look _ c.at.ensures.same (reads-call _ c.any_type.ensures.gives))
 
 pub generic_params::where_pred-lifetime_or_type-requires : goal.generic_params::where_pred-lifetime_or_type-requires
-generic_params::where_pred-lifetime_or_type-requires t c = (omega arith, (short-still _ _ c.start-node.ensures.opens.input c.requires.short, (saw-inside c.start-node.ensures.opens c.requires.begins, omega arith)))
-
-pub generic_params::where_pred-bounds-requires : goal.generic_params::where_pred-bounds-requires
-generic_params::where_pred-bounds-requires t c = (omega arith, short-still _ _ ((c.expect.ensures.reads true).does.input ∙ c.lifetime_or_type.ensures.reads.does.input ∙ c.start-node.ensures.opens.input) c.requires.short)
+generic_params::where_pred-lifetime_or_type-requires t c = (omega arith, (saw-inside c.start-node.ensures.opens c.requires.begins, omega arith))
 
 pub generic_params::where_pred-complete-requires : goal.generic_params::where_pred-complete-requires
 generic_params::where_pred-complete-requires t c = (c.bounds.ensures.gives true).does.innermost _ ((c.expect.ensures.reads true).does.innermost _ (c.lifetime_or_type.ensures.reads.does.innermost _ c.start-node.ensures.marker))
@@ -199,9 +173,6 @@ generic_params::where_pred-complete-requires t c = (c.bounds.ensures.gives true)
 pub generic_params::where_pred-returns-clause-gives : goal.generic_params::where_pred-returns-clause-gives
 unfolding look_of begins_below whole rule items statements expressions patterns types paths there_at shift passes is_silent begins in_mode anew row one_of any_of no_longer longest is_longer
 generic_params::where_pred-returns-clause-gives t c = gives-anew (anew-after refl (reads-node _ c.start-node.ensures.opens (reads-then _ c.lifetime_or_type.ensures.reads (reads-then _ (c.expect.ensures.reads c.args.condition) (reads-call _ (c.bounds.ensures.gives c.args.condition)))) c.complete.ensures.closes))
-
-pub generic_params::where_clause-opt_preds-requires : goal.generic_params::where_clause-opt_preds-requires
-generic_params::where_clause-opt_preds-requires t c = (omega arith, short-still _ _ ((c.take.ensures.reads true).does.input ∙ c.start-node.ensures.opens.input) c.requires.short)
 
 pub generic_params::where_clause-complete-requires : goal.generic_params::where_clause-complete-requires
 generic_params::where_clause-complete-requires t c = c.opt_preds.ensures.reads.does.innermost _ ((c.take.ensures.reads true).does.innermost _ c.start-node.ensures.marker)
@@ -211,10 +182,7 @@ unfolding look_of begins_below whole rule items statements expressions patterns 
 generic_params::where_clause-returns-clause-gives t c = gives-anew (anew-after refl (reads-node _ c.start-node.ensures.opens (reads-then _ (c.take.ensures.reads c.args.condition) c.opt_preds.ensures.reads) c.complete.ensures.closes))
 
 pub generic_params::opt_preds-where_pred-requires : goal.generic_params::opt_preds-where_pred-requires
-generic_params::opt_preds-where_pred-requires t c = (omega arith, (short-still _ _ c.at_where_pred.ensures.same.input c.requires.short, ((saw-after c.at_where_pred.ensures.same (saw-so (c.at_where_pred.ensures.sees c.args.condition) c.if-at_where_pred.true)), omega (arith, c.at_where_pred.ensures.some c.if-at_where_pred.true, c.at_where_pred.ensures.left))))
-
-pub generic_params::opt_preds-further_preds-requires : goal.generic_params::opt_preds-further_preds-requires
-generic_params::opt_preds-further_preds-requires t c = (omega arith, short-still _ _ (c.where_pred.ensures.gives.does.input ∙ c.at_where_pred.ensures.same.input) c.requires.short)
+generic_params::opt_preds-where_pred-requires t c = (omega arith, ((saw-after c.at_where_pred.ensures.same (saw-so (c.at_where_pred.ensures.sees c.args.condition) c.if-at_where_pred.true)), omega (arith, c.at_where_pred.ensures.some c.if-at_where_pred.true, c.at_where_pred.ensures.left)))
 
 pub generic_params::opt_preds-returns-then-at_where_pred-clause-reads : goal.generic_params::opt_preds-returns-then-at_where_pred-clause-reads
 unfolding look_of begins_below whole rule items statements expressions patterns types paths there_at shift passes is_silent begins in_mode anew row one_of any_of no_longer longest is_longer
@@ -227,7 +195,6 @@ generic_params::opt_preds-returns-else-at_where_pred-clause-reads t c = reads-he
 pub generic_params::further_preds-turns-preserved : goal.generic_params::further_preds-turns-preserved
 unfolding tokens look_of begins_below whole rule items statements expressions patterns types paths there_at shift passes is_silent begins in_mode anew row one_of any_of no_longer longest is_longer
 generic_params::further_preds-turns-preserved t c = record {
-  input = c.further_pred.ensures.reads.does.input ∙ c.at.ensures.same.input ∙ c.turns.invariant.input;
   goes = next-turn c.args.condition (One 'comma' ▸ ⁅ WherePred ⁆) (ends-at-end c.args.condition (One 'comma' ▸ ⁅ WherePred ⁆) refl) _ _ _ c.turns.invariant.goes (saw-so (c.at.ensures.sees c.args.condition) c.turns-test.true)
       (after-look c.args.condition c.at.ensures.same c.further_pred.ensures.reads) (omega (arith, c.further_pred.ensures.left, c.at.ensures.left));
   left = omega (arith, c.turns.invariant.left, c.further_pred.ensures.left, c.at.ensures.left);
@@ -238,14 +205,11 @@ pub generic_params::further_preds-returns-clause-reads : goal.generic_params::fu
 unfolding look_of begins_below whole rule items statements expressions patterns types paths there_at shift passes is_silent begins in_mode anew row one_of any_of no_longer longest is_longer
 generic_params::further_preds-returns-clause-reads t c = last-turn c.args.condition (One 'comma' ▸ ⁅ WherePred ⁆) (ends-at-end c.args.condition (One 'comma' ▸ ⁅ WherePred ⁆) refl) _ _ _ c.turns.invariant.goes (saw-so (c.at.ensures.sees c.args.condition) c.turns-test.false) c.at.ensures.same
 
-pub generic_params::further_pred-opt_pred-requires : goal.generic_params::further_pred-opt_pred-requires
-generic_params::further_pred-opt_pred-requires t c = (omega arith, short-still _ _ (c.take.ensures.reads true).does.input c.requires.short)
-
 pub generic_params::further_pred-returns-clause-reads : goal.generic_params::further_pred-returns-clause-reads
 generic_params::further_pred-returns-clause-reads t c = (reads-then _ (c.take.ensures.reads c.args.condition) c.opt_pred.ensures.reads)
 
 pub generic_params::opt_pred-where_pred-requires : goal.generic_params::opt_pred-where_pred-requires
-generic_params::opt_pred-where_pred-requires t c = (omega arith, (short-still _ _ c.at_where_pred.ensures.same.input c.requires.short, ((saw-after c.at_where_pred.ensures.same (saw-so (c.at_where_pred.ensures.sees c.args.condition) c.if-at_where_pred.true)), omega (arith, c.at_where_pred.ensures.some c.if-at_where_pred.true, c.at_where_pred.ensures.left))))
+generic_params::opt_pred-where_pred-requires t c = (omega arith, ((saw-after c.at_where_pred.ensures.same (saw-so (c.at_where_pred.ensures.sees c.args.condition) c.if-at_where_pred.true)), omega (arith, c.at_where_pred.ensures.some c.if-at_where_pred.true, c.at_where_pred.ensures.left)))
 
 pub generic_params::opt_pred-returns-then-at_where_pred-clause-reads : goal.generic_params::opt_pred-returns-then-at_where_pred-clause-reads
 unfolding look_of begins_below whole rule items statements expressions patterns types paths there_at shift passes is_silent begins in_mode anew row one_of any_of no_longer longest is_longer

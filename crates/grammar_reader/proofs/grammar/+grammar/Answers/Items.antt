@@ -18,7 +18,6 @@ use Rattle.rust_grammar.specs.Types.{types}
 use Rattle.rust_grammar.specs.Whole.{rule, whole}
 use Rattle.grammar_reader.specs.Told.{item_or_attribute}
 use Rattle.grammar_reader.proofs.Ends.{left-within, over, over-at-end, some-within, within}
-use Rattle.grammar_reader.proofs.Inputs.{short-still}
 use Rattle.rust_productions.specs.Looks.{tokens}
 use Rattle.rust_productions.specs.Reads.{looks, Saw}
 use Rattle.rust_productions.proofs.ByHand.{after-look, completes-wrap, reads-call, reads-mode, reads-node, reads-nothing, reads-then, reads-unless}
@@ -32,13 +31,13 @@ use Rattle.grammar_reader.proofs.grammar.+grammar.Goals as goal
 
 pub items::item-attributed_item-requires : goal.items::item-attributed_item-requires
 unfolding look_of begins_below whole rule items statements expressions patterns types paths there_at shift passes is_silent begins in_mode anew row one_of any_of no_longer longest is_longer
-items::item-attributed_item-requires t c = (omega arith, (short-still _ _ c.current.ensures.same.input c.requires.short, ((λ d. saw-after c.current.ensures.same (saw-told (saw-arm c.in-POUND.is (c.current.ensures.sees d) and nothing) refl)), omega arith)))
+items::item-attributed_item-requires t c = (omega arith, ((λ d. saw-after c.current.ensures.same (saw-told (saw-arm c.in-POUND.is (c.current.ensures.sees d) and nothing) refl)), omega arith))
 
 pub items::item-visible_item-requires : goal.items::item-visible_item-requires
-items::item-visible_item-requires t c = (omega arith, (short-still _ _ c.current.ensures.same.input c.requires.short, ((λ d. saw-after c.current.ensures.same (saw-arm c.in-PUB_KW.is (c.current.ensures.sees d))), omega arith)))
+items::item-visible_item-requires t c = (omega arith, ((λ d. saw-after c.current.ensures.same (saw-arm c.in-PUB_KW.is (c.current.ensures.sees d))), omega arith))
 
 pub items::item-bare_item-requires : goal.items::item-bare_item-requires
-items::item-bare_item-requires t c = (omega arith, (short-still _ _ c.current.ensures.same.input c.requires.short, ((λ d. saw-after c.current.ensures.same (saw-not c.in_default.not-POUND (c.current.ensures.sees d))), ((λ d. saw-after c.current.ensures.same (saw-not c.in_default.not-PUB_KW (c.current.ensures.sees d))), omega arith))))
+items::item-bare_item-requires t c = (omega arith, ((λ d. saw-after c.current.ensures.same (saw-not c.in_default.not-POUND (c.current.ensures.sees d))), ((λ d. saw-after c.current.ensures.same (saw-not c.in_default.not-PUB_KW (c.current.ensures.sees d))), omega arith)))
 
 pub items::item-returns-in-POUND-clause-gives : goal.items::item-returns-in-POUND-clause-gives
 items::item-returns-in-POUND-clause-gives t c = gives-anew (anew-look c.current.ensures.same c.attributed_item.ensures.anew)
@@ -50,19 +49,16 @@ pub items::item-returns-in_default-clause-gives : goal.items::item-returns-in_de
 items::item-returns-in_default-clause-gives t c = gives-anew (anew-look c.current.ensures.same c.bare_item.ensures.anew)
 
 pub items::attributed_item-attributes_and_visibility-requires : goal.items::attributed_item-attributes_and_visibility-requires
-items::attributed_item-attributes_and_visibility-requires t c = (omega arith, (short-still _ _ c.start-item.ensures.opens.input c.requires.short, ((λ d. saw-inside c.start-item.ensures.opens (c.requires.begins d)), omega arith)))
+items::attributed_item-attributes_and_visibility-requires t c = (omega arith, ((λ d. saw-inside c.start-item.ensures.opens (c.requires.begins d)), omega arith))
 
 pub items::attributed_item-body-requires : goal.items::attributed_item-body-requires
-items::attributed_item-body-requires t c = (omega arith, (short-still _ _ ((c.attributes_and_visibility.ensures.reads true).does.input ∙ c.start-item.ensures.opens.input) c.requires.short, ((λ e. absurd (true≢false e)), (c.attributes_and_visibility.ensures.reads true).does.innermost _ c.start-item.ensures.marker)))
+items::attributed_item-body-requires t c = (omega arith, ((λ e. absurd (true≢false e)), (c.attributes_and_visibility.ensures.reads true).does.innermost _ c.start-item.ensures.marker))
 
 pub items::attributed_item-returns-clause-anew : goal.items::attributed_item-returns-clause-anew
 unfolding tokens fresh read look_of begins_below whole rule items statements expressions patterns types paths there_at shift passes is_silent begins in_mode anew row one_of any_of no_longer longest is_longer
 items::attributed_item-returns-clause-anew t c =
     let seen : Saw c.args.condition (begins looks (Call rules.attribute)) c.start-item.new.p true = saw-inside c.start-item.ensures.opens (c.requires.begins c.args.condition) in
     anew-apart (anew-given c.start-item.ensures.opens (c.attributes_and_visibility.ensures.reads c.args.condition) (λ s e. option-keeps rules.visibility c.args.condition refl (reads c.args.condition (Star (Call rules.attribute)) (fresh s)) (turns-give rules.attribute c.args.condition refl (fresh s) (omega (arith, c.requires.some, c.start-item.ensures.left, ap (λ (ts : List Token). length ts) e)) (seen.at (fresh s) e))) (where-more c.body.ensures.completes))
-
-pub items::attributes_and_visibility-attributes-requires : goal.items::attributes_and_visibility-attributes-requires
-items::attributes_and_visibility-attributes-requires t c = (omega arith, short-still _ _ (c.attribute.ensures.gives true).does.input c.requires.short)
 
 pub items::attributes_and_visibility-returns-clause-reads : goal.items::attributes_and_visibility-returns-clause-reads
 unfolding tokens look_of begins_below whole rule items statements expressions patterns types paths there_at shift passes is_silent begins in_mode anew row one_of any_of no_longer longest is_longer
@@ -71,14 +67,14 @@ items::attributes_and_visibility-returns-clause-reads t c = λ cond.
     reads-then cond (first.rest _ (c.attributes.ensures.reads cond)) (c.opt_visibility.ensures.reads cond)
 
 pub items::visible_item-body-requires : goal.items::visible_item-body-requires
-items::visible_item-body-requires t c = (omega arith, (short-still _ _ ((c.visibility.ensures.gives true).does.input ∙ c.start-item.ensures.opens.input) c.requires.short, ((λ e. absurd (true≢false e)), (c.visibility.ensures.gives true).does.innermost _ c.start-item.ensures.marker)))
+items::visible_item-body-requires t c = (omega arith, ((λ e. absurd (true≢false e)), (c.visibility.ensures.gives true).does.innermost _ c.start-item.ensures.marker))
 
 pub items::visible_item-returns-clause-anew : goal.items::visible_item-returns-clause-anew
 unfolding look_of begins_below whole rule items statements expressions patterns types paths there_at shift passes is_silent begins in_mode anew row one_of any_of no_longer longest is_longer
 items::visible_item-returns-clause-anew t c = anew-here (c.requires.begins c.args.condition and nothing) (anew-given c.start-item.ensures.opens (reads-call _ (c.visibility.ensures.gives c.args.condition)) (λ s e. call-gives rules.visibility c.args.condition refl (fresh s)) (where-more c.body.ensures.completes))
 
 pub items::bare_item-body-requires : goal.items::bare_item-body-requires
-items::bare_item-body-requires t c = (omega arith, (short-still _ _ c.start-item.ensures.opens.input c.requires.short, ((λ e. omega (arith, c.requires.some, c.start-item.ensures.left)), c.start-item.ensures.marker)))
+items::bare_item-body-requires t c = (omega arith, ((λ e. omega (arith, c.requires.some, c.start-item.ensures.left)), c.start-item.ensures.marker))
 
 pub items::bare_item-returns-clause-anew : goal.items::bare_item-returns-clause-anew
 unfolding look_of begins_below whole rule items statements expressions patterns types paths there_at shift passes is_silent begins in_mode anew row one_of any_of no_longer longest is_longer
@@ -91,12 +87,11 @@ pub items::bare_item-returns-clause-looks : goal.items::bare_item-returns-clause
 items::bare_item-returns-clause-looks t c = omega (arith, c.start-item.ensures.looks, c.body.ensures.pays refl)
 
 pub items::attributes-attribute-requires : goal.items::attributes-attribute-requires
-items::attributes-attribute-requires t c = (omega arith, (short-still _ _ (c.at.ensures.same.input ∙ c.turns.invariant.input) c.requires.short, omega arith))
+items::attributes-attribute-requires t c = (omega arith, omega arith)
 
 pub items::attributes-turns-preserved : goal.items::attributes-turns-preserved
 unfolding tokens look_of begins_below whole rule items statements expressions patterns types paths there_at shift passes is_silent begins in_mode anew row one_of any_of no_longer longest is_longer
 items::attributes-turns-preserved t c = record {
-  input = (c.attribute.ensures.gives true).does.input ∙ c.at.ensures.same.input ∙ c.turns.invariant.input;
   innermost = λ n i. (c.attribute.ensures.gives true).does.innermost n (c.at.ensures.same.innermost n (c.turns.invariant.innermost n i));
   goes = λ cond.
       next-turn cond (Call rules.attribute) (ends-at-end cond (Call rules.attribute) refl) _ _ _ (c.turns.invariant.goes cond) (saw-told (saw-so (c.at.ensures.sees cond) c.turns-test.true and nothing) refl)
@@ -110,7 +105,7 @@ unfolding look_of begins_below whole rule items statements expressions patterns 
 items::attributes-returns-clause-reads t c = λ cond. last-turn cond (Call rules.attribute) (ends-at-end cond (Call rules.attribute) refl) _ _ _ (c.turns.invariant.goes cond) (saw-told (saw-so (c.at.ensures.sees cond) c.turns-test.false and nothing) refl) c.at.ensures.same
 
 pub items::body-module-requires : goal.items::body-module-requires
-items::body-module-requires t c = (omega arith, (short-still _ _ c.current.ensures.same.input c.requires.short, (omega (arith, c.current.ensures.left, c.current.ensures.some (λ e. absurd (omega (arith, sym (ap raw_of c.in-MOD_KW.is) ∙ e)))), c.current.ensures.same.innermost _ c.requires.innermost)))
+items::body-module-requires t c = (omega arith, (omega (arith, c.current.ensures.left, c.current.ensures.some (λ e. absurd (omega (arith, sym (ap raw_of c.in-MOD_KW.is) ∙ e)))), c.current.ensures.same.innermost _ c.requires.innermost))
 
 pub items::body-returns-in-MOD_KW-clause-completes : goal.items::body-returns-in-MOD_KW-clause-completes
 unfolding look_of begins_below whole rule items statements expressions patterns types paths there_at shift passes is_silent begins in_mode anew row one_of any_of no_longer longest is_longer
@@ -124,28 +119,28 @@ unfolding look_of begins_below whole rule items statements expressions patterns 
 items::body-returns-in-USE_KW-clause-completes t c = where-here (saw-arm c.in-USE_KW.is (c.current.ensures.sees c.args.condition) and nothing) (where-look c.current.ensures.same (where-any (c.use_item.ensures.completes c.args.condition)))
 
 pub items::body-struct_item-requires : goal.items::body-struct_item-requires
-items::body-struct_item-requires t c = (omega arith, (short-still _ _ c.current.ensures.same.input c.requires.short, (omega (arith, c.current.ensures.left, c.current.ensures.some (λ e. absurd (omega (arith, sym (ap raw_of c.in-STRUCT_KW.is) ∙ e)))), c.current.ensures.same.innermost _ c.requires.innermost)))
+items::body-struct_item-requires t c = (omega arith, (omega (arith, c.current.ensures.left, c.current.ensures.some (λ e. absurd (omega (arith, sym (ap raw_of c.in-STRUCT_KW.is) ∙ e)))), c.current.ensures.same.innermost _ c.requires.innermost))
 
 pub items::body-returns-in-STRUCT_KW-clause-completes : goal.items::body-returns-in-STRUCT_KW-clause-completes
 unfolding look_of begins_below whole rule items statements expressions patterns types paths there_at shift passes is_silent begins in_mode anew row one_of any_of no_longer longest is_longer
 items::body-returns-in-STRUCT_KW-clause-completes t c = where-here (saw-arm c.in-STRUCT_KW.is (c.current.ensures.sees c.args.condition) and nothing) (where-look c.current.ensures.same (where-any c.struct_item.ensures.completes))
 
 pub items::body-enum_item-requires : goal.items::body-enum_item-requires
-items::body-enum_item-requires t c = (omega arith, (short-still _ _ c.current.ensures.same.input c.requires.short, (omega (arith, c.current.ensures.left, c.current.ensures.some (λ e. absurd (omega (arith, sym (ap raw_of c.in-ENUM_KW.is) ∙ e)))), c.current.ensures.same.innermost _ c.requires.innermost)))
+items::body-enum_item-requires t c = (omega arith, (omega (arith, c.current.ensures.left, c.current.ensures.some (λ e. absurd (omega (arith, sym (ap raw_of c.in-ENUM_KW.is) ∙ e)))), c.current.ensures.same.innermost _ c.requires.innermost))
 
 pub items::body-returns-in-ENUM_KW-clause-completes : goal.items::body-returns-in-ENUM_KW-clause-completes
 unfolding look_of begins_below whole rule items statements expressions patterns types paths there_at shift passes is_silent begins in_mode anew row one_of any_of no_longer longest is_longer
 items::body-returns-in-ENUM_KW-clause-completes t c = where-here (saw-arm c.in-ENUM_KW.is (c.current.ensures.sees c.args.condition) and nothing) (where-look c.current.ensures.same (where-any c.enum_item.ensures.completes))
 
 pub items::body-static_item-requires : goal.items::body-static_item-requires
-items::body-static_item-requires t c = (omega arith, (short-still _ _ c.current.ensures.same.input c.requires.short, (omega (arith, c.current.ensures.left, c.current.ensures.some (λ e. absurd (omega (arith, sym (ap raw_of c.in-STATIC_KW.is) ∙ e)))), c.current.ensures.same.innermost _ c.requires.innermost)))
+items::body-static_item-requires t c = (omega arith, (omega (arith, c.current.ensures.left, c.current.ensures.some (λ e. absurd (omega (arith, sym (ap raw_of c.in-STATIC_KW.is) ∙ e)))), c.current.ensures.same.innermost _ c.requires.innermost))
 
 pub items::body-returns-in-STATIC_KW-clause-completes : goal.items::body-returns-in-STATIC_KW-clause-completes
 unfolding look_of begins_below whole rule items statements expressions patterns types paths there_at shift passes is_silent begins in_mode anew row one_of any_of no_longer longest is_longer
 items::body-returns-in-STATIC_KW-clause-completes t c = where-here (saw-arm c.in-STATIC_KW.is (c.current.ensures.sees c.args.condition) and nothing) (where-look c.current.ensures.same (where-any c.static_item.ensures.completes))
 
 pub items::body-type_alias-requires : goal.items::body-type_alias-requires
-items::body-type_alias-requires t c = (omega arith, (short-still _ _ c.current.ensures.same.input c.requires.short, (omega (arith, c.current.ensures.left, c.current.ensures.some (λ e. absurd (omega (arith, sym (ap raw_of c.in-TYPE_KW.is) ∙ e)))), c.current.ensures.same.innermost _ c.requires.innermost)))
+items::body-type_alias-requires t c = (omega arith, (omega (arith, c.current.ensures.left, c.current.ensures.some (λ e. absurd (omega (arith, sym (ap raw_of c.in-TYPE_KW.is) ∙ e)))), c.current.ensures.same.innermost _ c.requires.innermost))
 
 pub items::body-returns-in-TYPE_KW-clause-completes : goal.items::body-returns-in-TYPE_KW-clause-completes
 unfolding look_of begins_below whole rule items statements expressions patterns types paths there_at shift passes is_silent begins in_mode anew row one_of any_of no_longer longest is_longer
@@ -157,14 +152,14 @@ items::body-returns-then-at_fn-clause-completes t c = where-here (saw-not c.in_d
 
 pub items::body-fn_item-requires : goal.items::body-fn_item-requires
 unfolding look_of begins_below whole rule items statements expressions patterns types paths there_at shift passes is_silent begins in_mode anew row one_of any_of no_longer longest is_longer
-items::body-fn_item-requires t c = (omega arith, (short-still _ _ (c.at_fn.ensures.same.input ∙ c.current.ensures.same.input) c.requires.short, ((λ d. saw-after c.at_fn.ensures.same (saw-so (c.at_fn.ensures.sees d) c.if-at_fn.true)), (omega (arith, c.current.ensures.left, c.at_fn.ensures.left, c.at_fn.ensures.some c.if-at_fn.true), c.at_fn.ensures.same.innermost _ (c.current.ensures.same.innermost _ c.requires.innermost)))))
+items::body-fn_item-requires t c = (omega arith, ((λ d. saw-after c.at_fn.ensures.same (saw-so (c.at_fn.ensures.sees d) c.if-at_fn.true)), (omega (arith, c.current.ensures.left, c.at_fn.ensures.left, c.at_fn.ensures.some c.if-at_fn.true), c.at_fn.ensures.same.innermost _ (c.current.ensures.same.innermost _ c.requires.innermost))))
 
 pub items::body-returns-then-at-clause-completes : goal.items::body-returns-then-at-clause-completes
 unfolding look_of begins_below whole rule items statements expressions patterns types paths there_at shift passes is_silent begins in_mode anew row one_of any_of no_longer longest is_longer
 items::body-returns-then-at-clause-completes t c = where-here (saw-not c.in_default.not-MOD_KW (c.current.ensures.sees c.args.condition) and saw-not c.in_default.not-USE_KW (c.current.ensures.sees c.args.condition) and saw-not c.in_default.not-STRUCT_KW (c.current.ensures.sees c.args.condition) and saw-not c.in_default.not-ENUM_KW (c.current.ensures.sees c.args.condition) and saw-not c.in_default.not-STATIC_KW (c.current.ensures.sees c.args.condition) and saw-not c.in_default.not-TYPE_KW (c.current.ensures.sees c.args.condition) and saw-before c.current.ensures.same (saw-so (c.at_fn.ensures.sees c.args.condition) c.if-at_fn.false) and saw-before c.current.ensures.same (saw-before c.at_fn.ensures.same (saw-so (c.at.ensures.sees c.args.condition) c.if-at.true)) and nothing) (where-look c.current.ensures.same (where-look c.at_fn.ensures.same (where-look c.at.ensures.same (where-any c.const_item.ensures.completes))))
 
 pub items::body-const_item-requires : goal.items::body-const_item-requires
-items::body-const_item-requires t c = (omega arith, (short-still _ _ (c.at.ensures.same.input ∙ c.at_fn.ensures.same.input ∙ c.current.ensures.same.input) c.requires.short, (omega (arith, c.current.ensures.left, c.at_fn.ensures.left, c.at.ensures.left, c.at.ensures.some c.if-at.true (λ e. absurd (omega (arith, e)))), c.at.ensures.same.innermost _ (c.at_fn.ensures.same.innermost _ (c.current.ensures.same.innermost _ c.requires.innermost)))))
+items::body-const_item-requires t c = (omega arith, (omega (arith, c.current.ensures.left, c.at_fn.ensures.left, c.at.ensures.left, c.at.ensures.some c.if-at.true (λ e. absurd (omega (arith, e)))), c.at.ensures.same.innermost _ (c.at_fn.ensures.same.innermost _ (c.current.ensures.same.innermost _ c.requires.innermost))))
 
 pub items::body-returns-then-at_unsafe-clause-completes : goal.items::body-returns-then-at_unsafe-clause-completes
 unfolding look_of begins_below whole rule items statements expressions patterns types paths there_at shift passes is_silent begins in_mode anew row one_of any_of no_longer longest is_longer
@@ -172,7 +167,7 @@ items::body-returns-then-at_unsafe-clause-completes t c = where-here (saw-not c.
 
 pub items::body-impl_item-requires : goal.items::body-impl_item-requires
 unfolding look_of begins_below whole rule items statements expressions patterns types paths there_at shift passes is_silent begins in_mode anew row one_of any_of no_longer longest is_longer
-items::body-impl_item-requires t c = (omega arith, (short-still _ _ (c.at_unsafe.ensures.same.input ∙ c.at.ensures.same.input ∙ c.at_fn.ensures.same.input ∙ c.current.ensures.same.input) c.requires.short, ((λ d. saw-after c.at_unsafe.ensures.same (saw-so (c.at_unsafe.ensures.sees d) c.if-at_unsafe.true)), (omega (arith, c.current.ensures.left, c.at_fn.ensures.left, c.at.ensures.left, c.at_unsafe.ensures.left, c.at_unsafe.ensures.some c.if-at_unsafe.true (λ e. absurd (omega (arith, e)))), c.at_unsafe.ensures.same.innermost _ (c.at.ensures.same.innermost _ (c.at_fn.ensures.same.innermost _ (c.current.ensures.same.innermost _ c.requires.innermost)))))))
+items::body-impl_item-requires t c = (omega arith, ((λ d. saw-after c.at_unsafe.ensures.same (saw-so (c.at_unsafe.ensures.sees d) c.if-at_unsafe.true)), (omega (arith, c.current.ensures.left, c.at_fn.ensures.left, c.at.ensures.left, c.at_unsafe.ensures.left, c.at_unsafe.ensures.some c.if-at_unsafe.true (λ e. absurd (omega (arith, e)))), c.at_unsafe.ensures.same.innermost _ (c.at.ensures.same.innermost _ (c.at_fn.ensures.same.innermost _ (c.current.ensures.same.innermost _ c.requires.innermost))))))
 
 pub items::body-returns-then-at_unsafe-2-clause-completes : goal.items::body-returns-then-at_unsafe-2-clause-completes
 unfolding look_of begins_below whole rule items statements expressions patterns types paths there_at shift passes is_silent begins in_mode anew row one_of any_of no_longer longest is_longer
@@ -180,7 +175,7 @@ items::body-returns-then-at_unsafe-2-clause-completes t c = where-here (saw-not 
 
 pub items::body-trait_item-requires : goal.items::body-trait_item-requires
 unfolding look_of begins_below whole rule items statements expressions patterns types paths there_at shift passes is_silent begins in_mode anew row one_of any_of no_longer longest is_longer
-items::body-trait_item-requires t c = (omega arith, (short-still _ _ (c.at_unsafe-in_default.ensures.same.input ∙ c.at_unsafe.ensures.same.input ∙ c.at.ensures.same.input ∙ c.at_fn.ensures.same.input ∙ c.current.ensures.same.input) c.requires.short, ((λ d. saw-after c.at_unsafe-in_default.ensures.same (saw-so (c.at_unsafe-in_default.ensures.sees d) c.if-at_unsafe-2.true)), (omega (arith, c.current.ensures.left, c.at_fn.ensures.left, c.at.ensures.left, c.at_unsafe.ensures.left, c.at_unsafe-in_default.ensures.left, c.at_unsafe-in_default.ensures.some c.if-at_unsafe-2.true (λ e. absurd (omega (arith, e)))), c.at_unsafe-in_default.ensures.same.innermost _ (c.at_unsafe.ensures.same.innermost _ (c.at.ensures.same.innermost _ (c.at_fn.ensures.same.innermost _ (c.current.ensures.same.innermost _ c.requires.innermost))))))))
+items::body-trait_item-requires t c = (omega arith, ((λ d. saw-after c.at_unsafe-in_default.ensures.same (saw-so (c.at_unsafe-in_default.ensures.sees d) c.if-at_unsafe-2.true)), (omega (arith, c.current.ensures.left, c.at_fn.ensures.left, c.at.ensures.left, c.at_unsafe.ensures.left, c.at_unsafe-in_default.ensures.left, c.at_unsafe-in_default.ensures.some c.if-at_unsafe-2.true (λ e. absurd (omega (arith, e)))), c.at_unsafe-in_default.ensures.same.innermost _ (c.at_unsafe.ensures.same.innermost _ (c.at.ensures.same.innermost _ (c.at_fn.ensures.same.innermost _ (c.current.ensures.same.innermost _ c.requires.innermost)))))))
 
 pub items::body-returns-then-at_path-clause-completes : goal.items::body-returns-then-at_path-clause-completes
 unfolding look_of begins_below whole rule items statements expressions patterns types paths there_at shift passes is_silent begins in_mode anew row one_of any_of no_longer longest is_longer
@@ -202,9 +197,6 @@ items::body-returns-else-at_path-clause-takes t c = λ e. omega (arith, c.curren
 pub items::body-returns-else-at_path-clause-pays : goal.items::body-returns-else-at_path-clause-pays
 items::body-returns-else-at_path-clause-pays t c = λ e. omega (arith, c.current.ensures.looks, c.at_fn.ensures.looks, c.at.ensures.looks, c.at_unsafe.ensures.looks, c.at_unsafe-in_default.ensures.looks, c.at_path.ensures.looks, c.no_item.ensures.pays e)
 
-pub items::module-module_items-requires : goal.items::module-module_items-requires
-items::module-module_items-requires t c = (omega arith, short-still _ _ ((c.expect_name.ensures.reads true).does.input ∙ (c.take.ensures.reads true).does.input) c.requires.short)
-
 pub items::module-complete-requires : goal.items::module-complete-requires
 items::module-complete-requires t c = (c.module_items.ensures.reads true).does.innermost _ ((c.expect_name.ensures.reads true).does.innermost _ ((c.take.ensures.reads true).does.innermost _ c.requires.innermost))
 
@@ -212,7 +204,7 @@ pub items::module-returns-clause-completes : goal.items::module-returns-clause-c
 items::module-returns-clause-completes t c = λ cond. completes-wrap (reads-then cond (c.take.ensures.reads cond) (reads-then cond (c.expect_name.ensures.reads cond) (c.module_items.ensures.reads cond))) c.complete.ensures.closes
 
 pub items::module_items-item_list-requires : goal.items::module_items-item_list-requires
-items::module_items-item_list-requires t c = (omega arith, (short-still _ _ c.at.ensures.same.input c.requires.short, omega arith))
+items::module_items-item_list-requires t c = (omega arith, omega arith)
 
 pub items::module_items-returns-then-at-clause-reads : goal.items::module_items-returns-then-at-clause-reads
 unfolding look_of begins_below whole rule items statements expressions patterns types paths there_at shift passes is_silent begins in_mode anew row one_of any_of no_longer longest is_longer
@@ -222,9 +214,6 @@ pub items::module_items-returns-clause-reads : goal.items::module_items-returns-
 unfolding look_of begins_below whole rule items statements expressions patterns types paths there_at shift passes is_silent begins in_mode anew row one_of any_of no_longer longest is_longer
 items::module_items-returns-clause-reads t c = λ cond. reads-here (saw-so (c.at.ensures.sees cond) c.if-at.false and nothing) (after-look cond c.at.ensures.same (c.expect.ensures.reads cond))
 
-pub items::item_list-items-requires : goal.items::item_list-items-requires
-items::item_list-items-requires t c = (omega arith, short-still _ _ ((c.take.ensures.reads true).does.input ∙ c.start-list.ensures.opens.input) c.requires.short)
-
 pub items::item_list-complete-requires : goal.items::item_list-complete-requires
 items::item_list-complete-requires t c = (c.expect.ensures.reads true).does.innermost _ (c.items.ensures.reads.does.innermost _ ((c.take.ensures.reads true).does.innermost _ c.start-list.ensures.marker))
 
@@ -232,14 +221,14 @@ pub items::item_list-returns-clause-reads : goal.items::item_list-returns-clause
 items::item_list-returns-clause-reads t c = λ cond. reads-node cond c.start-list.ensures.opens (reads-then cond (c.take.ensures.reads cond) (reads-then cond (reads-mode cond c.items.ensures.reads) (c.expect.ensures.reads cond))) c.complete.ensures.closes
 
 pub items::assoc_items-item_list-requires : goal.items::assoc_items-item_list-requires
-items::assoc_items-item_list-requires t c = (omega arith, (c.requires.short, c.requires.some))
+items::assoc_items-item_list-requires t c = (omega arith, c.requires.some)
 
 pub items::assoc_items-returns-clause-gives : goal.items::assoc_items-returns-clause-gives
 unfolding look_of begins_below whole rule items statements expressions patterns types paths there_at shift passes is_silent begins in_mode anew row one_of any_of no_longer longest is_longer
 items::assoc_items-returns-clause-gives t c = λ cond. gives-anew (anew-after refl (c.item_list.ensures.reads cond))
 
 pub items::opt_generic_params-generic_params-requires : goal.items::opt_generic_params-generic_params-requires
-items::opt_generic_params-generic_params-requires t c = (omega arith, (short-still _ _ c.at.ensures.same.input c.requires.short, omega arith))
+items::opt_generic_params-generic_params-requires t c = (omega arith, omega arith)
 
 pub items::opt_generic_params-returns-then-at-clause-reads : goal.items::opt_generic_params-returns-then-at-clause-reads
 unfolding look_of begins_below whole rule items statements expressions patterns types paths there_at shift passes is_silent begins in_mode anew row one_of any_of no_longer longest is_longer
@@ -250,7 +239,7 @@ unfolding look_of begins_below whole rule items statements expressions patterns 
 items::opt_generic_params-returns-else-at-clause-reads t c = λ cond. reads-here (saw-so (c.at.ensures.sees cond) c.if-at.false and nothing) (reads-nothing cond c.at.ensures.same)
 
 pub items::opt_where_clause-where_clause-requires : goal.items::opt_where_clause-where_clause-requires
-items::opt_where_clause-where_clause-requires t c = (omega arith, (short-still _ _ c.at.ensures.same.input c.requires.short, omega arith))
+items::opt_where_clause-where_clause-requires t c = (omega arith, omega arith)
 
 pub items::opt_where_clause-returns-then-at-clause-reads : goal.items::opt_where_clause-returns-then-at-clause-reads
 unfolding look_of begins_below whole rule items statements expressions patterns types paths there_at shift passes is_silent begins in_mode anew row one_of any_of no_longer longest is_longer
@@ -264,7 +253,7 @@ pub items::item_turn-returns-then-at_end_of-clause-ends : goal.items::item_turn-
 items::item_turn-returns-then-at_end_of-clause-ends t c = λ e. last-turn false _ (over-at-end c.args.end _) _ _ _ first-turn (over item_or_attribute (saw-so (c.at_end_of.ensures.sees false) c.if-at_end_of.true)) c.at_end_of.ensures.same
 
 pub items::item_turn-attribute-requires : goal.items::item_turn-attribute-requires
-items::item_turn-attribute-requires t c = (omega arith, (short-still _ _ (c.at_inner_attribute.ensures.same.input ∙ c.at_end_of.ensures.same.input) c.requires.short, omega (arith, c.at_inner_attribute.ensures.left, c.at_inner_attribute.ensures.some c.if-at_inner_attribute.true)))
+items::item_turn-attribute-requires t c = (omega arith, omega (arith, c.at_inner_attribute.ensures.left, c.at_inner_attribute.ensures.some c.if-at_inner_attribute.true))
 
 pub items::item_turn-returns-then-at_inner_attribute-clause-goes : goal.items::item_turn-returns-then-at_inner_attribute-clause-goes
 unfolding tokens look_of begins_below whole rule items statements expressions patterns types paths there_at shift passes is_silent begins in_mode anew row one_of any_of no_longer longest is_longer
@@ -274,14 +263,11 @@ items::item_turn-returns-then-at_inner_attribute-clause-goes t c = λ e.
     (reads-unless false (reads-here (seen and nothing) (after-look false c.at_end_of.ensures.same (after-look false c.at_inner_attribute.ensures.same (reads-call false (c.attribute.ensures.gives false))))))
     (omega (arith, c.attribute.ensures.left, c.at_inner_attribute.ensures.left, c.at_end_of.ensures.left))
 
-pub items::item_turn-returns-then-at_inner_attribute-clause-input : goal.items::item_turn-returns-then-at_inner_attribute-clause-input
-items::item_turn-returns-then-at_inner_attribute-clause-input t c = (c.attribute.ensures.gives true).does.input ∙ c.at_inner_attribute.ensures.same.input ∙ c.at_end_of.ensures.same.input
-
 pub items::item_turn-returns-then-at_inner_attribute-clause-innermost : goal.items::item_turn-returns-then-at_inner_attribute-clause-innermost
 items::item_turn-returns-then-at_inner_attribute-clause-innermost t c = λ n i. (c.attribute.ensures.gives true).does.innermost n (c.at_inner_attribute.ensures.same.innermost n (c.at_end_of.ensures.same.innermost n i))
 
 pub items::item_turn-item-requires : goal.items::item_turn-item-requires
-items::item_turn-item-requires t c = (omega arith, (short-still _ _ (c.at_inner_attribute.ensures.same.input ∙ c.at_end_of.ensures.same.input) c.requires.short, omega (arith, some-within c.args.end (saw-so (c.at_end_of.ensures.sees false) c.if-at_end_of.false), c.at_end_of.ensures.left, c.at_inner_attribute.ensures.left)))
+items::item_turn-item-requires t c = (omega arith, omega (arith, some-within c.args.end (saw-so (c.at_end_of.ensures.sees false) c.if-at_end_of.false), c.at_end_of.ensures.left, c.at_inner_attribute.ensures.left))
 
 pub items::item_turn-returns-clause-goes : goal.items::item_turn-returns-clause-goes
 unfolding tokens look_of begins_below whole rule items statements expressions patterns types paths there_at shift passes is_silent begins in_mode anew row one_of any_of no_longer longest is_longer
@@ -292,15 +278,11 @@ items::item_turn-returns-clause-goes t c = λ e.
     (reads-unless false (reads-here (other and nothing) (after-look false c.at_end_of.ensures.same (after-look false c.at_inner_attribute.ensures.same (reads-call false c.item.ensures.gives)))))
     (omega (arith, c.item.ensures.left, c.at_inner_attribute.ensures.left, c.at_end_of.ensures.left))
 
-pub items::item_turn-returns-clause-input : goal.items::item_turn-returns-clause-input
-items::item_turn-returns-clause-input t c = c.item.ensures.gives.does.input ∙ c.at_inner_attribute.ensures.same.input ∙ c.at_end_of.ensures.same.input
-
 pub items::item_turn-returns-clause-innermost : goal.items::item_turn-returns-clause-innermost
 items::item_turn-returns-clause-innermost t c = λ n i. c.item.ensures.gives.does.innermost n (c.at_inner_attribute.ensures.same.innermost n (c.at_end_of.ensures.same.innermost n i))
 
 pub items::items-turns-preserved : goal.items::items-turns-preserved
 items::items-turns-preserved t c = record {
-  input = c.item_turn.ensures.input ∙ c.turns.invariant.input;
   innermost = λ n i. c.item_turn.ensures.innermost n (c.turns.invariant.innermost n i);
   goes = record { rest = λ end p. c.turns.invariant.goes.rest end ((c.item_turn.ensures.goes c.turns-test.true).rest end p) };
   left = omega (arith, c.turns.invariant.left, c.item_turn.ensures.left);

@@ -1,9 +1,8 @@
 -- Operands with the operators between them, path by path.
-use Rattle.std.proofs.Common.{◌≡◌, ℕ, ◌+◌, ◌-◌, ◌≤◌, Bool, true, false, nat_eq, refl, sym, subst, ◌∙◌, arith, inl, inr}
+use Rattle.std.proofs.Common.{◌≡◌, ℕ, ◌+◌, ◌-◌, ◌≤◌, Bool, true, false, nat_eq, refl, sym, subst, arith, inl, inr}
 use Rattle.std.proofs.lemmas.Bool.{eqb-true}
 use Rattle.rust_grammar.specs.Notation.{more}
 use Rattle.rust_grammar.specs.Rule.{Rule}
-use Rattle.grammar_reader.proofs.Inputs.{short-still}
 use Rattle.rust_productions.specs.Layers.{layer_at, operators_at, repeated, turn_at, turns_from}
 use Rattle.rust_productions.specs.Looks.{tokens}
 use Rattle.rust_productions.specs.Reads.{Reads}
@@ -16,19 +15,16 @@ use Rattle.rust_productions.proofs.Seen.{saw-after, saw-inside}
 use Rattle.grammar_reader.proofs.grammar.+grammar.Goals as goal
 
 pub expressions::layers::layers-prefixed-requires : goal.expressions::layers::layers-prefixed-requires
-expressions::layers::layers-prefixed-requires t c = (omega arith, (short-still _ _ c.start-frame.ensures.opens.input c.requires.short, (saw-inside c.start-frame.ensures.opens c.requires.begins, omega arith)))
+expressions::layers::layers-prefixed-requires t c = (omega arith, (saw-inside c.start-frame.ensures.opens c.requires.begins, omega arith))
 
 pub expressions::layers::layers-climb-frame-requires : goal.expressions::layers::layers-climb-frame-requires
-expressions::layers::layers-climb-frame-requires t c = (omega arith, (short-still _ _ (c.prefixed.ensures.gives.does.input ∙ c.start-frame.ensures.opens.input) c.requires.short, (c.requires.high, c.prefixed.ensures.gives.does.innermost _ c.start-frame.ensures.marker)))
+expressions::layers::layers-climb-frame-requires t c = (omega arith, (c.requires.high, c.prefixed.ensures.gives.does.innermost _ c.start-frame.ensures.marker))
 
 pub expressions::layers::layers-returns-clause-gives : goal.expressions::layers::layers-returns-clause-gives
 expressions::layers::layers-returns-clause-gives t c = gives-layer c.args.condition c.args.height c.requires.high c.start-frame.ensures.opens (reads-then _ (reads-call _ c.prefixed.ensures.gives) c.climb-frame.ensures.reads) c.abandon.ensures.leaves
 
-pub expressions::layers::turn-expect_type-requires : goal.expressions::layers::turn-expect_type-requires
-expressions::layers::turn-expect_type-requires t c = (omega arith, short-still _ _ (c.take_operator.ensures.reads true).does.input c.requires.short)
-
 pub expressions::layers::turn-expect_layer-requires : goal.expressions::layers::turn-expect_layer-requires
-expressions::layers::turn-expect_layer-requires t c = (omega arith, (short-still _ _ (c.take_operator.ensures.reads true).does.input c.requires.short, omega (arith, c.requires.high)))
+expressions::layers::turn-expect_layer-requires t c = (omega arith, omega (arith, c.requires.high))
 
 pub expressions::layers::turn-wrap-requires : goal.expressions::layers::turn-wrap-requires
 expressions::layers::turn-wrap-requires t c = c.expect_type.ensures.reads.does.innermost _ ((c.take_operator.ensures.reads true).does.innermost _ c.requires.innermost)
@@ -37,7 +33,7 @@ pub expressions::layers::turn-wrap-requires-2 : goal.expressions::layers::turn-w
 expressions::layers::turn-wrap-requires-2 t c = c.expect_layer.ensures.reads.does.innermost _ ((c.take_operator.ensures.reads true).does.innermost _ c.requires.innermost)
 
 pub expressions::layers::expect_layer-layers-requires : goal.expressions::layers::expect_layer-layers-requires
-expressions::layers::expect_layer-layers-requires t c = (omega arith, (short-still _ _ c.at_operand.ensures.same.input c.requires.short, (saw-after c.at_operand.ensures.same (saw-so c.at_operand.ensures.sees c.if-at_operand.true), (omega (arith, c.at_operand.ensures.some c.if-at_operand.true, c.at_operand.ensures.left), c.requires.high))))
+expressions::layers::expect_layer-layers-requires t c = (omega arith, (saw-after c.at_operand.ensures.same (saw-so c.at_operand.ensures.sees c.if-at_operand.true), (omega (arith, c.at_operand.ensures.some c.if-at_operand.true, c.at_operand.ensures.left), c.requires.high)))
 
 pub expressions::layers::expect_layer-returns-then-at_operand-clause-reads : goal.expressions::layers::expect_layer-returns-then-at_operand-clause-reads
 expressions::layers::expect_layer-returns-then-at_operand-clause-reads t c = reads-want _ (begins-call (layer_at c.args.height) (saw-layer c.args.height c.requires.high (saw-so c.at_operand.ensures.sees c.if-at_operand.true))) (after-look _ c.at_operand.ensures.same (reads-call _ c.layers.ensures.gives))
@@ -47,7 +43,6 @@ expressions::layers::expect_layer-returns-clause-reads t c = reads-missing _ (be
 
 pub expressions::layers::climb-turns-init : goal.expressions::layers::climb-turns-init
 expressions::layers::climb-turns-init t c = record {
-  input = refl;
   marker = c.current_op-next.ensures.same.innermost _ c.requires.innermost;
   next = next-after c.current_op-next.ensures.same c.current_op-next.ensures.next;
   goes = record {
@@ -66,7 +61,6 @@ expressions::layers::climb-turns-preserved t c =
     next-turn-of c.args.condition c.turns.lowest c.args.top c.turns.invariant.some (omega arith) (omega arith) c.requires.high c.turns.invariant.goes c.turns.invariant.next c.turn-frame.ensures.reads
     (omega (arith, c.turn-frame.ensures.left)) in
     record {
-      input = c.current_op-next-in-turns.ensures.same.input ∙ c.turn-frame.ensures.reads.does.input ∙ c.turns.invariant.input;
       marker = c.current_op-next-in-turns.ensures.same.innermost _ c.turn-frame.ensures.marker;
       next = next-after c.current_op-next-in-turns.ensures.same c.current_op-next-in-turns.ensures.next;
       goes = record { rest = λ end p. turned.rest end (after-look _ c.current_op-next-in-turns.ensures.same p) };

@@ -1,5 +1,5 @@
 -- Lists, turn by turn.
-use Rattle.std.proofs.Common.{true, false, refl, sym, subst, ◌∙◌, arith}
+use Rattle.std.proofs.Common.{true, false, refl, sym, subst, arith}
 use Rattle.std.proofs.lemmas.Bool.{ltb-true, ltb-false}
 use Rattle.parser_input.specs.Kind.{raw_of}
 use Rattle.rust_grammar.specs.Rule as rules
@@ -19,7 +19,6 @@ use Rattle.grammar_reader.specs.declared.grammar.lists.Element.{Element}
 use Rattle.grammar_reader.proofs.Elements.{element-pays, ends, few-looks-before, few-looks-in, more, over, over-there, reads-element, reads-stray, said-element, stray, sure-element}
 use Rattle.grammar_reader.proofs.AnyMode.{param-anywhere, pattern-anywhere, pattern-field-anywhere}
 use Rattle.grammar_reader.proofs.Seeing.{begun-left, param-left, pattern-begins, word-left}
-use Rattle.grammar_reader.proofs.Inputs.{short-still}
 use Rattle.rust_productions.specs.Looks.{tokens}
 use Rattle.rust_productions.specs.Reads.{looks, Reads, Saw}
 use Rattle.rust_productions.proofs.ByHand.{after-look, does-then, reads-call, reads-mode, reads-node, reads-then}
@@ -33,7 +32,7 @@ pub lists::turn-returns-then-at_list_end-clause-ends : goal.lists::turn-returns-
 lists::turn-returns-then-at_list_end-clause-ends t c = λ e. last-turn false (list_turn (raw_of c.args.list) (element_of c.args.element) (raw_of c.args.closing)) (ends (raw_of c.args.list) (element_of c.args.element) (raw_of c.args.closing)) _ _ _ first-turn (over (raw_of c.args.list) (element_of c.args.element) (raw_of c.args.closing) (saw-so (c.at_list_end.ensures.sees false) c.if-at_list_end.true)) c.at_list_end.ensures.same
 
 pub lists::turn-read_element-requires : goal.lists::turn-read_element-requires
-lists::turn-read_element-requires t c = (omega arith, (short-still _ _ (c.at_element.ensures.same.input ∙ c.at_list_end.ensures.same.input) c.requires.short, saw-after c.at_element.ensures.same (saw-so c.at_element.ensures.sees c.if-at_element.true)))
+lists::turn-read_element-requires t c = (omega arith, saw-after c.at_element.ensures.same (saw-so c.at_element.ensures.sees c.if-at_element.true))
 
 pub lists::turn-returns-then-at_element-clause-goes : goal.lists::turn-returns-then-at_element-clause-goes
 unfolding tokens
@@ -42,9 +41,6 @@ lists::turn-returns-then-at_element-clause-goes t c = λ e. next-turn false (lis
 pub lists::turn-returns-then-at_element-clause-ends : goal.lists::turn-returns-then-at_element-clause-ends
 unfolding tokens
 lists::turn-returns-then-at_element-clause-ends t c = λ e. idle-turn false (list_turn (raw_of c.args.list) (element_of c.args.element) (raw_of c.args.closing)) (ends (raw_of c.args.list) (element_of c.args.element) (raw_of c.args.closing)) _ _ _ first-turn (more (raw_of c.args.list) (element_of c.args.element) (raw_of c.args.closing) (said-element c.args.element) (sure-element c.args.element) (saw-so (c.at_list_end.ensures.sees false) c.if-at_list_end.false) (saw-before c.at_list_end.ensures.same (saw-so c.at_element.ensures.sees c.if-at_element.true))) (after-look false c.at_list_end.ensures.same (after-look false c.at_element.ensures.same (reads-element (raw_of c.args.list) (element_of c.args.element) (raw_of c.args.closing) (said-element c.args.element) (sure-element c.args.element) (saw-after c.at_element.ensures.same (saw-so c.at_element.ensures.sees c.if-at_element.true)) c.read_element.ensures.reads (c.comma.ensures.reads false)))) (omega (arith, (ltb-false c.tokens_left.result c.tokens_left-before.result e), c.tokens_left.ensures, c.tokens_left-before.ensures, c.at_list_end.ensures.left, c.comma.ensures.left, c.read_element.ensures.left, c.at_element.ensures.left))
-
-pub lists::turn-returns-then-at_element-clause-input : goal.lists::turn-returns-then-at_element-clause-input
-lists::turn-returns-then-at_element-clause-input t c = (c.comma.ensures.reads false).does.input ∙ c.read_element.ensures.reads.does.input ∙ c.at_element.ensures.same.input ∙ c.at_list_end.ensures.same.input
 
 pub lists::turn-returns-then-at_element-clause-innermost : goal.lists::turn-returns-then-at_element-clause-innermost
 lists::turn-returns-then-at_element-clause-innermost t c = λ n i. (c.comma.ensures.reads false).does.innermost n (c.read_element.ensures.reads.does.innermost n (c.at_element.ensures.same.innermost n (c.at_list_end.ensures.same.innermost n i)))
@@ -64,9 +60,6 @@ pub lists::turn-returns-then-at_unexpected-clause-goes : goal.lists::turn-return
 unfolding tokens
 lists::turn-returns-then-at_unexpected-clause-goes t c = λ e. next-turn false (list_turn (raw_of c.args.list) (element_of c.args.element) (raw_of c.args.closing)) (ends (raw_of c.args.list) (element_of c.args.element) (raw_of c.args.closing)) _ _ _ first-turn (stray (raw_of c.args.list) (element_of c.args.element) (raw_of c.args.closing) (said-element c.args.element) (sure-element c.args.element) (saw-so (c.at_list_end.ensures.sees false) c.if-at_list_end.false) (saw-before c.at_list_end.ensures.same (saw-so c.at_element.ensures.sees c.if-at_element.false)) (saw-before c.at_list_end.ensures.same (saw-before c.at_element.ensures.same (saw-so (c.at_unexpected.ensures.sees false) c.if-at_unexpected.true)))) (after-look false c.at_list_end.ensures.same (after-look false c.at_element.ensures.same (reads-stray (raw_of c.args.list) (element_of c.args.element) (raw_of c.args.closing) (said-element c.args.element) (sure-element c.args.element) (saw-after c.at_element.ensures.same (saw-so c.at_element.ensures.sees c.if-at_element.false)) (after-look false c.at_unexpected.ensures.same (c.skip.ensures.reads false))))) (omega (arith, c.skip.ensures.left, c.at_unexpected.ensures.left, c.at_element.ensures.left, c.at_list_end.ensures.left))
 
-pub lists::turn-returns-then-at_unexpected-clause-input : goal.lists::turn-returns-then-at_unexpected-clause-input
-lists::turn-returns-then-at_unexpected-clause-input t c = (c.skip.ensures.reads false).does.input ∙ c.at_unexpected.ensures.same.input ∙ c.at_element.ensures.same.input ∙ c.at_list_end.ensures.same.input
-
 pub lists::turn-returns-then-at_unexpected-clause-innermost : goal.lists::turn-returns-then-at_unexpected-clause-innermost
 lists::turn-returns-then-at_unexpected-clause-innermost t c = λ n i. (c.skip.ensures.reads false).does.innermost n (c.at_unexpected.ensures.same.innermost n (c.at_element.ensures.same.innermost n (c.at_list_end.ensures.same.innermost n i)))
 
@@ -85,13 +78,13 @@ lists::turn-returns-clause-looks t c = omega (arith, c.at_element.ensures.looks,
 pub lists::read_element-closure_param-requires : goal.lists::read_element-closure_param-requires
 lists::read_element-closure_param-requires t c =
     let seen = subst (λ (e : Element). Saw false (begins looks (element_of e)) c.args.p.now true) c.in-ClosureParam.is c.requires.begins in
-    (omega arith, (c.requires.short, ((λ d. pattern-begins seen), param-left seen)))
+    (omega arith, ((λ d. pattern-begins seen), param-left seen))
 
 pub lists::read_element-expression-requires : goal.lists::read_element-expression-requires
 unfolding look_of begins_below whole rule items statements expressions patterns types paths there_at shift passes is_silent begins in_mode anew row one_of any_of no_longer longest is_longer
 lists::read_element-expression-requires t c =
     let seen = subst (λ (e : Element). Saw false (begins looks (element_of e)) c.args.p.now true) c.in-Expression.is c.requires.begins in
-    (omega arith, (c.requires.short, (seen, begun-left (Call rules.expression) refl seen)))
+    (omega arith, (seen, begun-left (Call rules.expression) refl seen))
 
 pub lists::read_element-returns-in-Expression-clause-reads : goal.lists::read_element-returns-in-Expression-clause-reads
 lists::read_element-returns-in-Expression-clause-reads t c = subst (λ (e : Element). Reads false (element_of e) c.args.p.now c.expression.new.p) (sym c.in-Expression.is) (reads-call false c.expression.ensures.gives)
@@ -100,7 +93,7 @@ pub lists::read_element-field_value-requires : goal.lists::read_element-field_va
 unfolding look_of begins_below whole rule items statements expressions patterns types paths there_at shift passes is_silent begins in_mode anew row one_of any_of no_longer longest is_longer
 lists::read_element-field_value-requires t c =
     let seen = subst (λ (e : Element). Saw false (begins looks (element_of e)) c.args.p.now true) c.in-FieldValue.is c.requires.begins in
-    (omega arith, (c.requires.short, (seen, begun-left (Call rules.field_value) refl seen)))
+    (omega arith, (seen, begun-left (Call rules.field_value) refl seen))
 
 pub lists::read_element-returns-in-FieldValue-clause-reads : goal.lists::read_element-returns-in-FieldValue-clause-reads
 lists::read_element-returns-in-FieldValue-clause-reads t c = subst (λ (e : Element). Reads false (element_of e) c.args.p.now c.field_value.new.p) (sym c.in-FieldValue.is) (reads-call false c.field_value.ensures.gives)
@@ -109,14 +102,14 @@ pub lists::read_element-generic_arg-requires : goal.lists::read_element-generic_
 unfolding look_of begins_below whole rule items statements expressions patterns types paths there_at shift passes is_silent begins in_mode anew row one_of any_of no_longer longest is_longer
 lists::read_element-generic_arg-requires t c =
     let seen = subst (λ (e : Element). Saw false (begins looks (element_of e)) c.args.p.now true) c.in-GenericArg.is c.requires.begins in
-    (omega arith, (c.requires.short, (seen, word-left (Call rules.generic_arg) refl seen)))
+    (omega arith, (seen, word-left (Call rules.generic_arg) refl seen))
 
 pub lists::read_element-returns-in-GenericArg-clause-reads : goal.lists::read_element-returns-in-GenericArg-clause-reads
 lists::read_element-returns-in-GenericArg-clause-reads t c = subst (λ (e : Element). Reads false (element_of e) c.args.p.now c.generic_arg.new.p) (sym c.in-GenericArg.is) (reads-call false c.generic_arg.ensures.gives)
 
 pub lists::read_element-generic_param-requires : goal.lists::read_element-generic_param-requires
 unfolding look_of begins_below whole rule items statements expressions patterns types paths there_at shift passes is_silent begins in_mode anew row one_of any_of no_longer longest is_longer
-lists::read_element-generic_param-requires t c = (omega arith, (c.requires.short, begun-left (Call rules.generic_param) refl (subst (λ (e : Element). Saw false (begins looks (element_of e)) c.args.p.now true) c.in-GenericParam.is c.requires.begins)))
+lists::read_element-generic_param-requires t c = (omega arith, begun-left (Call rules.generic_param) refl (subst (λ (e : Element). Saw false (begins looks (element_of e)) c.args.p.now true) c.in-GenericParam.is c.requires.begins))
 
 pub lists::read_element-returns-in-GenericParam-clause-reads : goal.lists::read_element-returns-in-GenericParam-clause-reads
 lists::read_element-returns-in-GenericParam-clause-reads t c = subst (λ (e : Element). Reads false (element_of e) c.args.p.now c.generic_param.new.p) (sym c.in-GenericParam.is) (reads-call false c.generic_param.ensures.gives)
@@ -125,7 +118,7 @@ pub lists::read_element-param-requires : goal.lists::read_element-param-requires
 unfolding look_of begins_below whole rule items statements expressions patterns types paths there_at shift passes is_silent begins in_mode anew row one_of any_of no_longer longest is_longer
 lists::read_element-param-requires t c =
     let seen = subst (λ (e : Element). Saw false (begins looks (element_of e)) c.args.p.now true) c.in-Param.is c.requires.begins in
-    (omega arith, (c.requires.short, ((λ d. param-anywhere seen), begun-left (Call rules.param) refl seen)))
+    (omega arith, ((λ d. param-anywhere seen), begun-left (Call rules.param) refl seen))
 
 pub lists::read_element-returns-in-Param-clause-reads : goal.lists::read_element-returns-in-Param-clause-reads
 lists::read_element-returns-in-Param-clause-reads t c = subst (λ (e : Element). Reads false (element_of e) c.args.p.now c.param.new.p) (sym c.in-Param.is) (reads-call false c.param.ensures.gives)
@@ -134,7 +127,7 @@ pub lists::read_element-pattern-requires : goal.lists::read_element-pattern-requ
 unfolding look_of begins_below whole rule items statements expressions patterns types paths there_at shift passes is_silent begins in_mode anew row one_of any_of no_longer longest is_longer
 lists::read_element-pattern-requires t c =
     let seen = subst (λ (e : Element). Saw false (begins looks (element_of e)) c.args.p.now true) c.in-Pattern.is c.requires.begins in
-    (omega arith, (c.requires.short, ((λ d. pattern-anywhere seen), begun-left (Call rules.pattern) refl seen)))
+    (omega arith, ((λ d. pattern-anywhere seen), begun-left (Call rules.pattern) refl seen))
 
 pub lists::read_element-returns-in-Pattern-clause-reads : goal.lists::read_element-returns-in-Pattern-clause-reads
 lists::read_element-returns-in-Pattern-clause-reads t c = subst (λ (e : Element). Reads false (element_of e) c.args.p.now c.pattern.new.p) (sym c.in-Pattern.is) (reads-call false (c.pattern.ensures.gives false))
@@ -143,7 +136,7 @@ pub lists::read_element-pattern_field-requires : goal.lists::read_element-patter
 unfolding look_of begins_below whole rule items statements expressions patterns types paths there_at shift passes is_silent begins in_mode anew row one_of any_of no_longer longest is_longer
 lists::read_element-pattern_field-requires t c =
     let seen = subst (λ (e : Element). Saw false (begins looks (element_of e)) c.args.p.now true) c.in-PatternField.is c.requires.begins in
-    (omega arith, (c.requires.short, ((λ d. pattern-field-anywhere seen), begun-left (Call rules.pattern_field) refl seen)))
+    (omega arith, ((λ d. pattern-field-anywhere seen), begun-left (Call rules.pattern_field) refl seen))
 
 pub lists::read_element-returns-in-PatternField-clause-reads : goal.lists::read_element-returns-in-PatternField-clause-reads
 lists::read_element-returns-in-PatternField-clause-reads t c = subst (λ (e : Element). Reads false (element_of e) c.args.p.now c.pattern_field.new.p) (sym c.in-PatternField.is) (reads-call false (c.pattern_field.ensures.gives false))
@@ -152,14 +145,13 @@ pub lists::read_element-any_type-requires : goal.lists::read_element-any_type-re
 unfolding look_of begins_below whole rule items statements expressions patterns types paths there_at shift passes is_silent begins in_mode anew row one_of any_of no_longer longest is_longer
 lists::read_element-any_type-requires t c =
     let seen = subst (λ (e : Element). Saw false (begins looks (element_of e)) c.args.p.now true) c.in-Type.is c.requires.begins in
-    (omega arith, (c.requires.short, (seen, word-left (Call rules.any_type) refl seen)))
+    (omega arith, (seen, word-left (Call rules.any_type) refl seen))
 
 pub lists::read_element-returns-in-Type-clause-reads : goal.lists::read_element-returns-in-Type-clause-reads
 lists::read_element-returns-in-Type-clause-reads t c = subst (λ (e : Element). Reads false (element_of e) c.args.p.now c.any_type.new.p) (sym c.in-Type.is) (reads-call false c.any_type.ensures.gives)
 
 pub lists::elements-turns-preserved : goal.lists::elements-turns-preserved
 lists::elements-turns-preserved t c = record {
-  input = c.turn.ensures.input ∙ c.turns.invariant.input;
   innermost = λ n i. c.turn.ensures.innermost n (c.turns.invariant.innermost n i);
   goes = record { rest = λ end p. c.turns.invariant.goes.rest end ((c.turn.ensures.goes c.turns-test.true).rest end p) };
   left = omega (arith, c.turns.invariant.left, c.turn.ensures.left);
@@ -173,7 +165,7 @@ pub lists::rest_of_list-returns-clause-reads : goal.lists::rest_of_list-returns-
 lists::rest_of_list-returns-clause-reads t c = λ cond. reads-then cond (reads-mode cond c.elements.ensures.reads) (c.expect.ensures.reads cond)
 
 pub lists::arguments-rest_of_list-requires : goal.lists::arguments-rest_of_list-requires
-lists::arguments-rest_of_list-requires t c = (omega arith, (short-still _ _ ((c.take.ensures.reads true).does.input ∙ c.start-list.ensures.opens.input) c.requires.short, omega arith))
+lists::arguments-rest_of_list-requires t c = (omega arith, omega arith)
 
 pub lists::arguments-complete-requires : goal.lists::arguments-complete-requires
 lists::arguments-complete-requires t c = (c.rest_of_list.ensures.reads true).does.innermost _ ((c.take.ensures.reads true).does.innermost _ c.start-list.ensures.marker)
@@ -183,7 +175,7 @@ unfolding look_of begins_below whole rule items statements expressions patterns 
 lists::arguments-returns-clause-gives t c = λ cond. gives-anew (anew-after refl (reads-node cond c.start-list.ensures.opens (reads-then cond (c.take.ensures.reads cond) (c.rest_of_list.ensures.reads cond)) c.complete.ensures.closes))
 
 pub lists::field_values-rest_of_list-requires : goal.lists::field_values-rest_of_list-requires
-lists::field_values-rest_of_list-requires t c = (omega arith, (short-still _ _ ((c.take.ensures.reads true).does.input ∙ c.start-list.ensures.opens.input) c.requires.short, omega arith))
+lists::field_values-rest_of_list-requires t c = (omega arith, omega arith)
 
 pub lists::field_values-complete-requires : goal.lists::field_values-complete-requires
 lists::field_values-complete-requires t c = (c.rest_of_list.ensures.reads true).does.innermost _ ((c.take.ensures.reads true).does.innermost _ c.start-list.ensures.marker)
@@ -193,7 +185,7 @@ unfolding look_of begins_below whole rule items statements expressions patterns 
 lists::field_values-returns-clause-gives t c = λ cond. gives-anew (anew-after refl (reads-node cond c.start-list.ensures.opens (reads-then cond (c.take.ensures.reads cond) (c.rest_of_list.ensures.reads cond)) c.complete.ensures.closes))
 
 pub lists::generic_params-rest_of_list-requires : goal.lists::generic_params-rest_of_list-requires
-lists::generic_params-rest_of_list-requires t c = (omega arith, (short-still _ _ ((c.take.ensures.reads true).does.input ∙ c.start-list.ensures.opens.input) c.requires.short, omega arith))
+lists::generic_params-rest_of_list-requires t c = (omega arith, omega arith)
 
 pub lists::generic_params-complete-requires : goal.lists::generic_params-complete-requires
 lists::generic_params-complete-requires t c = (c.rest_of_list.ensures.reads true).does.innermost _ ((c.take.ensures.reads true).does.innermost _ c.start-list.ensures.marker)
@@ -203,7 +195,7 @@ unfolding look_of begins_below whole rule items statements expressions patterns 
 lists::generic_params-returns-clause-gives t c = λ cond. gives-anew (anew-after refl (reads-node cond c.start-list.ensures.opens (reads-then cond (c.take.ensures.reads cond) (c.rest_of_list.ensures.reads cond)) c.complete.ensures.closes))
 
 pub lists::params-rest_of_list-requires : goal.lists::params-rest_of_list-requires
-lists::params-rest_of_list-requires t c = (omega arith, (short-still _ _ ((c.take.ensures.reads true).does.input ∙ c.start-list.ensures.opens.input) c.requires.short, omega arith))
+lists::params-rest_of_list-requires t c = (omega arith, omega arith)
 
 pub lists::params-complete-requires : goal.lists::params-complete-requires
 lists::params-complete-requires t c = (c.rest_of_list.ensures.reads true).does.innermost _ ((c.take.ensures.reads true).does.innermost _ c.start-list.ensures.marker)
@@ -213,7 +205,7 @@ unfolding look_of begins_below whole rule items statements expressions patterns 
 lists::params-returns-clause-gives t c = λ cond. gives-anew (anew-after refl (reads-node cond c.start-list.ensures.opens (reads-then cond (c.take.ensures.reads cond) (c.rest_of_list.ensures.reads cond)) c.complete.ensures.closes))
 
 pub lists::pattern_fields-rest_of_list-requires : goal.lists::pattern_fields-rest_of_list-requires
-lists::pattern_fields-rest_of_list-requires t c = (omega arith, (short-still _ _ ((c.take.ensures.reads true).does.input ∙ c.start-list.ensures.opens.input) c.requires.short, omega arith))
+lists::pattern_fields-rest_of_list-requires t c = (omega arith, omega arith)
 
 pub lists::pattern_fields-complete-requires : goal.lists::pattern_fields-complete-requires
 lists::pattern_fields-complete-requires t c = (c.rest_of_list.ensures.reads true).does.innermost _ ((c.take.ensures.reads true).does.innermost _ c.start-list.ensures.marker)
@@ -226,7 +218,7 @@ pub lists::read_element-record_field-requires : goal.lists::read_element-record_
 unfolding look_of begins_below whole rule items statements expressions patterns types paths there_at shift passes is_silent begins in_mode anew row one_of any_of no_longer longest is_longer
 lists::read_element-record_field-requires t c =
     let seen = subst (λ (e : Element). Saw false (begins looks (element_of e)) c.args.p.now true) c.in-RecordField.is c.requires.begins in
-    (omega arith, (c.requires.short, (seen, begun-left record_field refl seen)))
+    (omega arith, (seen, begun-left record_field refl seen))
 
 pub lists::read_element-returns-in-RecordField-clause-reads : goal.lists::read_element-returns-in-RecordField-clause-reads
 lists::read_element-returns-in-RecordField-clause-reads t c = subst (λ (e : Element). Reads false (element_of e) c.args.p.now c.record_field.new.p) (sym c.in-RecordField.is) c.record_field.ensures.reads
@@ -235,7 +227,7 @@ pub lists::read_element-tuple_field-requires : goal.lists::read_element-tuple_fi
 unfolding look_of begins_below whole rule items statements expressions patterns types paths there_at shift passes is_silent begins in_mode anew row one_of any_of no_longer longest is_longer
 lists::read_element-tuple_field-requires t c =
     let seen = subst (λ (e : Element). Saw false (begins looks (element_of e)) c.args.p.now true) c.in-TupleField.is c.requires.begins in
-    (omega arith, (c.requires.short, (seen, word-left tuple_field refl seen)))
+    (omega arith, (seen, word-left tuple_field refl seen))
 
 pub lists::read_element-returns-in-TupleField-clause-reads : goal.lists::read_element-returns-in-TupleField-clause-reads
 lists::read_element-returns-in-TupleField-clause-reads t c = subst (λ (e : Element). Reads false (element_of e) c.args.p.now c.tuple_field.new.p) (sym c.in-TupleField.is) c.tuple_field.ensures.reads
@@ -244,13 +236,13 @@ pub lists::read_element-variant-requires : goal.lists::read_element-variant-requ
 unfolding look_of begins_below whole rule items statements expressions patterns types paths there_at shift passes is_silent begins in_mode anew row one_of any_of no_longer longest is_longer
 lists::read_element-variant-requires t c =
     let seen = subst (λ (e : Element). Saw false (begins looks (element_of e)) c.args.p.now true) c.in-Variant.is c.requires.begins in
-    (omega arith, (c.requires.short, (seen, begun-left variant refl seen)))
+    (omega arith, (seen, begun-left variant refl seen))
 
 pub lists::read_element-returns-in-Variant-clause-reads : goal.lists::read_element-returns-in-Variant-clause-reads
 lists::read_element-returns-in-Variant-clause-reads t c = subst (λ (e : Element). Reads false (element_of e) c.args.p.now c.variant.new.p) (sym c.in-Variant.is) c.variant.ensures.reads
 
 pub lists::variants-rest_of_list-requires : goal.lists::variants-rest_of_list-requires
-lists::variants-rest_of_list-requires t c = (omega arith, (short-still _ _ ((c.take.ensures.reads true).does.input ∙ c.start-list.ensures.opens.input) c.requires.short, omega arith))
+lists::variants-rest_of_list-requires t c = (omega arith, omega arith)
 
 pub lists::variants-complete-requires : goal.lists::variants-complete-requires
 lists::variants-complete-requires t c = (c.rest_of_list.ensures.reads true).does.innermost _ ((c.take.ensures.reads true).does.innermost _ c.start-list.ensures.marker)
@@ -260,7 +252,7 @@ unfolding look_of begins_below whole rule items statements expressions patterns 
 lists::variants-returns-clause-gives t c = λ cond. gives-anew (anew-after refl (reads-node cond c.start-list.ensures.opens (reads-then cond (c.take.ensures.reads cond) (c.rest_of_list.ensures.reads cond)) c.complete.ensures.closes))
 
 pub lists::record_fields-rest_of_list-requires : goal.lists::record_fields-rest_of_list-requires
-lists::record_fields-rest_of_list-requires t c = (omega arith, (short-still _ _ ((c.take.ensures.reads true).does.input ∙ c.start-list.ensures.opens.input) c.requires.short, omega arith))
+lists::record_fields-rest_of_list-requires t c = (omega arith, omega arith)
 
 pub lists::record_fields-complete-requires : goal.lists::record_fields-complete-requires
 lists::record_fields-complete-requires t c = (c.rest_of_list.ensures.reads true).does.innermost _ ((c.take.ensures.reads true).does.innermost _ c.start-list.ensures.marker)
@@ -270,7 +262,7 @@ unfolding look_of begins_below whole rule items statements expressions patterns 
 lists::record_fields-returns-clause-gives t c = λ cond. gives-anew (anew-after refl (reads-node cond c.start-list.ensures.opens (reads-then cond (c.take.ensures.reads cond) (c.rest_of_list.ensures.reads cond)) c.complete.ensures.closes))
 
 pub lists::tuple_fields-rest_of_list-requires : goal.lists::tuple_fields-rest_of_list-requires
-lists::tuple_fields-rest_of_list-requires t c = (omega arith, (short-still _ _ ((c.take.ensures.reads true).does.input ∙ c.start-list.ensures.opens.input) c.requires.short, omega arith))
+lists::tuple_fields-rest_of_list-requires t c = (omega arith, omega arith)
 
 pub lists::tuple_fields-complete-requires : goal.lists::tuple_fields-complete-requires
 lists::tuple_fields-complete-requires t c = (c.rest_of_list.ensures.reads true).does.innermost _ ((c.take.ensures.reads true).does.innermost _ c.start-list.ensures.marker)

@@ -1,5 +1,5 @@
 -- Arms of a `match`.
-use Rattle.std.proofs.Common.{true, refl, ◌∙◌, arith}
+use Rattle.std.proofs.Common.{true, refl, arith}
 use Rattle.rust_grammar.specs.Rule as rules
 use Rattle.rust_grammar.specs.Expressions.{expressions}
 use Rattle.rust_grammar.specs.Items.{items}
@@ -11,7 +11,6 @@ use Rattle.rust_grammar.specs.Rule.{begins, in_mode, anew, is_silent, passes, sh
 use Rattle.rust_grammar.specs.Statements.{statements}
 use Rattle.rust_grammar.specs.Types.{types}
 use Rattle.rust_grammar.specs.Whole.{rule, whole}
-use Rattle.grammar_reader.proofs.Inputs.{short-still}
 use Rattle.rust_productions.proofs.ByHand.{after-look, reads-call, reads-node, reads-nothing, reads-then}
 use Rattle.rust_productions.proofs.Choices.{anew-after, gives-anew, reads-here}
 use Rattle.rust_productions.proofs.Facts.{begun, nothing, saw-so, ◌and◌}
@@ -19,13 +18,7 @@ use Rattle.rust_productions.proofs.Seen.{saw-after, saw-inside}
 use Rattle.grammar_reader.proofs.grammar.+grammar.Goals as goal
 
 pub expressions::match_arm::match_arm-pattern-requires : goal.expressions::match_arm::match_arm-pattern-requires
-expressions::match_arm::match_arm-pattern-requires t c = (omega arith, (short-still _ _ c.start-node.ensures.opens.input c.requires.short, ((λ d. saw-inside c.start-node.ensures.opens (c.requires.begins d)), omega arith)))
-
-pub expressions::match_arm::match_arm-opt_guard-requires : goal.expressions::match_arm::match_arm-opt_guard-requires
-expressions::match_arm::match_arm-opt_guard-requires t c = (omega arith, short-still _ _ ((c.pattern.ensures.gives true).does.input ∙ c.start-node.ensures.opens.input) c.requires.short)
-
-pub expressions::match_arm::match_arm-arm_value-requires : goal.expressions::match_arm::match_arm-arm_value-requires
-expressions::match_arm::match_arm-arm_value-requires t c = (omega arith, short-still _ _ ((c.expect_arrow.ensures.reads true).does.input ∙ (c.opt_guard.ensures.reads true).does.input ∙ (c.pattern.ensures.gives true).does.input ∙ c.start-node.ensures.opens.input) c.requires.short)
+expressions::match_arm::match_arm-pattern-requires t c = (omega arith, ((λ d. saw-inside c.start-node.ensures.opens (c.requires.begins d)), omega arith))
 
 pub expressions::match_arm::match_arm-complete-requires : goal.expressions::match_arm::match_arm-complete-requires
 expressions::match_arm::match_arm-complete-requires t c = c.arm_value.ensures.reads.does.innermost _ ((c.expect_arrow.ensures.reads true).does.innermost _ ((c.opt_guard.ensures.reads true).does.innermost _ ((c.pattern.ensures.gives true).does.innermost _ c.start-node.ensures.marker)))
@@ -33,9 +26,6 @@ expressions::match_arm::match_arm-complete-requires t c = c.arm_value.ensures.re
 pub expressions::match_arm::match_arm-returns-clause-gives : goal.expressions::match_arm::match_arm-returns-clause-gives
 unfolding look_of begins_below whole rule items statements expressions patterns types paths there_at shift passes is_silent begins in_mode anew row one_of any_of no_longer longest is_longer
 expressions::match_arm::match_arm-returns-clause-gives t c = gives-anew (anew-after refl (reads-node _ c.start-node.ensures.opens (reads-then _ (reads-call _ (c.pattern.ensures.gives c.args.condition)) (reads-then _ (c.opt_guard.ensures.reads c.args.condition) (reads-then _ (c.expect_arrow.ensures.reads c.args.condition) c.arm_value.ensures.reads))) c.complete.ensures.closes))
-
-pub expressions::match_arm::opt_guard-expect_condition-requires : goal.expressions::match_arm::opt_guard-expect_condition-requires
-expressions::match_arm::opt_guard-expect_condition-requires t c = (omega arith, short-still _ _ ((c.take.ensures.reads true).does.input ∙ c.start-guard.ensures.opens.input ∙ c.at.ensures.same.input) c.requires.short)
 
 pub expressions::match_arm::opt_guard-complete-requires : goal.expressions::match_arm::opt_guard-complete-requires
 expressions::match_arm::opt_guard-complete-requires t c = (c.expect_condition.ensures.reads true).does.innermost _ ((c.take.ensures.reads true).does.innermost _ c.start-guard.ensures.marker)
@@ -49,14 +39,11 @@ unfolding look_of begins_below whole rule items statements expressions patterns 
 expressions::match_arm::opt_guard-returns-else-at-clause-reads t c = λ cond. reads-here (saw-so (c.at.ensures.sees cond) c.if-at.false and nothing) (reads-nothing cond c.at.ensures.same)
 
 pub expressions::match_arm::arm_value-block_like-requires : goal.expressions::match_arm::arm_value-block_like-requires
-expressions::match_arm::arm_value-block_like-requires t c = (omega arith, (short-still _ _ c.at_block_like.ensures.same.input c.requires.short, ((λ d. saw-after c.at_block_like.ensures.same (saw-so (c.at_block_like.ensures.sees d) c.if-at_block_like.true)), omega (arith, c.at_block_like.ensures.some c.if-at_block_like.true, c.at_block_like.ensures.left))))
+expressions::match_arm::arm_value-block_like-requires t c = (omega arith, ((λ d. saw-after c.at_block_like.ensures.same (saw-so (c.at_block_like.ensures.sees d) c.if-at_block_like.true)), omega (arith, c.at_block_like.ensures.some c.if-at_block_like.true, c.at_block_like.ensures.left)))
 
 pub expressions::match_arm::arm_value-returns-then-at_block_like-clause-reads : goal.expressions::match_arm::arm_value-returns-then-at_block_like-clause-reads
 unfolding look_of begins_below whole rule items statements expressions patterns types paths there_at shift passes is_silent begins in_mode anew row one_of any_of no_longer longest is_longer
 expressions::match_arm::arm_value-returns-then-at_block_like-clause-reads t c = reads-here (begun rules.block_like (saw-so (c.at_block_like.ensures.sees c.args.condition) c.if-at_block_like.true) nothing) (after-look _ c.at_block_like.ensures.same (reads-then _ (reads-call _ (c.block_like.ensures.gives c.args.condition)) (c.eat.ensures.reads c.args.condition)))
-
-pub expressions::match_arm::arm_value-expect_expression-requires : goal.expressions::match_arm::arm_value-expect_expression-requires
-expressions::match_arm::arm_value-expect_expression-requires t c = (omega arith, short-still _ _ c.at_block_like.ensures.same.input c.requires.short)
 
 pub expressions::match_arm::arm_value-returns-clause-reads : goal.expressions::match_arm::arm_value-returns-clause-reads
 unfolding look_of begins_below whole rule items statements expressions patterns types paths there_at shift passes is_silent begins in_mode anew row one_of any_of no_longer longest is_longer

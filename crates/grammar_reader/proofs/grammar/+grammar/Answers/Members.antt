@@ -14,7 +14,6 @@ use Rattle.rust_grammar.specs.Rule.{Kind, begins, in_mode, anew, is_silent, pass
 use Rattle.rust_grammar.specs.Statements.{statements}
 use Rattle.rust_grammar.specs.Types.{types}
 use Rattle.rust_grammar.specs.Whole.{rule, whole}
-use Rattle.grammar_reader.proofs.Inputs.{short-still}
 use Rattle.rust_productions.specs.Reads.{looks}
 use Rattle.rust_productions.proofs.ByHand.{after-look, reads-call, reads-node, reads-nothing, reads-then}
 use Rattle.rust_productions.proofs.Choices.{reads-here}
@@ -26,10 +25,7 @@ use Rattle.grammar_reader.proofs.grammar.+grammar.Goals as goal
 
 pub items::members::variant-named-requires : goal.items::members::variant-named-requires
 unfolding look_of begins_below whole rule items statements expressions patterns types paths there_at shift passes is_silent begins in_mode anew row one_of any_of no_longer longest is_longer
-items::members::variant-named-requires t c = (omega arith, (short-still _ _ c.start-variant.ensures.opens.input c.requires.short, (saw-inside c.start-variant.ensures.opens c.requires.begins, omega arith)))
-
-pub items::members::variant-opt_fields-requires : goal.items::members::variant-opt_fields-requires
-items::members::variant-opt_fields-requires t c = (omega arith, short-still _ _ (c.named.ensures.reads.does.input ∙ c.start-variant.ensures.opens.input) c.requires.short)
+items::members::variant-named-requires t c = (omega arith, (saw-inside c.start-variant.ensures.opens c.requires.begins, omega arith))
 
 pub items::members::variant-complete-requires : goal.items::members::variant-complete-requires
 items::members::variant-complete-requires t c = (c.opt_fields.ensures.reads true).does.innermost _ (c.named.ensures.reads.does.innermost _ c.start-variant.ensures.marker)
@@ -39,10 +35,7 @@ items::members::variant-returns-clause-reads t c = reads-node false c.start-vari
 
 pub items::members::record_field-named-requires : goal.items::members::record_field-named-requires
 unfolding look_of begins_below whole rule items statements expressions patterns types paths there_at shift passes is_silent begins in_mode anew row one_of any_of no_longer longest is_longer
-items::members::record_field-named-requires t c = (omega arith, (short-still _ _ c.start-field.ensures.opens.input c.requires.short, (saw-inside c.start-field.ensures.opens c.requires.begins, omega arith)))
-
-pub items::members::record_field-expect_type-requires : goal.items::members::record_field-expect_type-requires
-items::members::record_field-expect_type-requires t c = (omega arith, short-still _ _ ((c.expect.ensures.reads true).does.input ∙ c.named.ensures.reads.does.input ∙ c.start-field.ensures.opens.input) c.requires.short)
+items::members::record_field-named-requires t c = (omega arith, (saw-inside c.start-field.ensures.opens c.requires.begins, omega arith))
 
 pub items::members::record_field-complete-requires : goal.items::members::record_field-complete-requires
 items::members::record_field-complete-requires t c = c.expect_type.ensures.reads.does.innermost _ ((c.expect.ensures.reads true).does.innermost _ (c.named.ensures.reads.does.innermost _ c.start-field.ensures.marker))
@@ -52,7 +45,7 @@ items::members::record_field-returns-clause-reads t c = reads-node false c.start
 
 pub items::members::tuple_field-typed-requires : goal.items::members::tuple_field-typed-requires
 unfolding look_of begins_below whole rule items statements expressions patterns types paths there_at shift passes is_silent begins in_mode anew row one_of any_of no_longer longest is_longer
-items::members::tuple_field-typed-requires t c = (omega arith, (short-still _ _ c.start-field.ensures.opens.input c.requires.short, (saw-inside c.start-field.ensures.opens c.requires.begins, omega arith)))
+items::members::tuple_field-typed-requires t c = (omega arith, (saw-inside c.start-field.ensures.opens c.requires.begins, omega arith))
 
 pub items::members::tuple_field-complete-requires : goal.items::members::tuple_field-complete-requires
 items::members::tuple_field-complete-requires t c = c.typed.ensures.reads.does.innermost _ c.start-field.ensures.marker
@@ -62,7 +55,7 @@ items::members::tuple_field-returns-clause-reads t c = reads-node false c.start-
 
 pub items::members::named-attributes_and_visibility-requires : goal.items::members::named-attributes_and_visibility-requires
 unfolding look_of begins_below whole rule items statements expressions patterns types paths there_at shift passes is_silent begins in_mode anew row one_of any_of no_longer longest is_longer
-items::members::named-attributes_and_visibility-requires t c = (omega arith, (short-still _ _ c.current.ensures.same.input c.requires.short, ((λ d. saw-after c.current.ensures.same (saw-told (saw-arm c.in-POUND.is (c.current.ensures.sees d) and nothing) refl)), omega arith)))
+items::members::named-attributes_and_visibility-requires t c = (omega arith, ((λ d. saw-after c.current.ensures.same (saw-told (saw-arm c.in-POUND.is (c.current.ensures.sees d) and nothing) refl)), omega arith))
 
 pub items::members::named-returns-in-POUND-clause-reads : goal.items::members::named-returns-in-POUND-clause-reads
 items::members::named-returns-in-POUND-clause-reads t c = after-look false c.current.ensures.same (reads-two false (c.attributes_and_visibility.ensures.reads false) (c.expect_name.ensures.reads false))
@@ -77,13 +70,7 @@ items::members::named-returns-in_default-clause-reads t c = reads-here (saw-not 
 
 pub items::members::typed-attributes_and_visibility-requires : goal.items::members::typed-attributes_and_visibility-requires
 unfolding look_of begins_below whole rule items statements expressions patterns types paths there_at shift passes is_silent begins in_mode anew row one_of any_of no_longer longest is_longer
-items::members::typed-attributes_and_visibility-requires t c = (omega arith, (short-still _ _ c.current.ensures.same.input c.requires.short, ((λ d. saw-after c.current.ensures.same (saw-told (saw-arm c.in-POUND.is (c.current.ensures.sees d) and nothing) refl)), omega arith)))
-
-pub items::members::typed-expect_type-requires : goal.items::members::typed-expect_type-requires
-items::members::typed-expect_type-requires t c = (omega arith, short-still _ _ ((c.attributes_and_visibility.ensures.reads true).does.input ∙ c.current.ensures.same.input) c.requires.short)
-
-pub items::members::typed-expect_type-requires-in-PUB_KW : goal.items::members::typed-expect_type-requires-in-PUB_KW
-items::members::typed-expect_type-requires-in-PUB_KW t c = (omega arith, short-still _ _ ((c.visibility.ensures.gives true).does.input ∙ c.current.ensures.same.input) c.requires.short)
+items::members::typed-attributes_and_visibility-requires t c = (omega arith, ((λ d. saw-after c.current.ensures.same (saw-told (saw-arm c.in-POUND.is (c.current.ensures.sees d) and nothing) refl)), omega arith))
 
 pub items::members::typed-returns-in-POUND-clause-reads : goal.items::members::typed-returns-in-POUND-clause-reads
 items::members::typed-returns-in-POUND-clause-reads t c = after-look false c.current.ensures.same (reads-two false (c.attributes_and_visibility.ensures.reads false) c.expect_type.ensures.reads)
@@ -94,21 +81,21 @@ items::members::typed-returns-in-PUB_KW-clause-reads t c = reads-here (saw-arm c
 
 pub items::members::typed-any_type-requires : goal.items::members::typed-any_type-requires
 unfolding look_of begins_below whole rule items statements expressions patterns types paths there_at shift passes is_silent begins in_mode anew row one_of any_of no_longer longest is_longer
-items::members::typed-any_type-requires t c = (omega arith, (short-still _ _ c.current.ensures.same.input c.requires.short, (saw-after c.current.ensures.same (saw-else (looks rules.any_type) (begins looks (Attribute * ▸ ⁅ Visibility ⁆ ▸ AnyType !)) (saw-not c.in_default.not-POUND (c.current.ensures.sees false) and saw-not c.in_default.not-PUB_KW (c.current.ensures.sees false) and nothing) c.requires.begins refl), omega arith)))
+items::members::typed-any_type-requires t c = (omega arith, (saw-after c.current.ensures.same (saw-else (looks rules.any_type) (begins looks (Attribute * ▸ ⁅ Visibility ⁆ ▸ AnyType !)) (saw-not c.in_default.not-POUND (c.current.ensures.sees false) and saw-not c.in_default.not-PUB_KW (c.current.ensures.sees false) and nothing) c.requires.begins refl), omega arith))
 
 pub items::members::typed-returns-in_default-clause-reads : goal.items::members::typed-returns-in_default-clause-reads
 unfolding look_of begins_below whole rule items statements expressions patterns types paths there_at shift passes is_silent begins in_mode anew row one_of any_of no_longer longest is_longer
 items::members::typed-returns-in_default-clause-reads t c = reads-here (saw-not c.in_default.not-POUND (c.current.ensures.sees false) and saw-not c.in_default.not-PUB_KW (c.current.ensures.sees false) and begun rules.any_type (saw-else (looks rules.any_type) (begins looks (Attribute * ▸ ⁅ Visibility ⁆ ▸ AnyType !)) (saw-not c.in_default.not-POUND (c.current.ensures.sees false) and saw-not c.in_default.not-PUB_KW (c.current.ensures.sees false) and nothing) c.requires.begins refl) nothing) (after-look false c.current.ensures.same (reads-call false c.any_type.ensures.gives))
 
 pub items::members::opt_fields-record_fields-requires : goal.items::members::opt_fields-record_fields-requires
-items::members::opt_fields-record_fields-requires t c = (omega arith, (short-still _ _ c.current.ensures.same.input c.requires.short, omega (arith, c.current.ensures.left, c.current.ensures.some (λ e. absurd (omega (arith, sym (ap raw_of c.in-L_CURLY.is) ∙ e))))))
+items::members::opt_fields-record_fields-requires t c = (omega arith, omega (arith, c.current.ensures.left, c.current.ensures.some (λ e. absurd (omega (arith, sym (ap raw_of c.in-L_CURLY.is) ∙ e)))))
 
 pub items::members::opt_fields-returns-in-L_CURLY-clause-reads : goal.items::members::opt_fields-returns-in-L_CURLY-clause-reads
 unfolding look_of begins_below whole rule items statements expressions patterns types paths there_at shift passes is_silent begins in_mode anew row one_of any_of no_longer longest is_longer
 items::members::opt_fields-returns-in-L_CURLY-clause-reads t c = λ cond. reads-here (saw-arm c.in-L_CURLY.is (c.current.ensures.sees cond) and nothing) (after-look cond c.current.ensures.same (reads-call cond (c.record_fields.ensures.gives cond)))
 
 pub items::members::opt_fields-tuple_fields-requires : goal.items::members::opt_fields-tuple_fields-requires
-items::members::opt_fields-tuple_fields-requires t c = (omega arith, (short-still _ _ c.current.ensures.same.input c.requires.short, omega (arith, c.current.ensures.left, c.current.ensures.some (λ e. absurd (omega (arith, sym (ap raw_of c.in-L_PAREN.is) ∙ e))))))
+items::members::opt_fields-tuple_fields-requires t c = (omega arith, omega (arith, c.current.ensures.left, c.current.ensures.some (λ e. absurd (omega (arith, sym (ap raw_of c.in-L_PAREN.is) ∙ e)))))
 
 pub items::members::opt_fields-returns-in-L_PAREN-clause-reads : goal.items::members::opt_fields-returns-in-L_PAREN-clause-reads
 unfolding look_of begins_below whole rule items statements expressions patterns types paths there_at shift passes is_silent begins in_mode anew row one_of any_of no_longer longest is_longer

@@ -15,7 +15,6 @@ use Rattle.rust_grammar.specs.Statements.{statements}
 use Rattle.rust_grammar.specs.Types.{types}
 use Rattle.rust_grammar.specs.Whole.{rule, whole}
 use Rattle.grammar_reader.proofs.Operands.{anew-first}
-use Rattle.grammar_reader.proofs.Inputs.{short-still}
 use Rattle.rust_productions.specs.Looks.{tokens}
 use Rattle.rust_productions.proofs.ByHand.{after-look, completes-leave, goes, reads-call, reads-mode, reads-more, reads-node, reads-then, reads-wrap}
 use Rattle.rust_productions.proofs.Choices.{anew-after, anew-here, anew-look, gives-anew, reads-here}
@@ -26,28 +25,28 @@ use Rattle.rust_productions.proofs.Turns.{last-turn, next-turn}
 use Rattle.grammar_reader.proofs.grammar.+grammar.Goals as goal
 
 pub expressions::operand::prefixed-prefix_expr-requires : goal.expressions::operand::prefixed-prefix_expr-requires
-expressions::operand::prefixed-prefix_expr-requires t c = (omega arith, (short-still _ _ c.current.ensures.same.input c.requires.short, omega arith))
+expressions::operand::prefixed-prefix_expr-requires t c = (omega arith, omega arith)
 
 pub expressions::operand::prefixed-returns-in-MINUS-clause-gives : goal.expressions::operand::prefixed-returns-in-MINUS-clause-gives
 unfolding look_of begins_below whole rule items statements expressions patterns types paths there_at shift passes is_silent begins in_mode anew row one_of any_of no_longer longest is_longer
 expressions::operand::prefixed-returns-in-MINUS-clause-gives t c = gives-anew (anew-here (saw-arm c.in-MINUS.is (c.current.ensures.sees c.args.condition) and nothing) (anew-look c.current.ensures.same (anew-after refl c.prefix_expr.ensures.reads)))
 
 pub expressions::operand::prefixed-prefix_expr-requires-in-BANG : goal.expressions::operand::prefixed-prefix_expr-requires-in-BANG
-expressions::operand::prefixed-prefix_expr-requires-in-BANG t c = (omega arith, (short-still _ _ c.current.ensures.same.input c.requires.short, omega arith))
+expressions::operand::prefixed-prefix_expr-requires-in-BANG t c = (omega arith, omega arith)
 
 pub expressions::operand::prefixed-returns-in-BANG-clause-gives : goal.expressions::operand::prefixed-returns-in-BANG-clause-gives
 unfolding look_of begins_below whole rule items statements expressions patterns types paths there_at shift passes is_silent begins in_mode anew row one_of any_of no_longer longest is_longer
 expressions::operand::prefixed-returns-in-BANG-clause-gives t c = gives-anew (anew-here (saw-arm c.in-BANG.is (c.current.ensures.sees c.args.condition) and nothing) (anew-look c.current.ensures.same (anew-after refl c.prefix_expr-in-BANG.ensures.reads)))
 
 pub expressions::operand::prefixed-prefix_expr-requires-in-STAR : goal.expressions::operand::prefixed-prefix_expr-requires-in-STAR
-expressions::operand::prefixed-prefix_expr-requires-in-STAR t c = (omega arith, (short-still _ _ c.current.ensures.same.input c.requires.short, omega arith))
+expressions::operand::prefixed-prefix_expr-requires-in-STAR t c = (omega arith, omega arith)
 
 pub expressions::operand::prefixed-returns-in-STAR-clause-gives : goal.expressions::operand::prefixed-returns-in-STAR-clause-gives
 unfolding look_of begins_below whole rule items statements expressions patterns types paths there_at shift passes is_silent begins in_mode anew row one_of any_of no_longer longest is_longer
 expressions::operand::prefixed-returns-in-STAR-clause-gives t c = gives-anew (anew-here (saw-arm c.in-STAR.is (c.current.ensures.sees c.args.condition) and nothing) (anew-look c.current.ensures.same (anew-after refl c.prefix_expr-in-STAR.ensures.reads)))
 
 pub expressions::operand::prefixed-ref_expr-requires : goal.expressions::operand::prefixed-ref_expr-requires
-expressions::operand::prefixed-ref_expr-requires t c = (omega arith, (short-still _ _ c.current.ensures.same.input c.requires.short, omega arith))
+expressions::operand::prefixed-ref_expr-requires t c = (omega arith, omega arith)
 
 pub expressions::operand::prefixed-returns-in-AMP-clause-gives : goal.expressions::operand::prefixed-returns-in-AMP-clause-gives
 unfolding look_of begins_below whole rule items statements expressions patterns types paths there_at shift passes is_silent begins in_mode anew row one_of any_of no_longer longest is_longer
@@ -55,23 +54,17 @@ expressions::operand::prefixed-returns-in-AMP-clause-gives t c = gives-anew (ane
 
 pub expressions::operand::prefixed-operand-requires : goal.expressions::operand::prefixed-operand-requires
 unfolding look_of begins_below whole rule items statements expressions patterns types paths there_at shift passes is_silent begins in_mode anew row one_of any_of no_longer longest is_longer
-expressions::operand::prefixed-operand-requires t c = (omega arith, (short-still _ _ c.current.ensures.same.input c.requires.short, (saw-after c.current.ensures.same (begins-else rules.atom rules.prefixed refl (saw-not c.in_default.not-MINUS (c.current.ensures.sees c.args.condition) and saw-not c.in_default.not-BANG (c.current.ensures.sees c.args.condition) and saw-not c.in_default.not-STAR (c.current.ensures.sees c.args.condition) and saw-not c.in_default.not-AMP (c.current.ensures.sees c.args.condition) and nothing) c.requires.begins refl), omega arith)))
+expressions::operand::prefixed-operand-requires t c = (omega arith, (saw-after c.current.ensures.same (begins-else rules.atom rules.prefixed refl (saw-not c.in_default.not-MINUS (c.current.ensures.sees c.args.condition) and saw-not c.in_default.not-BANG (c.current.ensures.sees c.args.condition) and saw-not c.in_default.not-STAR (c.current.ensures.sees c.args.condition) and saw-not c.in_default.not-AMP (c.current.ensures.sees c.args.condition) and nothing) c.requires.begins refl), omega arith))
 
 pub expressions::operand::prefixed-returns-in_default-clause-gives : goal.expressions::operand::prefixed-returns-in_default-clause-gives
 unfolding look_of begins_below whole rule items statements expressions patterns types paths there_at shift passes is_silent begins in_mode anew row one_of any_of no_longer longest is_longer
 expressions::operand::prefixed-returns-in_default-clause-gives t c = gives-anew (anew-here (saw-not c.in_default.not-MINUS (c.current.ensures.sees c.args.condition) and saw-not c.in_default.not-BANG (c.current.ensures.sees c.args.condition) and saw-not c.in_default.not-STAR (c.current.ensures.sees c.args.condition) and saw-not c.in_default.not-AMP (c.current.ensures.sees c.args.condition) and nothing) (anew-look c.current.ensures.same c.operand.ensures.anew))
-
-pub expressions::operand::prefix_expr-expect_expression-requires : goal.expressions::operand::prefix_expr-expect_expression-requires
-expressions::operand::prefix_expr-expect_expression-requires t c = (omega arith, short-still _ _ ((c.take.ensures.reads true).does.input ∙ c.start-node.ensures.opens.input) c.requires.short)
 
 pub expressions::operand::prefix_expr-complete-requires : goal.expressions::operand::prefix_expr-complete-requires
 expressions::operand::prefix_expr-complete-requires t c = c.expect_expression.ensures.reads.does.innermost _ ((c.take.ensures.reads true).does.innermost _ c.start-node.ensures.marker)
 
 pub expressions::operand::prefix_expr-returns-clause-reads : goal.expressions::operand::prefix_expr-returns-clause-reads
 expressions::operand::prefix_expr-returns-clause-reads t c = reads-node _ c.start-node.ensures.opens (reads-then _ (c.take.ensures.reads c.args.condition) c.expect_expression.ensures.reads) c.complete.ensures.closes
-
-pub expressions::operand::ref_expr-expect_expression-requires : goal.expressions::operand::ref_expr-expect_expression-requires
-expressions::operand::ref_expr-expect_expression-requires t c = (omega arith, short-still _ _ ((c.eat.ensures.reads true).does.input ∙ (c.take.ensures.reads true).does.input ∙ c.start-node.ensures.opens.input) c.requires.short)
 
 pub expressions::operand::ref_expr-complete-requires : goal.expressions::operand::ref_expr-complete-requires
 expressions::operand::ref_expr-complete-requires t c = c.expect_expression.ensures.reads.does.innermost _ ((c.eat.ensures.reads true).does.innermost _ ((c.take.ensures.reads true).does.innermost _ c.start-node.ensures.marker))
@@ -80,10 +73,10 @@ pub expressions::operand::ref_expr-returns-clause-reads : goal.expressions::oper
 expressions::operand::ref_expr-returns-clause-reads t c = reads-node _ c.start-node.ensures.opens (reads-then _ (c.take.ensures.reads c.args.condition) (reads-then _ (c.eat.ensures.reads c.args.condition) c.expect_expression.ensures.reads)) c.complete.ensures.closes
 
 pub expressions::operand::operand-inside-frame-requires : goal.expressions::operand::operand-inside-frame-requires
-expressions::operand::operand-inside-frame-requires t c = (omega arith, (short-still _ _ c.start-frame.ensures.opens.input c.requires.short, (saw-inside c.start-frame.ensures.opens c.requires.begins, (omega arith, c.start-frame.ensures.marker))))
+expressions::operand::operand-inside-frame-requires t c = (omega arith, (saw-inside c.start-frame.ensures.opens c.requires.begins, (omega arith, c.start-frame.ensures.marker)))
 
 pub expressions::operand::operand-postfixes-frame-requires : goal.expressions::operand::operand-postfixes-frame-requires
-expressions::operand::operand-postfixes-frame-requires t c = (omega arith, (short-still _ _ (c.inside-frame.ensures.reads.does.input ∙ c.start-frame.ensures.opens.input) c.requires.short, c.inside-frame.ensures.marker))
+expressions::operand::operand-postfixes-frame-requires t c = (omega arith, c.inside-frame.ensures.marker)
 
 pub expressions::operand::operand-returns-clause-anew : goal.expressions::operand::operand-returns-clause-anew
 expressions::operand::operand-returns-clause-anew t c = anew-first c.start-frame.ensures.opens (completes-leave (reads-then _ c.inside-frame.ensures.reads (c.postfixes-frame.ensures.reads c.args.condition)) c.abandon.ensures.leaves)
@@ -91,7 +84,6 @@ expressions::operand::operand-returns-clause-anew t c = anew-first c.start-frame
 pub expressions::operand::postfixes-turns-preserved : goal.expressions::operand::postfixes-turns-preserved
 unfolding tokens look_of begins_below whole rule items statements expressions patterns types paths there_at shift passes is_silent begins in_mode anew row one_of any_of no_longer longest is_longer
 expressions::operand::postfixes-turns-preserved t c = record {
-  input = (c.postfix-frame.ensures.reads true).does.input ∙ c.at_postfix.ensures.same.input ∙ c.turns.invariant.input;
   marker = c.postfix-frame.ensures.marker;
   goes = λ cond.
       next-turn cond (more rules.postfix) (ends-at-end cond (more rules.postfix) refl) _ _ _ (c.turns.invariant.goes cond) (saw-so (c.at_postfix.ensures.sees cond) c.turns-test.true)
@@ -105,7 +97,7 @@ unfolding look_of begins_below whole rule items statements expressions patterns 
 expressions::operand::postfixes-returns-clause-reads t c = λ cond. last-turn cond (more rules.postfix) (ends-at-end cond (more rules.postfix) refl) _ _ _ (c.turns.invariant.goes cond) (saw-so (c.at_postfix.ensures.sees cond) c.turns-test.false) c.at_postfix.ensures.same
 
 pub expressions::operand::postfix-arguments-requires : goal.expressions::operand::postfix-arguments-requires
-expressions::operand::postfix-arguments-requires t c = (omega arith, (short-still _ _ c.current.ensures.same.input c.requires.short, omega arith))
+expressions::operand::postfix-arguments-requires t c = (omega arith, omega arith)
 
 pub expressions::operand::postfix-wrap-requires : goal.expressions::operand::postfix-wrap-requires
 expressions::operand::postfix-wrap-requires t c = (c.arguments.ensures.gives true).does.innermost _ (c.current.ensures.same.innermost _ c.requires.innermost)
@@ -115,7 +107,7 @@ unfolding look_of begins_below whole rule items statements expressions patterns 
 expressions::operand::postfix-returns-in-L_PAREN-clause-reads t c = λ cond. reads-more cond (goes rules.postfix cond (reads-here (saw-arm c.in-L_PAREN.is (c.current.ensures.sees cond) and nothing) (after-look cond c.current.ensures.same (reads-wrap cond (reads-call cond (c.arguments.ensures.gives cond)) c.wrap.ensures.wraps))))
 
 pub expressions::operand::postfix-index-requires : goal.expressions::operand::postfix-index-requires
-expressions::operand::postfix-index-requires t c = (omega arith, (short-still _ _ c.current.ensures.same.input c.requires.short, omega arith))
+expressions::operand::postfix-index-requires t c = (omega arith, omega arith)
 
 pub expressions::operand::postfix-wrap-requires-in-L_BRACK : goal.expressions::operand::postfix-wrap-requires-in-L_BRACK
 expressions::operand::postfix-wrap-requires-in-L_BRACK t c = (c.index.ensures.reads true).does.innermost _ (c.current.ensures.same.innermost _ c.requires.innermost)
@@ -132,20 +124,17 @@ unfolding look_of begins_below whole rule items statements expressions patterns 
 expressions::operand::postfix-returns-in-QUESTION-clause-reads t c = λ cond. reads-more cond (goes rules.postfix cond (reads-here (saw-arm c.in-QUESTION.is (c.current.ensures.sees cond) and nothing) (after-look cond c.current.ensures.same (reads-wrap cond (c.take.ensures.reads cond) c.wrap-in-QUESTION.ensures.wraps))))
 
 pub expressions::operand::postfix-after_dot-requires : goal.expressions::operand::postfix-after_dot-requires
-expressions::operand::postfix-after_dot-requires t c = (omega arith, (short-still _ _ ((c.take-in_default.ensures.reads true).does.input ∙ c.current.ensures.same.input) c.requires.short, (c.take-in_default.ensures.reads true).does.innermost _ (c.current.ensures.same.innermost _ c.requires.innermost)))
+expressions::operand::postfix-after_dot-requires t c = (omega arith, (c.take-in_default.ensures.reads true).does.innermost _ (c.current.ensures.same.innermost _ c.requires.innermost))
 
 pub expressions::operand::postfix-returns-in_default-clause-reads : goal.expressions::operand::postfix-returns-in_default-clause-reads
 unfolding look_of begins_below whole rule items statements expressions patterns types paths there_at shift passes is_silent begins in_mode anew row one_of any_of no_longer longest is_longer
 expressions::operand::postfix-returns-in_default-clause-reads t c = λ cond. reads-more cond (goes rules.postfix cond (reads-here (saw-not c.in_default.not-L_PAREN (c.current.ensures.sees cond) and saw-not c.in_default.not-L_BRACK (c.current.ensures.sees cond) and saw-not c.in_default.not-QUESTION (c.current.ensures.sees cond) and nothing) (after-look cond c.current.ensures.same (reads-then cond (c.take-in_default.ensures.reads cond) (c.after_dot.ensures.reads cond)))))
 
-pub expressions::operand::index-expect_expression-requires : goal.expressions::operand::index-expect_expression-requires
-expressions::operand::index-expect_expression-requires t c = (omega arith, short-still _ _ (c.take.ensures.reads true).does.input c.requires.short)
-
 pub expressions::operand::index-returns-clause-reads : goal.expressions::operand::index-returns-clause-reads
 expressions::operand::index-returns-clause-reads t c = λ cond. (reads-then cond (c.take.ensures.reads cond) (reads-then cond (reads-mode cond c.expect_expression.ensures.reads) (c.expect.ensures.reads cond)))
 
 pub expressions::operand::after_dot-method_call-requires : goal.expressions::operand::after_dot-method_call-requires
-expressions::operand::after_dot-method_call-requires t c = (omega arith, (short-still _ _ c.at_method.ensures.same.input c.requires.short, omega arith))
+expressions::operand::after_dot-method_call-requires t c = (omega arith, omega arith)
 
 pub expressions::operand::after_dot-wrap-requires : goal.expressions::operand::after_dot-wrap-requires
 expressions::operand::after_dot-wrap-requires t c = (c.method_call.ensures.reads true).does.innermost _ (c.at_method.ensures.same.innermost _ c.requires.innermost)
@@ -169,7 +158,7 @@ unfolding look_of begins_below whole rule items statements expressions patterns 
 expressions::operand::after_dot-returns-in-INT_NUMBER-clause-reads t c = λ cond. reads-more cond (goes rules.after_dot cond (reads-here (saw-so (c.at_method.ensures.sees cond) c.if-at_method.false and saw-before c.at_method.ensures.same (saw-arm c.in-INT_NUMBER.is (c.current.ensures.sees cond)) and nothing) (after-look cond c.at_method.ensures.same (after-look cond c.current.ensures.same (reads-wrap cond (c.word_type-in-INT_NUMBER.ensures.reads cond) c.wrap-in-INT_NUMBER.ensures.wraps)))))
 
 pub expressions::operand::after_dot-float-requires : goal.expressions::operand::after_dot-float-requires
-expressions::operand::after_dot-float-requires t c = (omega arith, (short-still _ _ (c.current.ensures.same.input ∙ c.at_method.ensures.same.input) c.requires.short, ((λ d. saw-after c.current.ensures.same (saw-arm c.in-FLOAT_NUMBER.is (c.current.ensures.sees d))), (omega (arith, c.current.ensures.some (λ e. absurd (omega (arith, sym (ap (λ (k : SyntaxKind). raw_of k) c.in-FLOAT_NUMBER.is) ∙ e))), c.current.ensures.left), c.current.ensures.same.innermost _ (c.at_method.ensures.same.innermost _ c.requires.innermost)))))
+expressions::operand::after_dot-float-requires t c = (omega arith, ((λ d. saw-after c.current.ensures.same (saw-arm c.in-FLOAT_NUMBER.is (c.current.ensures.sees d))), (omega (arith, c.current.ensures.some (λ e. absurd (omega (arith, sym (ap (λ (k : SyntaxKind). raw_of k) c.in-FLOAT_NUMBER.is) ∙ e))), c.current.ensures.left), c.current.ensures.same.innermost _ (c.at_method.ensures.same.innermost _ c.requires.innermost))))
 
 pub expressions::operand::after_dot-returns-in-FLOAT_NUMBER-clause-reads : goal.expressions::operand::after_dot-returns-in-FLOAT_NUMBER-clause-reads
 unfolding look_of begins_below whole rule items statements expressions patterns types paths there_at shift passes is_silent begins in_mode anew row one_of any_of no_longer longest is_longer
@@ -182,17 +171,11 @@ pub expressions::operand::after_dot-returns-in_default-clause-reads : goal.expre
 unfolding look_of begins_below whole rule items statements expressions patterns types paths there_at shift passes is_silent begins in_mode anew row one_of any_of no_longer longest is_longer
 expressions::operand::after_dot-returns-in_default-clause-reads t c = λ cond. reads-more cond (goes rules.after_dot cond (reads-here (saw-so (c.at_method.ensures.sees cond) c.if-at_method.false and saw-before c.at_method.ensures.same (saw-not c.in_default.not-IDENT (c.current.ensures.sees cond)) and saw-before c.at_method.ensures.same (saw-not c.in_default.not-INT_NUMBER (c.current.ensures.sees cond)) and saw-before c.at_method.ensures.same (saw-not c.in_default.not-FLOAT_NUMBER (c.current.ensures.sees cond)) and nothing) (after-look cond c.at_method.ensures.same (after-look cond c.current.ensures.same (reads-wrap cond (c.error.ensures.reads cond) c.wrap-in_default.ensures.wraps)))))
 
-pub expressions::operand::method_call-opt_generic_args-requires : goal.expressions::operand::method_call-opt_generic_args-requires
-expressions::operand::method_call-opt_generic_args-requires t c = (omega arith, short-still _ _ (c.word_type.ensures.reads true).does.input c.requires.short)
-
-pub expressions::operand::method_call-expect_arguments-requires : goal.expressions::operand::method_call-expect_arguments-requires
-expressions::operand::method_call-expect_arguments-requires t c = (omega arith, short-still _ _ ((c.opt_generic_args.ensures.reads true).does.input ∙ (c.word_type.ensures.reads true).does.input) c.requires.short)
-
 pub expressions::operand::method_call-returns-clause-reads : goal.expressions::operand::method_call-returns-clause-reads
 expressions::operand::method_call-returns-clause-reads t c = λ cond. (reads-then cond (c.word_type.ensures.reads cond) (reads-then cond (c.opt_generic_args.ensures.reads cond) (c.expect_arguments.ensures.reads cond)))
 
 pub expressions::operand::expect_arguments-arguments-requires : goal.expressions::operand::expect_arguments-arguments-requires
-expressions::operand::expect_arguments-arguments-requires t c = (omega arith, (short-still _ _ c.at.ensures.same.input c.requires.short, omega arith))
+expressions::operand::expect_arguments-arguments-requires t c = (omega arith, omega arith)
 
 pub expressions::operand::expect_arguments-returns-then-at-clause-reads : goal.expressions::operand::expect_arguments-returns-then-at-clause-reads
 unfolding look_of begins_below whole rule items statements expressions patterns types paths there_at shift passes is_silent begins in_mode anew row one_of any_of no_longer longest is_longer
@@ -206,7 +189,7 @@ pub expressions::operand::float-split-frame-requires : goal.expressions::operand
 expressions::operand::float-split-frame-requires t c = record { float = λ d. saw-after c.at_joint-joint.ensures.same (c.requires.float d); joint = λ d. saw-after c.at_joint-joint.ensures.same (c.at_joint-joint.ensures.sees d); some = omega (arith, c.requires.some, c.at_joint-joint.ensures.left); innermost = c.at_joint-joint.ensures.same.innermost _ c.requires.innermost }
 
 pub expressions::operand::float-after_dot-requires : goal.expressions::operand::float-after_dot-requires
-expressions::operand::float-after_dot-requires t c = (omega arith, (short-still _ _ ((c.split-frame.ensures.reads true).does.input ∙ c.at_joint-joint.ensures.same.input) c.requires.short, c.split-frame.ensures.marker))
+expressions::operand::float-after_dot-requires t c = (omega arith, c.split-frame.ensures.marker)
 
 pub expressions::operand::float-returns-then-joint-clause-reads : goal.expressions::operand::float-returns-then-joint-clause-reads
 unfolding look_of begins_below whole rule items statements expressions patterns types paths there_at shift passes is_silent begins in_mode anew row one_of any_of no_longer longest is_longer

@@ -1,5 +1,5 @@
 -- Parameters.
-use Rattle.std.proofs.Common.{true, refl, ◌∙◌, arith}
+use Rattle.std.proofs.Common.{true, refl, arith}
 use Rattle.rust_grammar.specs.Rule as rules
 use Rattle.rust_grammar.specs.Expressions.{expressions}
 use Rattle.rust_grammar.specs.Items.{items}
@@ -14,7 +14,6 @@ use Rattle.rust_grammar.specs.Whole.{rule, whole}
 use Rattle.parser_input.specs.Kinds as kinds
 use Rattle.rust_grammar.specs.Rule.{Kind}
 use Rattle.rust_grammar.specs.Items.{self_begins}
-use Rattle.grammar_reader.proofs.Inputs.{short-still}
 use Rattle.rust_productions.proofs.ByHand.{after-look, does-then, reads-call, reads-node, reads-then}
 use Rattle.rust_productions.proofs.Choices.{anew-after, gives-anew, reads-here}
 use Rattle.rust_productions.proofs.Facts.{nothing, saw-so, ◌and◌}
@@ -23,24 +22,21 @@ use Rattle.rust_productions.proofs.Seen.{begins-else, saw-after, saw-else, saw-i
 use Rattle.grammar_reader.proofs.grammar.+grammar.Goals as goal
 
 pub params::param-self_param-requires : goal.params::param-self_param-requires
-params::param-self_param-requires t c = (omega arith, (short-still _ _ c.at_self.ensures.same.input c.requires.short, ((λ d. saw-after c.at_self.ensures.same (saw-so (c.at_self.ensures.sees d) c.if-at_self.true)), omega arith)))
+params::param-self_param-requires t c = (omega arith, ((λ d. saw-after c.at_self.ensures.same (saw-so (c.at_self.ensures.sees d) c.if-at_self.true)), omega arith))
 
 pub params::param-returns-then-at_self-clause-gives : goal.params::param-returns-then-at_self-clause-gives
 params::param-returns-then-at_self-clause-gives t c = record { does = does-then c.at_self.ensures.same c.self_param.ensures.gives.does }
 
 pub params::param-pattern_param-requires : goal.params::param-pattern_param-requires
 unfolding look_of begins_below whole rule items statements expressions patterns types paths there_at shift passes is_silent begins in_mode anew row one_of any_of no_longer longest is_longer
-params::param-pattern_param-requires t c = (omega arith, (short-still _ _ c.at_self.ensures.same.input c.requires.short, ((λ d. saw-after c.at_self.ensures.same (begins-else rules.pattern rules.param refl (saw-so (c.at_self.ensures.sees d) c.if-at_self.false and nothing) (c.requires.begins d) refl)), omega arith)))
+params::param-pattern_param-requires t c = (omega arith, ((λ d. saw-after c.at_self.ensures.same (begins-else rules.pattern rules.param refl (saw-so (c.at_self.ensures.sees d) c.if-at_self.false and nothing) (c.requires.begins d) refl)), omega arith))
 
 pub params::param-returns-clause-gives : goal.params::param-returns-clause-gives
 unfolding look_of begins_below whole rule items statements expressions patterns types paths there_at shift passes is_silent begins in_mode anew row one_of any_of no_longer longest is_longer
 params::param-returns-clause-gives t c = gives-anew (anew-after refl (reads-here (saw-so (c.at_self.ensures.sees c.args.condition) c.if-at_self.false and nothing) (after-look _ c.at_self.ensures.same c.pattern_param.ensures.reads)))
 
 pub params::pattern_param-pattern-requires : goal.params::pattern_param-pattern-requires
-params::pattern_param-pattern-requires t c = (omega arith, (short-still _ _ c.start-node.ensures.opens.input c.requires.short, ((λ d. saw-inside c.start-node.ensures.opens (c.requires.begins d)), omega arith)))
-
-pub params::pattern_param-expect_type-requires : goal.params::pattern_param-expect_type-requires
-params::pattern_param-expect_type-requires t c = (omega arith, short-still _ _ ((c.expect.ensures.reads true).does.input ∙ (c.pattern.ensures.gives true).does.input ∙ c.start-node.ensures.opens.input) c.requires.short)
+params::pattern_param-pattern-requires t c = (omega arith, ((λ d. saw-inside c.start-node.ensures.opens (c.requires.begins d)), omega arith))
 
 pub params::pattern_param-complete-requires : goal.params::pattern_param-complete-requires
 params::pattern_param-complete-requires t c = c.expect_type.ensures.reads.does.innermost _ ((c.expect.ensures.reads true).does.innermost _ ((c.pattern.ensures.gives true).does.innermost _ c.start-node.ensures.marker))
@@ -49,13 +45,13 @@ pub params::pattern_param-returns-clause-reads : goal.params::pattern_param-retu
 params::pattern_param-returns-clause-reads t c = reads-node _ c.start-node.ensures.opens (reads-then _ (reads-call _ (c.pattern.ensures.gives c.args.condition)) (reads-then _ (c.expect.ensures.reads c.args.condition) c.expect_type.ensures.reads)) c.complete.ensures.closes
 
 pub params::self_param-self_after_ref-requires : goal.params::self_param-self_after_ref-requires
-params::self_param-self_after_ref-requires t c = (omega arith, (short-still _ _ c.current.ensures.same.input c.requires.short, omega arith))
+params::self_param-self_after_ref-requires t c = (omega arith, omega arith)
 
 pub params::self_param-self_after_mut-requires : goal.params::self_param-self_after_mut-requires
-params::self_param-self_after_mut-requires t c = (omega arith, (short-still _ _ c.current.ensures.same.input c.requires.short, omega arith))
+params::self_param-self_after_mut-requires t c = (omega arith, omega arith)
 
 pub params::self_param-self_alone-requires : goal.params::self_param-self_alone-requires
-params::self_param-self_alone-requires t c = (omega arith, (short-still _ _ c.current.ensures.same.input c.requires.short, omega arith))
+params::self_param-self_alone-requires t c = (omega arith, omega arith)
 
 pub params::self_param-returns-in-AMP-clause-gives : goal.params::self_param-returns-in-AMP-clause-gives
 unfolding look_of begins_below whole rule items statements expressions patterns types paths there_at shift passes is_silent begins in_mode anew row one_of any_of no_longer longest is_longer
@@ -69,26 +65,17 @@ pub params::self_param-returns-in_default-clause-gives : goal.params::self_param
 unfolding look_of begins_below whole rule items statements expressions patterns types paths there_at shift passes is_silent begins in_mode anew row one_of any_of no_longer longest is_longer
 params::self_param-returns-in_default-clause-gives t c = gives-anew (anew-after refl (reads-here (c.requires.begins c.args.condition and saw-not c.in_default.not-AMP (c.current.ensures.sees c.args.condition) and saw-not c.in_default.not-MUT_KW (c.current.ensures.sees c.args.condition) and saw-else (Kind 0 kinds.SELF_KW) self_begins (saw-not c.in_default.not-AMP (c.current.ensures.sees c.args.condition) and saw-not c.in_default.not-MUT_KW (c.current.ensures.sees c.args.condition) and nothing) (c.requires.begins c.args.condition) refl and nothing) (after-look _ c.current.ensures.same c.self_alone.ensures.reads)))
 
-pub params::self_after_ref-opt_type-requires : goal.params::self_after_ref-opt_type-requires
-params::self_after_ref-opt_type-requires t c = (omega arith, short-still _ _ ((c.expect_self.ensures.reads true).does.input ∙ (c.eat.ensures.reads true).does.input ∙ (c.opt_lifetime.ensures.reads true).does.input ∙ (c.take.ensures.reads true).does.input ∙ c.start-node.ensures.opens.input) c.requires.short)
-
 pub params::self_after_ref-complete-requires : goal.params::self_after_ref-complete-requires
 params::self_after_ref-complete-requires t c = c.opt_type.ensures.reads.does.innermost _ ((c.expect_self.ensures.reads true).does.innermost _ ((c.eat.ensures.reads true).does.innermost _ ((c.opt_lifetime.ensures.reads true).does.innermost _ ((c.take.ensures.reads true).does.innermost _ c.start-node.ensures.marker))))
 
 pub params::self_after_ref-returns-clause-reads : goal.params::self_after_ref-returns-clause-reads
 params::self_after_ref-returns-clause-reads t c = reads-node _ c.start-node.ensures.opens (reads-then _ (c.take.ensures.reads c.args.condition) (reads-then _ (c.opt_lifetime.ensures.reads c.args.condition) (reads-then _ (c.eat.ensures.reads c.args.condition) (reads-then _ (c.expect_self.ensures.reads c.args.condition) c.opt_type.ensures.reads)))) c.complete.ensures.closes
 
-pub params::self_after_mut-opt_type-requires : goal.params::self_after_mut-opt_type-requires
-params::self_after_mut-opt_type-requires t c = (omega arith, short-still _ _ ((c.expect_self.ensures.reads true).does.input ∙ (c.take.ensures.reads true).does.input ∙ c.start-node.ensures.opens.input) c.requires.short)
-
 pub params::self_after_mut-complete-requires : goal.params::self_after_mut-complete-requires
 params::self_after_mut-complete-requires t c = c.opt_type.ensures.reads.does.innermost _ ((c.expect_self.ensures.reads true).does.innermost _ ((c.take.ensures.reads true).does.innermost _ c.start-node.ensures.marker))
 
 pub params::self_after_mut-returns-clause-reads : goal.params::self_after_mut-returns-clause-reads
 params::self_after_mut-returns-clause-reads t c = reads-node _ c.start-node.ensures.opens (reads-then _ (c.take.ensures.reads c.args.condition) (reads-then _ (c.expect_self.ensures.reads c.args.condition) c.opt_type.ensures.reads)) c.complete.ensures.closes
-
-pub params::self_alone-opt_type-requires : goal.params::self_alone-opt_type-requires
-params::self_alone-opt_type-requires t c = (omega arith, short-still _ _ ((c.word_type.ensures.reads true).does.input ∙ c.start-node.ensures.opens.input) c.requires.short)
 
 pub params::self_alone-complete-requires : goal.params::self_alone-complete-requires
 params::self_alone-complete-requires t c = c.opt_type.ensures.reads.does.innermost _ ((c.word_type.ensures.reads true).does.innermost _ c.start-node.ensures.marker)

@@ -1,5 +1,5 @@
 -- Paths, segment by segment.
-use Rattle.std.proofs.Common.{true, refl, sym, subst, ◌∙◌, arith}
+use Rattle.std.proofs.Common.{true, refl, sym, subst, arith}
 use Rattle.parser_input.specs.Kinds.{PATH, PATH_SEGMENT}
 use Rattle.rust_grammar.specs.Calls.{Ref}
 use Rattle.rust_grammar.specs.Notation.{◌▸◌, ◌!, ◌⟨◌⟩, ◌<⟨◌⟩}
@@ -19,7 +19,6 @@ use Rattle.rust_grammar.specs.Types.{types}
 use Rattle.rust_grammar.specs.Whole.{rule, whole}
 use Rattle.grammar_reader.specs.Told.{args_of}
 use Rattle.grammar_reader.proofs.PathArgs.{args-begin, path-row, reads-in-place}
-use Rattle.grammar_reader.proofs.Inputs.{short-still}
 use Rattle.rust_productions.specs.Looks.{tokens}
 use Rattle.rust_productions.specs.Reads.{Anew}
 use Rattle.rust_productions.proofs.ByHand.{after-look, completes-leave, completes-then, reads-call, reads-node, reads-nothing, reads-none, reads-opt, reads-then, reads-unless, reads-when, reads-wrap}
@@ -30,7 +29,7 @@ use Rattle.rust_productions.proofs.Turns.{last-turn, next-turn}
 use Rattle.grammar_reader.proofs.grammar.+grammar.Goals as goal
 
 pub paths::generic_args-rest_of_list-requires : goal.paths::generic_args-rest_of_list-requires
-paths::generic_args-rest_of_list-requires t c = (omega arith, (short-still _ _ ((c.take.ensures.reads true).does.input ∙ (c.opt_colons.ensures.reads true).does.input ∙ c.start-list.ensures.opens.input) c.requires.short, omega arith))
+paths::generic_args-rest_of_list-requires t c = (omega arith, omega arith)
 
 pub paths::generic_args-opt_colons-requires-clause-begins : goal.paths::generic_args-opt_colons-requires-clause-begins
 paths::generic_args-opt_colons-requires-clause-begins t c = λ cond. saw-inside c.start-list.ensures.opens (c.requires.begins cond)
@@ -43,7 +42,7 @@ unfolding look_of begins_below whole rule items statements expressions patterns 
 paths::generic_args-returns-clause-gives t c = λ cond. gives-anew (anew-after refl (reads-when cond (reads-node cond c.start-list.ensures.opens (reads-then cond (c.opt_colons.ensures.reads cond) (reads-then cond (c.take.ensures.reads cond) (c.rest_of_list.ensures.reads cond))) c.complete.ensures.closes)))
 
 pub paths::opt_args-generic_args-requires : goal.paths::opt_args-generic_args-requires
-paths::opt_args-generic_args-requires t c = (omega arith, (short-still _ _ c.at_args.ensures.same.input c.requires.short, (λ cond. saw-after c.at_args.ensures.same (args-begin c.args.mode (saw-so (c.at_args.ensures.sees cond) c.if-at_args.true)), omega (arith, c.at_args.ensures.some c.if-at_args.true, c.at_args.ensures.left))))
+paths::opt_args-generic_args-requires t c = (omega arith, (λ cond. saw-after c.at_args.ensures.same (args-begin c.args.mode (saw-so (c.at_args.ensures.sees cond) c.if-at_args.true)), omega (arith, c.at_args.ensures.some c.if-at_args.true, c.at_args.ensures.left)))
 
 pub paths::opt_args-returns-then-at_args-clause-reads : goal.paths::opt_args-returns-then-at_args-clause-reads
 unfolding begins
@@ -56,9 +55,6 @@ paths::opt_args-returns-else-at_args-clause-reads t c = λ cond. reads-none cond
 pub paths::first_segment-first_word-requires-clause-begins : goal.paths::first_segment-first_word-requires-clause-begins
 paths::first_segment-first_word-requires-clause-begins t c = λ cond. saw-inside c.start-segment.ensures.opens (saw-inside c.start-path.ensures.opens (c.requires.begins cond))
 
-pub paths::first_segment-opt_args-requires : goal.paths::first_segment-opt_args-requires
-paths::first_segment-opt_args-requires t c = (omega arith, short-still _ _ ((c.first_word.ensures.reads true).does.input ∙ c.start-segment.ensures.opens.input ∙ c.start-path.ensures.opens.input) c.requires.short)
-
 pub paths::first_segment-complete-requires : goal.paths::first_segment-complete-requires
 paths::first_segment-complete-requires t c = ((c.opt_args.ensures.reads true).does.innermost _ ((c.first_word.ensures.reads true).does.innermost _ c.start-segment.ensures.marker))
 
@@ -67,9 +63,6 @@ paths::first_segment-complete-requires-2 t c = c.complete.ensures.closes.innermo
 
 pub paths::first_segment-returns-clause-reads : goal.paths::first_segment-returns-clause-reads
 paths::first_segment-returns-clause-reads t c = λ cond. reads-node cond c.start-path.ensures.opens (reads-node cond c.start-segment.ensures.opens (reads-in-place (c.first_word.ensures.reads cond) (c.opt_args.ensures.reads cond)) c.complete.ensures.closes) c.complete-2.ensures.closes
-
-pub paths::expect_segment-opt_args-requires : goal.paths::expect_segment-opt_args-requires
-paths::expect_segment-opt_args-requires t c = (omega arith, short-still _ _ ((c.name_ref.ensures.gives true).does.input ∙ c.start-segment.ensures.opens.input ∙ c.at_name_ref.ensures.same.input) c.requires.short)
 
 pub paths::expect_segment-complete-requires : goal.paths::expect_segment-complete-requires
 paths::expect_segment-complete-requires t c = (c.opt_args.ensures.reads true).does.innermost _ ((c.name_ref.ensures.gives true).does.innermost _ c.start-segment.ensures.marker)
@@ -82,9 +75,6 @@ pub paths::expect_segment-returns-clause-reads : goal.paths::expect_segment-retu
 unfolding look_of begins_below whole rule items statements expressions patterns types paths there_at shift passes is_silent begins in_mode anew row one_of any_of no_longer longest is_longer
 paths::expect_segment-returns-clause-reads t c = λ cond. reads-here (begun rules.name_ref (saw-so (c.at_name_ref.ensures.sees cond) c.if-at_name_ref.false) nothing) (after-look cond c.at_name_ref.ensures.same (c.error.ensures.reads cond))
 
-pub paths::next_segment-expect_segment-requires : goal.paths::next_segment-expect_segment-requires
-paths::next_segment-expect_segment-requires t c = (omega arith, short-still _ _ (c.take_pair.ensures.reads true 0 0).does.input c.requires.short)
-
 pub paths::next_segment-wrap-requires : goal.paths::next_segment-wrap-requires
 paths::next_segment-wrap-requires t c = (c.expect_segment.ensures.reads true).does.innermost _ ((c.take_pair.ensures.reads true 0 0).does.innermost _ c.requires.innermost)
 
@@ -94,7 +84,6 @@ paths::next_segment-returns-clause-reads t c = λ cond. reads-wrap cond (reads-t
 pub paths::next_segments-turns-preserved : goal.paths::next_segments-turns-preserved
 unfolding tokens look_of begins_below whole rule items statements expressions patterns types paths there_at shift passes is_silent begins in_mode anew row one_of any_of no_longer longest is_longer
 paths::next_segments-turns-preserved t c = record {
-  input = (c.next_segment-path.ensures.reads true).does.input ∙ c.at_next_segment.ensures.same.input ∙ c.turns.invariant.input;
   marker = c.next_segment-path.ensures.marker;
   goes = λ cond.
       next-turn cond (Unless colons_before_more (PATH <⟨ One '::' ▸ (PATH_SEGMENT ⟨ Ref ▸ args_of c.args.mode ⟩) ! ⟩)) (ends-at-end cond (Unless colons_before_more (PATH <⟨ One '::' ▸ (PATH_SEGMENT ⟨ Ref ▸ args_of c.args.mode ⟩) ! ⟩)) refl) _ _ _ (c.turns.invariant.goes cond) (saw-so (c.at_next_segment.ensures.sees cond) c.turns-test.true)
@@ -109,17 +98,17 @@ unfolding look_of begins_below whole rule items statements expressions patterns 
 paths::next_segments-returns-clause-reads t c = λ cond. last-turn cond (Unless colons_before_more (PATH <⟨ One '::' ▸ (PATH_SEGMENT ⟨ Ref ▸ args_of c.args.mode ⟩) ! ⟩)) (ends-at-end cond (Unless colons_before_more (PATH <⟨ One '::' ▸ (PATH_SEGMENT ⟨ Ref ▸ args_of c.args.mode ⟩) ! ⟩)) refl) _ _ _ (c.turns.invariant.goes cond) (saw-so (c.at_next_segment.ensures.sees cond) c.turns-test.false) c.at_next_segment.ensures.same
 
 pub paths::path_with_args-first_segment-requires : goal.paths::path_with_args-first_segment-requires
-paths::path_with_args-first_segment-requires t c = (omega arith, (short-still _ _ c.start-frame.ensures.opens.input c.requires.short, (λ cond. saw-inside c.start-frame.ensures.opens (c.requires.begins cond), omega arith)))
+paths::path_with_args-first_segment-requires t c = (omega arith, (λ cond. saw-inside c.start-frame.ensures.opens (c.requires.begins cond), omega arith))
 
 pub paths::path_with_args-next_segments-frame-requires : goal.paths::path_with_args-next_segments-frame-requires
-paths::path_with_args-next_segments-frame-requires t c = (omega arith, (short-still _ _ ((c.first_segment.ensures.reads true).does.input ∙ c.start-frame.ensures.opens.input) c.requires.short, (c.first_segment.ensures.reads true).does.innermost _ c.start-frame.ensures.marker))
+paths::path_with_args-next_segments-frame-requires t c = (omega arith, (c.first_segment.ensures.reads true).does.innermost _ c.start-frame.ensures.marker)
 
 pub paths::path_with_args-returns-clause-gives : goal.paths::path_with_args-returns-clause-gives
 paths::path_with_args-returns-clause-gives t c = λ cond. gives-anew (subst (λ (r : Rule). Anew cond r c.args.p.now c.abandon.new.p) (sym (path-row c.args.mode))
     (anew-completes c.start-frame.ensures.opens (completes-then (c.first_segment.ensures.reads cond) (completes-leave (c.next_segments-frame.ensures.reads cond) c.abandon.ensures.leaves))))
 
 pub paths::opt_generic_args-generic_args-requires : goal.paths::opt_generic_args-generic_args-requires
-paths::opt_generic_args-generic_args-requires t c = (omega arith, (short-still _ _ c.at_generic_args.ensures.same.input c.requires.short, ((λ d. saw-after c.at_generic_args.ensures.same (saw-so (c.at_generic_args.ensures.sees d) c.if-at_generic_args.true)), omega (arith, c.at_generic_args.ensures.some c.if-at_generic_args.true, c.at_generic_args.ensures.left))))
+paths::opt_generic_args-generic_args-requires t c = (omega arith, ((λ d. saw-after c.at_generic_args.ensures.same (saw-so (c.at_generic_args.ensures.sees d) c.if-at_generic_args.true)), omega (arith, c.at_generic_args.ensures.some c.if-at_generic_args.true, c.at_generic_args.ensures.left)))
 
 pub paths::opt_generic_args-returns-then-at_generic_args-clause-reads : goal.paths::opt_generic_args-returns-then-at_generic_args-clause-reads
 unfolding look_of begins_below whole rule items statements expressions patterns types paths there_at shift passes is_silent begins in_mode anew row one_of any_of no_longer longest is_longer

@@ -1,5 +1,5 @@
 -- Patterns, arm by arm.
-use Rattle.std.proofs.Common.{Bool, true, refl, subst, ◌∙◌, arith}
+use Rattle.std.proofs.Common.{Bool, true, refl, subst, arith}
 use Rattle.rust_grammar.specs.Calls.{SinglePattern}
 use Rattle.rust_grammar.specs.Notation.{◌▸◌, ◌! }
 use Rattle.rust_grammar.specs.Rule as rules
@@ -17,7 +17,6 @@ use Rattle.rust_grammar.specs.Types.{types}
 use Rattle.rust_grammar.specs.Whole.{rule, whole}
 use Rattle.grammar_reader.specs.declared.grammar.paths.Mode.TheVariants as modes
 use Rattle.grammar_reader.proofs.PathArgs.{paths-begin, reads-flat}
-use Rattle.grammar_reader.proofs.Inputs.{short-still}
 use Rattle.rust_productions.specs.Looks.{tokens}
 use Rattle.rust_productions.specs.Reads.{looks, Saw}
 use Rattle.rust_productions.proofs.ByHand.{after-look, completes-leave, does-then, reads-call, reads-node, reads-nothing, reads-then, reads-wrap}
@@ -29,7 +28,7 @@ use Rattle.rust_productions.proofs.Turns.{last-turn, next-turn}
 use Rattle.grammar_reader.proofs.grammar.+grammar.Goals as goal
 
 pub patterns::single_pattern-inside-frame-requires : goal.patterns::single_pattern-inside-frame-requires
-patterns::single_pattern-inside-frame-requires t c = (omega arith, (short-still _ _ c.start-frame.ensures.opens.input c.requires.short, ((λ d. saw-inside c.start-frame.ensures.opens (c.requires.begins d)), (omega arith, c.start-frame.ensures.marker))))
+patterns::single_pattern-inside-frame-requires t c = (omega arith, ((λ d. saw-inside c.start-frame.ensures.opens (c.requires.begins d)), (omega arith, c.start-frame.ensures.marker)))
 
 pub patterns::single_pattern-returns-clause-gives : goal.patterns::single_pattern-returns-clause-gives
 patterns::single_pattern-returns-clause-gives t c = λ cond. gives-anew (anew-completes c.start-frame.ensures.opens (completes-leave (c.inside-frame.ensures.reads cond) c.abandon.ensures.leaves))
@@ -137,16 +136,13 @@ patterns::inside-path_pat-requires t c =
     let path : (cond : Bool) → Saw cond (looks rules.path) c.args.p.now true = λ cond. subst (λ (l : Look). Saw cond l c.args.p.now true) (paths-begin modes.Expr) (seen cond) in (
       omega arith,
       (
-        short-still _ _ (c.at_literal.ensures.same.input ∙ c.at_pair.ensures.same.input ∙ c.at_ident_pat.ensures.same.input ∙ c.current.ensures.same.input) c.requires.short,
-        (
-          (λ d. saw-after c.at_literal.ensures.same (saw-after c.at_pair.ensures.same (saw-after c.at_ident_pat.ensures.same (saw-after c.current.ensures.same (path d))))),
-          (omega arith, c.at_literal.ensures.same.innermost _ (c.at_pair.ensures.same.innermost _ (c.at_ident_pat.ensures.same.innermost _ (c.current.ensures.same.innermost _ c.requires.innermost)))),
-        ),
+        (λ d. saw-after c.at_literal.ensures.same (saw-after c.at_pair.ensures.same (saw-after c.at_ident_pat.ensures.same (saw-after c.current.ensures.same (path d))))),
+        (omega arith, c.at_literal.ensures.same.innermost _ (c.at_pair.ensures.same.innermost _ (c.at_ident_pat.ensures.same.innermost _ (c.current.ensures.same.innermost _ c.requires.innermost)))),
       ),
     )
 
 pub patterns::expect_single-single_pattern-requires : goal.patterns::expect_single-single_pattern-requires
-patterns::expect_single-single_pattern-requires t c = (omega arith, (short-still _ _ c.at_single_pattern.ensures.same.input c.requires.short, (λ d. saw-after c.at_single_pattern.ensures.same (saw-so (c.at_single_pattern.ensures.sees d) c.if-at_single_pattern.true), omega (arith, c.at_single_pattern.ensures.some c.if-at_single_pattern.true, c.at_single_pattern.ensures.left))))
+patterns::expect_single-single_pattern-requires t c = (omega arith, (λ d. saw-after c.at_single_pattern.ensures.same (saw-so (c.at_single_pattern.ensures.sees d) c.if-at_single_pattern.true), omega (arith, c.at_single_pattern.ensures.some c.if-at_single_pattern.true, c.at_single_pattern.ensures.left)))
 
 pub patterns::expect_single-returns-then-at_single_pattern-clause-reads : goal.patterns::expect_single-returns-then-at_single_pattern-clause-reads
 unfolding look_of begins_below whole rule items statements expressions patterns types paths there_at shift passes is_silent begins in_mode anew row one_of any_of no_longer longest is_longer
@@ -157,7 +153,7 @@ unfolding look_of begins_below whole rule items statements expressions patterns 
 patterns::expect_single-returns-clause-reads t c = λ cond. reads-here (begun rules.single_pattern (saw-so (c.at_single_pattern.ensures.sees cond) c.if-at_single_pattern.false) nothing) (after-look cond c.at_single_pattern.ensures.same (c.error.ensures.reads cond))
 
 pub or_patterns::expect_pattern-pattern-requires : goal.or_patterns::expect_pattern-pattern-requires
-or_patterns::expect_pattern-pattern-requires t c = (omega arith, (short-still _ _ c.at_pattern.ensures.same.input c.requires.short, (λ d. saw-after c.at_pattern.ensures.same (saw-so (c.at_pattern.ensures.sees d) c.if-at_pattern.true), omega (arith, c.at_pattern.ensures.some c.if-at_pattern.true, c.at_pattern.ensures.left))))
+or_patterns::expect_pattern-pattern-requires t c = (omega arith, (λ d. saw-after c.at_pattern.ensures.same (saw-so (c.at_pattern.ensures.sees d) c.if-at_pattern.true), omega (arith, c.at_pattern.ensures.some c.if-at_pattern.true, c.at_pattern.ensures.left)))
 
 pub or_patterns::expect_pattern-returns-then-at_pattern-clause-reads : goal.or_patterns::expect_pattern-returns-then-at_pattern-clause-reads
 unfolding look_of begins_below whole rule items statements expressions patterns types paths there_at shift passes is_silent begins in_mode anew row one_of any_of no_longer longest is_longer
@@ -167,9 +163,6 @@ pub or_patterns::expect_pattern-returns-clause-reads : goal.or_patterns::expect_
 unfolding look_of begins_below whole rule items statements expressions patterns types paths there_at shift passes is_silent begins in_mode anew row one_of any_of no_longer longest is_longer
 or_patterns::expect_pattern-returns-clause-reads t c = λ cond. reads-here (begun rules.pattern (saw-so (c.at_pattern.ensures.sees cond) c.if-at_pattern.false) nothing) (after-look cond c.at_pattern.ensures.same (c.error.ensures.reads cond))
 
-pub patterns::ref_pat-expect_single-requires : goal.patterns::ref_pat-expect_single-requires
-patterns::ref_pat-expect_single-requires t c = (omega arith, short-still _ _ ((c.eat.ensures.reads true).does.input ∙ (c.take.ensures.reads true).does.input ∙ c.start-node.ensures.opens.input) c.requires.short)
-
 pub patterns::ref_pat-complete-requires : goal.patterns::ref_pat-complete-requires
 patterns::ref_pat-complete-requires t c = ((c.expect_single.ensures.reads true).does.innermost _ ((c.eat.ensures.reads true).does.innermost _ ((c.take.ensures.reads true).does.innermost _ c.start-node.ensures.marker)))
 
@@ -177,7 +170,7 @@ pub patterns::ref_pat-returns-clause-reads : goal.patterns::ref_pat-returns-clau
 patterns::ref_pat-returns-clause-reads t c = λ cond. reads-node cond c.start-node.ensures.opens (reads-then cond (c.take.ensures.reads cond) (reads-then cond (c.eat.ensures.reads cond) (c.expect_single.ensures.reads cond))) c.complete.ensures.closes
 
 pub patterns::slice_pat-rest_of_list-requires : goal.patterns::slice_pat-rest_of_list-requires
-patterns::slice_pat-rest_of_list-requires t c = (omega arith, (short-still _ _ ((c.take.ensures.reads true).does.input ∙ c.start-node.ensures.opens.input) c.requires.short, omega arith))
+patterns::slice_pat-rest_of_list-requires t c = (omega arith, omega arith)
 
 pub patterns::slice_pat-complete-requires : goal.patterns::slice_pat-complete-requires
 patterns::slice_pat-complete-requires t c = ((c.rest_of_list.ensures.reads true).does.innermost _ ((c.take.ensures.reads true).does.innermost _ c.start-node.ensures.marker))
@@ -186,7 +179,7 @@ pub patterns::slice_pat-returns-clause-reads : goal.patterns::slice_pat-returns-
 patterns::slice_pat-returns-clause-reads t c = λ cond. reads-node cond c.start-node.ensures.opens (reads-then cond (c.take.ensures.reads cond) (c.rest_of_list.ensures.reads cond)) c.complete.ensures.closes
 
 pub patterns::tuple_pat-rest_of_list-requires : goal.patterns::tuple_pat-rest_of_list-requires
-patterns::tuple_pat-rest_of_list-requires t c = (omega arith, (short-still _ _ ((c.take.ensures.reads true).does.input ∙ c.start-node.ensures.opens.input) c.requires.short, omega arith))
+patterns::tuple_pat-rest_of_list-requires t c = (omega arith, omega arith)
 
 pub patterns::tuple_pat-complete-requires : goal.patterns::tuple_pat-complete-requires
 patterns::tuple_pat-complete-requires t c = ((c.rest_of_list.ensures.reads true).does.innermost _ ((c.take.ensures.reads true).does.innermost _ c.start-node.ensures.marker))
@@ -194,17 +187,11 @@ patterns::tuple_pat-complete-requires t c = ((c.rest_of_list.ensures.reads true)
 pub patterns::tuple_pat-returns-clause-reads : goal.patterns::tuple_pat-returns-clause-reads
 patterns::tuple_pat-returns-clause-reads t c = λ cond. reads-node cond c.start-node.ensures.opens (reads-then cond (c.take.ensures.reads cond) (c.rest_of_list.ensures.reads cond)) c.complete.ensures.closes
 
-pub patterns::ident_pat-opt_at-requires : goal.patterns::ident_pat-opt_at-requires
-patterns::ident_pat-opt_at-requires t c = (omega arith, short-still _ _ ((c.name.ensures.gives true).does.input ∙ c.start-node.ensures.opens.input) c.requires.short)
-
 pub patterns::ident_pat-complete-requires : goal.patterns::ident_pat-complete-requires
 patterns::ident_pat-complete-requires t c = ((c.opt_at.ensures.reads true).does.innermost _ ((c.name.ensures.gives true).does.innermost _ c.start-node.ensures.marker))
 
 pub patterns::ident_pat-returns-clause-reads : goal.patterns::ident_pat-returns-clause-reads
 patterns::ident_pat-returns-clause-reads t c = λ cond. reads-node cond c.start-node.ensures.opens (reads-then cond (reads-call cond (c.name.ensures.gives cond)) (c.opt_at.ensures.reads cond)) c.complete.ensures.closes
-
-pub patterns::ident_after_mut-opt_at-requires : goal.patterns::ident_after_mut-opt_at-requires
-patterns::ident_after_mut-opt_at-requires t c = (omega arith, short-still _ _ ((c.expect_name.ensures.reads true).does.input ∙ (c.take.ensures.reads true).does.input ∙ c.start-node.ensures.opens.input) c.requires.short)
 
 pub patterns::ident_after_mut-complete-requires : goal.patterns::ident_after_mut-complete-requires
 patterns::ident_after_mut-complete-requires t c = ((c.opt_at.ensures.reads true).does.innermost _ ((c.expect_name.ensures.reads true).does.innermost _ ((c.take.ensures.reads true).does.innermost _ c.start-node.ensures.marker)))
@@ -212,17 +199,11 @@ patterns::ident_after_mut-complete-requires t c = ((c.opt_at.ensures.reads true)
 pub patterns::ident_after_mut-returns-clause-reads : goal.patterns::ident_after_mut-returns-clause-reads
 patterns::ident_after_mut-returns-clause-reads t c = λ cond. reads-node cond c.start-node.ensures.opens (reads-then cond (c.take.ensures.reads cond) (reads-then cond (c.expect_name.ensures.reads cond) (c.opt_at.ensures.reads cond))) c.complete.ensures.closes
 
-pub patterns::ident_after_ref-opt_at-requires : goal.patterns::ident_after_ref-opt_at-requires
-patterns::ident_after_ref-opt_at-requires t c = (omega arith, short-still _ _ ((c.expect_name.ensures.reads true).does.input ∙ (c.eat.ensures.reads true).does.input ∙ (c.take.ensures.reads true).does.input ∙ c.start-node.ensures.opens.input) c.requires.short)
-
 pub patterns::ident_after_ref-complete-requires : goal.patterns::ident_after_ref-complete-requires
 patterns::ident_after_ref-complete-requires t c = ((c.opt_at.ensures.reads true).does.innermost _ ((c.expect_name.ensures.reads true).does.innermost _ ((c.eat.ensures.reads true).does.innermost _ ((c.take.ensures.reads true).does.innermost _ c.start-node.ensures.marker))))
 
 pub patterns::ident_after_ref-returns-clause-reads : goal.patterns::ident_after_ref-returns-clause-reads
 patterns::ident_after_ref-returns-clause-reads t c = λ cond. reads-node cond c.start-node.ensures.opens (reads-then cond (c.take.ensures.reads cond) (reads-then cond (c.eat.ensures.reads cond) (reads-then cond (c.expect_name.ensures.reads cond) (c.opt_at.ensures.reads cond)))) c.complete.ensures.closes
-
-pub patterns::opt_at-expect_single-requires : goal.patterns::opt_at-expect_single-requires
-patterns::opt_at-expect_single-requires t c = (omega arith, short-still _ _ ((c.take.ensures.reads true).does.input ∙ c.at.ensures.same.input) c.requires.short)
 
 pub patterns::opt_at-returns-then-at-clause-reads : goal.patterns::opt_at-returns-then-at-clause-reads
 unfolding look_of begins_below whole rule items statements expressions patterns types paths there_at shift passes is_silent begins in_mode anew row one_of any_of no_longer longest is_longer
@@ -233,7 +214,7 @@ unfolding look_of begins_below whole rule items statements expressions patterns 
 patterns::opt_at-returns-else-at-clause-reads t c = λ cond. reads-here (saw-so (c.at.ensures.sees cond) c.if-at.false and nothing) (reads-nothing cond c.at.ensures.same)
 
 pub patterns::paren_pat-after_paren-requires : goal.patterns::paren_pat-after_paren-requires
-patterns::paren_pat-after_paren-requires t c = (omega arith, (short-still _ _ (c.take.ensures.reads true).does.input c.requires.short, (c.take.ensures.reads true).does.innermost _ c.requires.innermost))
+patterns::paren_pat-after_paren-requires t c = (omega arith, (c.take.ensures.reads true).does.innermost _ c.requires.innermost)
 
 pub patterns::paren_pat-returns-clause-reads : goal.patterns::paren_pat-returns-clause-reads
 patterns::paren_pat-returns-clause-reads t c = λ cond. reads-then cond (c.take.ensures.reads cond) (c.after_paren.ensures.reads cond)
@@ -242,10 +223,7 @@ pub patterns::after_paren-wrap-requires : goal.patterns::after_paren-wrap-requir
 patterns::after_paren-wrap-requires t c = (c.take.ensures.reads true).does.innermost _ (c.at.ensures.same.innermost _ c.requires.innermost)
 
 pub patterns::after_paren-after_first-requires : goal.patterns::after_paren-after_first-requires
-patterns::after_paren-after_first-requires t c = (omega arith, (short-still _ _ ((c.expect_pattern.ensures.reads true).does.input ∙ c.at.ensures.same.input) c.requires.short, (c.expect_pattern.ensures.reads true).does.innermost _ (c.at.ensures.same.innermost _ c.requires.innermost)))
-
-pub patterns::after_paren-expect_pattern-requires : goal.patterns::after_paren-expect_pattern-requires
-patterns::after_paren-expect_pattern-requires t c = (omega arith, short-still _ _ c.at.ensures.same.input c.requires.short)
+patterns::after_paren-after_first-requires t c = (omega arith, (c.expect_pattern.ensures.reads true).does.innermost _ (c.at.ensures.same.innermost _ c.requires.innermost))
 
 pub patterns::after_paren-returns-then-at-clause-reads : goal.patterns::after_paren-returns-then-at-clause-reads
 unfolding look_of begins_below whole rule items statements expressions patterns types paths there_at shift passes is_silent begins in_mode anew row one_of any_of no_longer longest is_longer
@@ -256,7 +234,7 @@ unfolding look_of begins_below whole rule items statements expressions patterns 
 patterns::after_paren-returns-clause-reads t c = λ cond. reads-here (saw-so (c.at.ensures.sees cond) c.if-at.false and nothing) (after-look cond c.at.ensures.same (reads-then cond (c.expect_pattern.ensures.reads cond) (c.after_first.ensures.reads cond)))
 
 pub patterns::after_first-rest_of_list-requires : goal.patterns::after_first-rest_of_list-requires
-patterns::after_first-rest_of_list-requires t c = (omega arith, (short-still _ _ ((c.take.ensures.reads true).does.input ∙ c.at.ensures.same.input) c.requires.short, omega arith))
+patterns::after_first-rest_of_list-requires t c = (omega arith, omega arith)
 
 pub patterns::after_first-wrap-requires : goal.patterns::after_first-wrap-requires
 patterns::after_first-wrap-requires t c = (c.rest_of_list.ensures.reads true).does.innermost _ ((c.take.ensures.reads true).does.innermost _ (c.at.ensures.same.innermost _ c.requires.innermost))
@@ -273,16 +251,16 @@ unfolding look_of begins_below whole rule items statements expressions patterns 
 patterns::after_first-returns-clause-reads t c = λ cond. reads-here (saw-so (c.at.ensures.sees cond) c.if-at.false and nothing) (after-look cond c.at.ensures.same (reads-wrap cond (c.expect.ensures.reads cond) c.wrap-2.ensures.wraps))
 
 pub patterns::path_pat-path_with_args-requires : goal.patterns::path_pat-path_with_args-requires
-patterns::path_pat-path_with_args-requires t c = (omega arith, (c.requires.short, (c.requires.begins, c.requires.some)))
+patterns::path_pat-path_with_args-requires t c = (omega arith, (c.requires.begins, c.requires.some))
 
 pub patterns::path_pat-after_path-requires : goal.patterns::path_pat-after_path-requires
-patterns::path_pat-after_path-requires t c = (omega arith, (short-still _ _ (c.path_with_args.ensures.gives true).does.input c.requires.short, (c.path_with_args.ensures.gives true).does.innermost _ c.requires.innermost))
+patterns::path_pat-after_path-requires t c = (omega arith, (c.path_with_args.ensures.gives true).does.innermost _ c.requires.innermost)
 
 pub patterns::path_pat-returns-clause-reads : goal.patterns::path_pat-returns-clause-reads
 patterns::path_pat-returns-clause-reads t c = λ cond. reads-then cond (reads-call cond (c.path_with_args.ensures.gives cond)) (c.after_path.ensures.reads cond)
 
 pub patterns::after_path-rest_of_list-requires : goal.patterns::after_path-rest_of_list-requires
-patterns::after_path-rest_of_list-requires t c = (omega arith, (short-still _ _ ((c.take.ensures.reads true).does.input ∙ c.at.ensures.same.input) c.requires.short, omega arith))
+patterns::after_path-rest_of_list-requires t c = (omega arith, omega arith)
 
 pub patterns::after_path-wrap-requires : goal.patterns::after_path-wrap-requires
 patterns::after_path-wrap-requires t c = (c.rest_of_list.ensures.reads true).does.innermost _ ((c.take.ensures.reads true).does.innermost _ (c.at.ensures.same.innermost _ c.requires.innermost))
@@ -306,26 +284,20 @@ unfolding look_of begins_below whole rule items statements expressions patterns 
 patterns::after_path-returns-clause-reads t c = λ cond. reads-here (saw-so (c.at.ensures.sees cond) c.if-at.false and saw-before c.at.ensures.same (saw-so (c.at-2.ensures.sees cond) c.if-at-2.false) and nothing) (reads-wrap cond (reads-nothing cond (does-then c.at.ensures.same c.at-2.ensures.same)) c.wrap-2.ensures.wraps)
 
 pub or_patterns::pattern-alternatives-frame-requires : goal.or_patterns::pattern-alternatives-frame-requires
-or_patterns::pattern-alternatives-frame-requires t c = (omega arith, (short-still _ _ c.start-frame.ensures.opens.input c.requires.short, ((λ d. saw-inside c.start-frame.ensures.opens (c.requires.begins d)), (omega arith, c.start-frame.ensures.marker))))
+or_patterns::pattern-alternatives-frame-requires t c = (omega arith, ((λ d. saw-inside c.start-frame.ensures.opens (c.requires.begins d)), (omega arith, c.start-frame.ensures.marker)))
 
 pub or_patterns::pattern-returns-clause-gives : goal.or_patterns::pattern-returns-clause-gives
 or_patterns::pattern-returns-clause-gives t c = λ cond. gives-anew (anew-completes c.start-frame.ensures.opens (completes-leave (c.alternatives-frame.ensures.reads cond) c.abandon.ensures.leaves))
-
-pub or_patterns::alternatives-expect_single-requires : goal.or_patterns::alternatives-expect_single-requires
-or_patterns::alternatives-expect_single-requires t c = (omega arith, short-still _ _ ((c.take.ensures.reads true).does.input ∙ c.at.ensures.same.input) c.requires.short)
-
-pub or_patterns::alternatives-further-requires : goal.or_patterns::alternatives-further-requires
-or_patterns::alternatives-further-requires t c = (omega arith, short-still _ _ ((c.expect_single.ensures.reads true).does.input ∙ (c.take.ensures.reads true).does.input ∙ c.at.ensures.same.input) c.requires.short)
 
 pub or_patterns::alternatives-wrap-requires : goal.or_patterns::alternatives-wrap-requires
 or_patterns::alternatives-wrap-requires t c = (c.further.ensures.reads true).does.innermost _ ((c.expect_single.ensures.reads true).does.innermost _ ((c.take.ensures.reads true).does.innermost _ (c.at.ensures.same.innermost _ c.requires.innermost)))
 
 pub or_patterns::alternatives-single_pattern-requires : goal.or_patterns::alternatives-single_pattern-requires
 unfolding look_of begins_below whole rule items statements expressions patterns types paths there_at shift passes is_silent begins in_mode anew row one_of any_of no_longer longest is_longer
-or_patterns::alternatives-single_pattern-requires t c = (omega arith, (short-still _ _ c.at.ensures.same.input c.requires.short, ((λ d. saw-after c.at.ensures.same (begins-else rules.single_pattern rules.pattern refl (saw-so (c.at.ensures.sees d) c.if-at.false and nothing) (c.requires.begins d) refl)), omega arith)))
+or_patterns::alternatives-single_pattern-requires t c = (omega arith, ((λ d. saw-after c.at.ensures.same (begins-else rules.single_pattern rules.pattern refl (saw-so (c.at.ensures.sees d) c.if-at.false and nothing) (c.requires.begins d) refl)), omega arith))
 
 pub or_patterns::alternatives-opt_further-requires : goal.or_patterns::alternatives-opt_further-requires
-or_patterns::alternatives-opt_further-requires t c = (omega arith, (short-still _ _ ((c.single_pattern.ensures.gives true).does.input ∙ c.at.ensures.same.input) c.requires.short, (c.single_pattern.ensures.gives true).does.innermost _ (c.at.ensures.same.innermost _ c.requires.innermost)))
+or_patterns::alternatives-opt_further-requires t c = (omega arith, (c.single_pattern.ensures.gives true).does.innermost _ (c.at.ensures.same.innermost _ c.requires.innermost))
 
 pub or_patterns::alternatives-returns-then-at-clause-reads : goal.or_patterns::alternatives-returns-then-at-clause-reads
 unfolding look_of begins_below whole rule items statements expressions patterns types paths there_at shift passes is_silent begins in_mode anew row one_of any_of no_longer longest is_longer
@@ -335,16 +307,12 @@ pub or_patterns::alternatives-returns-clause-reads : goal.or_patterns::alternati
 unfolding look_of begins_below whole rule items statements expressions patterns types paths there_at shift passes is_silent begins in_mode anew row one_of any_of no_longer longest is_longer
 or_patterns::alternatives-returns-clause-reads t c = λ cond. reads-here (saw-so (c.at.ensures.sees cond) c.if-at.false and nothing) (after-look cond c.at.ensures.same (reads-then cond (reads-call cond (c.single_pattern.ensures.gives cond)) (c.opt_further.ensures.reads cond)))
 
-pub or_patterns::one_further-expect_single-requires : goal.or_patterns::one_further-expect_single-requires
-or_patterns::one_further-expect_single-requires t c = (omega arith, short-still _ _ (c.take.ensures.reads true).does.input c.requires.short)
-
 pub or_patterns::one_further-returns-clause-reads : goal.or_patterns::one_further-returns-clause-reads
 or_patterns::one_further-returns-clause-reads t c = λ cond. reads-then cond (c.take.ensures.reads cond) (c.expect_single.ensures.reads cond)
 
 pub or_patterns::further-turns-preserved : goal.or_patterns::further-turns-preserved
 unfolding tokens look_of begins_below whole rule items statements expressions patterns types paths there_at shift passes is_silent begins in_mode anew row one_of any_of no_longer longest is_longer
 or_patterns::further-turns-preserved t c = record {
-  input = (c.one_further.ensures.reads true).does.input ∙ c.at.ensures.same.input ∙ c.turns.invariant.input;
   goes = λ cond.
       next-turn cond (One '|' ▸ SinglePattern !) (ends-at-end cond (One '|' ▸ SinglePattern !) refl) _ _ _ (c.turns.invariant.goes cond) (saw-so (c.at.ensures.sees cond) c.turns-test.true)
       (after-look cond c.at.ensures.same (c.one_further.ensures.reads cond)) (omega (arith, c.one_further.ensures.left, c.at.ensures.left));
@@ -355,9 +323,6 @@ or_patterns::further-turns-preserved t c = record {
 pub or_patterns::further-returns-clause-reads : goal.or_patterns::further-returns-clause-reads
 unfolding look_of begins_below whole rule items statements expressions patterns types paths there_at shift passes is_silent begins in_mode anew row one_of any_of no_longer longest is_longer
 or_patterns::further-returns-clause-reads t c = λ cond. last-turn cond (One '|' ▸ SinglePattern !) (ends-at-end cond (One '|' ▸ SinglePattern !) refl) _ _ _ (c.turns.invariant.goes cond) (saw-so (c.at.ensures.sees cond) c.turns-test.false) c.at.ensures.same
-
-pub or_patterns::opt_further-further-requires : goal.or_patterns::opt_further-further-requires
-or_patterns::opt_further-further-requires t c = (omega arith, short-still _ _ ((c.one_further.ensures.reads true).does.input ∙ c.at.ensures.same.input) c.requires.short)
 
 pub or_patterns::opt_further-wrap-requires : goal.or_patterns::opt_further-wrap-requires
 or_patterns::opt_further-wrap-requires t c = (c.further.ensures.reads true).does.innermost _ ((c.one_further.ensures.reads true).does.innermost _ (c.at.ensures.same.innermost _ c.requires.innermost))

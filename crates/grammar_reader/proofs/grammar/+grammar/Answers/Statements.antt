@@ -1,5 +1,5 @@
 -- Statements, arm by arm.
-use Rattle.std.proofs.Common.{true, false, refl, ◌∙◌, arith}
+use Rattle.std.proofs.Common.{true, false, refl, arith}
 use Rattle.rust_grammar.specs.Rule as rules
 use Rattle.rust_grammar.specs.Expressions.{expressions}
 use Rattle.rust_grammar.specs.Items.{items}
@@ -12,7 +12,6 @@ use Rattle.rust_grammar.specs.Statements.{statements}
 use Rattle.rust_grammar.specs.Types.{types}
 use Rattle.rust_grammar.specs.Whole.{rule, whole}
 use Rattle.grammar_reader.proofs.Ends.{gives-statement}
-use Rattle.grammar_reader.proofs.Inputs.{short-still}
 use Rattle.rust_productions.proofs.ByHand.{after-look, completes-leave, reads-call, reads-else, reads-node, reads-nothing, reads-or, reads-then, reads-when, reads-wrap}
 use Rattle.rust_productions.proofs.Choices.{anew-after, anew-completes, anew-here, anew-look, reads-here}
 use Rattle.rust_productions.proofs.Facts.{begun, nothing, saw-so, ◌and◌}
@@ -21,14 +20,14 @@ use Rattle.rust_productions.proofs.Seen.{saw-after, saw-before, saw-inside}
 use Rattle.grammar_reader.proofs.grammar.+grammar.Goals as goal
 
 pub statements::statement-let_stmt-requires : goal.statements::statement-let_stmt-requires
-statements::statement-let_stmt-requires t c = (omega arith, (short-still _ _ c.current.ensures.same.input c.requires.short, omega arith))
+statements::statement-let_stmt-requires t c = (omega arith, omega arith)
 
 pub statements::statement-returns-in-SEMICOLON-clause-gives : goal.statements::statement-returns-in-SEMICOLON-clause-gives
 unfolding look_of begins_below whole rule items statements expressions patterns types paths there_at shift passes is_silent begins in_mode anew row one_of any_of no_longer longest is_longer
 statements::statement-returns-in-SEMICOLON-clause-gives t c = gives-statement c.args.end (anew-here (saw-arm c.in-SEMICOLON.is (c.current.ensures.sees false) and nothing) (anew-look c.current.ensures.same (anew-after refl (c.take.ensures.reads false))))
 
 pub statements::statement-defer_stmt-requires : goal.statements::statement-defer_stmt-requires
-statements::statement-defer_stmt-requires t c = (omega arith, (short-still _ _ c.current.ensures.same.input c.requires.short, omega arith))
+statements::statement-defer_stmt-requires t c = (omega arith, omega arith)
 
 pub statements::statement-returns-in-DEFER_KW-clause-gives : goal.statements::statement-returns-in-DEFER_KW-clause-gives
 unfolding look_of begins_below whole rule items statements expressions patterns types paths there_at shift passes is_silent begins in_mode anew row one_of any_of no_longer longest is_longer
@@ -39,7 +38,7 @@ unfolding look_of begins_below whole rule items statements expressions patterns 
 statements::statement-returns-in-LET_KW-clause-gives t c = gives-statement c.args.end (anew-here (saw-arm c.in-LET_KW.is (c.current.ensures.sees false) and nothing) (anew-look c.current.ensures.same (anew-after refl c.let_stmt.ensures.reads)))
 
 pub statements::statement-attribute-requires : goal.statements::statement-attribute-requires
-statements::statement-attribute-requires t c = (omega arith, (short-still _ _ (c.at_inner_attribute.ensures.same.input ∙ c.current.ensures.same.input) c.requires.short, omega arith))
+statements::statement-attribute-requires t c = (omega arith, omega arith)
 
 pub statements::statement-returns-then-at_inner_attribute-clause-gives : goal.statements::statement-returns-then-at_inner_attribute-clause-gives
 unfolding look_of begins_below whole rule items statements expressions patterns types paths there_at shift passes is_silent begins in_mode anew row one_of any_of no_longer longest is_longer
@@ -50,10 +49,10 @@ unfolding look_of begins_below whole rule items statements expressions patterns 
 statements::statement-returns-then-at_item-clause-gives t c = gives-statement c.args.end (anew-here (saw-not c.in_default.not-SEMICOLON (c.current.ensures.sees false) and saw-not c.in_default.not-DEFER_KW (c.current.ensures.sees false) and saw-not c.in_default.not-LET_KW (c.current.ensures.sees false) and saw-before c.current.ensures.same (saw-so (c.at_inner_attribute.ensures.sees false) c.if-at_inner_attribute.false) and saw-before c.current.ensures.same (saw-before c.at_inner_attribute.ensures.same (saw-so (c.at_item.ensures.sees false) c.if-at_item.true)) and nothing) (anew-look c.current.ensures.same (anew-look c.at_inner_attribute.ensures.same (anew-look c.at_item.ensures.same (anew-after refl (reads-call false c.item.ensures.gives))))))
 
 pub statements::statement-item-requires : goal.statements::statement-item-requires
-statements::statement-item-requires t c = (omega arith, (short-still _ _ (c.at_item.ensures.same.input ∙ c.at_inner_attribute.ensures.same.input ∙ c.current.ensures.same.input) c.requires.short, omega (arith, c.requires.some, c.current.ensures.left, c.at_inner_attribute.ensures.left, c.at_item.ensures.left)))
+statements::statement-item-requires t c = (omega arith, omega (arith, c.requires.some, c.current.ensures.left, c.at_inner_attribute.ensures.left, c.at_item.ensures.left))
 
 pub statements::statement-expression_statement-requires : goal.statements::statement-expression_statement-requires
-statements::statement-expression_statement-requires t c = (omega arith, (short-still _ _ (c.at_item.ensures.same.input ∙ c.at_inner_attribute.ensures.same.input ∙ c.current.ensures.same.input) c.requires.short, omega arith))
+statements::statement-expression_statement-requires t c = (omega arith, omega arith)
 
 pub statements::statement-returns-else-at_item-clause-gives : goal.statements::statement-returns-else-at_item-clause-gives
 unfolding look_of begins_below whole rule items statements expressions patterns types paths there_at shift passes is_silent begins in_mode anew row one_of any_of no_longer longest is_longer
@@ -62,18 +61,6 @@ statements::statement-returns-else-at_item-clause-gives t c = gives-statement c.
 pub statements::statement-returns-else-at_item-clause-pays : goal.statements::statement-returns-else-at_item-clause-pays
 statements::statement-returns-else-at_item-clause-pays t c = λ e. omega (arith, c.current.ensures.looks, c.at_inner_attribute.ensures.looks, c.at_item.ensures.looks, c.expression_statement.ensures.pays (omega (arith, e, c.current.ensures.left, c.at_inner_attribute.ensures.left, c.at_item.ensures.left)))
 
-pub statements::let_stmt-expect_pattern-requires : goal.statements::let_stmt-expect_pattern-requires
-statements::let_stmt-expect_pattern-requires t c = (omega arith, short-still _ _ ((c.take.ensures.reads true).does.input ∙ c.start-node.ensures.opens.input) c.requires.short)
-
-pub statements::let_stmt-opt_type-requires : goal.statements::let_stmt-opt_type-requires
-statements::let_stmt-opt_type-requires t c = (omega arith, short-still _ _ ((c.expect_pattern.ensures.reads true).does.input ∙ (c.take.ensures.reads true).does.input ∙ c.start-node.ensures.opens.input) c.requires.short)
-
-pub statements::let_stmt-opt_value-requires : goal.statements::let_stmt-opt_value-requires
-statements::let_stmt-opt_value-requires t c = (omega arith, short-still _ _ (c.opt_type.ensures.reads.does.input ∙ (c.expect_pattern.ensures.reads true).does.input ∙ (c.take.ensures.reads true).does.input ∙ c.start-node.ensures.opens.input) c.requires.short)
-
-pub statements::let_stmt-opt_else-requires : goal.statements::let_stmt-opt_else-requires
-statements::let_stmt-opt_else-requires t c = (omega arith, short-still _ _ (c.opt_value.ensures.reads.does.input ∙ c.opt_type.ensures.reads.does.input ∙ (c.expect_pattern.ensures.reads true).does.input ∙ (c.take.ensures.reads true).does.input ∙ c.start-node.ensures.opens.input) c.requires.short)
-
 pub statements::let_stmt-complete-requires : goal.statements::let_stmt-complete-requires
 statements::let_stmt-complete-requires t c = (c.expect.ensures.reads true).does.innermost _ ((c.opt_else.ensures.reads true).does.innermost _ (c.opt_value.ensures.reads.does.innermost _ (c.opt_type.ensures.reads.does.innermost _ ((c.expect_pattern.ensures.reads true).does.innermost _ ((c.take.ensures.reads true).does.innermost _ c.start-node.ensures.marker)))))
 
@@ -81,7 +68,7 @@ pub statements::let_stmt-returns-clause-reads : goal.statements::let_stmt-return
 statements::let_stmt-returns-clause-reads t c = reads-node false c.start-node.ensures.opens (reads-then false (c.take.ensures.reads false) (reads-then false (c.expect_pattern.ensures.reads false) (reads-then false c.opt_type.ensures.reads (reads-then false c.opt_value.ensures.reads (reads-then false (c.opt_else.ensures.reads false) (c.expect.ensures.reads false)))))) c.complete.ensures.closes
 
 pub statements::opt_else-let_else-requires : goal.statements::opt_else-let_else-requires
-statements::opt_else-let_else-requires t c = (omega arith, (short-still _ _ c.at.ensures.same.input c.requires.short, omega arith))
+statements::opt_else-let_else-requires t c = (omega arith, omega arith)
 
 pub statements::opt_else-returns-then-at-clause-reads : goal.statements::opt_else-returns-then-at-clause-reads
 unfolding look_of begins_below whole rule items statements expressions patterns types paths there_at shift passes is_silent begins in_mode anew row one_of any_of no_longer longest is_longer
@@ -91,17 +78,11 @@ pub statements::opt_else-returns-else-at-clause-reads : goal.statements::opt_els
 unfolding look_of begins_below whole rule items statements expressions patterns types paths there_at shift passes is_silent begins in_mode anew row one_of any_of no_longer longest is_longer
 statements::opt_else-returns-else-at-clause-reads t c = λ cond. reads-here (saw-so (c.at.ensures.sees cond) c.if-at.false and nothing) (reads-nothing cond c.at.ensures.same)
 
-pub statements::defer_stmt-expect_block-requires : goal.statements::defer_stmt-expect_block-requires
-statements::defer_stmt-expect_block-requires t c = (omega arith, short-still _ _ ((c.take.ensures.reads true).does.input ∙ c.start-node.ensures.opens.input) c.requires.short)
-
 pub statements::defer_stmt-complete-requires : goal.statements::defer_stmt-complete-requires
 statements::defer_stmt-complete-requires t c = (c.expect_block.ensures.reads true).does.innermost _ ((c.take.ensures.reads true).does.innermost _ c.start-node.ensures.marker)
 
 pub statements::defer_stmt-returns-clause-reads : goal.statements::defer_stmt-returns-clause-reads
 statements::defer_stmt-returns-clause-reads t c = λ cond. reads-node cond c.start-node.ensures.opens (reads-then cond (c.take.ensures.reads cond) (c.expect_block.ensures.reads cond)) c.complete.ensures.closes
-
-pub statements::let_else-expect_block-requires : goal.statements::let_else-expect_block-requires
-statements::let_else-expect_block-requires t c = (omega arith, short-still _ _ ((c.take.ensures.reads true).does.input ∙ c.start-node.ensures.opens.input) c.requires.short)
 
 pub statements::let_else-complete-requires : goal.statements::let_else-complete-requires
 statements::let_else-complete-requires t c = (c.expect_block.ensures.reads true).does.innermost _ ((c.take.ensures.reads true).does.innermost _ c.start-node.ensures.marker)
@@ -110,14 +91,14 @@ pub statements::let_else-returns-clause-reads : goal.statements::let_else-return
 statements::let_else-returns-clause-reads t c = λ cond. reads-node cond c.start-node.ensures.opens (reads-then cond (c.take.ensures.reads cond) (c.expect_block.ensures.reads cond)) c.complete.ensures.closes
 
 pub statements::expression_statement-block_statement-requires : goal.statements::expression_statement-block_statement-requires
-statements::expression_statement-block_statement-requires t c = (omega arith, (short-still _ _ c.at_block_like.ensures.same.input c.requires.short, ((λ d. saw-after c.at_block_like.ensures.same (saw-so (c.at_block_like.ensures.sees d) c.if-at_block_like.true)), omega (arith, c.requires.some, c.at_block_like.ensures.left))))
+statements::expression_statement-block_statement-requires t c = (omega arith, ((λ d. saw-after c.at_block_like.ensures.same (saw-so (c.at_block_like.ensures.sees d) c.if-at_block_like.true)), omega (arith, c.requires.some, c.at_block_like.ensures.left)))
 
 pub statements::expression_statement-returns-then-at_block_like-clause-anew : goal.statements::expression_statement-returns-then-at_block_like-clause-anew
 unfolding look_of begins_below whole rule items statements expressions patterns types paths there_at shift passes is_silent begins in_mode anew row one_of any_of no_longer longest is_longer
 statements::expression_statement-returns-then-at_block_like-clause-anew t c = anew-here (begun rules.block_like (saw-so (c.at_block_like.ensures.sees false) c.if-at_block_like.true) nothing) (anew-look c.at_block_like.ensures.same (c.block_statement.ensures.anew false))
 
 pub statements::expression_statement-ended_expression-requires : goal.statements::expression_statement-ended_expression-requires
-statements::expression_statement-ended_expression-requires t c = (omega arith, (short-still _ _ (c.at_expression.ensures.same.input ∙ c.at_block_like.ensures.same.input) c.requires.short, (saw-after c.at_expression.ensures.same (saw-so c.at_expression.ensures.sees c.if-at_expression.true), omega (arith, c.at_expression.ensures.some c.if-at_expression.true, c.at_expression.ensures.left))))
+statements::expression_statement-ended_expression-requires t c = (omega arith, (saw-after c.at_expression.ensures.same (saw-so c.at_expression.ensures.sees c.if-at_expression.true), omega (arith, c.at_expression.ensures.some c.if-at_expression.true, c.at_expression.ensures.left)))
 
 pub statements::expression_statement-returns-then-at_expression-clause-anew : goal.statements::expression_statement-returns-then-at_expression-clause-anew
 unfolding look_of begins_below whole rule items statements expressions patterns types paths there_at shift passes is_silent begins in_mode anew row one_of any_of no_longer longest is_longer
@@ -128,19 +109,19 @@ unfolding look_of begins_below whole rule items statements expressions patterns 
 statements::expression_statement-returns-clause-anew t c = anew-here (begun rules.block_like (saw-so (c.at_block_like.ensures.sees false) c.if-at_block_like.false) (begun rules.expression (saw-before c.at_block_like.ensures.same (saw-so c.at_expression.ensures.sees c.if-at_expression.false)) nothing)) (anew-look c.at_block_like.ensures.same (anew-look c.at_expression.ensures.same (anew-after refl (c.skip.ensures.reads false))))
 
 pub statements::block_statement-block_like-requires : goal.statements::block_statement-block_like-requires
-statements::block_statement-block_like-requires t c = (omega arith, (short-still _ _ c.start-frame.ensures.opens.input c.requires.short, ((λ d. saw-inside c.start-frame.ensures.opens (c.requires.begins d)), omega arith)))
+statements::block_statement-block_like-requires t c = (omega arith, ((λ d. saw-inside c.start-frame.ensures.opens (c.requires.begins d)), omega arith))
 
 pub statements::block_statement-after_block-frame-requires : goal.statements::block_statement-after_block-frame-requires
-statements::block_statement-after_block-frame-requires t c = (omega arith, (short-still _ _ ((c.block_like.ensures.gives true).does.input ∙ c.start-frame.ensures.opens.input) c.requires.short, (c.block_like.ensures.gives true).does.innermost _ c.start-frame.ensures.marker))
+statements::block_statement-after_block-frame-requires t c = (omega arith, (c.block_like.ensures.gives true).does.innermost _ c.start-frame.ensures.marker)
 
 pub statements::block_statement-returns-clause-anew : goal.statements::block_statement-returns-clause-anew
 statements::block_statement-returns-clause-anew t c = λ cond. anew-completes c.start-frame.ensures.opens (completes-leave (reads-then cond (reads-call cond (c.block_like.ensures.gives cond)) (c.after_block-frame.ensures.reads cond)) c.abandon.ensures.leaves)
 
 pub statements::after_block-postfix-frame-requires : goal.statements::after_block-postfix-frame-requires
-statements::after_block-postfix-frame-requires t c = (omega arith, (short-still _ _ c.at_more.ensures.same.input c.requires.short, (omega (arith, c.at_more.ensures.some c.if-at_more.true, c.at_more.ensures.left), c.at_more.ensures.same.innermost _ c.requires.innermost)))
+statements::after_block-postfix-frame-requires t c = (omega arith, (omega (arith, c.at_more.ensures.some c.if-at_more.true, c.at_more.ensures.left), c.at_more.ensures.same.innermost _ c.requires.innermost))
 
 pub statements::after_block-postfixes-frame-requires : goal.statements::after_block-postfixes-frame-requires
-statements::after_block-postfixes-frame-requires t c = (omega arith, (short-still _ _ ((c.postfix-frame.ensures.reads true).does.input ∙ c.at_more.ensures.same.input) c.requires.short, c.postfix-frame.ensures.marker))
+statements::after_block-postfixes-frame-requires t c = (omega arith, c.postfix-frame.ensures.marker)
 
 pub statements::after_block-returns-then-at_more-clause-reads : goal.statements::after_block-returns-then-at_more-clause-reads
 unfolding look_of begins_below whole rule items statements expressions patterns types paths there_at shift passes is_silent begins in_mode anew row one_of any_of no_longer longest is_longer
@@ -168,7 +149,7 @@ unfolding look_of begins_below whole rule items statements expressions patterns 
 statements::after_block-returns-clause-reads t c = λ cond. reads-else cond (saw-so (c.at_more.ensures.sees cond) c.if-at_more.false) (after-look cond c.at_more.ensures.same (reads-else cond (saw-so (c.at.ensures.sees cond) c.if-at.false) (after-look cond c.at.ensures.same (reads-else cond (saw-so (c.at_end_of.ensures.sees cond) c.if-at_end_of.false) (reads-wrap cond (reads-nothing cond c.at_end_of.ensures.same) c.wrap-2.ensures.wraps)))))
 
 pub statements::ended_expression-expression-requires : goal.statements::ended_expression-expression-requires
-statements::ended_expression-expression-requires t c = (omega arith, (short-still _ _ c.start-frame.ensures.opens.input c.requires.short, (saw-inside c.start-frame.ensures.opens c.requires.begins, omega arith)))
+statements::ended_expression-expression-requires t c = (omega arith, (saw-inside c.start-frame.ensures.opens c.requires.begins, omega arith))
 
 pub statements::ended_expression-statement_end-frame-requires : goal.statements::ended_expression-statement_end-frame-requires
 statements::ended_expression-statement_end-frame-requires t c = c.expression.ensures.gives.does.innermost _ c.start-frame.ensures.marker

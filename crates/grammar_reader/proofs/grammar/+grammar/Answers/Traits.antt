@@ -1,5 +1,5 @@
 -- Traits and implementations, path by path.
-use Rattle.std.proofs.Common.{true, ◌∙◌, arith}
+use Rattle.std.proofs.Common.{true, arith}
 use Rattle.rust_grammar.specs.Expressions.{expressions}
 use Rattle.rust_grammar.specs.Items.{items}
 use Rattle.rust_grammar.specs.Meaning.{begins_below, look_of}
@@ -10,7 +10,6 @@ use Rattle.rust_grammar.specs.Rule.{begins, in_mode, anew, is_silent, passes, sh
 use Rattle.rust_grammar.specs.Statements.{statements}
 use Rattle.rust_grammar.specs.Types.{types}
 use Rattle.rust_grammar.specs.Whole.{rule, whole}
-use Rattle.grammar_reader.proofs.Inputs.{short-still}
 use Rattle.rust_productions.proofs.ByHand.{after-look, completes-wrap, reads-call, reads-then}
 use Rattle.rust_productions.proofs.Choices.{reads-here}
 use Rattle.rust_productions.proofs.Facts.{nothing, saw-so, ◌and◌}
@@ -20,20 +19,8 @@ use Rattle.grammar_reader.proofs.grammar.+grammar.Goals as goal
 pub items::traits::impl_item-unsafe_word-requires : goal.items::traits::impl_item-unsafe_word-requires
 items::traits::impl_item-unsafe_word-requires t c = record { begins = c.requires.begins; other = λ e. absurd (omega (arith, e)); inside = λ e. absurd (omega (arith, e)); some = c.requires.some }
 
-pub items::traits::impl_item-opt_generic_params-requires : goal.items::traits::impl_item-opt_generic_params-requires
-items::traits::impl_item-opt_generic_params-requires t c = (omega arith, short-still _ _ (c.unsafe_word.ensures.reads true).does.input c.requires.short)
-
-pub items::traits::impl_item-expect_type-requires : goal.items::traits::impl_item-expect_type-requires
-items::traits::impl_item-expect_type-requires t c = (omega arith, short-still _ _ ((c.opt_generic_params.ensures.reads true).does.input ∙ (c.unsafe_word.ensures.reads true).does.input) c.requires.short)
-
 pub items::traits::impl_item-opt_type_after-requires : goal.items::traits::impl_item-opt_type_after-requires
-items::traits::impl_item-opt_type_after-requires t c = (omega arith, (short-still _ _ (c.expect_type.ensures.reads.does.input ∙ (c.opt_generic_params.ensures.reads true).does.input ∙ (c.unsafe_word.ensures.reads true).does.input) c.requires.short, omega arith))
-
-pub items::traits::impl_item-opt_where_clause-requires : goal.items::traits::impl_item-opt_where_clause-requires
-items::traits::impl_item-opt_where_clause-requires t c = (omega arith, short-still _ _ (c.opt_type_after.ensures.reads.does.input ∙ c.expect_type.ensures.reads.does.input ∙ (c.opt_generic_params.ensures.reads true).does.input ∙ (c.unsafe_word.ensures.reads true).does.input) c.requires.short)
-
-pub items::traits::impl_item-expect_assoc_items-requires : goal.items::traits::impl_item-expect_assoc_items-requires
-items::traits::impl_item-expect_assoc_items-requires t c = (omega arith, short-still _ _ (c.opt_where_clause.ensures.reads.does.input ∙ c.opt_type_after.ensures.reads.does.input ∙ c.expect_type.ensures.reads.does.input ∙ (c.opt_generic_params.ensures.reads true).does.input ∙ (c.unsafe_word.ensures.reads true).does.input) c.requires.short)
+items::traits::impl_item-opt_type_after-requires t c = (omega arith, omega arith)
 
 pub items::traits::impl_item-complete-requires : goal.items::traits::impl_item-complete-requires
 items::traits::impl_item-complete-requires t c = (c.expect_assoc_items.ensures.reads true).does.innermost _ (c.opt_where_clause.ensures.reads.does.innermost _ (c.opt_type_after.ensures.reads.does.innermost _ (c.expect_type.ensures.reads.does.innermost _ ((c.opt_generic_params.ensures.reads true).does.innermost _ ((c.unsafe_word.ensures.reads true).does.innermost _ c.requires.innermost)))))
@@ -44,18 +31,6 @@ items::traits::impl_item-returns-clause-completes t c = completes-wrap (reads-tw
 pub items::traits::trait_item-unsafe_word-requires : goal.items::traits::trait_item-unsafe_word-requires
 items::traits::trait_item-unsafe_word-requires t c = record { begins = c.requires.begins; other = λ e. absurd (omega (arith, e)); inside = λ e. absurd (omega (arith, e)); some = c.requires.some }
 
-pub items::traits::trait_item-opt_generic_params-requires : goal.items::traits::trait_item-opt_generic_params-requires
-items::traits::trait_item-opt_generic_params-requires t c = (omega arith, short-still _ _ ((c.expect_name.ensures.reads true).does.input ∙ (c.unsafe_word.ensures.reads true).does.input) c.requires.short)
-
-pub items::traits::trait_item-bounds_after_colon-requires : goal.items::traits::trait_item-bounds_after_colon-requires
-items::traits::trait_item-bounds_after_colon-requires t c = (omega arith, short-still _ _ ((c.opt_generic_params.ensures.reads true).does.input ∙ (c.expect_name.ensures.reads true).does.input ∙ (c.unsafe_word.ensures.reads true).does.input) c.requires.short)
-
-pub items::traits::trait_item-opt_where_clause-requires : goal.items::traits::trait_item-opt_where_clause-requires
-items::traits::trait_item-opt_where_clause-requires t c = (omega arith, short-still _ _ ((c.bounds_after_colon.ensures.reads true).does.input ∙ (c.opt_generic_params.ensures.reads true).does.input ∙ (c.expect_name.ensures.reads true).does.input ∙ (c.unsafe_word.ensures.reads true).does.input) c.requires.short)
-
-pub items::traits::trait_item-expect_assoc_items-requires : goal.items::traits::trait_item-expect_assoc_items-requires
-items::traits::trait_item-expect_assoc_items-requires t c = (omega arith, short-still _ _ (c.opt_where_clause.ensures.reads.does.input ∙ (c.bounds_after_colon.ensures.reads true).does.input ∙ (c.opt_generic_params.ensures.reads true).does.input ∙ (c.expect_name.ensures.reads true).does.input ∙ (c.unsafe_word.ensures.reads true).does.input) c.requires.short)
-
 pub items::traits::trait_item-complete-requires : goal.items::traits::trait_item-complete-requires
 items::traits::trait_item-complete-requires t c = (c.expect_assoc_items.ensures.reads true).does.innermost _ (c.opt_where_clause.ensures.reads.does.innermost _ ((c.bounds_after_colon.ensures.reads true).does.innermost _ ((c.opt_generic_params.ensures.reads true).does.innermost _ ((c.expect_name.ensures.reads true).does.innermost _ ((c.unsafe_word.ensures.reads true).does.innermost _ c.requires.innermost)))))
 
@@ -63,7 +38,7 @@ pub items::traits::trait_item-returns-clause-completes : goal.items::traits::tra
 items::traits::trait_item-returns-clause-completes t c = completes-wrap (reads-two _ (c.unsafe_word.ensures.reads c.args.condition) (reads-then _ (c.expect_name.ensures.reads c.args.condition) (reads-then _ (c.opt_generic_params.ensures.reads c.args.condition) (reads-then _ (c.bounds_after_colon.ensures.reads c.args.condition) (reads-then _ c.opt_where_clause.ensures.reads (c.expect_assoc_items.ensures.reads c.args.condition)))))) c.complete.ensures.closes
 
 pub items::traits::expect_assoc_items-assoc_items-requires : goal.items::traits::expect_assoc_items-assoc_items-requires
-items::traits::expect_assoc_items-assoc_items-requires t c = (omega arith, (short-still _ _ c.at.ensures.same.input c.requires.short, omega arith))
+items::traits::expect_assoc_items-assoc_items-requires t c = (omega arith, omega arith)
 
 pub items::traits::expect_assoc_items-returns-then-at-clause-reads : goal.items::traits::expect_assoc_items-returns-then-at-clause-reads
 unfolding look_of begins_below whole rule items statements expressions patterns types paths there_at shift passes is_silent begins in_mode anew row one_of any_of no_longer longest is_longer

@@ -1,5 +1,5 @@
 -- Types, arm by arm.
-use Rattle.std.proofs.Common.{true, refl, subst, ◌∙◌, arith}
+use Rattle.std.proofs.Common.{true, refl, subst, arith}
 use Rattle.rust_grammar.specs.Rule as rules
 use Rattle.rust_grammar.specs.Rule.{Look}
 use Rattle.rust_grammar.specs.Expressions.{expressions}
@@ -14,7 +14,6 @@ use Rattle.rust_grammar.specs.Types.{types}
 use Rattle.rust_grammar.specs.Whole.{rule, whole}
 use Rattle.grammar_reader.specs.declared.grammar.paths.Mode.TheVariants as modes
 use Rattle.grammar_reader.proofs.PathArgs.{any-mode, as-word, paths-begin}
-use Rattle.grammar_reader.proofs.Inputs.{short-still}
 use Rattle.rust_productions.specs.Reads.{Saw}
 use Rattle.rust_productions.proofs.ByHand.{after-look, completes-leave, reads-call, reads-mode, reads-node, reads-none, reads-opt, reads-then, reads-wrap}
 use Rattle.rust_productions.proofs.Choices.{anew-after, anew-completes, gives-anew, reads-here}
@@ -88,14 +87,8 @@ types::inside-path_type-requires t c =
     let seen = begins-else rules.type_path rules.any_type refl (saw-not c.in_default.not-L_PAREN (c.current.ensures.sees c.args.condition) and saw-not c.in_default.not-L_BRACK (c.current.ensures.sees c.args.condition) and saw-not c.in_default.not-BANG (c.current.ensures.sees c.args.condition) and saw-not c.in_default.not-UNDERSCORE (c.current.ensures.sees c.args.condition) and saw-not c.in_default.not-STAR (c.current.ensures.sees c.args.condition) and saw-not c.in_default.not-AMP (c.current.ensures.sees c.args.condition) and saw-not c.in_default.not-IMPL_KW (c.current.ensures.sees c.args.condition) and saw-not c.in_default.not-DYN_KW (c.current.ensures.sees c.args.condition) and saw-before c.current.ensures.same (saw-so (c.at_dyn_word.ensures.sees c.args.condition) c.if-at_dyn_word.false) and nothing) c.requires.begins refl in
     let path = subst (λ (l : Look). Saw c.args.condition l c.args.p.now true) (paths-begin modes.Type) seen in (
       omega arith,
-      (
-        short-still _ _ (c.at_dyn_word.ensures.same.input ∙ c.current.ensures.same.input) c.requires.short,
-        (λ d. saw-after c.at_dyn_word.ensures.same (saw-after c.current.ensures.same (any-mode path)), omega arith),
-      ),
+      (λ d. saw-after c.at_dyn_word.ensures.same (saw-after c.current.ensures.same (any-mode path)), omega arith),
     )
-
-pub types::bounded_type-bounds-requires : goal.types::bounded_type-bounds-requires
-types::bounded_type-bounds-requires t c = (omega arith, short-still _ _ ((c.take.ensures.reads true).does.input ∙ c.start-node.ensures.opens.input) c.requires.short)
 
 pub types::bounded_type-complete-requires : goal.types::bounded_type-complete-requires
 types::bounded_type-complete-requires t c = (c.bounds.ensures.gives true).does.innermost _ ((c.take.ensures.reads true).does.innermost _ c.start-node.ensures.marker)
@@ -110,7 +103,7 @@ pub types::inside-returns-in-DYN_KW-clause-marker : goal.types::inside-returns-i
 types::inside-returns-in-DYN_KW-clause-marker t c = (c.bounded_type-in-DYN_KW.ensures.reads true).does.innermost _ (c.current.ensures.same.innermost _ c.requires.innermost)
 
 pub types::path_type-path_with_args-requires : goal.types::path_type-path_with_args-requires
-types::path_type-path_with_args-requires t c = (omega arith, (short-still _ _ c.start-node.ensures.opens.input c.requires.short, (λ d. saw-inside c.start-node.ensures.opens (c.requires.begins d), omega arith)))
+types::path_type-path_with_args-requires t c = (omega arith, (λ d. saw-inside c.start-node.ensures.opens (c.requires.begins d), omega arith))
 
 pub types::path_type-complete-requires : goal.types::path_type-complete-requires
 types::path_type-complete-requires t c = (c.path_with_args.ensures.gives true).does.innermost _ c.start-node.ensures.marker
@@ -119,7 +112,7 @@ pub types::path_type-returns-clause-reads : goal.types::path_type-returns-clause
 types::path_type-returns-clause-reads t c = λ cond. reads-node cond c.start-node.ensures.opens (reads-call cond (c.path_with_args.ensures.gives cond)) c.complete.ensures.closes
 
 pub types::expect_type-any_type-requires : goal.types::expect_type-any_type-requires
-types::expect_type-any_type-requires t c = (omega arith, (short-still _ _ c.at_type.ensures.same.input c.requires.short, (saw-after c.at_type.ensures.same (saw-so (c.at_type.ensures.sees c.args.condition) c.if-at_type.true), omega (arith, c.at_type.ensures.some c.if-at_type.true, c.at_type.ensures.left))))
+types::expect_type-any_type-requires t c = (omega arith, (saw-after c.at_type.ensures.same (saw-so (c.at_type.ensures.sees c.args.condition) c.if-at_type.true), omega (arith, c.at_type.ensures.some c.if-at_type.true, c.at_type.ensures.left)))
 
 pub types::expect_type-returns-then-at_type-clause-reads : goal.types::expect_type-returns-then-at_type-clause-reads
 unfolding look_of begins_below whole rule items statements expressions patterns types paths there_at shift passes is_silent begins in_mode anew row one_of any_of no_longer longest is_longer
@@ -129,17 +122,11 @@ pub types::expect_type-returns-clause-reads : goal.types::expect_type-returns-cl
 unfolding look_of begins_below whole rule items statements expressions patterns types paths there_at shift passes is_silent begins in_mode anew row one_of any_of no_longer longest is_longer
 types::expect_type-returns-clause-reads t c = reads-here (begun rules.any_type (saw-so (c.at_type.ensures.sees c.args.condition) c.if-at_type.false) nothing) (after-look _ c.at_type.ensures.same (c.error.ensures.reads c.args.condition))
 
-pub types::ptr_type-expect_type-requires : goal.types::ptr_type-expect_type-requires
-types::ptr_type-expect_type-requires t c = (omega arith, short-still _ _ ((c.const_or_mut.ensures.reads true).does.input ∙ (c.take.ensures.reads true).does.input ∙ c.start-node.ensures.opens.input) c.requires.short)
-
 pub types::ptr_type-complete-requires : goal.types::ptr_type-complete-requires
 types::ptr_type-complete-requires t c = c.expect_type.ensures.reads.does.innermost _ ((c.const_or_mut.ensures.reads true).does.innermost _ ((c.take.ensures.reads true).does.innermost _ c.start-node.ensures.marker))
 
 pub types::ptr_type-returns-clause-reads : goal.types::ptr_type-returns-clause-reads
 types::ptr_type-returns-clause-reads t c = reads-node _ c.start-node.ensures.opens (reads-then _ (c.take.ensures.reads c.args.condition) (reads-then _ (c.const_or_mut.ensures.reads c.args.condition) c.expect_type.ensures.reads)) c.complete.ensures.closes
-
-pub types::ref_type-expect_type-requires : goal.types::ref_type-expect_type-requires
-types::ref_type-expect_type-requires t c = (omega arith, short-still _ _ ((c.eat.ensures.reads true).does.input ∙ (c.opt_lifetime.ensures.reads true).does.input ∙ (c.take.ensures.reads true).does.input ∙ c.start-node.ensures.opens.input) c.requires.short)
 
 pub types::ref_type-complete-requires : goal.types::ref_type-complete-requires
 types::ref_type-complete-requires t c = c.expect_type.ensures.reads.does.innermost _ ((c.eat.ensures.reads true).does.innermost _ ((c.opt_lifetime.ensures.reads true).does.innermost _ ((c.take.ensures.reads true).does.innermost _ c.start-node.ensures.marker)))
@@ -148,7 +135,7 @@ pub types::ref_type-returns-clause-reads : goal.types::ref_type-returns-clause-r
 types::ref_type-returns-clause-reads t c = reads-node _ c.start-node.ensures.opens (reads-then _ (c.take.ensures.reads c.args.condition) (reads-then _ (c.opt_lifetime.ensures.reads c.args.condition) (reads-then _ (c.eat.ensures.reads c.args.condition) c.expect_type.ensures.reads))) c.complete.ensures.closes
 
 pub types::paren_type-after_paren-requires : goal.types::paren_type-after_paren-requires
-types::paren_type-after_paren-requires t c = (omega arith, (short-still _ _ (c.take.ensures.reads true).does.input c.requires.short, (c.take.ensures.reads true).does.innermost _ c.requires.innermost))
+types::paren_type-after_paren-requires t c = (omega arith, (c.take.ensures.reads true).does.innermost _ c.requires.innermost)
 
 pub types::paren_type-returns-clause-reads : goal.types::paren_type-returns-clause-reads
 types::paren_type-returns-clause-reads t c = reads-then _ (c.take.ensures.reads c.args.condition) c.after_paren.ensures.reads
@@ -165,7 +152,7 @@ unfolding look_of begins_below whole rule items statements expressions patterns 
 types::after_paren-returns-clause-reads t c = reads-here (saw-so (c.at.ensures.sees c.args.condition) c.if-at.false and nothing) (after-look _ c.at.ensures.same (reads-then _ c.expect_type.ensures.reads (c.after_first.ensures.reads c.args.condition)))
 
 pub types::after_first-rest_of_list-requires : goal.types::after_first-rest_of_list-requires
-types::after_first-rest_of_list-requires t c = (omega arith, (short-still _ _ ((c.take.ensures.reads true).does.input ∙ c.at.ensures.same.input) c.requires.short, omega arith))
+types::after_first-rest_of_list-requires t c = (omega arith, omega arith)
 
 pub types::after_first-wrap-requires : goal.types::after_first-wrap-requires
 types::after_first-wrap-requires t c = (c.rest_of_list.ensures.reads true).does.innermost _ ((c.take.ensures.reads true).does.innermost _ (c.at.ensures.same.innermost _ c.requires.innermost))
@@ -181,17 +168,11 @@ pub types::after_first-returns-clause-reads : goal.types::after_first-returns-cl
 unfolding look_of begins_below whole rule items statements expressions patterns types paths there_at shift passes is_silent begins in_mode anew row one_of any_of no_longer longest is_longer
 types::after_first-returns-clause-reads t c = λ cond. reads-here (saw-so (c.at.ensures.sees cond) c.if-at.false and nothing) (after-look cond c.at.ensures.same (reads-wrap cond (c.expect.ensures.reads cond) c.wrap-2.ensures.wraps))
 
-pub types::bracket_type-expect_type-requires : goal.types::bracket_type-expect_type-requires
-types::bracket_type-expect_type-requires t c = (omega arith, short-still _ _ (c.take.ensures.reads true).does.input c.requires.short)
-
 pub types::bracket_type-after_element-requires : goal.types::bracket_type-after_element-requires
-types::bracket_type-after_element-requires t c = (omega arith, (short-still _ _ (c.expect_type.ensures.reads.does.input ∙ (c.take.ensures.reads true).does.input) c.requires.short, c.expect_type.ensures.reads.does.innermost _ ((c.take.ensures.reads true).does.innermost _ c.requires.innermost)))
+types::bracket_type-after_element-requires t c = (omega arith, c.expect_type.ensures.reads.does.innermost _ ((c.take.ensures.reads true).does.innermost _ c.requires.innermost))
 
 pub types::bracket_type-returns-clause-reads : goal.types::bracket_type-returns-clause-reads
 types::bracket_type-returns-clause-reads t c = reads-then _ (c.take.ensures.reads c.args.condition) (reads-then _ c.expect_type.ensures.reads (c.after_element.ensures.reads c.args.condition))
-
-pub types::after_element-array_length-requires : goal.types::after_element-array_length-requires
-types::after_element-array_length-requires t c = (omega arith, short-still _ _ ((c.take.ensures.reads true).does.input ∙ c.at.ensures.same.input) c.requires.short)
 
 pub types::after_element-wrap-requires : goal.types::after_element-wrap-requires
 types::after_element-wrap-requires t c = (c.expect.ensures.reads true).does.innermost _ ((c.array_length.ensures.reads true).does.innermost _ ((c.take.ensures.reads true).does.innermost _ (c.at.ensures.same.innermost _ c.requires.innermost)))
@@ -210,18 +191,12 @@ types::after_element-returns-clause-reads t c = λ cond. reads-here (saw-so (c.a
 pub types::array_length-returns-clause-reads : goal.types::array_length-returns-clause-reads
 types::array_length-returns-clause-reads t c = λ cond. reads-node cond c.start-node.ensures.opens (reads-mode cond c.expect_expression.ensures.reads) c.complete.ensures.closes
 
-pub types::ret_type-expect_type-requires : goal.types::ret_type-expect_type-requires
-types::ret_type-expect_type-requires t c = (omega arith, short-still _ _ ((c.take_pair.ensures.reads true 0 0).does.input ∙ c.start-node.ensures.opens.input) c.requires.short)
-
 pub types::ret_type-complete-requires : goal.types::ret_type-complete-requires
 types::ret_type-complete-requires t c = c.expect_type.ensures.reads.does.innermost _ ((c.take_pair.ensures.reads true 0 0).does.innermost _ c.start-node.ensures.marker)
 
 pub types::ret_type-returns-clause-gives : goal.types::ret_type-returns-clause-gives
 unfolding look_of begins_below whole rule items statements expressions patterns types paths there_at shift passes is_silent begins in_mode anew row one_of any_of no_longer longest is_longer
 types::ret_type-returns-clause-gives t c = gives-anew (anew-after refl (reads-node _ c.start-node.ensures.opens (reads-then _ (c.take_pair.ensures.reads c.args.condition _ _) c.expect_type.ensures.reads) c.complete.ensures.closes))
-
-pub types::opt_type_after-expect_type-requires : goal.types::opt_type_after-expect_type-requires
-types::opt_type_after-expect_type-requires t c = (omega arith, short-still _ _ ((c.take.ensures.reads true).does.input ∙ c.at.ensures.same.input) c.requires.short)
 
 pub types::opt_type_after-returns-then-at-clause-reads : goal.types::opt_type_after-returns-then-at-clause-reads
 unfolding look_of begins_below whole rule items statements expressions patterns types paths there_at shift passes is_silent begins in_mode anew row one_of any_of no_longer longest is_longer

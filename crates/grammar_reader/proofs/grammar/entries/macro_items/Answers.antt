@@ -3,13 +3,9 @@ use Rattle.std.proofs.Common.{false, refl}
 use Rattle.rust_grammar.specs.Items.{items}
 use Rattle.rust_grammar.specs.Statements.{statements}
 use Rattle.rust_grammar.specs.Whole.{rule, whole}
-use Rattle.grammar_reader.proofs.Inputs.{short-still}
 use Rattle.rust_productions.proofs.ByHand.{reads-node}
 use Rattle.rust_productions.proofs.Choices.{anew-after, gives-anew}
 use Rattle.grammar_reader.proofs.grammar.entries.macro_items.Goals as goal
-
-pub items-requires : goal.items-requires
-items-requires c = record { short = short-still _ _ (c.start-list.ensures.opens.input) c.requires.short }
 
 pub complete-requires : goal.complete-requires
 complete-requires c = c.items.ensures.reads.does.innermost _ c.start-list.ensures.marker

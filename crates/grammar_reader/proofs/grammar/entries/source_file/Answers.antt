@@ -1,15 +1,11 @@
 -- The node holds what the row says.
-use Rattle.std.proofs.Common.{false, refl, ◌∙◌}
+use Rattle.std.proofs.Common.{false, refl}
 use Rattle.rust_grammar.specs.Items.{items}
 use Rattle.rust_grammar.specs.Statements.{statements}
 use Rattle.rust_grammar.specs.Whole.{rule, whole}
-use Rattle.grammar_reader.proofs.Inputs.{short-still}
 use Rattle.rust_productions.proofs.ByHand.{reads-node, reads-then}
 use Rattle.rust_productions.proofs.Choices.{anew-after, gives-anew}
 use Rattle.grammar_reader.proofs.grammar.entries.source_file.Goals as goal
-
-pub items-requires : goal.items-requires
-items-requires c = record { short = short-still _ _ ((c.eat-2.ensures.reads false).does.input ∙ (c.eat.ensures.reads false).does.input ∙ c.start-file.ensures.opens.input) c.requires.short }
 
 pub complete-requires : goal.complete-requires
 complete-requires c = c.items.ensures.reads.does.innermost _ ((c.eat-2.ensures.reads false).does.innermost _ ((c.eat.ensures.reads false).does.innermost _ c.start-file.ensures.marker))
