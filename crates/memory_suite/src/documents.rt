@@ -6,7 +6,7 @@ use parser_input::{Edition, SyntaxKind};
 use ra_parser::TopEntryPoint;
 use rowan_green::{TextRange, TextSize};
 use rust_document::{
-    CommitError, Document, EditError, OpenError, PayloadEntry, SyntaxEditor, payload,
+    CommitError, Committed, Document, EditError, OpenError, PayloadEntry, SyntaxEditor, payload,
 };
 use std::alloc::{AllocError, Global};
 use syntax_tree::{Position, SyntaxElement, TreeIds};
@@ -32,8 +32,12 @@ pub(crate) enum Changes {
     Name,
     /// The first of two structs is deleted, and another inserted behind it.
     Structs,
+    /// The name of `struct S;` becomes a keyword.
+    Keyword,
     /// Both arguments of a call become one literal.
     Arguments,
+    /// An argument becomes another, and so does the call around it.
+    Inside,
     /// An argument becomes another, and the statement around it is deleted.
     Nested,
     /// Two editors delete a struct each, and are merged.
@@ -201,6 +205,41 @@ fn merged(alloc: Global, document: &Document) -> anyhow::Result<SyntaxEditor> {
     }
 }
 
+/// An editor that replaces an element by a token.
+fn renaming(
+    alloc: Global,
+    document: &Document,
+    name: &str,
+    ids: &mut TreeIds,
+) -> anyhow::Result<SyntaxEditor> {
+    let new = payload(alloc, PayloadEntry::Token, Edition::Edition2021, name, ids)?;
+    let target = found(alloc, document, (SyntaxKind::IDENT, 7, 8))?;
+    replacing(alloc, document.editor(alloc)?, target, &new)
+}
+
+/// An editor that replaces both arguments by one element, or one argument and what is around it.
+fn arguments(
+    alloc: Global,
+    changes: Changes,
+    document: &Document,
+    ids: &mut TreeIds,
+) -> anyhow::Result<SyntaxEditor> {
+    let new = read(alloc, TopEntryPoint::Expr, "3", ids)?;
+    let editor = match changes {
+        Changes::Arguments => {
+            let editor = document.editor(alloc)?;
+            replacing(alloc, editor, found(alloc, document, TWO)?, &new)?
+        }
+        Changes::Inside => {
+            let call = read(alloc, TopEntryPoint::Expr, "h()", ids)?;
+            let around = found(alloc, document, (SyntaxKind::CALL_EXPR, 9, 13))?;
+            replacing(alloc, document.editor(alloc)?, around, &call)?
+        }
+        _ => deleting(alloc, document, (SyntaxKind::EXPR_STMT, 9, 14))?,
+    };
+    replacing(alloc, editor, found(alloc, document, ONE)?, &new)
+}
+
 fn recorded(
     alloc: Global,
     changes: Changes,
@@ -208,25 +247,30 @@ fn recorded(
     ids: &mut TreeIds,
 ) -> anyhow::Result<SyntaxEditor> {
     match changes {
-        Changes::Name => {
-            let new = payload(alloc, PayloadEntry::Token, Edition::Edition2021, "Tee", ids)?;
-            let target = found(alloc, document, (SyntaxKind::IDENT, 7, 8))?;
-            replacing(alloc, document.editor(alloc)?, target, &new)
-        }
+        Changes::Name => renaming(alloc, document, "Tee", ids),
+        Changes::Keyword => renaming(alloc, document, "struct", ids),
         Changes::Structs => structs(alloc, document, ids),
-        Changes::Arguments => {
-            let new = read(alloc, TopEntryPoint::Expr, "3", ids)?;
-            let editor = document.editor(alloc)?;
-            let editor = replacing(alloc, editor, found(alloc, document, ONE)?, &new)?;
-            replacing(alloc, editor, found(alloc, document, TWO)?, &new)
-        }
-        Changes::Nested => {
-            let new = read(alloc, TopEntryPoint::Expr, "2", ids)?;
-            let editor = deleting(alloc, document, (SyntaxKind::EXPR_STMT, 9, 14))?;
-            replacing(alloc, editor, found(alloc, document, ONE)?, &new)
-        }
         Changes::Merged => merged(alloc, document),
+        _ => arguments(alloc, changes, document, ids),
     }
+}
+
+/// The text of a document and the bytes that a commit put in, or the number of the refusal.
+fn told(
+    alloc: Global,
+    document: &Document,
+    answer: Result<Committed, CommitError>,
+) -> Result<String, AllocError> {
+    let committed = match answer {
+        Ok(committed) => committed,
+        Err(refusal) => return format!(in alloc; "refused {}", refusal as u32),
+    };
+    let mut out = format!(in alloc; "{}", document.text())?;
+    for range in &committed.changed {
+        let (start, end) = (range.start().0, range.end().0);
+        out.push_str(format!(in alloc; " {start}..{end}")?.as_str())?;
+    }
+    Ok(out)
 }
 
 /// Commits changes, which are recorded a second time if memory is refused: the document is as it was then.
@@ -242,15 +286,7 @@ fn commit(
         let editor = recorded(alloc, changes, document, ids)?;
         match document.commit(alloc, editor, ids) {
             Err(CommitError::NoMemory) => *refused = refused.saturating_add(1),
-            answer => {
-                let committed = answer?;
-                let mut out = format!(in alloc; "{}", document.text())?;
-                for range in &committed.changed {
-                    let (start, end) = (range.start().0, range.end().0);
-                    out.push_str(format!(in alloc; " {start}..{end}")?.as_str())?;
-                }
-                return Ok(out);
-            }
+            answer => return Ok(told(alloc, document, answer)?),
         }
         if state(alloc, document)?.as_str() != before.as_str() {
             bail!("a refused commit changed the document");
@@ -358,6 +394,11 @@ pub(crate) const ROWS: &[Row<DocumentCall>] = &[
     ),
     (
         "rust_document::Document::commit",
+        DocumentCall::Commit("struct S;", Changes::Keyword),
+        "refused 5",
+    ),
+    (
+        "rust_document::Document::commit",
         DocumentCall::Commit("struct S;", Changes::Name),
         "struct Tee; 7..10",
     ),
@@ -370,6 +411,11 @@ pub(crate) const ROWS: &[Row<DocumentCall>] = &[
         "rust_document::Document::commit",
         DocumentCall::Commit("fn f() { g(1, 2); }", Changes::Arguments),
         "fn f() { g(3, 3); } 11..12 14..15",
+    ),
+    (
+        "rust_document::Document::commit",
+        DocumentCall::Commit("fn f() { g(1); }", Changes::Inside),
+        "refused 3",
     ),
     (
         "rust_document::Document::commit",
