@@ -1,15 +1,21 @@
 /* Refuses one request for memory of the program that it is loaded into: the one of the number REFUSE, counted from 1. Where that
-   comes, it makes the file REFUSED. */
-#include <errno.h>
-#include <fcntl.h>
-#include <stddef.h>
-#include <stdlib.h>
-#include <unistd.h>
+   comes, it makes the file REFUSED. (No header is included: the kit's compiler comes without those of the C library.) */
+typedef __SIZE_TYPE__ size_t;
+
+#define NULL ((void *)0)
+#define ENOMEM 12
+#define O_WRONLY 01
+#define O_CREAT 0100
 
 void *__libc_malloc(size_t);
 void *__libc_calloc(size_t, size_t);
 void *__libc_realloc(void *, size_t);
 void *__libc_memalign(size_t, size_t);
+int *__errno_location(void);
+char *getenv(const char *);
+long atol(const char *);
+int open(const char *, int, ...);
+int close(int);
 
 static long left;
 
@@ -24,7 +30,7 @@ static int is_refused(void)
     if (left == 0 || --left > 0)
         return 0;
     close(open(getenv("REFUSED"), O_CREAT | O_WRONLY, 0600));
-    errno = ENOMEM;
+    *__errno_location() = ENOMEM;
     return 1;
 }
 

@@ -2,7 +2,8 @@
 
     ./test            proves each crate with 'rt ci', over a copy of the tree: tries must-fail edits, runs the tests, and runs each
                       program on its stored input. It leaves out the edits that a crate's ledger has as refused over the same sources,
-                      but for a sample of one crate. Of the others it tries at most 100, of one crate at most 50; the commit picks them
+                      but for a sample of one crate. Of the others it tries at most 100, of one crate at most 50; the commit picks them.
+                      At the end it runs two of the programs with each request for memory refused in turn (refusals.py)
     ./test --quick    proves nothing: runs the tests and each program on its stored input, by 'rt try'
     ./test --list     prints the edits that ./test would try, and runs nothing
 
@@ -17,6 +18,7 @@ import tempfile
 import ledger
 import progress
 import quick
+import refusals
 import repository
 from repository import fail
 from selection import Selection
@@ -72,8 +74,11 @@ def test(copied, tried):
     has_all = repository.refused_in(lines, tried) == tried
     if status or not is_whole or not has_all:
         write(f"test: not all passed; {os.path.relpath(LOG, repository.TOP)} has what 'rt ci' printed")
-    write(lines[-1].rstrip("\n") if COUNTS.match(lines[-1]) else "0 passed, 1 failed")
-    return status or int(not (is_whole and has_all))
+        write(lines[-1].rstrip("\n") if COUNTS.match(lines[-1]) else "0 passed, 1 failed")
+        return status or 1
+    failed = refusals.failures(repository.TOP, write)
+    write(f"{len(plan.crates) + len(tried)} passed, {len(failed)} failed")
+    return int(bool(failed))
 
 
 def main(words):

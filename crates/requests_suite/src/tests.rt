@@ -1,6 +1,7 @@
 //! What no contract says: that runs succeed where memory is ample, and the cases that no line of the stored run can hold.
 mod broken;
 mod devices;
+mod error_numbers;
 mod limits;
 mod lists;
 

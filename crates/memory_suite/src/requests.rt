@@ -1,0 +1,152 @@
+//! Requests that are run, and lists of commands.
+use crate::row::{Ask, Row};
+use anyhow::bail;
+use document_requests::apply::apply;
+use document_requests::run::run;
+use document_requests::serve::{Outcome, serve_bytes};
+use document_requests::{Change, Command, Entry, Op, Refusal, Reply, Target, Watched};
+use parser_input::{Edition, SyntaxKind};
+use rust_document::Document;
+use std::alloc::{AllocError, Global};
+use syntax_tree::TreeIds;
+
+/// The calls of `document_requests`.
+#[derive(Clone, Copy)]
+pub(crate) enum RequestCall {
+    Apply,
+    Serve,
+    Run,
+}
+
+/// Renames a struct, and then has a comment swallow it.
+const REQUEST: &str =
+    r#"{"edition":"2021","text":"struct S;","commands":[{"do":"commit","changes":[{"op":"replace","at":["IDENT",7,8],"with":["token","Tee"]}]},{"do":"commit","changes":[{"op":"before","at":["STRUCT",0,11],"with":["token","// c"]}]}]}"#;
+
+const OUTPUT: &str =
+    "0 {\"changed\":[[7,10]],\"ok\":\"commit\"}\n{\"err\":\"Unfaithful\"}\nstruct Tee;";
+
+/// A commit of one token.
+fn put(alloc: Global, op: Op, target: Target, text: &str) -> Result<Command<'_>, AllocError> {
+    let change = Change::Put {
+        op,
+        target,
+        entry: Entry::Token,
+        text,
+    };
+    Ok(Command::Commit {
+        changes: vec![in alloc; change]?,
+    })
+}
+
+/// The commands of the request.
+fn commands(alloc: Global) -> Result<Vec<Command<'static>>, AllocError> {
+    let name = Target {
+        kind: SyntaxKind::IDENT,
+        start: 7,
+        stop: 8,
+    };
+    let item = Target {
+        kind: SyntaxKind::STRUCT,
+        start: 0,
+        stop: 11,
+    };
+    let commands = vec![in alloc;
+        put(alloc, Op::Replace, name, "Tee")?,
+        put(alloc, Op::Before, item, "// c")?,
+    ]?;
+    Ok(commands)
+}
+
+/// The text of the request's document once as many commands are done as have a reply.
+fn text_after(replies: usize) -> &'static str {
+    if replies == 0 {
+        "struct S;"
+    } else {
+        "struct Tee;"
+    }
+}
+
+/// Applies all commands, those without a reply a second time if memory is refused: the document is as the others left it then.
+fn applied(alloc: Global, refused: &mut u32) -> anyhow::Result<String> {
+    let mut ids = TreeIds::new();
+    let mut document = Document::open(alloc, Edition::Edition2021, "struct S;", &mut ids)?;
+    let commands = commands(alloc)?;
+    let mut replies = Vec::new(alloc);
+    if apply(alloc, &mut document, &commands, &mut replies, &mut ids).is_err() {
+        *refused = refused.saturating_add(1);
+        let done = replies.len();
+        if (commands.len() <= done) | (document.text() != text_after(done)) {
+            bail!("the document is not as the commands with replies left it");
+        }
+        apply(
+            alloc,
+            &mut document,
+            &commands[done..],
+            &mut replies,
+            &mut ids,
+        )?;
+    }
+    told(alloc, &document, &replies)
+}
+
+/// The text of a document, and what its commands were answered.
+fn told(alloc: Global, document: &Document, replies: &[Reply]) -> anyhow::Result<String> {
+    let mut out = format!(in alloc; "{}", document.text())?;
+    for reply in replies {
+        match reply {
+            Reply::Commit { changed } => {
+                for range in changed {
+                    let (start, end) = (range.start().0, range.end().0);
+                    out.push_str(format!(in alloc; " {start}..{end}")?.as_str())?;
+                }
+            }
+            Reply::Refused(Refusal::Unfaithful) => out.push_str(" Unfaithful")?,
+            _ => out.push_str(" another reply")?,
+        }
+    }
+    Ok(out)
+}
+
+fn served(alloc: Global) -> anyhow::Result<String> {
+    match serve_bytes(alloc, REQUEST.as_bytes())? {
+        Outcome::Run { document, replies } => told(alloc, &document, &replies),
+        Outcome::NotRun(_) => bail!("not run"),
+    }
+}
+
+/// The status and the output of the request. The output has its room before.
+fn answered(alloc: Global) -> anyhow::Result<String> {
+    let mut input = REQUEST.as_bytes();
+    let mut output = Vec::with_capacity(alloc, 256)?;
+    let mut reader = Watched::new(&mut input);
+    let mut writer = Watched::new(&mut output);
+    let status = run(alloc, &mut reader, &mut writer)?;
+    match str::from_utf8(&output) {
+        Ok(text) => Ok(format!(in alloc; "{status} {text}")?),
+        Err(_) => bail!("no text"),
+    }
+}
+
+impl Ask for RequestCall {
+    fn answer(self, alloc: Global, refused: &mut u32) -> anyhow::Result<String> {
+        match self {
+            RequestCall::Apply => applied(alloc, refused),
+            RequestCall::Serve => served(alloc),
+            RequestCall::Run => answered(alloc),
+        }
+    }
+}
+
+pub(crate) const ROWS: &[Row<RequestCall>] = &[
+    (
+        "document_requests::apply::apply",
+        RequestCall::Apply,
+        "struct Tee; 7..10 Unfaithful",
+    ),
+    (
+        "document_requests::serve::serve_bytes",
+        RequestCall::Serve,
+        "struct Tee; 7..10 Unfaithful",
+    ),
+    ("document_requests::run::run", RequestCall::Run, OUTPUT),
+];

@@ -1,0 +1,199 @@
+"""The public calls that can run out of memory, and whether the table of `memory_suite` has each.
+
+    python3 gate/allocating_calls.py    prints the calls that the table lacks, and the names in it that no call has
+
+A call can run out of memory if it returns a `Result` whose error can be that: `AllocError`, or a type with a variant for it. An
+iterator is tried by the call that makes it, and a conversion of errors makes no request.
+"""
+import glob
+import os
+import re
+import sys
+
+import ledger
+from repository import TOP
+
+TABLE = "memory_suite"
+# Crates whose calls are not the product's own: programs, tests and measurements come after this line of crates.txt.
+END_OF_PRODUCT = "# Its program"
+# Calls that are steps of others, and those of the table that make them: the changes of a plan, for one, are known to `tree_rewrite`
+# alone.
+MADE_BY = {
+    "parser_events::StrSink::step": "rust_document::Document::open",
+    "parser_events::shortcuts::intersperse_trivia": "rust_document::Document::open",
+    "parser_input::LexedStr::from_tokens": "rust_document::Document::edit",
+    "syntax_tree::Element::syntax_element": "syntax_tree::SyntaxNode::syntax_element",
+    "syntax_tree::elements::node": "syntax_tree::SyntaxToken::detached",
+    "tree_rewrite::Change::into_tree_change": "syntax_editor::SyntaxEditor::rewritten",
+    "tree_rewrite::TreeChange::copied": "syntax_editor::SyntaxEditor::rewritten",
+    "tree_rewrite::TreeChange::moved_to": "syntax_editor::SyntaxEditor::rewritten",
+    "tree_rewrite::changed::changed_of": "syntax_editor::SyntaxEditor::rewritten",
+    "tree_rewrite::climb::way_to": "syntax_editor::SyntaxEditor::rewritten",
+    "tree_rewrite::depth::deepest_first": "syntax_editor::SyntaxEditor::rewritten",
+    "tree_rewrite::execute::make_all": "syntax_editor::SyntaxEditor::rewritten",
+    "tree_rewrite::fill::push_standing": "syntax_editor::SyntaxEditor::rewritten",
+    "tree_rewrite::green::green_of": "syntax_editor::SyntaxEditor::rewritten",
+    "tree_rewrite::held_ways::held_ways": "syntax_editor::SyntaxEditor::rewritten",
+    "tree_rewrite::kept::jobs_of": "syntax_editor::SyntaxEditor::rewritten",
+    "tree_rewrite::lists::lists_below": "syntax_editor::SyntaxEditor::rewritten",
+    "tree_rewrite::lists::on_sheet": "syntax_editor::SyntaxEditor::rewritten",
+    "tree_rewrite::moved::change_in": "syntax_editor::SyntaxEditor::rewritten",
+    "tree_rewrite::nesting::is_dropped": "syntax_editor::SyntaxEditor::rewritten",
+    "tree_rewrite::origins::origins_of": "syntax_editor::SyntaxEditor::finish",
+    "tree_rewrite::piece::push_pieces": "syntax_editor::SyntaxEditor::rewritten",
+    "tree_rewrite::sheet::push_gap": "syntax_editor::SyntaxEditor::rewritten",
+    "tree_rewrite::sheet::push_slot": "syntax_editor::SyntaxEditor::rewritten",
+    "tree_rewrite::way_map::put": "syntax_editor::SyntaxEditor::rewritten",
+}
+COMMENT = re.compile(r"//.*")
+MODULE = re.compile(r"^(pub )?mod (\w+);", re.M)
+PUBLIC_USE = re.compile(r"^pub use (\w+)::(?:\{([^}]*)\}|(\w+));", re.M)
+USE = re.compile(r"^use (?:crate|super)(?:::(\w+))?::(?:\{([^}]*)\}|(\w+));", re.M)
+TYPE = re.compile(r"^pub (?:struct|enum|trait|type) (\w+)", re.M)
+# The variant, or the field's type, by which an error tells that memory was refused.
+ERROR = re.compile(r"^pub (?:enum|struct) (\w+)[^{;]*\{([^}]*)\}", re.M)
+SAYS_MEMORY = re.compile(r"\b(?:NoMemory|Memory|error: \w+Error)\b")
+ITEM = re.compile(r"^(?:(impl\b|pub trait )([^{]*)|( *)(pub )?fn (\w+)([^{;]*))", re.M)
+RESULT = re.compile(r"-> Result<.*?, ((?:\w+::)?\w+)(?:<[^<>]*>)?>\s*(?:requires|ensures|where|$)", re.S)
+ROW = re.compile(r'^ +\(?\s*"((?:\w+::)[^"]*)",', re.M)
+
+
+def names_in(group):
+    """Returns the names that a `use` lists."""
+    return [name.strip() for name in group.split(",") if name.strip()]
+
+
+class Crate:
+    """The sources of a crate, without comments and tests."""
+
+    def __init__(self, root, name):
+        self.name, self.files = name, {}
+        folder = f"{root}/crates/{name}/src"
+        for path in glob.glob(f"{folder}/**/*.rt", recursive=True):
+            module = os.path.relpath(path, folder).removesuffix(".rt").replace(os.sep, "::")
+            if module.split("::")[0] != "tests":
+                self.files[module] = COMMENT.sub("", ledger.read(path).decode())
+        head = self.files.get("lib", "")
+        self.public_modules = {module for is_public, module in MODULE.findall(head) if is_public}
+        self.exported = {}
+        for module, group, single in PUBLIC_USE.findall(head):
+            self.exported.update((name, module) for name in names_in(group) or [single])
+
+    def is_public(self, name, module):
+        """Returns `True` if a crate above can name the item of a module."""
+        return module in self.public_modules or self.exported.get(name) == module.split("::")[0]
+
+    def path(self, name, module):
+        """Returns the path by which a crate above names a function of a module, or nothing."""
+        front, _, last = module.rpartition("::")
+        if self.exported.get(name) == module:
+            return f"{self.name}::{name}"
+        if module in self.public_modules or front and self.exported.get(last) == front:
+            return f"{self.name}::{last}::{name}"
+        return ""
+
+    def module_of(self, name, module):
+        """Returns the module that has the type that a file means by a name, or nothing."""
+        if name in TYPE.findall(self.files[module]):
+            return module
+        for at, group, single in USE.findall(self.files[module]):
+            if name in (names_in(group) or [single]):
+                return at or self.exported.get(name)
+        return None
+
+    def errors(self):
+        """Returns the crate's public types that can say that memory was refused."""
+        return {name for text in self.files.values() for name, body in ERROR.findall(text) if SAYS_MEMORY.search(body)}
+
+
+def subject(head):
+    """Returns the trait and the type of an `impl`, without generic arguments; no trait for a type's own functions."""
+    plain = re.sub(r"<[^<>]*>", "", re.sub(r"<[^<>]*>", "", re.sub(r"<[^<>]*>", "", head)))
+    plain = plain.partition(" where ")[0]
+    trait, is_for, name = plain.rpartition(" for ")
+    return trait.strip() if is_for else "", name.strip()
+
+
+class Calls:
+    """The public calls of a crate that can run out of memory, by name. The names of a trait's calls are kept apart."""
+
+    def __init__(self, crate, errors):
+        self.crate, self.errors, self.found = crate, errors, set()
+        for module, text in crate.files.items():
+            self.read(module, text)
+
+    def read(self, module, text):
+        """Adds the calls of a file."""
+        owner, is_trait, is_shown = "", False, False
+        for word, head, indent, public, name, signature in ITEM.findall(text):
+            if word:
+                owner, is_trait, is_shown = self.owner(module, word, head)
+            elif self.can_refuse(signature):
+                if indent and is_shown and (public or is_trait):
+                    self.found.add(f"{self.crate.name}::{owner}::{name}")
+                elif not indent and public and self.crate.path(name, module):
+                    self.found.add(self.crate.path(name, module))
+
+    def owner(self, module, word, head):
+        """Returns the name before a block's calls, whether it is a trait's, and whether crates above can call them."""
+        if word != "impl":
+            name = re.match(r"\w+", head)[0]
+            return name, True, self.crate.is_public(name, module)
+        trait, name = subject(head)
+        bare = name.lstrip("&")
+        at = self.crate.module_of(bare, module)
+        is_shown = bool(at) and self.crate.is_public(bare, at)
+        return name, bool(trait), is_shown and trait not in ("Iterator", "DoubleEndedIterator")
+
+    def can_refuse(self, signature):
+        """Returns `True` if a call with this signature can answer out of memory."""
+        error = RESULT.search(" ".join(signature.split()))
+        return bool(error) and (error[1] in self.errors or error[1].endswith("::Error"))
+
+
+def product(root):
+    """Returns the names of the product's crates."""
+    before = ledger.read(f"{root}/crates.txt").decode().partition(END_OF_PRODUCT)[0]
+    return [line.partition(":")[0] for line in before.splitlines() if line and not line.startswith("#")]
+
+
+def calls(root):
+    """Returns the names of the public calls of the product's crates that can run out of memory."""
+    crates = [Crate(root, name) for name in product(root)]
+    errors = {"AllocError", "AllocFailed"}.union(*(crate.errors() for crate in crates))
+    return set().union(*(Calls(crate, errors).found for crate in crates))
+
+
+def table(root):
+    """Returns the names that the rows of the table have. A row may have several: `a::B::{c, d}`."""
+    named = set()
+    for path in glob.glob(f"{root}/crates/{TABLE}/src/*.rt"):
+        for name in ROW.findall(ledger.read(path).decode()):
+            front, _, group = name.partition("{")
+            named.update(f"{front}{call}" for call in names_in(group.rstrip("}")) or [""])
+    return named
+
+
+def differences(root):
+    """Returns a line for each call that the table lacks, and for each name there, or in MADE_BY, that no call has."""
+    found, named = calls(root), table(root)
+    lacking = found - named - {*MADE_BY}
+    unknown = (named | {*MADE_BY}) - found
+    unmade = {call for call in MADE_BY.values() if call not in named}
+    return (
+        [f"{call}: can run out of memory, and {TABLE} does not try it" for call in sorted(lacking)]
+        + [f"{call}: no public call that can run out of memory" for call in sorted(unknown)]
+        + [f"{call}: makes other calls, and {TABLE} does not try it" for call in sorted(unmade)]
+    )
+
+
+def main():
+    lines = differences(TOP)
+    for line in lines:
+        print(line)
+    print(f"{len(calls(TOP))} public calls can run out of memory, {len(lines)} are not tried or not found")
+    return int(bool(lines))
+
+
+if __name__ == "__main__":
+    sys.exit(main())
