@@ -10,7 +10,7 @@ use Rattle.rowan.specs.Place.{term_by}
 use Rattle.syntax_tree.specs.Element.{Way, same_way, Element, term_of}
 use Rattle.syntax_tree.specs.Handle.{element_of}
 use Rattle.syntax_tree.specs.declared.element.SyntaxElement.{SyntaxElement}
-use Rattle.tree_rewrite.specs.Change.{Change, replace, covers, meets, rows_meet, has_collision}
+use Rattle.tree_rewrite.specs.Change.{Change, replace, meets, rows_meet, has_collision}
 use Rattle.syntax_editor.specs.Editing.{Editing}
 use Rattle.syntax_editor.specs.Recording.{with_single, is_target, is_root, is_one_node, replacing, Recorded, Foreign, BadTarget}
 use Rattle.plain_names.specs.Replacements.{leaf_after}

@@ -2,3 +2,5 @@ pub mod Changes
 pub mod Walked
 pub mod RawKinds
 pub mod NewLeaves
+pub mod SingleNames
+pub mod PlainRenames

@@ -1,12 +1,12 @@
 -- The walk through a tree enters each of its leaves, so the new text has all of them renamed.
-use Rattle.std.proofs.Common.{◌≡◌, ℕ, zero, suc, ◌+◌, List, [], ◌∷◌, ◌++◌, drop, map, Bool, true, false, Option, Some, None, slice_get, refl, ap, sym, ◌∙◌, arith, subst, inl, inr, if◌then◌else◌}
-use Rattle.std.proofs.lemmas.Bool.{cases_Bool, false≢true}
+use Rattle.std.proofs.Common.{◌≡◌, ℕ, zero, suc, ◌+◌, List, [], ◌∷◌, ◌++◌, drop, map, Bool, true, false, not, ◌&&◌, nat_eq, Option, Some, slice_get, refl, ap, sym, ◌∙◌, arith, subst, inl, inr, if◌then◌else◌}
+use Rattle.std.proofs.lemmas.Bool.{cases_Bool, eq-eqb, false≢true}
 use Rattle.rowan_green.specs.Leaf.{Leaf, same_leaf}
 use Rattle.rowan_green.specs.Forest.{Forest, empty, node, leaf, Tree, forest_text, tree_text}
-use Rattle.rowan_green.specs.Term.{Term, terms, forest_of, terms-forest_of, forest_of-terms, kind_of, text_of}
+use Rattle.rowan_green.specs.Term.{Term, terms, forest_of, terms-forest_of, forest_of-terms}
 use Rattle.rowan_green.specs.declared.utility_types.NodeOrToken.TheVariants.{Node, Token}
 use Rattle.rowan.specs.Place.{Place, term_by, term_at, children_in, kind_in, text_in, kind_at, text_at}
-use Rattle.rowan.specs.Walk.{Event, walk_forest, walk_from, walk, entered}
+use Rattle.rowan.specs.Walk.{Event, walk_forest, entered}
 use Rattle.rowan.specs.declared.utility_types.WalkEvent.TheVariants.{Enter, Leave}
 use Rattle.syntax_tree.specs.Element.{Way, Element, element_at, term_of}
 use Rattle.syntax_tree.specs.Handle.{element_of, with_number, with_cursor}
@@ -16,15 +16,17 @@ use Rattle.syntax_tree.specs.declared.element.SyntaxElement.{SyntaxElement}
 use Rattle.syntax_tree.specs.declared.element.SyntaxElement.TheVariants as handles
 use Rattle.tree_rewrite.specs.Change.{Change, has_collision}
 use Rattle.tree_rewrite.specs.Marked.{forest_in}
+use Rattle.tree_rewrite.specs.Moved.{same_kind}
 use Rattle.tree_rewrite.specs.Rewrite.{rewrite}
-use Rattle.plain_names.specs.Replacements.{Replacement, with_leaves}
+use Rattle.plain_names.specs.Replacements.{with_leaves}
 use Rattle.plain_changes.specs.LeafChanges.{change_of, replacement_of}
 use Rattle.plain_changes.proofs.Orders.{leaves-replaced}
 use Rattle.syntax_editor.specs.Editing.{Editing, untouched, with_changes}
+use Rattle.syntax_editor.specs.Recording.{BadTarget, Foreign, Recorded, is_one_node, is_root, is_target, replacing, with_single}
 use Rattle.rust_document.specs.Reading.{root_of}
 use Rattle.rust_document.specs.Rewrite.{rewritten}
 use Rattle.rename_example.specs.Renamed.{identifier, is_named, renamed_leaves, renamed_text}
-use Rattle.rename_example.proofs.Changes.{change, changes_after, ways_after, changes-are, no-collision, with_way, has_way, Covered, covered, AreNamed, named-with, named-at, leaf_change, changes-of, all-replace, leaf-after}
+use Rattle.rename_example.proofs.Changes.{changes_after, ways_after, changes-are, no-collision, with_way, has_way, Covered, covered, AreNamed, named-with, named-at, leaf_change, changes-of, all-replace, leaf-after}
 use Rattle.rowan_green.specs.Same.{same_leaf-Decides}
 
 there : {X : Type 0} (xs : List X) (i : ℕ) (x : X) (ys : List X) → drop i xs ≡ x ∷ ys → (slice_get xs i ≡ Some x) × (drop (i + 1) xs ≡ ys)
@@ -85,6 +87,65 @@ named-after old n t (Enter (Token p) ∷ v) ws a e =
     by_test true y = named-with old t ws p.up a (named-leaf old t p e.0 y)
     by_test false y = a
 named-after old n t (Leave c ∷ v) ws a e = named-after old n t v ws a e
+
+-- ---- the elements of a tree
+
+all-enter : (t : Tree) → EntersLeaves t (Enter (Node (at t [])) ∷ walk_forest (at t []) 0 (forest_of (terms t.forest)) ++ Leave (Node (at t [])) ∷ [])
+all-enter t =
+    enters-both t (walk_forest (at t []) 0 (forest_of (terms t.forest))) (Leave (Node (at t [])) ∷ [])
+    (enters-leaves t [] 0 (forest_of (terms t.forest)) (sym (terms-forest_of (terms t.forest)))) tt
+
+pub named-tree : (old : List ℕ) (n : ℕ) (t : Tree) → AreNamed old t (ways_after old [] (elements (element_at n t [])))
+named-tree old n t =
+    named-after old n t (Enter (Node (at t [])) ∷ walk_forest (at t []) 0 (forest_of (terms t.forest)) ++ Leave (Node (at t [])) ∷ []) [] tt (all-enter t)
+
+-- each token is a leaf of the tree of this number
+abbrev pub AreOfTree : ℕ → Tree → List SyntaxElement → Type 0
+AreOfTree n t [] = Unit {0}
+AreOfTree n t (handles.Node e ∷ xs) = AreOfTree n t xs
+AreOfTree n t (handles.Token e ∷ xs) = ((e.number ≡ n) × IsLeafOf t e.place) × AreOfTree n t xs
+
+of-tree : (n : ℕ) (t : Tree) (v : List Event) → EntersLeaves t v → AreOfTree n t (map (with_cursor n) (entered v))
+of-tree n t [] e = tt
+of-tree n t (Enter (Node p) ∷ v) e = of-tree n t v e
+of-tree n t (Enter (Token p) ∷ v) e = ((refl, e.0), of-tree n t v e.1)
+of-tree n t (Leave c ∷ v) e = of-tree n t v e
+
+pub tree-elements : (n : ℕ) (t : Tree) → AreOfTree n t (elements (element_at n t []))
+tree-elements n t = of-tree n t (Enter (Node (at t [])) ∷ walk_forest (at t []) 0 (forest_of (terms t.forest)) ++ Leave (Node (at t [])) ∷ []) (all-enter t)
+
+pub of-tree-rest : (n : ℕ) (t : Tree) (x : SyntaxElement) (left rest : List SyntaxElement) → left ≡ x ∷ rest → AreOfTree n t left → AreOfTree n t rest
+of-tree-rest n t (handles.Node e) left rest is h = subst (λ (xs : List SyntaxElement). AreOfTree n t xs) is h
+of-tree-rest n t (handles.Token e) left rest is h = (subst (λ (xs : List SyntaxElement). AreOfTree n t xs) is h).1
+
+-- ---- an identifier with the name can be replaced
+
+own-kind : (o : Option Term) (l : Leaf) → o ≡ Some (Token l) → same_kind o o ≡ true
+own-kind o l h = ap (λ (p : Option Term). same_kind p p) h ∙ eq-eqb l.kind l.kind refl
+
+no-root : (t : Tree) (l : Leaf) (w : Way) → term_by t w ≡ Some (Token l) → is_root w ≡ false
+no-root t l [] h = absurd (let z : Some (Node t) ≡ Some (Token l) = h in cc)
+no-root t l (i ∷ w) h = refl
+
+leaf-target : (n : ℕ) (t : Tree) (s : Element) → s.number ≡ n → IsLeafOf t s.place → is_target (element_at n t []) s ≡ true
+leaf-target n t s number found =
+    let own : term_of s ≡ term_by t s.place.up = ap (λ (r : Tree). term_by r s.place.up) found.2 in
+    (λ i. nat_eq (number i) n && same_kind (term_by t s.place.up) (own i)) ∙ (λ i. eq-eqb n n refl i && own-kind (term_by t s.place.up) found.0 found.1 i)
+
+token-recorded : (n : ℕ) (t : Tree) (e : Element) (before : Editing) (s : Element) → s.number ≡ n → IsLeafOf t s.place → before.top ≡ element_at n t []
+    → replacing before s (e ∷ []) ≡ Recorded (with_single before.changes s.place.up (e ∷ []))
+token-recorded n t e before s number here top =
+    let put = Recorded (with_single before.changes s.place.up (e ∷ [])) in
+    let found : is_target before.top s ≡ true = ap (λ (x : Element). is_target x s) top ∙ leaf-target n t s number here in
+    let inner : is_root s.place.up ≡ false = no-root t here.0 s.place.up here.1 in
+    λ i. if not (found i) then Foreign else if inner i && not (is_one_node (e ∷ [])) then BadTarget else put
+
+pub named-recorded : (old : List ℕ) (n : ℕ) (t : Tree) (e : Element) (before : Editing) (x : SyntaxElement) (left rest : List SyntaxElement) → left ≡ x ∷ rest → AreOfTree n t left
+    → is_named old x ≡ true → before.top ≡ element_at n t [] → replacing before (element_of x) (e ∷ []) ≡ Recorded (with_single before.changes (element_of x).place.up (e ∷ []))
+named-recorded old n t e before (handles.Node s) left rest is h named top = absurd (false≢true named)
+named-recorded old n t e before (handles.Token s) left rest is h named top =
+    let own = (subst (λ (xs : List SyntaxElement). AreOfTree n t xs) is h).0 in
+    token-recorded n t e before s own.0 own.1 top
 
 -- ---- each identifier with the name that is entered has a change
 
@@ -158,9 +219,7 @@ renamed-tree old n t new e ms is =
     let gs = map (leaf_change old new e) ws in
     let f = forest_of (terms t.forest) in
     let v = walk_forest (at t []) 0 f ++ Leave (Node (at t [])) ∷ [] in
-    let named : AreNamed old t ws =
-    named-after old n t (Enter (Node (at t [])) ∷ v) [] tt
-    (enters-both t (walk_forest (at t []) 0 f) (Leave (Node (at t [])) ∷ []) (enters-leaves t [] 0 f (sym (terms-forest_of (terms t.forest)))) tt) in
+    let named : AreNamed old t ws = named-tree old n t in
     let each : HasEach old n ws (walk_forest (at t []) 0 f) =
     each-front old n ws (walk_forest (at t []) 0 f) (Leave (Node (at t [])) ∷ []) (has-each old n ws (Enter (Node (at t [])) ∷ v) (covered old [] (elements top))) in
     let are : changes_after old e [] (elements top) ≡ map change_of gs = changes-are old e [] (elements top) ∙ sym (changes-of old new e ws) in

@@ -1,8 +1,9 @@
 //! A renamer, as a tool of one's own would have it: it rests its contract on the document's.
 #![tactic(auto)]
 
-ghost use Rattle.std.specs.Prelude.{◌≡◌, IfErr, OnOk};
-ghost use Rattle.rust_document.specs.Step.{present};
+ghost use Rattle.std.specs.Prelude.{◌≡◌, ◌≤◌, length, IfErr, OnOk};
+ghost use Rattle.rust_document.specs.Step.{MAX_TEXT, present};
+ghost use Rattle.rename_example.specs.Plain.{IsPlain, LacksRoom};
 ghost use Rattle.rename_example.specs.Renamed.{is_named, renamed_text};
 
 use parser_input::syntax_kind::SyntaxKind;
@@ -24,24 +25,44 @@ pub enum RenameError {
 }
 
 impl From<AllocError> for RenameError {
+    ghost use Rattle.rename_example.specs.declared.RenameError.TheVariants.{NoMemory};
+    ghost use Rattle.std.specs.Prelude.{◌≡◌};
+
+    ghost from_gives = { λ _ e. e ≡ NoMemory };
+
     fn from(_refused: AllocError) -> RenameError {
         RenameError::NoMemory
     }
 }
 
 impl From<PayloadError> for RenameError {
+    ghost use Rattle.rename_example.specs.declared.RenameError.TheVariants.{NoToken};
+    ghost use Rattle.std.specs.Prelude.{◌≡◌};
+
+    ghost from_gives = { λ f e. e ≡ NoToken f };
+
     fn from(error: PayloadError) -> RenameError {
         RenameError::NoToken(error)
     }
 }
 
 impl From<RecordError> for RenameError {
+    ghost use Rattle.rename_example.specs.declared.RenameError.TheVariants.{NotRecorded};
+    ghost use Rattle.std.specs.Prelude.{◌≡◌};
+
+    ghost from_gives = { λ f e. e ≡ NotRecorded f };
+
     fn from(error: RecordError) -> RenameError {
         RenameError::NotRecorded(error)
     }
 }
 
 impl From<CommitError> for RenameError {
+    ghost use Rattle.rename_example.specs.declared.RenameError.TheVariants.{Refused};
+    ghost use Rattle.std.specs.Prelude.{◌≡◌};
+
+    ghost from_gives = { λ f e. e ≡ Refused f };
+
     fn from(error: CommitError) -> RenameError {
         RenameError::Refused(error)
     }
@@ -59,6 +80,9 @@ fn is_named(element: &SyntaxElement, name: &str) -> bool
 
 /// Renames the identifiers `old` to `new`, all at once, in macro calls too. Nothing else in the text
 /// changes. On error, `document` is unchanged.
+///
+/// If both names are plain and no identifier `old` is the prefix of a literal, only memory, tree
+/// numbers and the length of the new text can refuse it.
 pub fn rename(
     alloc: Global,
     document: &mut Document,
@@ -69,6 +93,9 @@ pub fn rename(
     ensures text { OnOk result (document.new.text
         ≡ renamed_text old.now new.now (present document.old)) }
     ensures edition { OnOk result (document.new.edition ≡ document.old.edition) }
+    ensures plain { IfErr result (λ error. IsPlain document.old old.now new.now
+        → length (renamed_text old.now new.now (present document.old)) ≤ MAX_TEXT
+        → LacksRoom ids.old new.now error) }
     ensures kept { IfErr result (λ _. document.new ≡ document.old) }
 {
     let token = payload(alloc, PayloadEntry::Token, document.edition(), new, ids)?;
