@@ -140,7 +140,8 @@ fn looked(alloc: Global, input: &Input) -> Result<(bool, bool, u64), AllocError>
     parser.token(SyntaxKind::IDENT, 1);
     let after = (parser.kind_at(0) == SyntaxKind::FLOAT_NUMBER)
         & (parser.kind_at(usize::MAX) == SyntaxKind::EOF)
-        & (parser.position() == 1);
+        & (parser.position() == 1)
+        & (parser.tokens_left() == 1);
     Ok((ahead, after, parser.finish()?.steps()))
 }
 

@@ -166,6 +166,7 @@ fn children_at_offsets(rt: HostRuntime) -> Result<(), Fail> {
     assert!(rt; place_at(&node, 1) == Some((0, 0)));
     assert!(rt; place_at(&node, 2) == Some((2, 2)));
     assert!(rt; place_at(&node, 3).is_none());
+    assert!(rt; node.child_start(2) == Some(TextSize(2)) && node.child_start(3).is_none());
     assert!(rt; place_at(&row_of(rt.alloc(), &[])?, 0).is_none());
     let letters = ["a"; 1000];
     let many = row_of(rt.alloc(), &letters)?;

@@ -121,6 +121,7 @@ type Refused = (&'static str, bool, usize, usize);
 
 const REFUSED: &[Refused] = &[
     ("-\n", true, 0, 1),
+    ("--\n", true, 0, 2),
     ("#!x\n--é", true, 4, 6),
     ("---", false, 0, 3),
     ("----\n---\nstruct S;", false, 0, 4),
