@@ -12,7 +12,7 @@ ghost use Rattle.rust_grammar.specs.Words.{'::', 'at', 'comma', 'dots', 'ident',
 ghost use Rattle.rust_productions.specs.Looks.{tokens, spent};
 ghost use Rattle.rust_productions.specs.Reads.{looks, Does, Gives, Reads, Saw};
 
-use crate::grammar::lists::{Element, pattern_fields, rest_of_list};
+use crate::grammar::lists::{Element, pattern_fields, rest_of_list, tuple_tail};
 use crate::grammar::or_patterns::expect_pattern;
 use crate::grammar::paths::{Mode, path_with_args};
 use crate::grammar::types::word_type;
@@ -352,33 +352,13 @@ fn after_paren(p: &mut Parser<'_>, frame: Marker) -> Marker
         return wrap(p, frame, SyntaxKind::TUPLE_PAT);
     }
     expect_pattern(p);
-    after_first(p, frame)
-}
-
-/// Parses a tuple pattern or a grouped pattern after its first element.
-// , b)
-#[cycle(grammar)]
-fn after_first(p: &mut Parser<'_>, frame: Marker) -> Marker
-    requires innermost { IsInnermost frame p.old.nodes }
-    ensures reads { (c : Bool) → Reads c
-        (TUPLE_PAT <⟨ One 'comma' ▸ rest_listed TUPLE_PAT Pattern 'r_paren' ⟩
-        or PAREN_PAT <⟨ One 'r_paren' ! ⟩) p.old p.new }
-    ensures marker { IsInnermost result p.new.nodes }
-    ensures left { tokens p.new ≤ tokens p.old }
-    ensures looks { spent p.new ≤ spent p.old + 2 }
-{
-    if at(p, SyntaxKind::COMMA) {
-        take(p, SyntaxKind::COMMA);
-        rest_of_list(
-            p,
-            SyntaxKind::TUPLE_PAT,
-            Element::Pattern,
-            SyntaxKind::R_PAREN,
-        );
-        return wrap(p, frame, SyntaxKind::TUPLE_PAT);
-    }
-    expect(p, SyntaxKind::R_PAREN);
-    wrap(p, frame, SyntaxKind::PAREN_PAT)
+    tuple_tail(
+        p,
+        frame,
+        SyntaxKind::TUPLE_PAT,
+        Element::Pattern,
+        SyntaxKind::PAREN_PAT,
+    )
 }
 
 /// Parses a path pattern, a tuple struct pattern or a record pattern.

@@ -16,7 +16,7 @@ ghost use Rattle.rust_productions.specs.Reads.{looks, Gives, Reads, Saw};
 
 use crate::grammar::expressions::{Level, expect_expression};
 use crate::grammar::generic_params::bounds;
-use crate::grammar::lists::{Element, rest_of_list};
+use crate::grammar::lists::{Element, tuple_tail};
 use crate::grammar::paths::{Mode, path_with_args};
 use parser_events::message::Message;
 use parser_events::parser::{Marker, Parser};
@@ -234,33 +234,13 @@ fn after_paren(p: &mut Parser<'_>, frame: Marker, condition: bool) -> Marker
         return wrap(p, frame, SyntaxKind::TUPLE_TYPE);
     }
     expect_type(p, condition);
-    after_first(p, frame)
-}
-
-/// Parses a tuple type or a parenthesized type after its first element.
-// , u8)
-#[cycle(grammar)]
-fn after_first(p: &mut Parser<'_>, frame: Marker) -> Marker
-    requires innermost { IsInnermost frame p.old.nodes }
-    ensures reads { (c : Bool) → Reads c
-        (TUPLE_TYPE <⟨ One 'comma' ▸ rest_listed TUPLE_TYPE AnyType 'r_paren' ⟩
-        or PAREN_TYPE <⟨ One 'r_paren' ! ⟩) p.old p.new }
-    ensures marker { IsInnermost result p.new.nodes }
-    ensures left { tokens p.new ≤ tokens p.old }
-    ensures looks { spent p.new ≤ spent p.old + 2 }
-{
-    if at(p, SyntaxKind::COMMA) {
-        take(p, SyntaxKind::COMMA);
-        rest_of_list(
-            p,
-            SyntaxKind::TUPLE_TYPE,
-            Element::Type,
-            SyntaxKind::R_PAREN,
-        );
-        return wrap(p, frame, SyntaxKind::TUPLE_TYPE);
-    }
-    expect(p, SyntaxKind::R_PAREN);
-    wrap(p, frame, SyntaxKind::PAREN_TYPE)
+    tuple_tail(
+        p,
+        frame,
+        SyntaxKind::TUPLE_TYPE,
+        Element::Type,
+        SyntaxKind::PAREN_TYPE,
+    )
 }
 
 /// Parses an array type or a slice type.

@@ -16,7 +16,7 @@ ghost use Rattle.rust_productions.specs.Reads.{looks, Reads, Saw};
 use crate::grammar::expressions::closures::{closure_expr, move_closure};
 use crate::grammar::expressions::control::block_like;
 use crate::grammar::expressions::{Level, expect_expression, expression, operation};
-use crate::grammar::lists::{Element, field_values, rest_of_list};
+use crate::grammar::lists::{Element, field_values, rest_of_list, tuple_tail};
 use crate::grammar::or_patterns::expect_pattern;
 use crate::grammar::paths::{Mode, path_with_args};
 use crate::grammar::types::word_type;
@@ -182,33 +182,13 @@ fn after_paren(p: &mut Parser<'_>, frame: Marker) -> Marker
         return wrap(p, frame, SyntaxKind::TUPLE_EXPR);
     }
     expect_expression(p, Level::Expression, false);
-    after_first(p, frame)
-}
-
-/// Parses a tuple expression or a parenthesized expression after its first element.
-// , b)
-#[cycle(grammar)]
-fn after_first(p: &mut Parser<'_>, frame: Marker) -> Marker
-    requires innermost { IsInnermost frame p.old.nodes }
-    ensures reads { (c : Bool) → Reads c
-        (TUPLE_EXPR <⟨ One 'comma' ▸ rest_listed TUPLE_EXPR Expression 'r_paren' ⟩
-        or PAREN_EXPR <⟨ One 'r_paren' ! ⟩) p.old p.new }
-    ensures marker { IsInnermost result p.new.nodes }
-    ensures left { tokens p.new ≤ tokens p.old }
-    ensures looks { spent p.new ≤ spent p.old + 2 }
-{
-    if at(p, SyntaxKind::COMMA) {
-        take(p, SyntaxKind::COMMA);
-        rest_of_list(
-            p,
-            SyntaxKind::TUPLE_EXPR,
-            Element::Expression,
-            SyntaxKind::R_PAREN,
-        );
-        return wrap(p, frame, SyntaxKind::TUPLE_EXPR);
-    }
-    expect(p, SyntaxKind::R_PAREN);
-    wrap(p, frame, SyntaxKind::PAREN_EXPR)
+    tuple_tail(
+        p,
+        frame,
+        SyntaxKind::TUPLE_EXPR,
+        Element::Expression,
+        SyntaxKind::PAREN_EXPR,
+    )
 }
 
 /// Parses an array expression.
