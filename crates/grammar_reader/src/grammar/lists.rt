@@ -4,10 +4,11 @@ ghost use Rattle.std.specs.Prelude.{◌≡◌, ◌≢◌, ◌≤◌, ◌<◌, �
 ghost use Rattle.parser_input.specs.Kind.{raw_of};
 ghost use Rattle.parser_input.specs.Kinds as kinds;
 ghost use Rattle.parser_events.specs.Stack.{IsInnermost};
-ghost use Rattle.rust_grammar.specs.Notation.{◌or◌, ◌▸◌, ◌*, ◌!, ◌<⟨◌⟩, rest_listed};
+ghost use Rattle.rust_grammar.specs.Notation.{◌*, rest_listed};
 ghost use Rattle.rust_grammar.specs.Rule as rules;
-ghost use Rattle.rust_grammar.specs.Rule.{begins, One};
-ghost use Rattle.rust_grammar.specs.Words.{one, 'comma', 'r_paren'};
+ghost use Rattle.rust_grammar.specs.Rule.{begins};
+ghost use Rattle.rust_grammar.specs.Words.{one};
+ghost use Rattle.rust_grammar.specs.Notation as rows;
 ghost use Rattle.grammar_reader.specs.Told.{element_of, list_turn, looks_before, looks_in};
 ghost use Rattle.rust_productions.specs.Looks.{tokens, spent};
 ghost use Rattle.rust_productions.specs.Reads.{looks, Does, Gives, Reads, Saw};
@@ -177,8 +178,7 @@ pub(crate) fn tuple_tail(
 ) -> Marker
     requires innermost { IsInnermost frame p.old.nodes }
     ensures reads { (c : Bool) → Reads c
-        (raw_of tuple <⟨ One 'comma' ▸ rest_listed (raw_of tuple) (element_of element) 'r_paren' ⟩
-        or raw_of paren <⟨ One 'r_paren' ! ⟩) p.old p.new }
+        (rows.tuple_tail (raw_of tuple) (raw_of paren) (element_of element)) p.old p.new }
     ensures marker { IsInnermost result p.new.nodes }
     ensures left { tokens p.new ≤ tokens p.old }
     ensures looks { spent p.new ≤ spent p.old + 2 }
