@@ -1,13 +1,11 @@
 -- What a function that reads several things is told to read.
 use Rattle.std.specs.Prelude.{ℕ, [], ◌∷◌}
-use Rattle.parser_input.specs.Kinds.{COMMA, EXPR_STMT}
-use Rattle.parser_events.specs.Forest.{Expected, UnexpectedIn}
 use Rattle.rust_grammar.specs.Calls.{Attribute, GenericArgs, Item}
-use Rattle.rust_grammar.specs.Notation.{◌or◌, ◌▸◌, ⁅◌⁆, ◌⁺, ◌⟨◌⟩, ◌<⟨◌⟩, more, ◌before◌, ◌not_before◌, next, one_of, stops, until}
+use Rattle.rust_grammar.specs.Notation.{◌or◌, ⁅◌⁆, ◌before◌, ◌not_before◌, list_element, until}
 use Rattle.rust_grammar.specs.Rule as rules
-use Rattle.rust_grammar.specs.Rule.{Look, Both, Either, Left, Not, Rule, Call, Nothing, One, Say, Skip, Unless, When}
-use Rattle.rust_grammar.specs.Statements.{Listing, goes_on, in_block, in_macro}
-use Rattle.rust_grammar.specs.Words.{one, '::', '<', '=', '#', '!', 'comma', 'semi'}
+use Rattle.rust_grammar.specs.Rule.{Look, Either, Rule, Call, Unless, When}
+use Rattle.rust_grammar.specs.Statements.{Listing, after_block, in_block, in_macro}
+use Rattle.rust_grammar.specs.Words.{one, '::', '<', '=', '#', '!'}
 use Rattle.rust_grammar.specs.Expressions.{closure_param}
 use Rattle.rust_grammar.specs.Items.{record_field, tuple_field, variant}
 use Rattle.grammar_reader.specs.declared.grammar.expressions.Level.{Level}
@@ -54,9 +52,7 @@ looks_in x = 600
 
 -- what a list repeats
 abbrev pub list_turn : (list : ℕ) → (element : Rule) → (close : ℕ) → Rule
-list_turn list element close =
-    Unless (until (one close))
-    (element ▸ (One 'comma' or When (next (one close)) Nothing or Say (Expected COMMA)) or When (Both Left (Not (one_of 0 stops))) (Skip (UnexpectedIn list)))
+list_turn list element close = Unless (until (one close)) (list_element list element (one close))
 
 -- Where arguments begin in a path of an expression, and of a type.
 abbrev pub angle : Look
@@ -86,7 +82,6 @@ ends_of end = (listing_of end).ends
 abbrev pub item_or_attribute : Rule
 item_or_attribute = When ('#' before '!') Attribute or Item
 
--- what stands in a list after an expression that ends in a block
+-- what follows an expression that ends in a block
 abbrev pub after_block_of : ListEnd → Rule
-after_block_of end =
-    When goes_on ((more rules.postfix) ⁺ ▸ more (listing_of end).end) or EXPR_STMT <⟨ One 'semi' ⟩ or When (ends_of end) Nothing or EXPR_STMT <⟨ Nothing ⟩
+after_block_of end = after_block (listing_of end)

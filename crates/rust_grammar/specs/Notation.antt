@@ -169,16 +169,33 @@ until x = Either (Not Left) (next x)
 abbrev pub stops : List Spelling
 stops = 'semi' ∷ 'l_curly' ∷ 'r_curly' ∷ 'r_paren' ∷ ']' ∷ []
 
+-- a token that a list skips into an error
+abbrev pub unexpected : Look
+unexpected = Both Left (Not (one_of 0 stops))
+
+-- the comma after an element of a list; a missing one is an error, unless the list closes
+abbrev pub separator : (close : Spelling) → Rule
+separator close = One 'comma' or When (next close) Nothing or Say (Expected COMMA)
+
+-- an element of a list with the comma after it, or an error over one token
+abbrev pub list_element : (list : ℕ) → (element : Rule) → (close : Spelling) → Rule
+list_element list element close = element ▸ separator close or When unexpected (Skip (UnexpectedIn list))
+
 -- The rest of a list after its opening spelling, in the node `list`: elements with commas between them, up to `close`. A
 -- missing comma is told; what begins no element stands in an error, up to a token at which the list gives up.
 abbrev pub rest_listed : (list : ℕ) → (element : Rule) → (close : Spelling) → Rule
-rest_listed list element close =
-    off
-    ((Unless (until close) (element ▸ (One 'comma' or When (next close) Nothing or Say (Expected COMMA)) or When (Both Left (Not (one_of 0 stops))) (Skip (UnexpectedIn list)))) *)
-    ▸ One close !
+rest_listed list element close = off ((Unless (until close) (list_element list element close)) *) ▸ One close !
 
 abbrev pub listed : (list : ℕ) → (opening : Spelling) → (element : Rule) → (close : Spelling) → Rule
 listed list opening element close = One opening ▸ rest_listed list element close
+
+-- after the first part in parentheses: a comma and the rest of a tuple, or the closing parenthesis
+abbrev pub tuple_tail : (tuple paren : ℕ) → (element : Rule) → Rule
+tuple_tail tuple paren element = tuple <⟨ One 'comma' ▸ rest_listed tuple element 'r_paren' ⟩ or paren <⟨ One 'r_paren' ! ⟩
+
+-- after an opening parenthesis: an empty tuple, a tuple, or one part in parentheses
+abbrev pub in_parentheses : (tuple paren : ℕ) → (first element : Rule) → Rule
+in_parentheses tuple paren first element = tuple <⟨ One 'r_paren' ⟩ or first ▸ tuple_tail tuple paren element
 
 -- The operators of expressions, and the marks that one of them could be taken for the front of.
 abbrev pub operators : List Spelling

@@ -1,34 +1,83 @@
 -- The rows of patterns and literals.
 use Rattle.std.specs.Prelude.{[], ◌∷◌}
 use Rattle.parser_input.specs.Kinds.{OR_PAT, LITERAL_PAT, WILDCARD_PAT, REF_PAT, TUPLE_PAT, PAREN_PAT, SLICE_PAT, REST_PAT, IDENT_PAT, TUPLE_STRUCT_PAT, RECORD_PAT, RECORD_PAT_FIELD_LIST, RECORD_PAT_FIELD, PATH_PAT, LITERAL}
-use Rattle.rust_grammar.specs.Rule.{pattern, single_pattern, pattern_fields, pattern_field, literal, Production, Rule, Nothing, One, When}
-use Rattle.rust_grammar.specs.Words.{'dots', '::', 'comma', 'l_paren', 'r_paren', 'l_curly', 'r_curly', '[', ']', 'at', ':', '!', '-', '&', '|', 'false', 'mut', 'ref', 'true', '_', 'ident', 'int', 'float', 'char', 'byte', 'string', 'byte_string', 'c_string'}
+use Rattle.rust_grammar.specs.Rule.{pattern, single_pattern, pattern_fields, pattern_field, literal, Production, Look, Rule, Nothing, One, When}
+use Rattle.rust_grammar.specs.Words.{'dots', '::', 'l_paren', 'r_paren', 'l_curly', 'r_curly', '[', ']', 'at', ':', '!', '-', '&', '|', 'false', 'mut', 'ref', 'true', '_', 'ident', 'int', 'float', 'char', 'byte', 'string', 'byte_string', 'c_string'}
 use Rattle.rust_grammar.specs.Calls.{Name, ExprPath, Pattern, SinglePattern, PatternFields, PatternField, Literal}
-use Rattle.rust_grammar.specs.Notation.{◌or◌, ◌▸◌, ◌▹◌, ⁅◌⁆, ◌*, ◌⁺, ◌!, ◌⟨◌⟩, ◌<⟨◌⟩, next, ◌before◌, ◌not_before◌, any_of, rest_listed, listed}
+use Rattle.rust_grammar.specs.Notation.{◌or◌, ◌▸◌, ◌▹◌, ⁅◌⁆, ◌*, ◌⁺, ◌!, ◌⟨◌⟩, ◌<⟨◌⟩, next, ◌before◌, ◌not_before◌, any_of, listed, in_parentheses}
 use Rattle.rust_grammar.specs.Shared.{field_name}
 
 -- the token of a literal
 abbrev pub literal_token : Rule
 literal_token = One 'int' or One 'float' or One 'char' or One 'byte' or One 'string' or One 'byte_string' or One 'c_string' or One 'true' or One 'false'
 
+-- a further alternative of an or pattern, and those after the first one
+abbrev pub further_alternative : Rule
+further_alternative = One '|' ▸ SinglePattern !
+
+abbrev pub or_pattern : Rule
+or_pattern = OR_PAT <⟨ further_alternative ⁺ ⟩
+
+abbrev pub ref_pat : Rule
+ref_pat = REF_PAT ⟨ One '&' ▸ ⁅ One 'mut' ⁆ ▸ SinglePattern ! ⟩
+
+-- a tuple pattern that begins with a rest pattern
+abbrev pub tuple_pat : Rule
+tuple_pat = TUPLE_PAT ⟨ listed TUPLE_PAT 'l_paren' Pattern 'r_paren' ⟩
+
+-- a parenthesized pattern or a tuple pattern, and what follows its `(`
+abbrev pub after_l_paren : Rule
+after_l_paren = in_parentheses TUPLE_PAT PAREN_PAT (Pattern !) Pattern
+
+abbrev pub tuple_or_paren : Rule
+tuple_or_paren = One 'l_paren' ▸ after_l_paren
+
+abbrev pub slice_pat : Rule
+slice_pat = SLICE_PAT ⟨ listed SLICE_PAT '[' Pattern ']' ⟩
+
+abbrev pub rest_pat : Rule
+rest_pat = REST_PAT ⟨ One 'dots' ⟩
+
+-- a word that is a name, and no path
+abbrev pub name_alone : Look
+name_alone = 'ident' not_before ('::' ∷ 'l_paren' ∷ 'l_curly' ∷ '!' ∷ [])
+
+-- the pattern after the `@` of an identifier pattern
+abbrev pub at_pattern : Rule
+at_pattern = One 'at' ▸ SinglePattern !
+
+-- what follows a path in a pattern, and both
+abbrev pub after_path : Rule
+after_path = TUPLE_STRUCT_PAT <⟨ listed TUPLE_STRUCT_PAT 'l_paren' Pattern 'r_paren' ⟩ or RECORD_PAT <⟨ PatternFields ⟩ or PATH_PAT <⟨ Nothing ⟩
+
+abbrev pub path_pat : Rule
+path_pat = ExprPath ▸ after_path
+
+-- the name that a field of a record pattern binds, and that field
+abbrev pub binding : Rule
+binding = ⁅ One 'ref' ⁆ ▸ ⁅ One 'mut' ⁆ ▸ Name !
+
+abbrev pub shorthand : Rule
+shorthand = RECORD_PAT_FIELD ⟨ IDENT_PAT ⟨ binding ⟩ ⟩
+
 unfoldable pub patterns : (others : Production → Rule) → Production → Rule
 patterns others pattern =
-    One '|' ▸ SinglePattern ! ▸ OR_PAT <⟨ (One '|' ▸ SinglePattern !) * ⟩
-    or SinglePattern ▸ ⁅ OR_PAT <⟨ (One '|' ▸ SinglePattern !) ⁺ ⟩ ⁆
+    One '|' ▸ SinglePattern ! ▸ OR_PAT <⟨ further_alternative * ⟩
+    or SinglePattern ▸ ⁅ or_pattern ⁆
 patterns others single_pattern =
     LITERAL_PAT ⟨ ⁅ One '-' ⁆ ▸ Literal ! ⟩
     or WILDCARD_PAT ⟨ One '_' ⟩
-    or REF_PAT ⟨ One '&' ▸ ⁅ One 'mut' ⁆ ▸ SinglePattern ! ⟩
-    or When ('l_paren' before 'dots') (TUPLE_PAT ⟨ listed TUPLE_PAT 'l_paren' Pattern 'r_paren' ⟩)
-    or One 'l_paren' ▸ (TUPLE_PAT <⟨ One 'r_paren' ⟩ or Pattern ! ▸ (TUPLE_PAT <⟨ One 'comma' ▸ rest_listed TUPLE_PAT Pattern 'r_paren' ⟩ or PAREN_PAT <⟨ One 'r_paren' ! ⟩))
-    or SLICE_PAT ⟨ listed SLICE_PAT '[' Pattern ']' ⟩
-    or REST_PAT ⟨ One 'dots' ⟩
-    or When (any_of (next 'ref' ∷ next 'mut' ∷ 'ident' not_before ('::' ∷ 'l_paren' ∷ 'l_curly' ∷ '!' ∷ []) ∷ [])) (IDENT_PAT ⟨ ⁅ One 'ref' ⁆ ▸ ⁅ One 'mut' ⁆ ▸ Name ! ▸ ⁅ One 'at' ▸ SinglePattern ! ⁆ ⟩)
-    or ExprPath ▸ (TUPLE_STRUCT_PAT <⟨ listed TUPLE_STRUCT_PAT 'l_paren' Pattern 'r_paren' ⟩ or RECORD_PAT <⟨ PatternFields ⟩ or PATH_PAT <⟨ Nothing ⟩)
+    or ref_pat
+    or When ('l_paren' before 'dots') tuple_pat
+    or tuple_or_paren
+    or slice_pat
+    or rest_pat
+    or When (any_of (next 'ref' ∷ next 'mut' ∷ name_alone ∷ [])) (IDENT_PAT ⟨ ⁅ One 'ref' ⁆ ▸ ⁅ One 'mut' ⁆ ▸ Name ! ▸ ⁅ at_pattern ⁆ ⟩)
+    or path_pat
 patterns others pattern_fields = RECORD_PAT_FIELD_LIST ⟨ listed RECORD_PAT_FIELD_LIST 'l_curly' PatternField 'r_curly' ⟩
 patterns others pattern_field =
-    REST_PAT ⟨ One 'dots' ⟩
+    rest_pat
     or RECORD_PAT_FIELD ⟨ field_name ▹ One ':' ▸ Pattern ! ⟩
-    or RECORD_PAT_FIELD ⟨ IDENT_PAT ⟨ ⁅ One 'ref' ⁆ ▸ ⁅ One 'mut' ⁆ ▸ Name ! ⟩ ⟩
+    or shorthand
 patterns others literal = LITERAL ⟨ literal_token ⟩
 patterns others x = others x

@@ -1,9 +1,10 @@
 -- Parts of rules that several tables share.
 use Rattle.std.specs.Prelude.{List, [], ◌∷◌}
-use Rattle.parser_input.specs.Kinds.{COLON, NAME_REF}
+use Rattle.parser_input.specs.Kinds.{COLON, NAME_REF, PATH_TYPE}
 use Rattle.rust_grammar.specs.Rule.{Look, Kind, Joint, Both, Not, Spelling, Rule, One}
-use Rattle.rust_grammar.specs.Words.{'::', 'l_curly', '*', 'crate', 'self', 'Self', 'super', 'ident', 'int'}
-use Rattle.rust_grammar.specs.Notation.{◌or◌, ◌⟨◌⟩, ◌before_any◌}
+use Rattle.rust_grammar.specs.Words.{'::', 'l_curly', ':', '=', '*', 'crate', 'self', 'Self', 'super', 'ident', 'int'}
+use Rattle.rust_grammar.specs.Calls.{TypePath, AnyType, Expression}
+use Rattle.rust_grammar.specs.Notation.{◌or◌, ◌▸◌, ◌!, ◌⟨◌⟩, ◌before_any◌}
 
 -- the words that a segment of a path can be
 abbrev pub refs : List Spelling
@@ -18,5 +19,20 @@ abbrev pub path_goes_on : Look
 path_goes_on = Both (Not colons_before_more) (Both (Kind 0 COLON) (Both (Joint 0) (Kind 1 COLON)))
 
 -- a field by name or by number
+abbrev pub ident_or_int : Rule
+ident_or_int = One 'ident' or One 'int'
+
 abbrev pub field_name : Rule
-field_name = NAME_REF ⟨ One 'ident' or One 'int' ⟩
+field_name = NAME_REF ⟨ ident_or_int ⟩
+
+-- a path as a type
+abbrev pub path_type : Rule
+path_type = PATH_TYPE ⟨ TypePath ⟩
+
+-- the type of a variable, a parameter or a receiver
+abbrev pub type_annotation : Rule
+type_annotation = One ':' ▸ AnyType !
+
+-- the value of a constant, a static item or a variable
+abbrev pub initializer : Rule
+initializer = One '=' ▸ Expression !

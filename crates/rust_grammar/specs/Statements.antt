@@ -3,9 +3,10 @@ use Rattle.std.specs.Prelude.{[], ◌∷◌}
 use Rattle.parser_input.specs.Kinds.{MACRO_STMTS, STMT_LIST, LET_STMT, LET_ELSE, EXPR_STMT, BLOCK_EXPR, DEFER_STMT}
 use Rattle.parser_events.specs.Forest.{ExpectedStatement}
 use Rattle.rust_grammar.specs.Rule.{macro_statements, statement_list, block, statement, macro_statement, statement_end, macro_statement_end, postfix, Production, Look, Both, Either, Not, Rule, Nothing, One, Skip, When, Unless, Call}
-use Rattle.rust_grammar.specs.Words.{'dots', 'semi', 'dot', 'l_curly', 'r_curly', '#', '?', ':', '=', '!', 'const', 'defer', 'else', 'enum', 'fn', 'impl', 'let', 'mod', 'pub', 'static', 'struct', 'trait', 'type', 'unsafe', 'use'}
-use Rattle.rust_grammar.specs.Calls.{Item, Attribute, AnyType, Pattern, StatementList, Block, Expression, BlockLike}
+use Rattle.rust_grammar.specs.Words.{'dots', 'semi', 'dot', 'l_curly', 'r_curly', '#', '?', '!', 'const', 'defer', 'else', 'enum', 'fn', 'impl', 'let', 'mod', 'pub', 'static', 'struct', 'trait', 'type', 'unsafe', 'use'}
+use Rattle.rust_grammar.specs.Calls.{Item, Attribute, Pattern, StatementList, Block, Expression, BlockLike}
 use Rattle.rust_grammar.specs.Notation.{◌or◌, ◌▸◌, ⁅◌⁆, ◌*, ◌⁺, ◌!, ◌⟨◌⟩, ◌<⟨◌⟩, more, off, at_end, next, ◌before◌, ◌before_any◌, any_of, one_of, until}
+use Rattle.rust_grammar.specs.Shared.{type_annotation, initializer}
 
 -- where an item begins among statements; other items begin like expressions
 abbrev pub item_begins : Look
@@ -36,18 +37,38 @@ in_macro = record { ends = at_end; one = macro_statement; end = macro_statement_
 abbrev pub all_of : Listing → Rule
 all_of list = (Unless list.ends (Call list.one)) *
 
+-- the else branch of a `let` statement, and the statement
+abbrev pub let_else : Rule
+let_else = LET_ELSE ⟨ One 'else' ▸ Block ! ⟩
+
+abbrev pub let_stmt : Rule
+let_stmt = LET_STMT ⟨ One 'let' ▸ Pattern ! ▸ ⁅ type_annotation ⁆ ▸ ⁅ initializer ⁆ ▸ ⁅ let_else ⁆ ▸ One 'semi' ! ⟩
+
+abbrev pub defer_stmt : Rule
+defer_stmt = DEFER_STMT ⟨ One 'defer' ▸ Block ! ⟩
+
+-- what follows an expression that ends in a block
+abbrev pub after_block : Listing → Rule
+after_block list =
+    When goes_on ((more postfix) ⁺ ▸ more list.end) or EXPR_STMT <⟨ One 'semi' ⟩ or When list.ends Nothing or EXPR_STMT <⟨ Nothing ⟩
+
+-- any other expression as a statement, and both
+abbrev pub ended_expression : Listing → Rule
+ended_expression list = Expression ▸ more list.end
+
+abbrev pub expression_statement : Listing → Rule
+expression_statement list = BlockLike ▸ after_block list or ended_expression list or Skip ExpectedStatement
+
 -- A statement, with what stands after an expression: an expression that ends in a block needs no `;`, and the last expression
 -- of a list is no statement.
 abbrev pub statement_of : Listing → Rule
 statement_of list =
     One 'semi'
     or When ('#' before '!') Attribute
-    or DEFER_STMT ⟨ One 'defer' ▸ Block ! ⟩
-    or LET_STMT ⟨ One 'let' ▸ Pattern ! ▸ ⁅ One ':' ▸ AnyType ! ⁆ ▸ ⁅ One '=' ▸ Expression ! ⁆ ▸ ⁅ LET_ELSE ⟨ One 'else' ▸ Block ! ⟩ ⁆ ▸ One 'semi' ! ⟩
+    or defer_stmt
+    or let_stmt
     or When item_begins Item
-    or BlockLike ▸ (When goes_on ((more postfix) ⁺ ▸ more list.end) or EXPR_STMT <⟨ One 'semi' ⟩ or When list.ends Nothing or EXPR_STMT <⟨ Nothing ⟩)
-    or Expression ▸ more list.end
-    or Skip ExpectedStatement
+    or expression_statement list
 
 -- what stands after an expression that needs a `;`, unless it is the last of its list
 abbrev pub end_of : Listing → Rule

@@ -1,11 +1,10 @@
 //! Attributes.
 
 ghost use Rattle.std.specs.Prelude.{◌≤◌, ◌+◌, Bool, true, false};
-ghost use Rattle.rust_grammar.specs.Calls.{Expression, Meta, TokenTree};
-ghost use Rattle.rust_grammar.specs.Notation.{◌or◌, ◌▸◌, ⁅◌⁆, ◌! };
+ghost use Rattle.rust_grammar.specs.Calls.{Meta};
+ghost use Rattle.rust_grammar.specs.Notation.{⁅◌⁆, ◌! };
 ghost use Rattle.rust_grammar.specs.Rule as rules;
-ghost use Rattle.rust_grammar.specs.Rule.{One};
-ghost use Rattle.rust_grammar.specs.Words.{'='};
+ghost use Rattle.rust_grammar.specs.Items as rows;
 ghost use Rattle.rust_productions.specs.Looks.{tokens, spent};
 ghost use Rattle.rust_productions.specs.Reads.{looks, Gives, Reads, Saw};
 
@@ -69,7 +68,7 @@ pub fn meta(p: &mut Parser<'_>, condition: bool)
 // = "text"
 #[cycle(grammar)]
 fn opt_value(p: &mut Parser<'_>, condition: bool)
-    ensures reads { Reads condition (⁅ One '=' ▸ Expression ! or TokenTree ⁆) p.old p.new }
+    ensures reads { Reads condition ⁅ rows.attr_input ⁆ p.old p.new }
     ensures left { tokens p.new ≤ tokens p.old }
     ensures looks { spent p.new ≤ spent p.old + 2 }
 {

@@ -1,14 +1,14 @@
 //! Expressions: operations, ranges, operands after `|>`, and assignments.
 
 ghost use Rattle.std.specs.Prelude.{◌≡◌, ◌≤◌, ◌+◌, ℕ, Bool, IsTrue, Some, None, true, false};
-ghost use Rattle.parser_input.specs.Kinds.{BIN_EXPR};
 ghost use Rattle.parser_events.specs.Forest.{ExpectedExpression};
 ghost use Rattle.parser_events.specs.Stack.{IsInnermost};
-ghost use Rattle.rust_grammar.specs.Calls.{Disjunction, Operation};
-ghost use Rattle.rust_grammar.specs.Expressions.{assignment, body_begins, range_to};
-ghost use Rattle.rust_grammar.specs.Notation.{◌or◌, ◌▸◌, ◌!, ◌<⟨◌⟩, more, on};
+ghost use Rattle.rust_grammar.specs.Calls.{Operation};
+ghost use Rattle.rust_grammar.specs.Expressions.{range_to};
+ghost use Rattle.rust_grammar.specs.Notation.{◌▸◌, ◌!, more};
 ghost use Rattle.rust_grammar.specs.Rule as rules;
-ghost use Rattle.rust_grammar.specs.Rule.{Call, Nothing, One, Unless, Want, begins};
+ghost use Rattle.rust_grammar.specs.Rule.{Call, One, Want, begins};
+ghost use Rattle.rust_grammar.specs.Expressions as rows;
 ghost use Rattle.grammar_reader.specs.Told.{level_of};
 ghost use Rattle.rust_productions.specs.Looks.{tokens, spent};
 ghost use Rattle.rust_productions.specs.Operators.{IsMark, IsNext, spelling_of};
@@ -94,7 +94,7 @@ fn expect_operation(p: &mut Parser<'_>, condition: bool)
 // a == b
 #[cycle(grammar)]
 pub(crate) fn expect_condition(p: &mut Parser<'_>)
-    ensures reads { (c : Bool) → Reads c (on Operation !) p.old p.new }
+    ensures reads { (c : Bool) → Reads c (rows.condition !) p.old p.new }
     ensures left { tokens p.new ≤ tokens p.old }
     ensures looks { spent p.new ≤ spent p.old + 20 }
 {
@@ -176,7 +176,7 @@ fn range_end(p: &mut Parser<'_>, mark: RangeMark, condition: bool) -> bool
     requires marked { IsMark (Some mark) p.old }
     ensures near { Saw condition (begins looks (range_to (spelling_of mark))) p.old result }
     ensures to { IsTrue result → Reads condition
-        (One (spelling_of mark) ▸ Unless body_begins Disjunction) p.old p.new }
+        (One (spelling_of mark) ▸ rows.range_operand) p.old p.new }
     ensures alone { result ≡ false → Reads condition (One (spelling_of mark)) p.old p.new }
     ensures innermost { (n : ℕ) → IsInnermost n p.old.nodes → IsInnermost n p.new.nodes }
     ensures left { tokens p.new + 1 ≤ tokens p.old }
@@ -240,8 +240,7 @@ fn pipe_tail(p: &mut Parser<'_>, frame: Marker, condition: bool) -> Marker
 fn opt_assignment(p: &mut Parser<'_>, frame: Marker, operator: Operator, condition: bool) -> Marker
     requires next { IsNext operator p.old }
     requires innermost { IsInnermost frame p.old.nodes }
-    ensures reads { Reads condition
-        (BIN_EXPR <⟨ assignment ▸ Operation ! ⟩ or Nothing) p.old p.new }
+    ensures reads { Reads condition rows.opt_assignment p.old p.new }
     ensures marker { IsInnermost result p.new.nodes }
     ensures left { tokens p.new ≤ tokens p.old }
     ensures looks { spent p.new ≤ spent p.old }

@@ -1,13 +1,15 @@
 //! Fields of record expressions and of record patterns.
 
 ghost use Rattle.std.specs.Prelude.{◌≡◌, ◌≤◌, ◌+◌, Bool, true};
-ghost use Rattle.parser_input.specs.Kinds.{IDENT_PAT, NAME_REF, PATH_EXPR, RECORD_EXPR_FIELD, RECORD_PAT_FIELD};
-ghost use Rattle.rust_grammar.specs.Calls.{ExprPath, Expression, Name, Pattern};
-ghost use Rattle.rust_grammar.specs.Notation.{◌or◌, ◌▸◌, ⁅◌⁆, ◌!, ◌⟨◌⟩};
+ghost use Rattle.parser_input.specs.Kinds.{NAME_REF, RECORD_EXPR_FIELD, RECORD_PAT_FIELD};
+ghost use Rattle.rust_grammar.specs.Calls.{Expression, Name, Pattern};
+ghost use Rattle.rust_grammar.specs.Notation.{◌▸◌, ⁅◌⁆, ◌!, ◌⟨◌⟩};
 ghost use Rattle.rust_grammar.specs.Rule as rules;
 ghost use Rattle.rust_grammar.specs.Rule.{One, begins};
-ghost use Rattle.rust_grammar.specs.Shared.{field_name};
-ghost use Rattle.rust_grammar.specs.Words.{'dots', ':', 'ident', 'int', 'mut', 'ref'};
+ghost use Rattle.rust_grammar.specs.Shared.{field_name, ident_or_int};
+ghost use Rattle.rust_grammar.specs.Words.{':', 'mut', 'ref'};
+ghost use Rattle.rust_grammar.specs.Expressions as expression_rows;
+ghost use Rattle.rust_grammar.specs.Patterns as pattern_rows;
 ghost use Rattle.rust_productions.specs.Looks.{tokens, spent};
 ghost use Rattle.rust_productions.specs.Reads.{looks, Gives, Reads, Saw};
 
@@ -47,7 +49,7 @@ pub(crate) fn field_value(p: &mut Parser<'_>, condition: bool)
 // a
 fn name_or_number(p: &mut Parser<'_>)
     requires { 1 ≤ tokens p.old }
-    ensures reads { (c : Bool) → Reads c (One 'ident' or One 'int') p.old p.new }
+    ensures reads { (c : Bool) → Reads c ident_or_int p.old p.new }
     ensures left { tokens p.new + 1 ≡ tokens p.old }
     ensures looks { spent p.new + 4095 ≤ spent p.old }
 {
@@ -92,7 +94,7 @@ fn named_value(p: &mut Parser<'_>, condition: bool)
 #[cycle(grammar)]
 fn other_fields(p: &mut Parser<'_>, condition: bool)
     requires some { 2 ≤ tokens p.old }
-    ensures reads { Reads condition (One 'dots' ▸ ⁅ Expression ⁆) p.old p.new }
+    ensures reads { Reads condition expression_rows.struct_base p.old p.new }
     ensures left { tokens p.new + 1 ≤ tokens p.old }
     ensures looks { spent p.new + 7000 ≤ spent p.old }
 {
@@ -119,8 +121,7 @@ fn opt_expression(p: &mut Parser<'_>, condition: bool)
 fn path_value(p: &mut Parser<'_>)
     requires begins { (c : Bool) → Saw c (looks rules.path) p.old true }
     requires some { 1 ≤ tokens p.old }
-    ensures reads { (c : Bool) → Reads c
-        (RECORD_EXPR_FIELD ⟨ PATH_EXPR ⟨ ExprPath ⟩ ⟩) p.old p.new }
+    ensures reads { (c : Bool) → Reads c expression_rows.shorthand p.old p.new }
     ensures left { tokens p.new + 1 ≤ tokens p.old }
     ensures looks { spent p.new + 4000 ≤ spent p.old }
 {
@@ -172,11 +173,9 @@ fn named_pattern(p: &mut Parser<'_>)
 /// Parses a shorthand field of a record pattern.
 // ref mut a
 fn shorthand(p: &mut Parser<'_>)
-    requires begins { (c : Bool) → Saw c
-        (begins looks (⁅ One 'ref' ⁆ ▸ ⁅ One 'mut' ⁆ ▸ Name !)) p.old true }
+    requires begins { (c : Bool) → Saw c (begins looks pattern_rows.binding) p.old true }
     requires some { 1 ≤ tokens p.old }
-    ensures reads { (c : Bool) → Reads c (RECORD_PAT_FIELD ⟨ IDENT_PAT
-        ⟨ ⁅ One 'ref' ⁆ ▸ ⁅ One 'mut' ⁆ ▸ Name ! ⟩ ⟩) p.old p.new }
+    ensures reads { (c : Bool) → Reads c pattern_rows.shorthand p.old p.new }
     ensures left { tokens p.new + 1 ≤ tokens p.old }
     ensures looks { spent p.new + 4090 ≤ spent p.old }
 {
@@ -190,10 +189,9 @@ fn shorthand(p: &mut Parser<'_>)
 /// Parses a name with an optional `ref` and an optional `mut`.
 // ref mut a
 fn bound_name(p: &mut Parser<'_>)
-    requires begins { (c : Bool) → Saw c
-        (begins looks (⁅ One 'ref' ⁆ ▸ ⁅ One 'mut' ⁆ ▸ Name !)) p.old true }
+    requires begins { (c : Bool) → Saw c (begins looks pattern_rows.binding) p.old true }
     requires some { 1 ≤ tokens p.old }
-    ensures reads { (c : Bool) → Reads c (⁅ One 'ref' ⁆ ▸ ⁅ One 'mut' ⁆ ▸ Name !) p.old p.new }
+    ensures reads { (c : Bool) → Reads c pattern_rows.binding p.old p.new }
     ensures left { tokens p.new + 1 ≤ tokens p.old }
     ensures looks { spent p.new + 4090 ≤ spent p.old }
 {

@@ -2,13 +2,14 @@
 
 ghost use Rattle.std.specs.Prelude.{◌≡◌, ◌≤◌, ◌+◌, Bool, true};
 ghost use Rattle.parser_input.specs.Kinds as kinds;
-ghost use Rattle.parser_input.specs.Kinds.{ASSOC_TYPE_ARG, CONST_ARG, LIFETIME_ARG, NAME_REF, TYPE_ARG};
-ghost use Rattle.rust_grammar.specs.Calls.{AnyType, Lifetime, Literal};
+ghost use Rattle.parser_input.specs.Kinds.{ASSOC_TYPE_ARG, CONST_ARG, NAME_REF};
+ghost use Rattle.rust_grammar.specs.Calls.{AnyType, Literal};
 ghost use Rattle.rust_grammar.specs.Notation.{◌▸◌, ◌!, ◌⟨◌⟩};
 ghost use Rattle.rust_grammar.specs.Rule as rules;
 ghost use Rattle.rust_grammar.specs.Rule.{Kind, One};
 ghost use Rattle.rust_grammar.specs.Whole.{rule};
 ghost use Rattle.rust_grammar.specs.Words.{'=', '-', 'ident'};
+ghost use Rattle.rust_grammar.specs.Paths as rows;
 ghost use Rattle.rust_productions.specs.Looks.{tokens, spent};
 ghost use Rattle.rust_productions.specs.Reads.{looks, Gives, Reads, Saw};
 
@@ -46,7 +47,7 @@ pub(crate) fn generic_arg(p: &mut Parser<'_>, condition: bool)
 // 'a
 fn lifetime_arg(p: &mut Parser<'_>)
     requires { 1 ≤ tokens p.old }
-    ensures reads { (c : Bool) → Reads c (LIFETIME_ARG ⟨ Lifetime ⟩) p.old p.new }
+    ensures reads { (c : Bool) → Reads c rows.lifetime_arg p.old p.new }
     ensures left { tokens p.new + 1 ≡ tokens p.old }
     ensures looks { spent p.new + 4096 ≡ spent p.old }
 {
@@ -122,7 +123,7 @@ fn assoc_type_arg(p: &mut Parser<'_>, condition: bool)
 fn type_arg(p: &mut Parser<'_>, condition: bool)
     requires begins { Saw condition (looks rules.any_type) p.old true }
     requires some { 1 ≤ tokens p.old }
-    ensures reads { Reads condition (TYPE_ARG ⟨ AnyType ⟩) p.old p.new }
+    ensures reads { Reads condition rows.type_arg p.old p.new }
     ensures left { tokens p.new + 1 ≤ tokens p.old }
     ensures looks { spent p.new + 2910 ≤ spent p.old }
 {

@@ -1,12 +1,13 @@
 //! Generic parameters, bounds, and what `where` asks.
 
 ghost use Rattle.std.specs.Prelude.{◌≤◌, ◌+◌, Bool, true};
-ghost use Rattle.parser_input.specs.Kinds.{LIFETIME_PARAM, PATH_TYPE, TYPE_PARAM};
-ghost use Rattle.rust_grammar.specs.Calls.{AnyType, Bound, Bounds, Lifetime, Name, TypePath, WherePred};
-ghost use Rattle.rust_grammar.specs.Notation.{◌or◌, ◌▸◌, ⁅◌⁆, ◌*, ◌!, ◌⟨◌⟩};
+ghost use Rattle.rust_grammar.specs.Calls.{Bound, WherePred};
+ghost use Rattle.rust_grammar.specs.Notation.{◌▸◌, ⁅◌⁆, ◌*, ◌! };
 ghost use Rattle.rust_grammar.specs.Rule as rules;
 ghost use Rattle.rust_grammar.specs.Rule.{One};
-ghost use Rattle.rust_grammar.specs.Words.{'comma', '?', ':', '=', '+'};
+ghost use Rattle.rust_grammar.specs.Words.{'?'};
+ghost use Rattle.rust_grammar.specs.Paths as rows;
+ghost use Rattle.rust_grammar.specs.Shared as shared;
 ghost use Rattle.rust_productions.specs.Looks.{tokens, spent};
 ghost use Rattle.rust_productions.specs.Reads.{looks, Gives, Reads, Saw};
 
@@ -40,8 +41,7 @@ fn bound(p: &mut Parser<'_>)
 fn lifetime_or_path(p: &mut Parser<'_>)
     requires begins { (c : Bool) → Saw c (looks rules.bound) p.old true }
     requires some { 1 ≤ tokens p.old }
-    ensures reads { (c : Bool) → Reads c
-        (Lifetime or ⁅ One '?' ⁆ ▸ (PATH_TYPE ⟨ TypePath ⟩) !) p.old p.new }
+    ensures reads { (c : Bool) → Reads c rows.lifetime_or_path p.old p.new }
     ensures left { tokens p.new + 1 ≤ tokens p.old }
     ensures looks { spent p.new + 3990 ≤ spent p.old }
 {
@@ -57,7 +57,7 @@ fn lifetime_or_path(p: &mut Parser<'_>)
 #[cycle(grammar)]
 fn path_after_question(p: &mut Parser<'_>)
     requires some { 1 ≤ tokens p.old }
-    ensures reads { (c : Bool) → Reads c (One '?' ▸ (PATH_TYPE ⟨ TypePath ⟩) !) p.old p.new }
+    ensures reads { (c : Bool) → Reads c (One '?' ▸ shared.path_type !) p.old p.new }
     ensures left { tokens p.new + 1 ≤ tokens p.old }
     ensures looks { spent p.new + 4090 ≤ spent p.old }
 {
@@ -69,7 +69,7 @@ fn path_after_question(p: &mut Parser<'_>)
 // Sized
 #[cycle(grammar)]
 fn expect_path_type(p: &mut Parser<'_>)
-    ensures reads { (c : Bool) → Reads c ((PATH_TYPE ⟨ TypePath ⟩) !) p.old p.new }
+    ensures reads { (c : Bool) → Reads c (shared.path_type !) p.old p.new }
     ensures left { tokens p.new ≤ tokens p.old }
     ensures looks { spent p.new ≤ spent p.old + 3 }
 {
@@ -97,7 +97,7 @@ pub(crate) fn bounds(p: &mut Parser<'_>)
 // A + 'a
 #[cycle(grammar)]
 fn opt_bounds(p: &mut Parser<'_>)
-    ensures reads { (c : Bool) → Reads c ⁅ Bound ▸ (One '+' ▸ ⁅ Bound ⁆) * ⁆ p.old p.new }
+    ensures reads { (c : Bool) → Reads c ⁅ rows.bound_list ⁆ p.old p.new }
     ensures left { tokens p.new ≤ tokens p.old }
     ensures looks { spent p.new ≤ spent p.old + 4 }
 {
@@ -111,7 +111,7 @@ fn opt_bounds(p: &mut Parser<'_>)
 // + B + 'a
 #[cycle(grammar)]
 fn further_bounds(p: &mut Parser<'_>)
-    ensures reads { (c : Bool) → Reads c ((One '+' ▸ ⁅ Bound ⁆) *) p.old p.new }
+    ensures reads { (c : Bool) → Reads c (rows.further_bound *) p.old p.new }
     ensures left { tokens p.new ≤ tokens p.old }
     ensures looks { spent p.new ≤ spent p.old + 1 }
 {
@@ -125,7 +125,7 @@ fn further_bounds(p: &mut Parser<'_>)
 #[cycle(grammar)]
 fn further_bound(p: &mut Parser<'_>)
     requires some { 1 ≤ tokens p.old }
-    ensures reads { (c : Bool) → Reads c (One '+' ▸ ⁅ Bound ⁆) p.old p.new }
+    ensures reads { (c : Bool) → Reads c rows.further_bound p.old p.new }
     ensures left { tokens p.new + 1 ≤ tokens p.old }
     ensures looks { spent p.new + 4090 ≤ spent p.old }
 {
@@ -150,7 +150,7 @@ fn opt_bound(p: &mut Parser<'_>)
 // : A + B
 #[cycle(grammar)]
 pub(crate) fn bounds_after_colon(p: &mut Parser<'_>)
-    ensures reads { (c : Bool) → Reads c ⁅ One ':' ▸ Bounds ⁆ p.old p.new }
+    ensures reads { (c : Bool) → Reads c ⁅ rows.bounds_after_colon ⁆ p.old p.new }
     ensures left { tokens p.new ≤ tokens p.old }
     ensures looks { spent p.new ≤ spent p.old + 1 }
 {
@@ -165,8 +165,7 @@ pub(crate) fn bounds_after_colon(p: &mut Parser<'_>)
 #[cycle(grammar)]
 fn lifetime_param(p: &mut Parser<'_>)
     requires some { 1 ≤ tokens p.old }
-    ensures reads { (c : Bool) → Reads c
-        (LIFETIME_PARAM ⟨ Lifetime ▸ ⁅ One ':' ▸ Bounds ⁆ ⟩) p.old p.new }
+    ensures reads { (c : Bool) → Reads c rows.lifetime_param p.old p.new }
     ensures left { tokens p.new + 1 ≤ tokens p.old }
     ensures looks { spent p.new + 4090 ≤ spent p.old }
 {
@@ -181,8 +180,7 @@ fn lifetime_param(p: &mut Parser<'_>)
 #[cycle(grammar)]
 fn type_param(p: &mut Parser<'_>, condition: bool)
     requires some { 1 ≤ tokens p.old }
-    ensures reads { Reads condition
-        (TYPE_PARAM ⟨ Name ▸ ⁅ One ':' ▸ Bounds ⁆ ▸ ⁅ One '=' ▸ AnyType ! ⁆ ⟩) p.old p.new }
+    ensures reads { Reads condition rows.type_param p.old p.new }
     ensures left { tokens p.new + 1 ≤ tokens p.old }
     ensures looks { spent p.new + 4090 ≤ spent p.old }
 {
@@ -215,7 +213,7 @@ pub(crate) fn generic_param(p: &mut Parser<'_>, condition: bool)
 fn lifetime_or_type(p: &mut Parser<'_>, condition: bool)
     requires begins { Saw condition (looks rules.where_pred) p.old true }
     requires some { 1 ≤ tokens p.old }
-    ensures reads { Reads condition (Lifetime or AnyType) p.old p.new }
+    ensures reads { Reads condition rows.lifetime_or_type p.old p.new }
     ensures left { tokens p.new + 1 ≤ tokens p.old }
     ensures looks { spent p.new + 2900 ≤ spent p.old }
 {
@@ -262,8 +260,7 @@ pub(crate) fn where_clause(p: &mut Parser<'_>, condition: bool)
 // T: A, U: B
 #[cycle(grammar)]
 fn opt_preds(p: &mut Parser<'_>, condition: bool)
-    ensures reads { Reads condition
-        ⁅ WherePred ▸ (One 'comma' ▸ ⁅ WherePred ⁆) * ⁆ p.old p.new }
+    ensures reads { Reads condition ⁅ rows.pred_list ⁆ p.old p.new }
     ensures left { tokens p.new ≤ tokens p.old }
     ensures looks { spent p.new ≤ spent p.old + 6 }
 {
@@ -277,7 +274,7 @@ fn opt_preds(p: &mut Parser<'_>, condition: bool)
 // , U: B
 #[cycle(grammar)]
 fn further_preds(p: &mut Parser<'_>, condition: bool)
-    ensures reads { Reads condition ((One 'comma' ▸ ⁅ WherePred ⁆) *) p.old p.new }
+    ensures reads { Reads condition (rows.further_pred *) p.old p.new }
     ensures left { tokens p.new ≤ tokens p.old }
     ensures looks { spent p.new ≤ spent p.old + 1 }
 {
@@ -291,7 +288,7 @@ fn further_preds(p: &mut Parser<'_>, condition: bool)
 #[cycle(grammar)]
 fn further_pred(p: &mut Parser<'_>, condition: bool)
     requires some { 1 ≤ tokens p.old }
-    ensures reads { Reads condition (One 'comma' ▸ ⁅ WherePred ⁆) p.old p.new }
+    ensures reads { Reads condition rows.further_pred p.old p.new }
     ensures left { tokens p.new + 1 ≤ tokens p.old }
     ensures looks { spent p.new + 4090 ≤ spent p.old }
 {

@@ -2,16 +2,16 @@
 
 ghost use Rattle.std.specs.Prelude.{◌≡◌, ◌≤◌, ◌<◌, ◌+◌, Bool, ℕ, IsTrue, true, false};
 ghost use Rattle.parser_input.specs.Kind.{raw_of};
-ghost use Rattle.parser_input.specs.Kinds.{ITEM_LIST, MODULE, POUND, PUB_KW};
+ghost use Rattle.parser_input.specs.Kinds.{POUND, PUB_KW};
 ghost use Rattle.parser_events.specs.Stack.{IsInnermost};
 ghost use Rattle.grammar_reader.specs.Told.{ends_of, item_or_attribute};
-ghost use Rattle.rust_grammar.specs.Calls.{Attribute, GenericParams, Name, WhereClause, Visibility};
+ghost use Rattle.rust_grammar.specs.Calls.{Attribute, GenericParams, WhereClause, Visibility};
 ghost use Rattle.rust_grammar.specs.Items.{items_in_braces, items_until};
-ghost use Rattle.rust_grammar.specs.Notation.{◌or◌, ◌▸◌, ⁅◌⁆, ◌*, ◌!, ◌⟨◌⟩, ◌<⟨◌⟩};
+ghost use Rattle.rust_grammar.specs.Notation.{◌▸◌, ⁅◌⁆, ◌*, ◌⟨◌⟩};
 ghost use Rattle.rust_grammar.specs.Rule as rules;
-ghost use Rattle.rust_grammar.specs.Rule.{Kind, One, Unless};
+ghost use Rattle.rust_grammar.specs.Rule.{Kind, Unless};
 ghost use Rattle.rust_grammar.specs.Whole.{rule};
-ghost use Rattle.rust_grammar.specs.Words.{'semi', 'mod'};
+ghost use Rattle.rust_grammar.specs.Items as rows;
 ghost use Rattle.rust_productions.specs.Looks.{tokens, spent};
 ghost use Rattle.rust_productions.specs.Reads.{looks, Anew, Completes, CompletesWhere, Gives, Reads, Saw};
 ghost use Rattle.rust_productions.specs.Turns.{TurnsFrom};
@@ -180,8 +180,7 @@ fn body(p: &mut Parser<'_>, item: Marker, given: bool, condition: bool)
 fn module(p: &mut Parser<'_>, item: Marker)
     requires some { 1 ≤ tokens p.old }
     requires innermost { IsInnermost item p.old.nodes }
-    ensures completes { (c : Bool) → Completes c
-        (MODULE <⟨ One 'mod' ▸ Name ! ▸ (ITEM_LIST ⟨ items_in_braces ⟩ or One 'semi' !) ⟩) p.old p.new }
+    ensures completes { (c : Bool) → Completes c rows.module_item p.old p.new }
     ensures left { tokens p.new + 1 ≤ tokens p.old }
     ensures looks { spent p.new + 4090 ≤ spent p.old }
 {
@@ -195,7 +194,7 @@ fn module(p: &mut Parser<'_>, item: Marker)
 // { fn f() {} }
 #[cycle(grammar)]
 fn module_items(p: &mut Parser<'_>)
-    ensures reads { (c : Bool) → Reads c (ITEM_LIST ⟨ items_in_braces ⟩ or One 'semi' !) p.old p.new }
+    ensures reads { (c : Bool) → Reads c rows.module_items p.old p.new }
     ensures left { tokens p.new ≤ tokens p.old }
     ensures looks { spent p.new ≤ spent p.old + 2 }
 {

@@ -8,6 +8,7 @@ ghost use Rattle.rust_grammar.specs.Notation.{◌*, rest_listed};
 ghost use Rattle.rust_grammar.specs.Rule as rules;
 ghost use Rattle.rust_grammar.specs.Rule.{begins};
 ghost use Rattle.rust_grammar.specs.Words.{one};
+ghost use Rattle.rust_grammar.specs.Notation as rows;
 ghost use Rattle.grammar_reader.specs.Told.{element_of, list_turn, looks_before, looks_in};
 ghost use Rattle.rust_productions.specs.Looks.{tokens, spent};
 ghost use Rattle.rust_productions.specs.Reads.{looks, Does, Gives, Reads, Saw};
@@ -25,7 +26,7 @@ use crate::grammar::or_patterns::pattern;
 use crate::grammar::params::param;
 use crate::grammar::types::any_type;
 use parser_events::message::Message;
-use parser_events::parser::Parser;
+use parser_events::parser::{Marker, Parser};
 use parser_input::syntax_kind::SyntaxKind;
 use rust_productions::grammar::expressions::at_expression;
 use rust_productions::grammar::fields::at_field_value;
@@ -35,7 +36,7 @@ use rust_productions::grammar::lists::{at_list_end, at_unexpected, comma};
 use rust_productions::grammar::params::at_param;
 use rust_productions::grammar::patterns::{at_pattern, at_pattern_field, at_single_pattern};
 use rust_productions::grammar::types::at_type;
-use rust_productions::grammar::{complete, expect, skip, start, take, tokens_left};
+use rust_productions::grammar::{at, complete, expect, skip, start, take, tokens_left, wrap};
 
 /// The elements of a list.
 #[derive(Clone, Copy)]
@@ -162,6 +163,33 @@ pub(crate) fn rest_of_list(
 {
     elements(p, list, element, closing);
     expect(p, closing);
+}
+
+/// Parses a tuple or a parenthesized element after its first element: the rest of the tuple if a
+/// comma is next, otherwise the `)`. Completes `frame` as `tuple` or as `paren`.
+// , b)
+#[cycle(grammar)]
+pub(crate) fn tuple_tail(
+    p: &mut Parser<'_>,
+    frame: Marker,
+    tuple: SyntaxKind,
+    element: Element,
+    paren: SyntaxKind,
+) -> Marker
+    requires innermost { IsInnermost frame p.old.nodes }
+    ensures reads { (c : Bool) → Reads c
+        (rows.tuple_tail (raw_of tuple) (raw_of paren) (element_of element)) p.old p.new }
+    ensures marker { IsInnermost result p.new.nodes }
+    ensures left { tokens p.new ≤ tokens p.old }
+    ensures looks { spent p.new ≤ spent p.old + 2 }
+{
+    if at(p, SyntaxKind::COMMA) {
+        take(p, SyntaxKind::COMMA);
+        rest_of_list(p, tuple, element, SyntaxKind::R_PAREN);
+        return wrap(p, frame, tuple);
+    }
+    expect(p, SyntaxKind::R_PAREN);
+    wrap(p, frame, paren)
 }
 
 /// Parses call arguments.

@@ -1,14 +1,12 @@
 //! Patterns with `|` between them.
 
 ghost use Rattle.std.specs.Prelude.{◌≤◌, ◌+◌, Bool, true};
-ghost use Rattle.parser_input.specs.Kinds.{OR_PAT};
 ghost use Rattle.parser_events.specs.Stack.{IsInnermost};
-ghost use Rattle.rust_grammar.specs.Calls.{Pattern, SinglePattern};
-ghost use Rattle.rust_grammar.specs.Notation.{◌▸◌, ⁅◌⁆, ◌*, ◌!, ◌⁺, ◌<⟨◌⟩};
+ghost use Rattle.rust_grammar.specs.Calls.{Pattern};
+ghost use Rattle.rust_grammar.specs.Notation.{⁅◌⁆, ◌*, ◌! };
 ghost use Rattle.rust_grammar.specs.Rule as rules;
-ghost use Rattle.rust_grammar.specs.Rule.{One};
 ghost use Rattle.rust_grammar.specs.Whole.{rule};
-ghost use Rattle.rust_grammar.specs.Words.{'|'};
+ghost use Rattle.rust_grammar.specs.Patterns as rows;
 ghost use Rattle.rust_productions.specs.Looks.{tokens, spent};
 ghost use Rattle.rust_productions.specs.Reads.{looks, Gives, Reads, Saw};
 
@@ -76,7 +74,7 @@ fn alternatives(p: &mut Parser<'_>, frame: Marker) -> Marker
 #[cycle(grammar)]
 fn one_further(p: &mut Parser<'_>)
     requires some { 1 ≤ tokens p.old }
-    ensures reads { (c : Bool) → Reads c (One '|' ▸ SinglePattern !) p.old p.new }
+    ensures reads { (c : Bool) → Reads c rows.further_alternative p.old p.new }
     ensures left { tokens p.new + 1 ≤ tokens p.old }
     ensures looks { spent p.new + 4080 ≤ spent p.old }
 {
@@ -88,7 +86,7 @@ fn one_further(p: &mut Parser<'_>)
 // | B | C
 #[cycle(grammar)]
 fn further(p: &mut Parser<'_>)
-    ensures reads { (c : Bool) → Reads c ((One '|' ▸ SinglePattern !) *) p.old p.new }
+    ensures reads { (c : Bool) → Reads c (rows.further_alternative *) p.old p.new }
     ensures left { tokens p.new ≤ tokens p.old }
     ensures looks { spent p.new ≤ spent p.old + 1 }
 {
@@ -102,8 +100,7 @@ fn further(p: &mut Parser<'_>)
 #[cycle(grammar)]
 fn opt_further(p: &mut Parser<'_>, frame: Marker) -> Marker
     requires innermost { IsInnermost frame p.old.nodes }
-    ensures reads { (c : Bool) → Reads c
-        ⁅ OR_PAT <⟨ (One '|' ▸ SinglePattern !) ⁺ ⟩ ⁆ p.old p.new }
+    ensures reads { (c : Bool) → Reads c ⁅ rows.or_pattern ⁆ p.old p.new }
     ensures marker { IsInnermost result p.new.nodes }
     ensures left { tokens p.new ≤ tokens p.old }
     ensures looks { spent p.new ≤ spent p.old + 1 }

@@ -2,13 +2,15 @@
 
 ghost use Rattle.std.specs.Prelude.{◌≡◌, ◌≤◌, ◌+◌, Bool, true, false};
 ghost use Rattle.parser_input.specs.Kinds as kinds;
-ghost use Rattle.parser_input.specs.Kinds.{NAME, PARAM, SELF_PARAM};
-ghost use Rattle.rust_grammar.specs.Calls.{AnyType, Lifetime, Pattern};
+ghost use Rattle.parser_input.specs.Kinds.{NAME, SELF_PARAM};
+ghost use Rattle.rust_grammar.specs.Calls.{Lifetime};
 ghost use Rattle.rust_grammar.specs.Items.{self_begins};
-ghost use Rattle.rust_grammar.specs.Notation.{◌▸◌, ⁅◌⁆, ◌!, ◌⟨◌⟩};
+ghost use Rattle.rust_grammar.specs.Notation.{◌▸◌, ⁅◌⁆, ◌⟨◌⟩};
 ghost use Rattle.rust_grammar.specs.Rule as rules;
 ghost use Rattle.rust_grammar.specs.Rule.{Kind, One};
-ghost use Rattle.rust_grammar.specs.Words.{':', '&', 'mut', 'self'};
+ghost use Rattle.rust_grammar.specs.Words.{'&', 'mut', 'self'};
+ghost use Rattle.rust_grammar.specs.Items as rows;
+ghost use Rattle.rust_grammar.specs.Shared.{type_annotation};
 ghost use Rattle.rust_productions.specs.Looks.{tokens, spent};
 ghost use Rattle.rust_productions.specs.Reads.{looks, Does, Gives, Reads, Saw};
 
@@ -75,7 +77,7 @@ pub(crate) fn param(p: &mut Parser<'_>, condition: bool)
 fn pattern_param(p: &mut Parser<'_>, condition: bool)
     requires begins { (c : Bool) → Saw c (looks rules.pattern) p.old true }
     requires some { 1 ≤ tokens p.old }
-    ensures reads { Reads condition (PARAM ⟨ Pattern ▸ One ':' ! ▸ AnyType ! ⟩) p.old p.new }
+    ensures reads { Reads condition rows.pattern_param p.old p.new }
     ensures left { tokens p.new + 1 ≤ tokens p.old }
     ensures looks { spent p.new + 2890 ≤ spent p.old }
 {
@@ -106,7 +108,7 @@ fn self_param(p: &mut Parser<'_>, condition: bool)
 /// Parses the name `self`; emits an error if there is none.
 // self
 fn expect_self(p: &mut Parser<'_>)
-    ensures reads { (c : Bool) → Reads c (NAME ⟨ One 'self' ! ⟩) p.old p.new }
+    ensures reads { (c : Bool) → Reads c rows.self_name p.old p.new }
     ensures left { tokens p.new ≤ tokens p.old }
     ensures looks { spent p.new ≤ spent p.old + 1 }
 {
@@ -121,7 +123,7 @@ fn expect_self(p: &mut Parser<'_>)
 fn self_after_ref(p: &mut Parser<'_>, condition: bool)
     requires some { 1 ≤ tokens p.old }
     ensures reads { Reads condition (SELF_PARAM ⟨ One '&' ▸ ⁅ Lifetime ⁆ ▸ ⁅ One 'mut' ⁆
-        ▸ NAME ⟨ One 'self' ! ⟩ ▸ ⁅ One ':' ▸ AnyType ! ⁆ ⟩) p.old p.new }
+        ▸ rows.self_name ▸ ⁅ type_annotation ⁆ ⟩) p.old p.new }
     ensures left { tokens p.new + 1 ≤ tokens p.old }
     ensures looks { spent p.new + 4090 ≤ spent p.old }
 {
@@ -140,7 +142,7 @@ fn self_after_ref(p: &mut Parser<'_>, condition: bool)
 fn self_after_mut(p: &mut Parser<'_>, condition: bool)
     requires some { 1 ≤ tokens p.old }
     ensures reads { Reads condition (SELF_PARAM ⟨ One 'mut'
-        ▸ NAME ⟨ One 'self' ! ⟩ ▸ ⁅ One ':' ▸ AnyType ! ⁆ ⟩) p.old p.new }
+        ▸ rows.self_name ▸ ⁅ type_annotation ⁆ ⟩) p.old p.new }
     ensures left { tokens p.new + 1 ≤ tokens p.old }
     ensures looks { spent p.new + 4090 ≤ spent p.old }
 {
@@ -157,7 +159,7 @@ fn self_after_mut(p: &mut Parser<'_>, condition: bool)
 fn self_alone(p: &mut Parser<'_>, condition: bool)
     requires some { 1 ≤ tokens p.old }
     ensures reads { Reads condition (SELF_PARAM
-        ⟨ NAME ⟨ One 'self' ⟩ ▸ ⁅ One ':' ▸ AnyType ! ⁆ ⟩) p.old p.new }
+        ⟨ NAME ⟨ One 'self' ⟩ ▸ ⁅ type_annotation ⁆ ⟩) p.old p.new }
     ensures left { tokens p.new + 1 ≤ tokens p.old }
     ensures looks { spent p.new + 4090 ≤ spent p.old }
 {

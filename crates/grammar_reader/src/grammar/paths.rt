@@ -1,14 +1,13 @@
 //! Paths with arguments.
 
 ghost use Rattle.std.specs.Prelude.{◌≡◌, ◌≤◌, ◌+◌, Bool, true, IsTrue};
-ghost use Rattle.parser_input.specs.Kinds.{PATH, PATH_SEGMENT};
 ghost use Rattle.parser_events.specs.Stack.{IsInnermost};
-ghost use Rattle.rust_grammar.specs.Notation.{◌▸◌, ⁅◌⁆, ◌*, ◌!, ◌⟨◌⟩, ◌<⟨◌⟩, ◌before◌};
+ghost use Rattle.rust_grammar.specs.Notation.{⁅◌⁆, ◌!, ◌before◌};
 ghost use Rattle.rust_grammar.specs.Words.{'::', '<'};
-ghost use Rattle.rust_grammar.specs.Calls.{GenericArgs, Ref};
-ghost use Rattle.rust_grammar.specs.Shared.{colons_before_more};
+ghost use Rattle.rust_grammar.specs.Calls.{GenericArgs};
 ghost use Rattle.rust_grammar.specs.Rule as rules;
-ghost use Rattle.rust_grammar.specs.Rule.{One, Unless};
+ghost use Rattle.rust_grammar.specs.Rule.{One};
+ghost use Rattle.rust_grammar.specs.Paths as rows;
 ghost use Rattle.grammar_reader.specs.Told.{angle, args_look, args_of, path_of};
 ghost use Rattle.rust_productions.specs.Looks.{tokens, spent};
 ghost use Rattle.rust_productions.specs.Reads.{looks, Does, Gives, Reads, Saw};
@@ -158,8 +157,7 @@ fn opt_args(p: &mut Parser<'_>, mode: Mode)
 fn first_segment(p: &mut Parser<'_>, mode: Mode)
     requires begins { (c : Bool) → Saw c (looks rules.path) p.old true }
     requires some { 1 ≤ tokens p.old }
-    ensures reads { (c : Bool) → Reads c
-        (PATH ⟨ PATH_SEGMENT ⟨ ⁅ One '::' ⁆ ▸ Ref ! ▸ args_of mode ⟩ ⟩) p.old p.new }
+    ensures reads { (c : Bool) → Reads c (rows.first_segment (args_of mode)) p.old p.new }
     ensures left { tokens p.new + 1 ≤ tokens p.old }
     ensures looks { spent p.new + 4080 ≤ spent p.old }
 {
@@ -175,7 +173,7 @@ fn first_segment(p: &mut Parser<'_>, mode: Mode)
 // a::<u8>
 #[cycle(grammar)]
 fn expect_segment(p: &mut Parser<'_>, mode: Mode)
-    ensures reads { (c : Bool) → Reads c ((PATH_SEGMENT ⟨ Ref ▸ args_of mode ⟩) !) p.old p.new }
+    ensures reads { (c : Bool) → Reads c (rows.segment (args_of mode) !) p.old p.new }
     ensures left { tokens p.new ≤ tokens p.old }
     ensures looks { spent p.new ≤ spent p.old + 1 }
 {
@@ -195,8 +193,7 @@ fn expect_segment(p: &mut Parser<'_>, mode: Mode)
 fn next_segment(p: &mut Parser<'_>, path: Marker, mode: Mode) -> Marker
     requires innermost { IsInnermost path p.old.nodes }
     requires some { 2 ≤ tokens p.old }
-    ensures reads { (c : Bool) → Reads c
-        (PATH <⟨ One '::' ▸ (PATH_SEGMENT ⟨ Ref ▸ args_of mode ⟩) ! ⟩) p.old p.new }
+    ensures reads { (c : Bool) → Reads c (rows.next_segment (args_of mode)) p.old p.new }
     ensures marker { IsInnermost result p.new.nodes }
     ensures left { tokens p.new + 2 ≤ tokens p.old }
     ensures looks { spent p.new + 8000 ≤ spent p.old }
@@ -211,8 +208,7 @@ fn next_segment(p: &mut Parser<'_>, path: Marker, mode: Mode) -> Marker
 #[cycle(grammar)]
 fn next_segments(p: &mut Parser<'_>, path: Marker, mode: Mode) -> Marker
     requires innermost { IsInnermost path p.old.nodes }
-    ensures reads { (c : Bool) → Reads c ((Unless colons_before_more
-        (PATH <⟨ One '::' ▸ (PATH_SEGMENT ⟨ Ref ▸ args_of mode ⟩) ! ⟩)) *) p.old p.new }
+    ensures reads { (c : Bool) → Reads c (rows.next_segments (args_of mode)) p.old p.new }
     ensures marker { IsInnermost result p.new.nodes }
     ensures left { tokens p.new ≤ tokens p.old }
     ensures looks { spent p.new ≤ spent p.old + 3 }

@@ -1,18 +1,19 @@
 //! Patterns.
 
-ghost use Rattle.std.specs.Prelude.{◌≡◌, ◌≤◌, ◌+◌, Bool, true, false, IsTrue, [], ◌∷◌};
-ghost use Rattle.parser_input.specs.Kinds.{IDENT_PAT, LITERAL_PAT, PAREN_PAT, PATH_PAT, RECORD_PAT, REF_PAT, REST_PAT, SLICE_PAT, TUPLE_PAT, TUPLE_STRUCT_PAT};
+ghost use Rattle.std.specs.Prelude.{◌≡◌, ◌≤◌, ◌+◌, Bool, true, false, IsTrue};
+ghost use Rattle.parser_input.specs.Kinds.{IDENT_PAT, LITERAL_PAT};
 ghost use Rattle.parser_events.specs.Stack.{IsInnermost};
-ghost use Rattle.rust_grammar.specs.Calls.{ExprPath, Literal, Name, Pattern, PatternFields, SinglePattern};
-ghost use Rattle.rust_grammar.specs.Notation.{◌or◌, ◌▸◌, ⁅◌⁆, ◌!, ◌⟨◌⟩, ◌<⟨◌⟩, ◌before◌, ◌not_before◌, listed, rest_listed};
+ghost use Rattle.rust_grammar.specs.Calls.{Literal, Name, SinglePattern};
+ghost use Rattle.rust_grammar.specs.Notation.{◌▸◌, ⁅◌⁆, ◌!, ◌⟨◌⟩, ◌before◌};
 ghost use Rattle.rust_grammar.specs.Rule as rules;
-ghost use Rattle.rust_grammar.specs.Rule.{Nothing, One};
+ghost use Rattle.rust_grammar.specs.Rule.{One};
 ghost use Rattle.rust_grammar.specs.Whole.{rule};
-ghost use Rattle.rust_grammar.specs.Words.{'::', 'at', 'comma', 'dots', 'ident', 'l_curly', 'l_paren', 'r_paren', '[', ']', '!', '-', '&', 'mut', 'ref'};
+ghost use Rattle.rust_grammar.specs.Words.{'dots', 'l_paren', '-', 'mut', 'ref'};
+ghost use Rattle.rust_grammar.specs.Patterns as rows;
 ghost use Rattle.rust_productions.specs.Looks.{tokens, spent};
 ghost use Rattle.rust_productions.specs.Reads.{looks, Does, Gives, Reads, Saw};
 
-use crate::grammar::lists::{Element, pattern_fields, rest_of_list};
+use crate::grammar::lists::{Element, pattern_fields, rest_of_list, tuple_tail};
 use crate::grammar::or_patterns::expect_pattern;
 use crate::grammar::paths::{Mode, path_with_args};
 use crate::grammar::types::word_type;
@@ -29,8 +30,7 @@ use rust_productions::grammar::{
 /// Returns `true` if an identifier is next that is a pattern: before none of `::`, `(`, `{` and
 /// `!`.
 fn at_ident_pat(p: &mut Parser<'_>) -> bool
-    ensures sees { (c : Bool) → Saw c
-        ('ident' not_before ('::' ∷ 'l_paren' ∷ 'l_curly' ∷ '!' ∷ [])) p.old result }
+    ensures sees { (c : Bool) → Saw c rows.name_alone p.old result }
     ensures some { IsTrue result → 1 ≤ tokens p.old }
     ensures same { Does (λ s. s) p.old p.new }
     ensures left { tokens p.new ≡ tokens p.old }
@@ -170,7 +170,7 @@ fn literal_pat(p: &mut Parser<'_>)
 // ..
 pub(crate) fn rest_pat(p: &mut Parser<'_>)
     requires { 2 ≤ tokens p.old }
-    ensures reads { (c : Bool) → Reads c (REST_PAT ⟨ One 'dots' ⟩) p.old p.new }
+    ensures reads { (c : Bool) → Reads c rows.rest_pat p.old p.new }
     ensures left { tokens p.new + 2 ≡ tokens p.old }
     ensures looks { spent p.new + 8192 ≡ spent p.old }
 {
@@ -199,8 +199,7 @@ pub(crate) fn expect_single(p: &mut Parser<'_>)
 #[cycle(grammar)]
 fn ref_pat(p: &mut Parser<'_>)
     requires some { 1 ≤ tokens p.old }
-    ensures reads { (c : Bool) → Reads c
-        (REF_PAT ⟨ One '&' ▸ ⁅ One 'mut' ⁆ ▸ SinglePattern ! ⟩) p.old p.new }
+    ensures reads { (c : Bool) → Reads c rows.ref_pat p.old p.new }
     ensures left { tokens p.new + 1 ≤ tokens p.old }
     ensures looks { spent p.new + 4080 ≤ spent p.old }
 {
@@ -216,8 +215,7 @@ fn ref_pat(p: &mut Parser<'_>)
 #[cycle(grammar)]
 fn slice_pat(p: &mut Parser<'_>)
     requires some { 1 ≤ tokens p.old }
-    ensures reads { (c : Bool) → Reads c
-        (SLICE_PAT ⟨ listed SLICE_PAT '[' Pattern ']' ⟩) p.old p.new }
+    ensures reads { (c : Bool) → Reads c rows.slice_pat p.old p.new }
     ensures left { tokens p.new + 1 ≤ tokens p.old }
     ensures looks { spent p.new + 3300 ≤ spent p.old }
 {
@@ -237,8 +235,7 @@ fn slice_pat(p: &mut Parser<'_>)
 #[cycle(grammar)]
 fn tuple_pat(p: &mut Parser<'_>)
     requires some { 1 ≤ tokens p.old }
-    ensures reads { (c : Bool) → Reads c
-        (TUPLE_PAT ⟨ listed TUPLE_PAT 'l_paren' Pattern 'r_paren' ⟩) p.old p.new }
+    ensures reads { (c : Bool) → Reads c rows.tuple_pat p.old p.new }
     ensures left { tokens p.new + 1 ≤ tokens p.old }
     ensures looks { spent p.new + 3300 ≤ spent p.old }
 {
@@ -257,7 +254,7 @@ fn tuple_pat(p: &mut Parser<'_>)
 // @ Some(_)
 #[cycle(grammar)]
 fn opt_at(p: &mut Parser<'_>)
-    ensures reads { (c : Bool) → Reads c ⁅ One 'at' ▸ SinglePattern ! ⁆ p.old p.new }
+    ensures reads { (c : Bool) → Reads c ⁅ rows.at_pattern ⁆ p.old p.new }
     ensures left { tokens p.new ≤ tokens p.old }
     ensures looks { spent p.new ≤ spent p.old + 1 }
 {
@@ -272,8 +269,7 @@ fn opt_at(p: &mut Parser<'_>)
 #[cycle(grammar)]
 fn ident_pat(p: &mut Parser<'_>)
     requires some { 1 ≤ tokens p.old }
-    ensures reads { (c : Bool) → Reads c
-        (IDENT_PAT ⟨ Name ▸ ⁅ One 'at' ▸ SinglePattern ! ⁆ ⟩) p.old p.new }
+    ensures reads { (c : Bool) → Reads c (IDENT_PAT ⟨ Name ▸ ⁅ rows.at_pattern ⁆ ⟩) p.old p.new }
     ensures left { tokens p.new + 1 ≤ tokens p.old }
     ensures looks { spent p.new + 4090 ≤ spent p.old }
 {
@@ -289,7 +285,7 @@ fn ident_pat(p: &mut Parser<'_>)
 fn ident_after_mut(p: &mut Parser<'_>)
     requires some { 1 ≤ tokens p.old }
     ensures reads { (c : Bool) → Reads c
-        (IDENT_PAT ⟨ One 'mut' ▸ Name ! ▸ ⁅ One 'at' ▸ SinglePattern ! ⁆ ⟩) p.old p.new }
+        (IDENT_PAT ⟨ One 'mut' ▸ Name ! ▸ ⁅ rows.at_pattern ⁆ ⟩) p.old p.new }
     ensures left { tokens p.new + 1 ≤ tokens p.old }
     ensures looks { spent p.new + 4090 ≤ spent p.old }
 {
@@ -306,7 +302,7 @@ fn ident_after_mut(p: &mut Parser<'_>)
 fn ident_after_ref(p: &mut Parser<'_>)
     requires some { 1 ≤ tokens p.old }
     ensures reads { (c : Bool) → Reads c (IDENT_PAT ⟨ One 'ref' ▸ ⁅ One 'mut' ⁆ ▸ Name !
-        ▸ ⁅ One 'at' ▸ SinglePattern ! ⁆ ⟩) p.old p.new }
+        ▸ ⁅ rows.at_pattern ⁆ ⟩) p.old p.new }
     ensures left { tokens p.new + 1 ≤ tokens p.old }
     ensures looks { spent p.new + 4090 ≤ spent p.old }
 {
@@ -324,9 +320,7 @@ fn ident_after_ref(p: &mut Parser<'_>)
 fn paren_pat(p: &mut Parser<'_>, frame: Marker) -> Marker
     requires some { 1 ≤ tokens p.old }
     requires innermost { IsInnermost frame p.old.nodes }
-    ensures reads { (c : Bool) → Reads c (One 'l_paren' ▸ (TUPLE_PAT <⟨ One 'r_paren' ⟩
-        or Pattern ! ▸ (TUPLE_PAT <⟨ One 'comma' ▸ rest_listed TUPLE_PAT Pattern 'r_paren' ⟩
-        or PAREN_PAT <⟨ One 'r_paren' ! ⟩))) p.old p.new }
+    ensures reads { (c : Bool) → Reads c rows.tuple_or_paren p.old p.new }
     ensures marker { IsInnermost result p.new.nodes }
     ensures left { tokens p.new + 1 ≤ tokens p.old }
     ensures looks { spent p.new + 3000 ≤ spent p.old }
@@ -340,9 +334,7 @@ fn paren_pat(p: &mut Parser<'_>, frame: Marker) -> Marker
 #[cycle(grammar)]
 fn after_paren(p: &mut Parser<'_>, frame: Marker) -> Marker
     requires innermost { IsInnermost frame p.old.nodes }
-    ensures reads { (c : Bool) → Reads c (TUPLE_PAT <⟨ One 'r_paren' ⟩
-        or Pattern ! ▸ (TUPLE_PAT <⟨ One 'comma' ▸ rest_listed TUPLE_PAT Pattern 'r_paren' ⟩
-        or PAREN_PAT <⟨ One 'r_paren' ! ⟩)) p.old p.new }
+    ensures reads { (c : Bool) → Reads c rows.after_l_paren p.old p.new }
     ensures marker { IsInnermost result p.new.nodes }
     ensures left { tokens p.new ≤ tokens p.old }
     ensures looks { spent p.new ≤ spent p.old + 20 }
@@ -352,33 +344,13 @@ fn after_paren(p: &mut Parser<'_>, frame: Marker) -> Marker
         return wrap(p, frame, SyntaxKind::TUPLE_PAT);
     }
     expect_pattern(p);
-    after_first(p, frame)
-}
-
-/// Parses a tuple pattern or a grouped pattern after its first element.
-// , b)
-#[cycle(grammar)]
-fn after_first(p: &mut Parser<'_>, frame: Marker) -> Marker
-    requires innermost { IsInnermost frame p.old.nodes }
-    ensures reads { (c : Bool) → Reads c
-        (TUPLE_PAT <⟨ One 'comma' ▸ rest_listed TUPLE_PAT Pattern 'r_paren' ⟩
-        or PAREN_PAT <⟨ One 'r_paren' ! ⟩) p.old p.new }
-    ensures marker { IsInnermost result p.new.nodes }
-    ensures left { tokens p.new ≤ tokens p.old }
-    ensures looks { spent p.new ≤ spent p.old + 2 }
-{
-    if at(p, SyntaxKind::COMMA) {
-        take(p, SyntaxKind::COMMA);
-        rest_of_list(
-            p,
-            SyntaxKind::TUPLE_PAT,
-            Element::Pattern,
-            SyntaxKind::R_PAREN,
-        );
-        return wrap(p, frame, SyntaxKind::TUPLE_PAT);
-    }
-    expect(p, SyntaxKind::R_PAREN);
-    wrap(p, frame, SyntaxKind::PAREN_PAT)
+    tuple_tail(
+        p,
+        frame,
+        SyntaxKind::TUPLE_PAT,
+        Element::Pattern,
+        SyntaxKind::PAREN_PAT,
+    )
 }
 
 /// Parses a path pattern, a tuple struct pattern or a record pattern.
@@ -388,10 +360,7 @@ fn path_pat(p: &mut Parser<'_>, frame: Marker) -> Marker
     requires begins { (c : Bool) → Saw c (looks rules.path) p.old true }
     requires some { 1 ≤ tokens p.old }
     requires innermost { IsInnermost frame p.old.nodes }
-    ensures reads { (c : Bool) → Reads c
-        (ExprPath ▸ (TUPLE_STRUCT_PAT <⟨ listed TUPLE_STRUCT_PAT 'l_paren' Pattern 'r_paren' ⟩
-        or RECORD_PAT <⟨ PatternFields ⟩
-        or PATH_PAT <⟨ Nothing ⟩)) p.old p.new }
+    ensures reads { (c : Bool) → Reads c rows.path_pat p.old p.new }
     ensures marker { IsInnermost result p.new.nodes }
     ensures left { tokens p.new + 1 ≤ tokens p.old }
     ensures looks { spent p.new + 3990 ≤ spent p.old }
@@ -405,10 +374,7 @@ fn path_pat(p: &mut Parser<'_>, frame: Marker) -> Marker
 #[cycle(grammar)]
 fn after_path(p: &mut Parser<'_>, frame: Marker) -> Marker
     requires innermost { IsInnermost frame p.old.nodes }
-    ensures reads { (c : Bool) → Reads c
-        (TUPLE_STRUCT_PAT <⟨ listed TUPLE_STRUCT_PAT 'l_paren' Pattern 'r_paren' ⟩
-        or RECORD_PAT <⟨ PatternFields ⟩
-        or PATH_PAT <⟨ Nothing ⟩) p.old p.new }
+    ensures reads { (c : Bool) → Reads c rows.after_path p.old p.new }
     ensures marker { IsInnermost result p.new.nodes }
     ensures left { tokens p.new ≤ tokens p.old }
     ensures looks { spent p.new ≤ spent p.old + 2 }

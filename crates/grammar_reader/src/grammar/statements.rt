@@ -1,15 +1,13 @@
 //! Statements.
 
 ghost use Rattle.std.specs.Prelude.{◌≡◌, ◌≤◌, ◌<◌, ◌+◌, Bool, IsTrue, true, false, [], ◌∷◌};
-ghost use Rattle.parser_input.specs.Kinds.{DEFER_STMT, LET_ELSE, LET_STMT};
-ghost use Rattle.parser_events.specs.Forest.{ExpectedStatement};
 ghost use Rattle.parser_events.specs.Stack.{IsInnermost};
-ghost use Rattle.rust_grammar.specs.Calls.{AnyType, Block, BlockLike, Expression, Pattern};
-ghost use Rattle.rust_grammar.specs.Notation.{◌or◌, ◌▸◌, ⁅◌⁆, ◌!, ◌⟨◌⟩, ◌before◌, more, one_of};
+ghost use Rattle.rust_grammar.specs.Calls.{BlockLike};
+ghost use Rattle.rust_grammar.specs.Notation.{◌▸◌, ⁅◌⁆, ◌before◌, more, one_of};
 ghost use Rattle.rust_grammar.specs.Rule as rules;
-ghost use Rattle.rust_grammar.specs.Rule.{One, Skip};
 ghost use Rattle.rust_grammar.specs.Statements.{goes_on, item_begins};
-ghost use Rattle.rust_grammar.specs.Words.{'semi', '#', ':', '=', '!', 'defer', 'else', 'fn', 'impl', 'let', 'trait'};
+ghost use Rattle.rust_grammar.specs.Words.{'#', '!', 'fn', 'impl', 'trait'};
+ghost use Rattle.rust_grammar.specs.Statements as rows;
 ghost use Rattle.grammar_reader.specs.Told.{after_block_of, listing_of};
 ghost use Rattle.rust_productions.specs.Looks.{tokens, spent};
 ghost use Rattle.rust_productions.specs.Reads.{looks, Anew, Does, Gives, Reads, Saw};
@@ -117,7 +115,7 @@ fn at_item_after_unsafe(p: &mut Parser<'_>) -> bool
 #[cycle(grammar)]
 fn defer_stmt(p: &mut Parser<'_>)
     requires some { 1 ≤ tokens p.old }
-    ensures reads { (c : Bool) → Reads c (DEFER_STMT ⟨ One 'defer' ▸ Block ! ⟩) p.old p.new }
+    ensures reads { (c : Bool) → Reads c rows.defer_stmt p.old p.new }
     ensures left { tokens p.new + 1 ≤ tokens p.old }
     ensures looks { spent p.new + 4090 ≤ spent p.old }
 {
@@ -132,8 +130,7 @@ fn defer_stmt(p: &mut Parser<'_>)
 #[cycle(grammar)]
 fn let_stmt(p: &mut Parser<'_>)
     requires some { 1 ≤ tokens p.old }
-    ensures reads { Reads false (LET_STMT ⟨ One 'let' ▸ Pattern ! ▸ ⁅ One ':' ▸ AnyType ! ⁆
-        ▸ ⁅ One '=' ▸ Expression ! ⁆ ▸ ⁅ LET_ELSE ⟨ One 'else' ▸ Block ! ⟩ ⁆ ▸ One 'semi' ! ⟩) p.old p.new }
+    ensures reads { Reads false rows.let_stmt p.old p.new }
     ensures left { tokens p.new + 1 ≤ tokens p.old }
     ensures looks { spent p.new + 4000 ≤ spent p.old }
 {
@@ -151,7 +148,7 @@ fn let_stmt(p: &mut Parser<'_>)
 // else { return }
 #[cycle(grammar)]
 fn opt_else(p: &mut Parser<'_>)
-    ensures reads { (c : Bool) → Reads c ⁅ LET_ELSE ⟨ One 'else' ▸ Block ! ⟩ ⁆ p.old p.new }
+    ensures reads { (c : Bool) → Reads c ⁅ rows.let_else ⁆ p.old p.new }
     ensures left { tokens p.new ≤ tokens p.old }
     ensures looks { spent p.new ≤ spent p.old + 1 }
 {
@@ -165,7 +162,7 @@ fn opt_else(p: &mut Parser<'_>)
 #[cycle(grammar)]
 fn let_else(p: &mut Parser<'_>)
     requires some { 1 ≤ tokens p.old }
-    ensures reads { (c : Bool) → Reads c (LET_ELSE ⟨ One 'else' ▸ Block ! ⟩) p.old p.new }
+    ensures reads { (c : Bool) → Reads c rows.let_else p.old p.new }
     ensures left { tokens p.new + 1 ≤ tokens p.old }
     ensures looks { spent p.new + 4090 ≤ spent p.old }
 {
@@ -181,8 +178,7 @@ fn let_else(p: &mut Parser<'_>)
 #[cycle(grammar)]
 fn expression_statement(p: &mut Parser<'_>, end: ListEnd)
     requires some { 1 ≤ tokens p.old }
-    ensures anew { Anew false (BlockLike ▸ after_block_of end or Expression ▸ more (listing_of end).end
-        or Skip ExpectedStatement) p.old p.new }
+    ensures anew { Anew false (rows.expression_statement (listing_of end)) p.old p.new }
     ensures left { tokens p.new ≤ tokens p.old }
     ensures pays { tokens p.new < tokens p.old → spent p.new + 1550 ≤ spent p.old }
     ensures looks { spent p.new ≤ spent p.old + 800 }
@@ -266,7 +262,7 @@ fn after_block(p: &mut Parser<'_>, frame: Marker, end: ListEnd) -> Marker
 fn ended_expression(p: &mut Parser<'_>, end: ListEnd)
     requires begins { Saw false (looks rules.expression) p.old true }
     requires some { 1 ≤ tokens p.old }
-    ensures anew { Anew false (Expression ▸ more (listing_of end).end) p.old p.new }
+    ensures anew { Anew false (rows.ended_expression (listing_of end)) p.old p.new }
     ensures left { tokens p.new ≤ tokens p.old }
     ensures pays { tokens p.new < tokens p.old → spent p.new + 1790 ≤ spent p.old }
     ensures looks { spent p.new ≤ spent p.old + 604 }

@@ -3,20 +3,21 @@
 ghost use Rattle.std.specs.Prelude.{◌≡◌, ◌≢◌, ◌≤◌, ◌+◌, Bool, true};
 ghost use Rattle.parser_input.specs.Kind.{raw_of};
 ghost use Rattle.parser_input.specs.Kinds as kinds;
-ghost use Rattle.parser_input.specs.Kinds.{ARRAY_TYPE, CONST_ARG, PAREN_TYPE, PTR_TYPE, PATH_TYPE, REF_TYPE, SLICE_TYPE, TUPLE_TYPE};
 ghost use Rattle.parser_events.specs.Stack.{IsInnermost};
-ghost use Rattle.rust_grammar.specs.Calls.{AnyType, Bounds, Expression, Lifetime, TypePath};
-ghost use Rattle.rust_grammar.specs.Notation.{◌or◌, ◌▸◌, ⁅◌⁆, ◌!, ◌⟨◌⟩, ◌<⟨◌⟩, off, rest_listed};
+ghost use Rattle.rust_grammar.specs.Calls.{AnyType, Bounds};
+ghost use Rattle.rust_grammar.specs.Notation.{◌▸◌, ⁅◌⁆, ◌!, ◌⟨◌⟩};
 ghost use Rattle.rust_grammar.specs.Rule as rules;
 ghost use Rattle.rust_grammar.specs.Rule.{One};
 ghost use Rattle.rust_grammar.specs.Whole.{rule};
-ghost use Rattle.rust_grammar.specs.Words.{one, 'comma', 'semi', 'l_paren', 'r_paren', '[', ']', '&', '*', 'const', 'mut'};
+ghost use Rattle.rust_grammar.specs.Words.{one};
+ghost use Rattle.rust_grammar.specs.Shared as shared;
+ghost use Rattle.rust_grammar.specs.Types as rows;
 ghost use Rattle.rust_productions.specs.Looks.{tokens, spent};
 ghost use Rattle.rust_productions.specs.Reads.{looks, Gives, Reads, Saw};
 
 use crate::grammar::expressions::{Level, expect_expression};
 use crate::grammar::generic_params::bounds;
-use crate::grammar::lists::{Element, rest_of_list};
+use crate::grammar::lists::{Element, tuple_tail};
 use crate::grammar::paths::{Mode, path_with_args};
 use parser_events::message::Message;
 use parser_events::parser::{Marker, Parser};
@@ -127,7 +128,7 @@ fn bounded_type(p: &mut Parser<'_>, token: SyntaxKind, kind: SyntaxKind)
 pub(crate) fn path_type(p: &mut Parser<'_>)
     requires begins { (c : Bool) → Saw c (looks rules.path) p.old true }
     requires some { 1 ≤ tokens p.old }
-    ensures reads { (c : Bool) → Reads c (PATH_TYPE ⟨ TypePath ⟩) p.old p.new }
+    ensures reads { (c : Bool) → Reads c shared.path_type p.old p.new }
     ensures left { tokens p.new + 1 ≤ tokens p.old }
     ensures looks { spent p.new + 4000 ≤ spent p.old }
 {
@@ -156,8 +157,7 @@ pub(crate) fn expect_type(p: &mut Parser<'_>, condition: bool)
 #[cycle(grammar)]
 fn ptr_type(p: &mut Parser<'_>, condition: bool)
     requires some { 1 ≤ tokens p.old }
-    ensures reads { Reads condition
-        (PTR_TYPE ⟨ One '*' ▸ (One 'const' or One 'mut' !) ▸ AnyType ! ⟩) p.old p.new }
+    ensures reads { Reads condition rows.ptr_type p.old p.new }
     ensures left { tokens p.new + 1 ≤ tokens p.old }
     ensures looks { spent p.new + 4080 ≤ spent p.old }
 {
@@ -171,7 +171,7 @@ fn ptr_type(p: &mut Parser<'_>, condition: bool)
 /// Parses `const` or `mut`; emits an error if there is neither.
 // mut
 fn const_or_mut(p: &mut Parser<'_>)
-    ensures reads { (c : Bool) → Reads c (One 'const' or One 'mut' !) p.old p.new }
+    ensures reads { (c : Bool) → Reads c rows.const_or_mut p.old p.new }
     ensures left { tokens p.new ≤ tokens p.old }
     ensures looks { spent p.new ≤ spent p.old + 2 }
 {
@@ -187,8 +187,7 @@ fn const_or_mut(p: &mut Parser<'_>)
 #[cycle(grammar)]
 fn ref_type(p: &mut Parser<'_>, condition: bool)
     requires some { 1 ≤ tokens p.old }
-    ensures reads { Reads condition
-        (REF_TYPE ⟨ One '&' ▸ ⁅ Lifetime ⁆ ▸ ⁅ One 'mut' ⁆ ▸ AnyType ! ⟩) p.old p.new }
+    ensures reads { Reads condition rows.ref_type p.old p.new }
     ensures left { tokens p.new + 1 ≤ tokens p.old }
     ensures looks { spent p.new + 4080 ≤ spent p.old }
 {
@@ -206,9 +205,7 @@ fn ref_type(p: &mut Parser<'_>, condition: bool)
 fn paren_type(p: &mut Parser<'_>, frame: Marker, condition: bool) -> Marker
     requires some { 1 ≤ tokens p.old }
     requires innermost { IsInnermost frame p.old.nodes }
-    ensures reads { Reads condition (One 'l_paren' ▸ (TUPLE_TYPE <⟨ One 'r_paren' ⟩
-        or AnyType ! ▸ (TUPLE_TYPE <⟨ One 'comma' ▸ rest_listed TUPLE_TYPE AnyType 'r_paren' ⟩
-        or PAREN_TYPE <⟨ One 'r_paren' ! ⟩))) p.old p.new }
+    ensures reads { Reads condition rows.tuple_or_paren p.old p.new }
     ensures marker { IsInnermost result p.new.nodes }
     ensures left { tokens p.new + 1 ≤ tokens p.old }
     ensures looks { spent p.new + 3200 ≤ spent p.old }
@@ -222,9 +219,7 @@ fn paren_type(p: &mut Parser<'_>, frame: Marker, condition: bool) -> Marker
 #[cycle(grammar)]
 fn after_paren(p: &mut Parser<'_>, frame: Marker, condition: bool) -> Marker
     requires innermost { IsInnermost frame p.old.nodes }
-    ensures reads { Reads condition (TUPLE_TYPE <⟨ One 'r_paren' ⟩
-        or AnyType ! ▸ (TUPLE_TYPE <⟨ One 'comma' ▸ rest_listed TUPLE_TYPE AnyType 'r_paren' ⟩
-        or PAREN_TYPE <⟨ One 'r_paren' ! ⟩)) p.old p.new }
+    ensures reads { Reads condition rows.after_l_paren p.old p.new }
     ensures marker { IsInnermost result p.new.nodes }
     ensures left { tokens p.new ≤ tokens p.old }
     ensures looks { spent p.new ≤ spent p.old + 8 }
@@ -234,33 +229,13 @@ fn after_paren(p: &mut Parser<'_>, frame: Marker, condition: bool) -> Marker
         return wrap(p, frame, SyntaxKind::TUPLE_TYPE);
     }
     expect_type(p, condition);
-    after_first(p, frame)
-}
-
-/// Parses a tuple type or a parenthesized type after its first element.
-// , u8)
-#[cycle(grammar)]
-fn after_first(p: &mut Parser<'_>, frame: Marker) -> Marker
-    requires innermost { IsInnermost frame p.old.nodes }
-    ensures reads { (c : Bool) → Reads c
-        (TUPLE_TYPE <⟨ One 'comma' ▸ rest_listed TUPLE_TYPE AnyType 'r_paren' ⟩
-        or PAREN_TYPE <⟨ One 'r_paren' ! ⟩) p.old p.new }
-    ensures marker { IsInnermost result p.new.nodes }
-    ensures left { tokens p.new ≤ tokens p.old }
-    ensures looks { spent p.new ≤ spent p.old + 2 }
-{
-    if at(p, SyntaxKind::COMMA) {
-        take(p, SyntaxKind::COMMA);
-        rest_of_list(
-            p,
-            SyntaxKind::TUPLE_TYPE,
-            Element::Type,
-            SyntaxKind::R_PAREN,
-        );
-        return wrap(p, frame, SyntaxKind::TUPLE_TYPE);
-    }
-    expect(p, SyntaxKind::R_PAREN);
-    wrap(p, frame, SyntaxKind::PAREN_TYPE)
+    tuple_tail(
+        p,
+        frame,
+        SyntaxKind::TUPLE_TYPE,
+        Element::Type,
+        SyntaxKind::PAREN_TYPE,
+    )
 }
 
 /// Parses an array type or a slice type.
@@ -269,9 +244,7 @@ fn after_first(p: &mut Parser<'_>, frame: Marker) -> Marker
 fn bracket_type(p: &mut Parser<'_>, frame: Marker, condition: bool) -> Marker
     requires some { 1 ≤ tokens p.old }
     requires innermost { IsInnermost frame p.old.nodes }
-    ensures reads { Reads condition (One '[' ▸ AnyType !
-        ▸ (ARRAY_TYPE <⟨ One 'semi' ▸ CONST_ARG ⟨ off (Expression !) ⟩ ▸ One ']' ! ⟩
-        or SLICE_TYPE <⟨ One ']' ! ⟩)) p.old p.new }
+    ensures reads { Reads condition rows.array_or_slice p.old p.new }
     ensures marker { IsInnermost result p.new.nodes }
     ensures left { tokens p.new + 1 ≤ tokens p.old }
     ensures looks { spent p.new + 3200 ≤ spent p.old }
@@ -286,9 +259,7 @@ fn bracket_type(p: &mut Parser<'_>, frame: Marker, condition: bool) -> Marker
 #[cycle(grammar)]
 fn after_element(p: &mut Parser<'_>, frame: Marker) -> Marker
     requires innermost { IsInnermost frame p.old.nodes }
-    ensures reads { (c : Bool) → Reads c
-        (ARRAY_TYPE <⟨ One 'semi' ▸ CONST_ARG ⟨ off (Expression !) ⟩ ▸ One ']' ! ⟩
-        or SLICE_TYPE <⟨ One ']' ! ⟩) p.old p.new }
+    ensures reads { (c : Bool) → Reads c rows.after_element p.old p.new }
     ensures marker { IsInnermost result p.new.nodes }
     ensures left { tokens p.new ≤ tokens p.old }
     ensures looks { spent p.new ≤ spent p.old + 2 }
@@ -307,7 +278,7 @@ fn after_element(p: &mut Parser<'_>, frame: Marker) -> Marker
 // 4
 #[cycle(grammar)]
 fn array_length(p: &mut Parser<'_>)
-    ensures reads { (c : Bool) → Reads c (CONST_ARG ⟨ off (Expression !) ⟩) p.old p.new }
+    ensures reads { (c : Bool) → Reads c rows.array_length p.old p.new }
     ensures left { tokens p.new ≤ tokens p.old }
     ensures looks { spent p.new ≤ spent p.old + 770 }
 {

@@ -1,14 +1,12 @@
 //! Expressions.
 
-ghost use Rattle.std.specs.Prelude.{◌≡◌, ◌+◌, ◌*◌, ◌≤◌, Bool, IsTrue, true, [], ◌∷◌};
+ghost use Rattle.std.specs.Prelude.{◌≡◌, ◌+◌, ◌*◌, ◌≤◌, Bool, IsTrue, true};
 ghost use Rattle.parser_input.specs.Kinds as kinds;
 ghost use Rattle.rust_productions.specs.Looks.{tokens, spent};
 ghost use Rattle.rust_grammar.specs.Rule as rules;
-ghost use Rattle.rust_grammar.specs.Calls.{Disjunction};
 ghost use Rattle.rust_grammar.specs.Expressions.{body_begins};
-ghost use Rattle.rust_grammar.specs.Rule.{InCondition, Both, Unless, begins};
-ghost use Rattle.rust_grammar.specs.Notation.{row, next};
-ghost use Rattle.rust_grammar.specs.Words.{'ident', '!', 'l_curly', 'let'};
+ghost use Rattle.rust_grammar.specs.Rule.{begins};
+ghost use Rattle.rust_grammar.specs.Expressions as rows;
 ghost use Rattle.rust_productions.specs.Reads.{looks, Does, Saw};
 
 use crate::grammar::names::at_literal;
@@ -20,7 +18,7 @@ use parser_input::syntax_kind::SyntaxKind;
 
 /// Returns `true` if a macro call with braces is next whose path is one identifier.
 pub(crate) fn at_macro_block(p: &mut Parser<'_>) -> bool
-    ensures sees { (c : Bool) → Saw c (row 0 ('ident' ∷ '!' ∷ 'l_curly' ∷ [])) p.old result }
+    ensures sees { (c : Bool) → Saw c rows.macro_block_begins p.old result }
     ensures some { IsTrue result → 1 ≤ tokens p.old }
     ensures same { Does (λ s. s) p.old p.new }
     ensures left { tokens p.new ≡ tokens p.old }
@@ -40,7 +38,7 @@ pub(crate) fn at_macro_block(p: &mut Parser<'_>) -> bool
 
 /// Returns `true` if a `let` in a condition is next.
 fn at_let(p: &mut Parser<'_>, condition: bool) -> bool
-    ensures sees { Saw condition (Both InCondition (next 'let')) p.old result }
+    ensures sees { Saw condition rows.let_begins p.old result }
     ensures some { IsTrue result → 1 ≤ tokens p.old }
     ensures same { Does (λ s. s) p.old p.new }
     ensures left { tokens p.new ≡ tokens p.old }
@@ -167,7 +165,7 @@ pub fn at_body(p: &mut Parser<'_>, condition: bool) -> bool
 
 /// Returns `true` if the end of a range starts here. In a condition a `{` starts none.
 pub fn at_range_operand(p: &mut Parser<'_>, condition: bool) -> bool
-    ensures sees { Saw condition (begins looks (Unless body_begins Disjunction)) p.old result }
+    ensures sees { Saw condition (begins looks rows.range_operand) p.old result }
     ensures operand { IsTrue result → Saw condition (looks rules.prefixed) p.old true }
     ensures some { IsTrue result → 1 ≤ tokens p.old }
     ensures same { Does (λ s. s) p.old p.new }

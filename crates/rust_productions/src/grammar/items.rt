@@ -3,15 +3,13 @@
 ghost use Rattle.std.specs.Prelude.{◌≡◌, ◌≢◌, ◌≤◌, ◌+◌, Bool, IsTrue, true, false};
 ghost use Rattle.parser_input.specs.Kind.{raw_of};
 ghost use Rattle.parser_input.specs.Kinds as kinds;
-ghost use Rattle.parser_input.specs.Kinds.{ERROR, MACRO_CALL, USE};
-ghost use Rattle.parser_events.specs.Forest.{ExpectedItem};
 ghost use Rattle.parser_events.specs.Stack.{IsInnermost};
-ghost use Rattle.rust_grammar.specs.Calls.{Path, TokenTree, UseTree};
 ghost use Rattle.rust_grammar.specs.Items.{fn_begins};
-ghost use Rattle.rust_grammar.specs.Notation.{◌or◌, ◌▸◌, ⁅◌⁆, ◌!, ◌<⟨◌⟩, ◌before◌, next};
+ghost use Rattle.rust_grammar.specs.Notation.{◌▸◌, ⁅◌⁆, ◌!, ◌before◌, next};
 ghost use Rattle.rust_grammar.specs.Rule as rules;
-ghost use Rattle.rust_grammar.specs.Rule.{Either, Given, One, Say, Skip, When};
-ghost use Rattle.rust_grammar.specs.Words.{one, 'semi', 'l_curly', '!', 'const', 'fn', 'unsafe', 'use'};
+ghost use Rattle.rust_grammar.specs.Rule.{Either, One};
+ghost use Rattle.rust_grammar.specs.Words.{one, 'const', 'fn', 'unsafe'};
+ghost use Rattle.rust_grammar.specs.Items as rows;
 ghost use Rattle.rust_productions.specs.Looks.{tokens, spent};
 ghost use Rattle.rust_productions.specs.Reads.{looks, Completes, CompletesWhere, Does, Reads, Saw};
 
@@ -135,8 +133,7 @@ pub fn unsafe_word(p: &mut Parser<'_>, word: SyntaxKind)
 pub fn use_item(p: &mut Parser<'_>, item: Marker)
     requires some { 1 ≤ tokens p.old }
     requires innermost { IsInnermost item p.old.nodes }
-    ensures completes { (c : Bool) → Completes c
-        (USE <⟨ One 'use' ▸ UseTree ! ▸ One 'semi' ! ⟩) p.old p.new }
+    ensures completes { (c : Bool) → Completes c rows.use_item p.old p.new }
     ensures left { tokens p.new + 1 ≤ tokens p.old }
     ensures looks { spent p.new + 4080 ≤ spent p.old }
 {
@@ -153,9 +150,7 @@ pub fn path_item(p: &mut Parser<'_>, item: Marker)
     requires begins { (c : Bool) → Saw c (looks rules.path) p.old true }
     requires some { 1 ≤ tokens p.old }
     requires innermost { IsInnermost item p.old.nodes }
-    ensures completes { (c : Bool) → Completes c
-        (Path ▸ (MACRO_CALL <⟨ One '!' ▸ (When (next 'l_curly') TokenTree or TokenTree ! ▸ One 'semi' !) ⟩
-        or ERROR <⟨ Say ExpectedItem ⟩)) p.old p.new }
+    ensures completes { (c : Bool) → Completes c rows.path_item p.old p.new }
     ensures left { tokens p.new + 1 ≤ tokens p.old }
     ensures looks { spent p.new + 3990 ≤ spent p.old }
 {
@@ -167,9 +162,7 @@ pub fn path_item(p: &mut Parser<'_>, item: Marker)
 // ! { a }
 fn after_path(p: &mut Parser<'_>, item: Marker)
     requires { IsInnermost item p.old.nodes }
-    ensures completes { (c : Bool) → Completes c
-        (MACRO_CALL <⟨ One '!' ▸ (When (next 'l_curly') TokenTree or TokenTree ! ▸ One 'semi' !) ⟩
-        or ERROR <⟨ Say ExpectedItem ⟩) p.old p.new }
+    ensures completes { (c : Bool) → Completes c rows.after_path p.old p.new }
     ensures left { tokens p.new ≤ tokens p.old }
     ensures looks { spent p.new ≤ spent p.old + 3 }
 {
@@ -186,8 +179,7 @@ fn after_path(p: &mut Parser<'_>, item: Marker)
 /// Parses the token tree of a macro call, and a `;` unless it is in braces.
 // (a);
 fn macro_tokens(p: &mut Parser<'_>)
-    ensures reads { (c : Bool) → Reads c
-        (When (next 'l_curly') TokenTree or TokenTree ! ▸ One 'semi' !) p.old p.new }
+    ensures reads { (c : Bool) → Reads c rows.macro_tokens p.old p.new }
     ensures left { tokens p.new ≤ tokens p.old }
     ensures looks { spent p.new ≤ spent p.old + 3 }
 {
@@ -204,8 +196,7 @@ fn macro_tokens(p: &mut Parser<'_>)
 pub fn no_item(p: &mut Parser<'_>, item: Marker, given: bool)
     requires some { given ≡ false → 1 ≤ tokens p.old }
     requires innermost { IsInnermost item p.old.nodes }
-    ensures completes { (c : Bool) → CompletesWhere given c
-        (When Given (ERROR <⟨ Say ExpectedItem ⟩) or Skip ExpectedItem) p.old p.new }
+    ensures completes { (c : Bool) → CompletesWhere given c rows.no_item p.old p.new }
     ensures left { tokens p.new ≤ tokens p.old }
     ensures takes { given ≡ false → tokens p.new + 1 ≤ tokens p.old }
     ensures pays { given ≡ false → spent p.new + 4090 ≤ spent p.old }

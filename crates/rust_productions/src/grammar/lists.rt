@@ -3,12 +3,10 @@
 ghost use Rattle.std.specs.Prelude.{◌≡◌, ◌≢◌, ◌+◌, ◌*◌, ◌<◌, ◌≤◌, Bool, IsTrue};
 ghost use Rattle.parser_input.specs.Kind.{raw_of};
 ghost use Rattle.parser_input.specs.Kinds as kinds;
-ghost use Rattle.parser_input.specs.Kinds.{COMMA};
-ghost use Rattle.parser_events.specs.Forest.{Expected};
 ghost use Rattle.rust_productions.specs.Looks.{tokens, spent};
-ghost use Rattle.rust_grammar.specs.Notation.{◌or◌, next, until, stops, one_of};
-ghost use Rattle.rust_grammar.specs.Words.{one, 'comma'};
-ghost use Rattle.rust_grammar.specs.Rule.{Left, Both, Not, Nothing, One, Say, When};
+ghost use Rattle.rust_grammar.specs.Notation.{until, separator, unexpected};
+ghost use Rattle.rust_grammar.specs.Words.{one};
+ghost use Rattle.rust_grammar.specs.Rule.{Left, Not};
 ghost use Rattle.rust_productions.specs.Reads.{Does, Reads, Saw};
 
 use crate::grammar::{at, current, error, take};
@@ -44,7 +42,7 @@ pub fn at_list_end(p: &mut Parser<'_>, closing: SyntaxKind) -> bool
 
 /// Returns `true` if a token is next that a list skips into an error.
 pub fn at_unexpected(p: &mut Parser<'_>) -> bool
-    ensures sees { (c : Bool) → Saw c (Both Left (Not (one_of 0 stops))) p.old result }
+    ensures sees { (c : Bool) → Saw c unexpected p.old result }
     ensures some { IsTrue result → 1 ≤ tokens p.old }
     ensures same { Does (λ s. s) p.old p.new }
     ensures left { tokens p.new ≡ tokens p.old }
@@ -63,8 +61,7 @@ pub fn at_unexpected(p: &mut Parser<'_>) -> bool
 
 /// Parses the comma after an element; emits an error if there is none and the list does not close.
 pub fn comma(p: &mut Parser<'_>, closing: SyntaxKind)
-    ensures reads { (c : Bool) → Reads c
-        (One 'comma' or When (next (one (raw_of closing))) Nothing or Say (Expected COMMA)) p.old p.new }
+    ensures reads { (c : Bool) → Reads c (separator (one (raw_of closing))) p.old p.new }
     ensures left { tokens p.new ≤ tokens p.old }
     ensures looks { spent p.new ≤ spent p.old + 2 }
     ensures pays { tokens p.new < tokens p.old → spent p.new + 4000 ≤ spent p.old }

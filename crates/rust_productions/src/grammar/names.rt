@@ -4,12 +4,11 @@ ghost use Rattle.std.specs.Prelude.{◌≡◌, ◌+◌, ◌*◌, ◌≤◌, Bool
 ghost use Rattle.parser_input.specs.Kinds as kinds;
 ghost use Rattle.parser_events.specs.Forest.{Expected};
 ghost use Rattle.rust_productions.specs.Looks.{tokens, spent};
-ghost use Rattle.rust_grammar.specs.Notation.{◌or◌, ⁅◌⁆, ◌! };
+ghost use Rattle.rust_grammar.specs.Notation.{⁅◌⁆, ◌! };
 ghost use Rattle.rust_grammar.specs.Patterns.{literal_token};
-ghost use Rattle.rust_grammar.specs.Words.{'crate', 'self', 'Self', 'super', 'ident'};
 ghost use Rattle.rust_grammar.specs.Calls.{Name, Lifetime, Ref, Literal};
 ghost use Rattle.rust_grammar.specs.Rule as rules;
-ghost use Rattle.rust_grammar.specs.Rule.{One};
+ghost use Rattle.rust_grammar.specs.Paths as rows;
 ghost use Rattle.rust_productions.specs.Reads.{looks, Does, Gives, Reads, Saw};
 
 use crate::grammar::{at, complete, current, error, start, take};
@@ -73,8 +72,7 @@ pub fn opt_lifetime(p: &mut Parser<'_>)
 // self
 fn take_word(p: &mut Parser<'_>)
     requires { 1 ≤ tokens p.old }
-    ensures reads { (c : Bool) → Reads c
-        (One 'ident' or One 'self' or One 'super' or One 'crate' or One 'Self') p.old p.new }
+    ensures reads { (c : Bool) → Reads c rows.ref_word p.old p.new }
     ensures left { tokens p.new + 1 ≡ tokens p.old }
     ensures looks { spent p.new + 4095 ≤ spent p.old }
 {

@@ -1,16 +1,15 @@
 //! Paths.
 
-ghost use Rattle.std.specs.Prelude.{◌≡◌, ◌+◌, ◌*◌, ◌≤◌, Bool, true, false, IsTrue};
+ghost use Rattle.std.specs.Prelude.{◌≡◌, ◌+◌, ◌≤◌, Bool, true, false, IsTrue};
 ghost use Rattle.parser_input.specs.Kinds as kinds;
-ghost use Rattle.parser_input.specs.Kinds.{PATH, PATH_SEGMENT};
 ghost use Rattle.parser_events.specs.Stack.{IsInnermost};
 ghost use Rattle.rust_productions.specs.Looks.{tokens, spent};
-ghost use Rattle.rust_grammar.specs.Notation.{◌▸◌, ⁅◌⁆, ◌*, ◌!, ◌⟨◌⟩, ◌<⟨◌⟩};
-ghost use Rattle.rust_grammar.specs.Words.{'::'};
-ghost use Rattle.rust_grammar.specs.Calls.{Ref, Path};
-ghost use Rattle.rust_grammar.specs.Shared.{colons_before_more, path_goes_on};
+ghost use Rattle.rust_grammar.specs.Notation.{◌! };
+ghost use Rattle.rust_grammar.specs.Calls.{Path};
+ghost use Rattle.rust_grammar.specs.Shared.{path_goes_on};
 ghost use Rattle.rust_grammar.specs.Rule as rules;
-ghost use Rattle.rust_grammar.specs.Rule.{Kind, Joint, Both, Nothing, One, Unless};
+ghost use Rattle.rust_grammar.specs.Rule.{Kind, Joint, Both, Nothing};
+ghost use Rattle.rust_grammar.specs.Paths as rows;
 ghost use Rattle.rust_productions.specs.Reads.{looks, Does, Gives, Reads, Saw};
 
 use crate::grammar::names::{at_name_ref, expect_name_ref, name_ref};
@@ -53,7 +52,7 @@ pub fn at_path(p: &mut Parser<'_>) -> bool
 pub fn first_word(p: &mut Parser<'_>)
     requires begins { (c : Bool) → Saw c (looks rules.path) p.old true }
     requires some { 1 ≤ tokens p.old }
-    ensures reads { (c : Bool) → Reads c (⁅ One '::' ⁆ ▸ Ref ! ▸ Nothing) p.old p.new }
+    ensures reads { (c : Bool) → Reads c (rows.first_word Nothing) p.old p.new }
     ensures left { tokens p.new + 1 ≤ tokens p.old }
     ensures looks { spent p.new + 4090 ≤ spent p.old }
 {
@@ -70,8 +69,7 @@ pub fn first_word(p: &mut Parser<'_>)
 fn first_segment(p: &mut Parser<'_>)
     requires begins { (c : Bool) → Saw c (looks rules.path) p.old true }
     requires some { 1 ≤ tokens p.old }
-    ensures reads { (c : Bool) → Reads c
-        (PATH ⟨ PATH_SEGMENT ⟨ ⁅ One '::' ⁆ ▸ Ref ! ▸ Nothing ⟩ ⟩) p.old p.new }
+    ensures reads { (c : Bool) → Reads c (rows.first_segment Nothing) p.old p.new }
     ensures left { tokens p.new + 1 ≤ tokens p.old }
     ensures looks { spent p.new + 4090 ≤ spent p.old }
 {
@@ -102,7 +100,7 @@ pub fn at_next_segment(p: &mut Parser<'_>) -> bool
 /// Parses a path segment without generic arguments; emits an error if there is none.
 // a
 fn expect_segment(p: &mut Parser<'_>)
-    ensures reads { (c : Bool) → Reads c ((PATH_SEGMENT ⟨ Ref ▸ Nothing ⟩) !) p.old p.new }
+    ensures reads { (c : Bool) → Reads c (rows.segment Nothing !) p.old p.new }
     ensures left { tokens p.new ≤ tokens p.old }
     ensures looks { spent p.new ≤ spent p.old + 1 }
 {
@@ -120,7 +118,7 @@ fn expect_segment(p: &mut Parser<'_>)
 fn next_segment(p: &mut Parser<'_>, path: Marker) -> Marker
     requires innermost { IsInnermost path p.old.nodes }
     requires some { 2 ≤ tokens p.old }
-    ensures reads { (c : Bool) → Reads c (PATH <⟨ One '::' ▸ (PATH_SEGMENT ⟨ Ref ▸ Nothing ⟩) ! ⟩) p.old p.new }
+    ensures reads { (c : Bool) → Reads c (rows.next_segment Nothing) p.old p.new }
     ensures marker { IsInnermost result p.new.nodes }
     ensures left { tokens p.new + 2 ≤ tokens p.old }
     ensures looks { spent p.new + 8000 ≤ spent p.old }
@@ -134,8 +132,7 @@ fn next_segment(p: &mut Parser<'_>, path: Marker) -> Marker
 // ::a::b
 fn next_segments(p: &mut Parser<'_>, path: Marker) -> Marker
     requires { IsInnermost path p.old.nodes }
-    ensures reads { (c : Bool) → Reads c
-        ((Unless colons_before_more (PATH <⟨ One '::' ▸ (PATH_SEGMENT ⟨ Ref ▸ Nothing ⟩) ! ⟩)) *) p.old p.new }
+    ensures reads { (c : Bool) → Reads c (rows.next_segments Nothing) p.old p.new }
     ensures ends { (c : Bool) → Saw c path_goes_on p.new false }
     ensures marker { IsInnermost result p.new.nodes }
     ensures left { tokens p.new ≤ tokens p.old }

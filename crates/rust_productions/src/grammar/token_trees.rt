@@ -1,17 +1,18 @@
 //! Token trees: tokens with brackets around them.
 
-ghost use Rattle.std.specs.Prelude.{◌≡◌, ◌≢◌, ◌+◌, ◌*◌, ◌≤◌, Bool, true, IsTrue, [], ◌∷◌};
+ghost use Rattle.std.specs.Prelude.{◌≡◌, ◌≢◌, ◌+◌, ◌*◌, ◌≤◌, Bool, true, IsTrue};
 ghost use Rattle.parser_input.specs.Kind.{raw_of};
 ghost use Rattle.parser_input.specs.Kinds as kinds;
 ghost use Rattle.parser_input.specs.Kinds.{TOKEN_TREE};
 ghost use Rattle.parser_events.specs.Forest.{Expected};
 ghost use Rattle.rust_productions.specs.Looks.{tokens, spent};
-ghost use Rattle.rust_grammar.specs.Notation.{◌or◌, ◌▸◌, ◌*, ◌!, ◌⟨◌⟩, one_of};
-ghost use Rattle.rust_grammar.specs.Words.{one, 'r_paren', 'r_curly', ']'};
+ghost use Rattle.rust_grammar.specs.Notation.{◌or◌, ◌▸◌, ◌*, ◌!, ◌⟨◌⟩};
+ghost use Rattle.rust_grammar.specs.Words.{one};
 ghost use Rattle.rust_grammar.specs.Calls.{TokenTree};
 ghost use Rattle.rust_grammar.specs.Items.{inner_token};
 ghost use Rattle.rust_grammar.specs.Rule as rules;
-ghost use Rattle.rust_grammar.specs.Rule.{Left, Both, Either, Not, Want, One};
+ghost use Rattle.rust_grammar.specs.Rule.{Either, Want, One};
+ghost use Rattle.rust_grammar.specs.Items as rows;
 ghost use Rattle.rust_productions.specs.Reads.{looks, Does, Gives, Reads, Saw};
 
 use crate::grammar::{complete, current, error, expect, start, take, take_any};
@@ -36,7 +37,7 @@ pub fn at_token_tree(p: &mut Parser<'_>) -> bool
 /// Returns `true` if a token is next that is no closing delimiter.
 fn at_inner(p: &mut Parser<'_>) -> bool
     ensures sees { (c : Bool) → Saw c
-        (Either (looks rules.token_tree) (Both Left (Not (one_of 0 ('r_paren' ∷ 'r_curly' ∷ ']' ∷ []))))) p.old result }
+        (Either (looks rules.token_tree) rows.no_closing) p.old result }
     ensures some { IsTrue result → 1 ≤ tokens p.old }
     ensures same { Does (λ s. s) p.old p.new }
     ensures left { tokens p.new ≡ tokens p.old }

@@ -1,14 +1,10 @@
 //! Types.
 
-ghost use Rattle.std.specs.Prelude.{◌≡◌, ◌+◌, ◌*◌, ◌≤◌, Bool, IsTrue, [], ◌∷◌};
+ghost use Rattle.std.specs.Prelude.{◌≡◌, ◌+◌, ◌*◌, ◌≤◌, Bool, IsTrue};
 ghost use Rattle.parser_input.specs.Kinds as kinds;
 ghost use Rattle.rust_productions.specs.Looks.{tokens, spent};
-ghost use Rattle.parser_input.specs.Kinds.{DYN_KW};
-ghost use Rattle.rust_grammar.specs.Notation.{one_of};
-ghost use Rattle.rust_grammar.specs.Words.{'?', 'lifetime'};
-ghost use Rattle.rust_grammar.specs.Shared.{refs};
 ghost use Rattle.rust_grammar.specs.Rule as rules;
-ghost use Rattle.rust_grammar.specs.Rule.{Contextual, Both};
+ghost use Rattle.rust_grammar.specs.Types as rows;
 ghost use Rattle.rust_productions.specs.Reads.{looks, Does, Saw};
 
 use crate::grammar::paths::at_path;
@@ -18,8 +14,7 @@ use parser_input::syntax_kind::SyntaxKind;
 
 /// Returns `true` if `dyn` is next as an identifier, before a token that can follow `dyn`.
 pub fn at_dyn_word(p: &mut Parser<'_>) -> bool
-    ensures sees { (c : Bool) → Saw c (Both (Contextual 0 DYN_KW)
-        (one_of 1 ('?' ∷ 'lifetime' ∷ refs))) p.old result }
+    ensures sees { (c : Bool) → Saw c rows.dyn_begins p.old result }
     ensures some { IsTrue result → 1 ≤ tokens p.old }
     ensures same { Does (λ s. s) p.old p.new }
     ensures left { tokens p.new ≡ tokens p.old }

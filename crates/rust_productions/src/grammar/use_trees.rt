@@ -2,16 +2,16 @@
 
 ghost use Rattle.std.specs.Prelude.{◌≡◌, ◌+◌, ◌*◌, ◌≤◌, Bool, true, false, IsTrue, [], ◌∷◌};
 ghost use Rattle.parser_input.specs.Kinds as kinds;
-ghost use Rattle.parser_input.specs.Kinds.{COMMA, USE_TREE, USE_TREE_LIST, RENAME};
-ghost use Rattle.parser_events.specs.Forest.{Expected, UnexpectedIn};
+ghost use Rattle.parser_input.specs.Kinds.{USE_TREE, USE_TREE_LIST};
 ghost use Rattle.rust_productions.specs.Looks.{tokens, spent};
-ghost use Rattle.rust_grammar.specs.Notation.{◌or◌, ◌▸◌, ⁅◌⁆, ◌*, ◌!, ◌⟨◌⟩, next, one_of, stops, until};
-ghost use Rattle.rust_grammar.specs.Words.{'::', 'comma', 'l_curly', 'r_curly', '*', 'as', '_'};
-ghost use Rattle.rust_grammar.specs.Calls.{Name, Path, UseTree, UseList};
+ghost use Rattle.rust_grammar.specs.Notation.{◌*, ◌!, one_of, until, list_element, unexpected};
+ghost use Rattle.rust_grammar.specs.Words.{'l_curly', 'r_curly', '*'};
+ghost use Rattle.rust_grammar.specs.Calls.{UseTree};
 ghost use Rattle.rust_grammar.specs.Items.{after_use};
 ghost use Rattle.rust_grammar.specs.Shared.{colons_before_more, path_goes_on};
 ghost use Rattle.rust_grammar.specs.Rule as rules;
-ghost use Rattle.rust_grammar.specs.Rule.{Left, Both, Either, Not, Nothing, One, Say, Skip, When, Unless};
+ghost use Rattle.rust_grammar.specs.Rule.{Both, Either, Not, Unless};
+ghost use Rattle.rust_grammar.specs.Items as rows;
 ghost use Rattle.rust_productions.specs.Reads.{looks, Does, Gives, Reads, Saw};
 
 use crate::grammar::lists::{at_list_end, at_unexpected, comma};
@@ -82,7 +82,7 @@ pub(crate) fn expect_use_tree(p: &mut Parser<'_>)
 // as b
 fn rename(p: &mut Parser<'_>)
     requires { 1 ≤ tokens p.old }
-    ensures reads { (c : Bool) → Reads c (RENAME ⟨ One 'as' ▸ (One '_' or Name !) ⟩) p.old p.new }
+    ensures reads { (c : Bool) → Reads c rows.rename p.old p.new }
     ensures left { tokens p.new + 1 ≤ tokens p.old }
     ensures looks { spent p.new + 4090 ≤ spent p.old }
 {
@@ -95,7 +95,7 @@ fn rename(p: &mut Parser<'_>)
 /// Parses `_` or a name; emits an error if there is neither.
 // _
 pub fn underscore_or_name(p: &mut Parser<'_>)
-    ensures reads { (c : Bool) → Reads c (One '_' or Name !) p.old p.new }
+    ensures reads { (c : Bool) → Reads c rows.underscore_or_name p.old p.new }
     ensures left { tokens p.new ≤ tokens p.old }
     ensures looks { spent p.new ≤ spent p.old + 2 }
 {
@@ -111,7 +111,7 @@ pub fn underscore_or_name(p: &mut Parser<'_>)
 #[cycle(use_trees)]
 fn star_or_list(p: &mut Parser<'_>)
     requires { 1 ≤ tokens p.old }
-    ensures reads { (c : Bool) → Reads c (One '*' or UseList) p.old p.new }
+    ensures reads { (c : Bool) → Reads c rows.star_or_list p.old p.new }
     ensures left { tokens p.new + 1 ≤ tokens p.old }
     ensures looks { spent p.new + 3900 ≤ spent p.old }
 {
@@ -147,7 +147,7 @@ fn after_path(p: &mut Parser<'_>)
 fn path_tree(p: &mut Parser<'_>)
     requires begins { (c : Bool) → Saw c (looks rules.path) p.old true }
     requires some { 1 ≤ tokens p.old }
-    ensures reads { (c : Bool) → Reads c (Path ▸ after_use) p.old p.new }
+    ensures reads { (c : Bool) → Reads c rows.path_tree p.old p.new }
     ensures left { tokens p.new + 1 ≤ tokens p.old }
     ensures looks { spent p.new + 3900 ≤ spent p.old }
 {
@@ -161,7 +161,7 @@ fn path_tree(p: &mut Parser<'_>)
 fn after_colons(p: &mut Parser<'_>)
     requires next { (c : Bool) → Saw c (one_of 0 ('*' ∷ 'l_curly' ∷ [])) p.old true }
     requires some { 1 ≤ tokens p.old }
-    ensures reads { (c : Bool) → Reads c (One '*' or UseList or Path ▸ after_use) p.old p.new }
+    ensures reads { (c : Bool) → Reads c rows.after_colons p.old p.new }
     ensures left { tokens p.new + 1 ≤ tokens p.old }
     ensures looks { spent p.new + 3900 ≤ spent p.old }
 {
@@ -178,9 +178,7 @@ fn after_colons(p: &mut Parser<'_>)
 fn inside(p: &mut Parser<'_>)
     requires begins { (c : Bool) → Saw c (looks rules.use_tree) p.old true }
     requires some { 1 ≤ tokens p.old }
-    ensures reads { (c : Bool) → Reads c
-        (⁅ When colons_before_more (One '::') ⁆
-        ▸ (One '*' or UseList or Path ▸ after_use)) p.old p.new }
+    ensures reads { (c : Bool) → Reads c rows.in_use_tree p.old p.new }
     ensures left { tokens p.new + 1 ≤ tokens p.old }
     ensures looks { spent p.new + 3890 ≤ spent p.old }
 {
@@ -230,7 +228,7 @@ pub fn use_list(p: &mut Parser<'_>)
 /// Returns `true` if a use tree list continues here.
 fn at_use_turn(p: &mut Parser<'_>) -> bool
     ensures sees { (c : Bool) → Saw c
-        (Both (Not (until 'r_curly')) (Either (looks rules.use_tree) (Both Left (Not (one_of 0 stops))))) p.old result }
+        (Both (Not (until 'r_curly')) (Either (looks rules.use_tree) unexpected)) p.old result }
     ensures some { IsTrue result → 1 ≤ tokens p.old }
     ensures same { Does (λ s. s) p.old p.new }
     ensures left { tokens p.new ≡ tokens p.old }
@@ -253,9 +251,7 @@ fn at_use_turn(p: &mut Parser<'_>) -> bool
 #[cycle(use_trees)]
 fn use_turn(p: &mut Parser<'_>)
     requires { 1 ≤ tokens p.old }
-    ensures reads { Reads false
-        (UseTree ▸ (One 'comma' or When (next 'r_curly') Nothing or Say (Expected COMMA))
-        or When (Both Left (Not (one_of 0 stops))) (Skip (UnexpectedIn USE_TREE_LIST))) p.old p.new }
+    ensures reads { Reads false (list_element USE_TREE_LIST UseTree 'r_curly') p.old p.new }
     ensures left { tokens p.new + 1 ≤ tokens p.old }
     ensures looks { spent p.new + 3860 ≤ spent p.old }
 {
@@ -273,8 +269,7 @@ fn use_turn(p: &mut Parser<'_>)
 fn use_turns(p: &mut Parser<'_>)
     ensures reads { Reads false
         ((Unless (until 'r_curly')
-        (UseTree ▸ (One 'comma' or When (next 'r_curly') Nothing or Say (Expected COMMA))
-        or When (Both Left (Not (one_of 0 stops))) (Skip (UnexpectedIn USE_TREE_LIST)))) *) p.old p.new }
+        (list_element USE_TREE_LIST UseTree 'r_curly')) *) p.old p.new }
     ensures left { tokens p.new ≤ tokens p.old }
     ensures looks { spent p.new ≤ spent p.old + 9 }
 {

@@ -2,12 +2,12 @@
 
 ghost use Rattle.std.specs.Prelude.{◌≡◌, ◌+◌, ◌*◌, ◌≤◌, Bool, IsTrue};
 ghost use Rattle.rust_productions.specs.Looks.{tokens, spent};
-ghost use Rattle.rust_grammar.specs.Notation.{◌▸◌, ⁅◌⁆, ◌! };
-ghost use Rattle.rust_grammar.specs.Words.{'l_paren', 'r_paren', 'in'};
-ghost use Rattle.rust_grammar.specs.Calls.{Path, Visibility};
+ghost use Rattle.rust_grammar.specs.Notation.{⁅◌⁆};
+ghost use Rattle.rust_grammar.specs.Calls.{Visibility};
 ghost use Rattle.rust_grammar.specs.Items.{visibility_goes_on};
 ghost use Rattle.rust_grammar.specs.Rule as rules;
-ghost use Rattle.rust_grammar.specs.Rule.{When, One};
+ghost use Rattle.rust_grammar.specs.Rule.{When};
+ghost use Rattle.rust_grammar.specs.Items as rows;
 ghost use Rattle.rust_productions.specs.Reads.{Does, Gives, Reads, Saw};
 
 use crate::grammar::paths::expect_path;
@@ -42,7 +42,7 @@ fn at_scope(p: &mut Parser<'_>) -> bool
 // (in a::b)
 fn opt_scope(p: &mut Parser<'_>)
     ensures reads { (c : Bool) → Reads c
-        ⁅ When visibility_goes_on (One 'l_paren' ▸ ⁅ One 'in' ⁆ ▸ Path ! ▸ One 'r_paren' !) ⁆ p.old p.new }
+        ⁅ When visibility_goes_on rows.visibility_scope ⁆ p.old p.new }
     ensures left { tokens p.new ≤ tokens p.old }
     ensures looks { spent p.new ≤ spent p.old + 4 }
 {

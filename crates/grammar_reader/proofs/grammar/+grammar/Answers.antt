@@ -93,26 +93,17 @@ expressions::atom::inside-paren_expr-requires = atom.expressions::atom::inside-p
 pub expressions::atom::inside-returns-in-L_PAREN-clause-reads : goal.expressions::atom::inside-returns-in-L_PAREN-clause-reads
 expressions::atom::inside-returns-in-L_PAREN-clause-reads = atom.expressions::atom::inside-returns-in-L_PAREN-clause-reads
 
-pub expressions::atom::inside-array_expr-requires : goal.expressions::atom::inside-array_expr-requires
-expressions::atom::inside-array_expr-requires = atom.expressions::atom::inside-array_expr-requires
-
 pub expressions::atom::inside-returns-in-L_BRACK-clause-reads : goal.expressions::atom::inside-returns-in-L_BRACK-clause-reads
 expressions::atom::inside-returns-in-L_BRACK-clause-reads = atom.expressions::atom::inside-returns-in-L_BRACK-clause-reads
 
 pub expressions::atom::inside-returns-in-L_BRACK-clause-marker : goal.expressions::atom::inside-returns-in-L_BRACK-clause-marker
 expressions::atom::inside-returns-in-L_BRACK-clause-marker = atom.expressions::atom::inside-returns-in-L_BRACK-clause-marker
 
-pub expressions::atom::inside-value_expr-requires : goal.expressions::atom::inside-value_expr-requires
-expressions::atom::inside-value_expr-requires = atom.expressions::atom::inside-value_expr-requires
-
 pub expressions::atom::inside-returns-in-RETURN_KW-clause-reads : goal.expressions::atom::inside-returns-in-RETURN_KW-clause-reads
 expressions::atom::inside-returns-in-RETURN_KW-clause-reads = atom.expressions::atom::inside-returns-in-RETURN_KW-clause-reads
 
 pub expressions::atom::inside-returns-in-RETURN_KW-clause-marker : goal.expressions::atom::inside-returns-in-RETURN_KW-clause-marker
 expressions::atom::inside-returns-in-RETURN_KW-clause-marker = atom.expressions::atom::inside-returns-in-RETURN_KW-clause-marker
-
-pub expressions::atom::inside-value_expr-requires-in-BREAK_KW : goal.expressions::atom::inside-value_expr-requires-in-BREAK_KW
-expressions::atom::inside-value_expr-requires-in-BREAK_KW = atom.expressions::atom::inside-value_expr-requires-in-BREAK_KW
 
 pub expressions::atom::inside-returns-in-BREAK_KW-clause-reads : goal.expressions::atom::inside-returns-in-BREAK_KW-clause-reads
 expressions::atom::inside-returns-in-BREAK_KW-clause-reads = atom.expressions::atom::inside-returns-in-BREAK_KW-clause-reads
@@ -126,26 +117,17 @@ expressions::atom::inside-returns-in-CONTINUE_KW-clause-reads = atom.expressions
 pub expressions::atom::inside-returns-in-CONTINUE_KW-clause-marker : goal.expressions::atom::inside-returns-in-CONTINUE_KW-clause-marker
 expressions::atom::inside-returns-in-CONTINUE_KW-clause-marker = atom.expressions::atom::inside-returns-in-CONTINUE_KW-clause-marker
 
-pub expressions::atom::inside-closure_expr-requires : goal.expressions::atom::inside-closure_expr-requires
-expressions::atom::inside-closure_expr-requires = atom.expressions::atom::inside-closure_expr-requires
-
 pub expressions::atom::inside-returns-in-PIPE-clause-reads : goal.expressions::atom::inside-returns-in-PIPE-clause-reads
 expressions::atom::inside-returns-in-PIPE-clause-reads = atom.expressions::atom::inside-returns-in-PIPE-clause-reads
 
 pub expressions::atom::inside-returns-in-PIPE-clause-marker : goal.expressions::atom::inside-returns-in-PIPE-clause-marker
 expressions::atom::inside-returns-in-PIPE-clause-marker = atom.expressions::atom::inside-returns-in-PIPE-clause-marker
 
-pub expressions::atom::inside-move_closure-requires : goal.expressions::atom::inside-move_closure-requires
-expressions::atom::inside-move_closure-requires = atom.expressions::atom::inside-move_closure-requires
-
 pub expressions::atom::inside-returns-in-MOVE_KW-clause-reads : goal.expressions::atom::inside-returns-in-MOVE_KW-clause-reads
 expressions::atom::inside-returns-in-MOVE_KW-clause-reads = atom.expressions::atom::inside-returns-in-MOVE_KW-clause-reads
 
 pub expressions::atom::inside-returns-in-MOVE_KW-clause-marker : goal.expressions::atom::inside-returns-in-MOVE_KW-clause-marker
 expressions::atom::inside-returns-in-MOVE_KW-clause-marker = atom.expressions::atom::inside-returns-in-MOVE_KW-clause-marker
-
-pub expressions::atom::inside-let_expr-requires : goal.expressions::atom::inside-let_expr-requires
-expressions::atom::inside-let_expr-requires = atom.expressions::atom::inside-let_expr-requires
 
 pub expressions::atom::inside-returns-in-LET_KW-clause-reads : goal.expressions::atom::inside-returns-in-LET_KW-clause-reads
 expressions::atom::inside-returns-in-LET_KW-clause-reads = atom.expressions::atom::inside-returns-in-LET_KW-clause-reads
@@ -186,9 +168,6 @@ expressions::atom::after_path-wrap-frame-requires = atom.expressions::atom::afte
 pub expressions::atom::after_path-wrap-requires-then-condition : goal.expressions::atom::after_path-wrap-requires-then-condition
 expressions::atom::after_path-wrap-requires-then-condition = atom.expressions::atom::after_path-wrap-requires-then-condition
 
-pub expressions::atom::after_path-field_values-requires : goal.expressions::atom::after_path-field_values-requires
-expressions::atom::after_path-field_values-requires = atom.expressions::atom::after_path-field_values-requires
-
 pub expressions::atom::after_path-wrap-requires-then-at-2 : goal.expressions::atom::after_path-wrap-requires-then-at-2
 expressions::atom::after_path-wrap-requires-then-at-2 = atom.expressions::atom::after_path-wrap-requires-then-at-2
 
@@ -219,29 +198,14 @@ expressions::atom::paren_expr-returns-clause-reads = atom.expressions::atom::par
 pub expressions::atom::after_paren-wrap-requires : goal.expressions::atom::after_paren-wrap-requires
 expressions::atom::after_paren-wrap-requires = atom.expressions::atom::after_paren-wrap-requires
 
-pub expressions::atom::after_paren-after_first-requires : goal.expressions::atom::after_paren-after_first-requires
-expressions::atom::after_paren-after_first-requires = atom.expressions::atom::after_paren-after_first-requires
+pub expressions::atom::after_paren-tuple_tail-requires : goal.expressions::atom::after_paren-tuple_tail-requires
+expressions::atom::after_paren-tuple_tail-requires = atom.expressions::atom::after_paren-tuple_tail-requires
 
 pub expressions::atom::after_paren-returns-then-at-clause-reads : goal.expressions::atom::after_paren-returns-then-at-clause-reads
 expressions::atom::after_paren-returns-then-at-clause-reads = atom.expressions::atom::after_paren-returns-then-at-clause-reads
 
 pub expressions::atom::after_paren-returns-clause-reads : goal.expressions::atom::after_paren-returns-clause-reads
 expressions::atom::after_paren-returns-clause-reads = atom.expressions::atom::after_paren-returns-clause-reads
-
-pub expressions::atom::after_first-rest_of_list-requires : goal.expressions::atom::after_first-rest_of_list-requires
-expressions::atom::after_first-rest_of_list-requires = atom.expressions::atom::after_first-rest_of_list-requires
-
-pub expressions::atom::after_first-wrap-requires : goal.expressions::atom::after_first-wrap-requires
-expressions::atom::after_first-wrap-requires = atom.expressions::atom::after_first-wrap-requires
-
-pub expressions::atom::after_first-wrap-requires-2 : goal.expressions::atom::after_first-wrap-requires-2
-expressions::atom::after_first-wrap-requires-2 = atom.expressions::atom::after_first-wrap-requires-2
-
-pub expressions::atom::after_first-returns-then-at-clause-reads : goal.expressions::atom::after_first-returns-then-at-clause-reads
-expressions::atom::after_first-returns-then-at-clause-reads = atom.expressions::atom::after_first-returns-then-at-clause-reads
-
-pub expressions::atom::after_first-returns-clause-reads : goal.expressions::atom::after_first-returns-clause-reads
-expressions::atom::after_first-returns-clause-reads = atom.expressions::atom::after_first-returns-clause-reads
 
 pub expressions::atom::array_expr-complete-requires : goal.expressions::atom::array_expr-complete-requires
 expressions::atom::array_expr-complete-requires = atom.expressions::atom::array_expr-complete-requires
@@ -257,9 +221,6 @@ expressions::atom::array_elements-returns-then-at_expression-clause-reads = atom
 
 pub expressions::atom::array_elements-returns-clause-reads : goal.expressions::atom::array_elements-returns-clause-reads
 expressions::atom::array_elements-returns-clause-reads = atom.expressions::atom::array_elements-returns-clause-reads
-
-pub expressions::atom::after_element-rest_of_list-requires : goal.expressions::atom::after_element-rest_of_list-requires
-expressions::atom::after_element-rest_of_list-requires = atom.expressions::atom::after_element-rest_of_list-requires
 
 pub expressions::atom::after_element-returns-then-at-clause-reads : goal.expressions::atom::after_element-returns-then-at-clause-reads
 expressions::atom::after_element-returns-then-at-clause-reads = atom.expressions::atom::after_element-returns-then-at-clause-reads
@@ -288,9 +249,6 @@ expressions::atom::opt_value-returns-then-at_operation-clause-reads = atom.expre
 pub expressions::atom::opt_value-returns-else-at_operation-clause-reads : goal.expressions::atom::opt_value-returns-else-at_operation-clause-reads
 expressions::atom::opt_value-returns-else-at_operation-clause-reads = atom.expressions::atom::opt_value-returns-else-at_operation-clause-reads
 
-pub expressions::closures::closure_expr-closure_params-requires : goal.expressions::closures::closure_expr-closure_params-requires
-expressions::closures::closure_expr-closure_params-requires = atom.expressions::closures::closure_expr-closure_params-requires
-
 pub expressions::closures::closure_expr-complete-requires : goal.expressions::closures::closure_expr-complete-requires
 expressions::closures::closure_expr-complete-requires = atom.expressions::closures::closure_expr-complete-requires
 
@@ -303,17 +261,11 @@ expressions::closures::move_closure-complete-requires = atom.expressions::closur
 pub expressions::closures::move_closure-returns-clause-reads : goal.expressions::closures::move_closure-returns-clause-reads
 expressions::closures::move_closure-returns-clause-reads = atom.expressions::closures::move_closure-returns-clause-reads
 
-pub expressions::closures::expect_closure_params-closure_params-requires : goal.expressions::closures::expect_closure_params-closure_params-requires
-expressions::closures::expect_closure_params-closure_params-requires = atom.expressions::closures::expect_closure_params-closure_params-requires
-
 pub expressions::closures::expect_closure_params-returns-then-at-clause-reads : goal.expressions::closures::expect_closure_params-returns-then-at-clause-reads
 expressions::closures::expect_closure_params-returns-then-at-clause-reads = atom.expressions::closures::expect_closure_params-returns-then-at-clause-reads
 
 pub expressions::closures::expect_closure_params-returns-clause-reads : goal.expressions::closures::expect_closure_params-returns-clause-reads
 expressions::closures::expect_closure_params-returns-clause-reads = atom.expressions::closures::expect_closure_params-returns-clause-reads
-
-pub expressions::closures::closure_params-rest_of_list-requires : goal.expressions::closures::closure_params-rest_of_list-requires
-expressions::closures::closure_params-rest_of_list-requires = atom.expressions::closures::closure_params-rest_of_list-requires
 
 pub expressions::closures::closure_params-complete-requires : goal.expressions::closures::closure_params-complete-requires
 expressions::closures::closure_params-complete-requires = atom.expressions::closures::closure_params-complete-requires
@@ -335,9 +287,6 @@ expressions::closures::opt_type-returns-then-at-clause-reads = atom.expressions:
 
 pub expressions::closures::opt_type-returns-else-at-clause-reads : goal.expressions::closures::opt_type-returns-else-at-clause-reads
 expressions::closures::opt_type-returns-else-at-clause-reads = atom.expressions::closures::opt_type-returns-else-at-clause-reads
-
-pub expressions::closures::closure_body-ret_type-requires : goal.expressions::closures::closure_body-ret_type-requires
-expressions::closures::closure_body-ret_type-requires = atom.expressions::closures::closure_body-ret_type-requires
 
 pub expressions::closures::closure_body-returns-then-at_pair-clause-reads : goal.expressions::closures::closure_body-returns-then-at_pair-clause-reads
 expressions::closures::closure_body-returns-then-at_pair-clause-reads = atom.expressions::closures::closure_body-returns-then-at_pair-clause-reads
@@ -441,53 +390,29 @@ items::consts::opt_value-returns-then-at-clause-reads = consts.items::consts::op
 pub items::consts::opt_value-returns-else-at-clause-reads : goal.items::consts::opt_value-returns-else-at-clause-reads
 items::consts::opt_value-returns-else-at-clause-reads = consts.items::consts::opt_value-returns-else-at-clause-reads
 
-pub items::consts::type_alias-opt_type_after-requires : goal.items::consts::type_alias-opt_type_after-requires
-items::consts::type_alias-opt_type_after-requires = consts.items::consts::type_alias-opt_type_after-requires
-
 pub items::consts::type_alias-complete-requires : goal.items::consts::type_alias-complete-requires
 items::consts::type_alias-complete-requires = consts.items::consts::type_alias-complete-requires
 
 pub items::consts::type_alias-returns-clause-completes : goal.items::consts::type_alias-returns-clause-completes
 items::consts::type_alias-returns-clause-completes = consts.items::consts::type_alias-returns-clause-completes
 
-pub expressions::control::block_like-block-requires : goal.expressions::control::block_like-block-requires
-expressions::control::block_like-block-requires = control.expressions::control::block_like-block-requires
-
 pub expressions::control::block_like-returns-in-L_CURLY-clause-gives : goal.expressions::control::block_like-returns-in-L_CURLY-clause-gives
 expressions::control::block_like-returns-in-L_CURLY-clause-gives = control.expressions::control::block_like-returns-in-L_CURLY-clause-gives
-
-pub expressions::control::block_like-unsafe_block-requires : goal.expressions::control::block_like-unsafe_block-requires
-expressions::control::block_like-unsafe_block-requires = control.expressions::control::block_like-unsafe_block-requires
 
 pub expressions::control::block_like-returns-in-UNSAFE_KW-clause-gives : goal.expressions::control::block_like-returns-in-UNSAFE_KW-clause-gives
 expressions::control::block_like-returns-in-UNSAFE_KW-clause-gives = control.expressions::control::block_like-returns-in-UNSAFE_KW-clause-gives
 
-pub expressions::control::block_like-if_expr-requires : goal.expressions::control::block_like-if_expr-requires
-expressions::control::block_like-if_expr-requires = control.expressions::control::block_like-if_expr-requires
-
 pub expressions::control::block_like-returns-in-IF_KW-clause-gives : goal.expressions::control::block_like-returns-in-IF_KW-clause-gives
 expressions::control::block_like-returns-in-IF_KW-clause-gives = control.expressions::control::block_like-returns-in-IF_KW-clause-gives
-
-pub expressions::control::block_like-while_expr-requires : goal.expressions::control::block_like-while_expr-requires
-expressions::control::block_like-while_expr-requires = control.expressions::control::block_like-while_expr-requires
 
 pub expressions::control::block_like-returns-in-WHILE_KW-clause-gives : goal.expressions::control::block_like-returns-in-WHILE_KW-clause-gives
 expressions::control::block_like-returns-in-WHILE_KW-clause-gives = control.expressions::control::block_like-returns-in-WHILE_KW-clause-gives
 
-pub expressions::control::block_like-loop_expr-requires : goal.expressions::control::block_like-loop_expr-requires
-expressions::control::block_like-loop_expr-requires = control.expressions::control::block_like-loop_expr-requires
-
 pub expressions::control::block_like-returns-in-LOOP_KW-clause-gives : goal.expressions::control::block_like-returns-in-LOOP_KW-clause-gives
 expressions::control::block_like-returns-in-LOOP_KW-clause-gives = control.expressions::control::block_like-returns-in-LOOP_KW-clause-gives
 
-pub expressions::control::block_like-for_expr-requires : goal.expressions::control::block_like-for_expr-requires
-expressions::control::block_like-for_expr-requires = control.expressions::control::block_like-for_expr-requires
-
 pub expressions::control::block_like-returns-in-FOR_KW-clause-gives : goal.expressions::control::block_like-returns-in-FOR_KW-clause-gives
 expressions::control::block_like-returns-in-FOR_KW-clause-gives = control.expressions::control::block_like-returns-in-FOR_KW-clause-gives
-
-pub expressions::control::block_like-match_expr-requires : goal.expressions::control::block_like-match_expr-requires
-expressions::control::block_like-match_expr-requires = control.expressions::control::block_like-match_expr-requires
 
 pub expressions::control::block_like-returns-in-MATCH_KW-clause-gives : goal.expressions::control::block_like-returns-in-MATCH_KW-clause-gives
 expressions::control::block_like-returns-in-MATCH_KW-clause-gives = control.expressions::control::block_like-returns-in-MATCH_KW-clause-gives
@@ -498,26 +423,17 @@ expressions::control::block_like-macro_block-requires = control.expressions::con
 pub expressions::control::block_like-returns-in_default-clause-gives : goal.expressions::control::block_like-returns-in_default-clause-gives
 expressions::control::block_like-returns-in_default-clause-gives = control.expressions::control::block_like-returns-in_default-clause-gives
 
-pub expressions::control::expect_statement_list-statement_list-requires : goal.expressions::control::expect_statement_list-statement_list-requires
-expressions::control::expect_statement_list-statement_list-requires = control.expressions::control::expect_statement_list-statement_list-requires
-
 pub expressions::control::expect_statement_list-returns-then-at-clause-reads : goal.expressions::control::expect_statement_list-returns-then-at-clause-reads
 expressions::control::expect_statement_list-returns-then-at-clause-reads = control.expressions::control::expect_statement_list-returns-then-at-clause-reads
 
 pub expressions::control::expect_statement_list-returns-clause-reads : goal.expressions::control::expect_statement_list-returns-clause-reads
 expressions::control::expect_statement_list-returns-clause-reads = control.expressions::control::expect_statement_list-returns-clause-reads
 
-pub expressions::control::expect_block-block-requires : goal.expressions::control::expect_block-block-requires
-expressions::control::expect_block-block-requires = control.expressions::control::expect_block-block-requires
-
 pub expressions::control::expect_block-returns-then-at-clause-reads : goal.expressions::control::expect_block-returns-then-at-clause-reads
 expressions::control::expect_block-returns-then-at-clause-reads = control.expressions::control::expect_block-returns-then-at-clause-reads
 
 pub expressions::control::expect_block-returns-clause-reads : goal.expressions::control::expect_block-returns-clause-reads
 expressions::control::expect_block-returns-clause-reads = control.expressions::control::expect_block-returns-clause-reads
-
-pub expressions::control::expect_match_arms-match_arms-requires : goal.expressions::control::expect_match_arms-match_arms-requires
-expressions::control::expect_match_arms-match_arms-requires = control.expressions::control::expect_match_arms-match_arms-requires
 
 pub expressions::control::expect_match_arms-returns-then-at-clause-reads : goal.expressions::control::expect_match_arms-returns-then-at-clause-reads
 expressions::control::expect_match_arms-returns-then-at-clause-reads = control.expressions::control::expect_match_arms-returns-then-at-clause-reads
@@ -566,9 +482,6 @@ expressions::control::opt_else-returns-then-at-clause-reads = control.expression
 
 pub expressions::control::opt_else-returns-else-at-clause-reads : goal.expressions::control::opt_else-returns-else-at-clause-reads
 expressions::control::opt_else-returns-else-at-clause-reads = control.expressions::control::opt_else-returns-else-at-clause-reads
-
-pub expressions::control::after_else-if_expr-requires : goal.expressions::control::after_else-if_expr-requires
-expressions::control::after_else-if_expr-requires = control.expressions::control::after_else-if_expr-requires
 
 pub expressions::control::after_else-returns-then-at-clause-reads : goal.expressions::control::after_else-returns-then-at-clause-reads
 expressions::control::after_else-returns-then-at-clause-reads = control.expressions::control::after_else-returns-then-at-clause-reads
@@ -621,14 +534,8 @@ expressions::control::arm_turn-returns-clause-pays = control.expressions::contro
 pub expressions::control::arm_turn-returns-clause-looks : goal.expressions::control::arm_turn-returns-clause-looks
 expressions::control::arm_turn-returns-clause-looks = control.expressions::control::arm_turn-returns-clause-looks
 
-pub expressions::expect_expression-expect_layer-requires : goal.expressions::expect_expression-expect_layer-requires
-expressions::expect_expression-expect_layer-requires = expressions.expressions::expect_expression-expect_layer-requires
-
 pub expressions::expect_expression-returns-in-Comparison-clause-reads : goal.expressions::expect_expression-returns-in-Comparison-clause-reads
 expressions::expect_expression-returns-in-Comparison-clause-reads = expressions.expressions::expect_expression-returns-in-Comparison-clause-reads
-
-pub expressions::expect_expression-expect_layer-requires-in-Disjunction : goal.expressions::expect_expression-expect_layer-requires-in-Disjunction
-expressions::expect_expression-expect_layer-requires-in-Disjunction = expressions.expressions::expect_expression-expect_layer-requires-in-Disjunction
 
 pub expressions::expect_expression-returns-in-Disjunction-clause-reads : goal.expressions::expect_expression-returns-in-Disjunction-clause-reads
 expressions::expect_expression-returns-in-Disjunction-clause-reads = expressions.expressions::expect_expression-returns-in-Disjunction-clause-reads
@@ -638,9 +545,6 @@ expressions::expect_expression-returns-in-Expression-clause-reads = expressions.
 
 pub expressions::expect_expression-returns-in-Operation-clause-reads : goal.expressions::expect_expression-returns-in-Operation-clause-reads
 expressions::expect_expression-returns-in-Operation-clause-reads = expressions.expressions::expect_expression-returns-in-Operation-clause-reads
-
-pub expressions::expect_expression-expect_layer-requires-in-Prefixed : goal.expressions::expect_expression-expect_layer-requires-in-Prefixed
-expressions::expect_expression-expect_layer-requires-in-Prefixed = expressions.expressions::expect_expression-expect_layer-requires-in-Prefixed
 
 pub expressions::expect_expression-returns-in-Prefixed-clause-reads : goal.expressions::expect_expression-returns-in-Prefixed-clause-reads
 expressions::expect_expression-returns-in-Prefixed-clause-reads = expressions.expressions::expect_expression-returns-in-Prefixed-clause-reads
@@ -858,26 +762,17 @@ items::functions::fn_item-complete-requires = functions.items::functions::fn_ite
 pub items::functions::fn_item-returns-clause-completes : goal.items::functions::fn_item-returns-clause-completes
 items::functions::fn_item-returns-clause-completes = functions.items::functions::fn_item-returns-clause-completes
 
-pub items::functions::expect_params-params-requires : goal.items::functions::expect_params-params-requires
-items::functions::expect_params-params-requires = functions.items::functions::expect_params-params-requires
-
 pub items::functions::expect_params-returns-then-at-clause-reads : goal.items::functions::expect_params-returns-then-at-clause-reads
 items::functions::expect_params-returns-then-at-clause-reads = functions.items::functions::expect_params-returns-then-at-clause-reads
 
 pub items::functions::expect_params-returns-clause-reads : goal.items::functions::expect_params-returns-clause-reads
 items::functions::expect_params-returns-clause-reads = functions.items::functions::expect_params-returns-clause-reads
 
-pub items::functions::opt_ret_type-ret_type-requires : goal.items::functions::opt_ret_type-ret_type-requires
-items::functions::opt_ret_type-ret_type-requires = functions.items::functions::opt_ret_type-ret_type-requires
-
 pub items::functions::opt_ret_type-returns-then-at_pair-clause-reads : goal.items::functions::opt_ret_type-returns-then-at_pair-clause-reads
 items::functions::opt_ret_type-returns-then-at_pair-clause-reads = functions.items::functions::opt_ret_type-returns-then-at_pair-clause-reads
 
 pub items::functions::opt_ret_type-returns-else-at_pair-clause-reads : goal.items::functions::opt_ret_type-returns-else-at_pair-clause-reads
 items::functions::opt_ret_type-returns-else-at_pair-clause-reads = functions.items::functions::opt_ret_type-returns-else-at_pair-clause-reads
-
-pub items::functions::fn_body-block-requires : goal.items::functions::fn_body-block-requires
-items::functions::fn_body-block-requires = functions.items::functions::fn_body-block-requires
 
 pub items::functions::fn_body-returns-then-at-clause-reads : goal.items::functions::fn_body-returns-then-at-clause-reads
 items::functions::fn_body-returns-then-at-clause-reads = functions.items::functions::fn_body-returns-then-at-clause-reads
@@ -945,9 +840,6 @@ generic_params::bound-returns-clause-gives = generic_params.generic_params::boun
 pub generic_params::lifetime_or_path-returns-in-LIFETIME_IDENT-clause-reads : goal.generic_params::lifetime_or_path-returns-in-LIFETIME_IDENT-clause-reads
 generic_params::lifetime_or_path-returns-in-LIFETIME_IDENT-clause-reads = generic_params.generic_params::lifetime_or_path-returns-in-LIFETIME_IDENT-clause-reads
 
-pub generic_params::lifetime_or_path-path_after_question-requires : goal.generic_params::lifetime_or_path-path_after_question-requires
-generic_params::lifetime_or_path-path_after_question-requires = generic_params.generic_params::lifetime_or_path-path_after_question-requires
-
 pub generic_params::lifetime_or_path-returns-in-QUESTION-clause-reads : goal.generic_params::lifetime_or_path-returns-in-QUESTION-clause-reads
 generic_params::lifetime_or_path-returns-in-QUESTION-clause-reads = generic_params.generic_params::lifetime_or_path-returns-in-QUESTION-clause-reads
 
@@ -1014,20 +906,11 @@ generic_params::lifetime_param-complete-requires = generic_params.generic_params
 pub generic_params::lifetime_param-returns-clause-reads : goal.generic_params::lifetime_param-returns-clause-reads
 generic_params::lifetime_param-returns-clause-reads = generic_params.generic_params::lifetime_param-returns-clause-reads
 
-pub generic_params::type_param-opt_type_after-requires : goal.generic_params::type_param-opt_type_after-requires
-generic_params::type_param-opt_type_after-requires = generic_params.generic_params::type_param-opt_type_after-requires
-
 pub generic_params::type_param-complete-requires : goal.generic_params::type_param-complete-requires
 generic_params::type_param-complete-requires = generic_params.generic_params::type_param-complete-requires
 
 pub generic_params::type_param-returns-clause-reads : goal.generic_params::type_param-returns-clause-reads
 generic_params::type_param-returns-clause-reads = generic_params.generic_params::type_param-returns-clause-reads
-
-pub generic_params::generic_param-lifetime_param-requires : goal.generic_params::generic_param-lifetime_param-requires
-generic_params::generic_param-lifetime_param-requires = generic_params.generic_params::generic_param-lifetime_param-requires
-
-pub generic_params::generic_param-type_param-requires : goal.generic_params::generic_param-type_param-requires
-generic_params::generic_param-type_param-requires = generic_params.generic_params::generic_param-type_param-requires
 
 pub generic_params::generic_param-returns-then-at-clause-gives : goal.generic_params::generic_param-returns-then-at-clause-gives
 generic_params::generic_param-returns-then-at-clause-gives = generic_params.generic_params::generic_param-returns-then-at-clause-gives
@@ -1134,9 +1017,6 @@ items::bare_item-returns-clause-left = items.items::bare_item-returns-clause-lef
 pub items::bare_item-returns-clause-looks : goal.items::bare_item-returns-clause-looks
 items::bare_item-returns-clause-looks = items.items::bare_item-returns-clause-looks
 
-pub items::attributes-attribute-requires : goal.items::attributes-attribute-requires
-items::attributes-attribute-requires = items.items::attributes-attribute-requires
-
 pub items::attributes-turns-preserved : goal.items::attributes-turns-preserved
 items::attributes-turns-preserved = items.items::attributes-turns-preserved
 
@@ -1227,9 +1107,6 @@ items::module-complete-requires = items.items::module-complete-requires
 pub items::module-returns-clause-completes : goal.items::module-returns-clause-completes
 items::module-returns-clause-completes = items.items::module-returns-clause-completes
 
-pub items::module_items-item_list-requires : goal.items::module_items-item_list-requires
-items::module_items-item_list-requires = items.items::module_items-item_list-requires
-
 pub items::module_items-returns-then-at-clause-reads : goal.items::module_items-returns-then-at-clause-reads
 items::module_items-returns-then-at-clause-reads = items.items::module_items-returns-then-at-clause-reads
 
@@ -1248,17 +1125,11 @@ items::assoc_items-item_list-requires = items.items::assoc_items-item_list-requi
 pub items::assoc_items-returns-clause-gives : goal.items::assoc_items-returns-clause-gives
 items::assoc_items-returns-clause-gives = items.items::assoc_items-returns-clause-gives
 
-pub items::opt_generic_params-generic_params-requires : goal.items::opt_generic_params-generic_params-requires
-items::opt_generic_params-generic_params-requires = items.items::opt_generic_params-generic_params-requires
-
 pub items::opt_generic_params-returns-then-at-clause-reads : goal.items::opt_generic_params-returns-then-at-clause-reads
 items::opt_generic_params-returns-then-at-clause-reads = items.items::opt_generic_params-returns-then-at-clause-reads
 
 pub items::opt_generic_params-returns-else-at-clause-reads : goal.items::opt_generic_params-returns-else-at-clause-reads
 items::opt_generic_params-returns-else-at-clause-reads = items.items::opt_generic_params-returns-else-at-clause-reads
-
-pub items::opt_where_clause-where_clause-requires : goal.items::opt_where_clause-where_clause-requires
-items::opt_where_clause-where_clause-requires = items.items::opt_where_clause-where_clause-requires
 
 pub items::opt_where_clause-returns-then-at-clause-reads : goal.items::opt_where_clause-returns-then-at-clause-reads
 items::opt_where_clause-returns-then-at-clause-reads = items.items::opt_where_clause-returns-then-at-clause-reads
@@ -1446,8 +1317,17 @@ lists::elements-returns-clause-reads = lists.lists::elements-returns-clause-read
 pub lists::rest_of_list-returns-clause-reads : goal.lists::rest_of_list-returns-clause-reads
 lists::rest_of_list-returns-clause-reads = lists.lists::rest_of_list-returns-clause-reads
 
-pub lists::arguments-rest_of_list-requires : goal.lists::arguments-rest_of_list-requires
-lists::arguments-rest_of_list-requires = lists.lists::arguments-rest_of_list-requires
+pub lists::tuple_tail-wrap-requires : goal.lists::tuple_tail-wrap-requires
+lists::tuple_tail-wrap-requires = lists.lists::tuple_tail-wrap-requires
+
+pub lists::tuple_tail-wrap-requires-2 : goal.lists::tuple_tail-wrap-requires-2
+lists::tuple_tail-wrap-requires-2 = lists.lists::tuple_tail-wrap-requires-2
+
+pub lists::tuple_tail-returns-then-at-clause-reads : goal.lists::tuple_tail-returns-then-at-clause-reads
+lists::tuple_tail-returns-then-at-clause-reads = lists.lists::tuple_tail-returns-then-at-clause-reads
+
+pub lists::tuple_tail-returns-clause-reads : goal.lists::tuple_tail-returns-clause-reads
+lists::tuple_tail-returns-clause-reads = lists.lists::tuple_tail-returns-clause-reads
 
 pub lists::arguments-complete-requires : goal.lists::arguments-complete-requires
 lists::arguments-complete-requires = lists.lists::arguments-complete-requires
@@ -1455,17 +1335,11 @@ lists::arguments-complete-requires = lists.lists::arguments-complete-requires
 pub lists::arguments-returns-clause-gives : goal.lists::arguments-returns-clause-gives
 lists::arguments-returns-clause-gives = lists.lists::arguments-returns-clause-gives
 
-pub lists::field_values-rest_of_list-requires : goal.lists::field_values-rest_of_list-requires
-lists::field_values-rest_of_list-requires = lists.lists::field_values-rest_of_list-requires
-
 pub lists::field_values-complete-requires : goal.lists::field_values-complete-requires
 lists::field_values-complete-requires = lists.lists::field_values-complete-requires
 
 pub lists::field_values-returns-clause-gives : goal.lists::field_values-returns-clause-gives
 lists::field_values-returns-clause-gives = lists.lists::field_values-returns-clause-gives
-
-pub lists::generic_params-rest_of_list-requires : goal.lists::generic_params-rest_of_list-requires
-lists::generic_params-rest_of_list-requires = lists.lists::generic_params-rest_of_list-requires
 
 pub lists::generic_params-complete-requires : goal.lists::generic_params-complete-requires
 lists::generic_params-complete-requires = lists.lists::generic_params-complete-requires
@@ -1473,17 +1347,11 @@ lists::generic_params-complete-requires = lists.lists::generic_params-complete-r
 pub lists::generic_params-returns-clause-gives : goal.lists::generic_params-returns-clause-gives
 lists::generic_params-returns-clause-gives = lists.lists::generic_params-returns-clause-gives
 
-pub lists::params-rest_of_list-requires : goal.lists::params-rest_of_list-requires
-lists::params-rest_of_list-requires = lists.lists::params-rest_of_list-requires
-
 pub lists::params-complete-requires : goal.lists::params-complete-requires
 lists::params-complete-requires = lists.lists::params-complete-requires
 
 pub lists::params-returns-clause-gives : goal.lists::params-returns-clause-gives
 lists::params-returns-clause-gives = lists.lists::params-returns-clause-gives
-
-pub lists::pattern_fields-rest_of_list-requires : goal.lists::pattern_fields-rest_of_list-requires
-lists::pattern_fields-rest_of_list-requires = lists.lists::pattern_fields-rest_of_list-requires
 
 pub lists::pattern_fields-complete-requires : goal.lists::pattern_fields-complete-requires
 lists::pattern_fields-complete-requires = lists.lists::pattern_fields-complete-requires
@@ -1509,26 +1377,17 @@ lists::read_element-variant-requires = lists.lists::read_element-variant-require
 pub lists::read_element-returns-in-Variant-clause-reads : goal.lists::read_element-returns-in-Variant-clause-reads
 lists::read_element-returns-in-Variant-clause-reads = lists.lists::read_element-returns-in-Variant-clause-reads
 
-pub lists::variants-rest_of_list-requires : goal.lists::variants-rest_of_list-requires
-lists::variants-rest_of_list-requires = lists.lists::variants-rest_of_list-requires
-
 pub lists::variants-complete-requires : goal.lists::variants-complete-requires
 lists::variants-complete-requires = lists.lists::variants-complete-requires
 
 pub lists::variants-returns-clause-gives : goal.lists::variants-returns-clause-gives
 lists::variants-returns-clause-gives = lists.lists::variants-returns-clause-gives
 
-pub lists::record_fields-rest_of_list-requires : goal.lists::record_fields-rest_of_list-requires
-lists::record_fields-rest_of_list-requires = lists.lists::record_fields-rest_of_list-requires
-
 pub lists::record_fields-complete-requires : goal.lists::record_fields-complete-requires
 lists::record_fields-complete-requires = lists.lists::record_fields-complete-requires
 
 pub lists::record_fields-returns-clause-gives : goal.lists::record_fields-returns-clause-gives
 lists::record_fields-returns-clause-gives = lists.lists::record_fields-returns-clause-gives
-
-pub lists::tuple_fields-rest_of_list-requires : goal.lists::tuple_fields-rest_of_list-requires
-lists::tuple_fields-rest_of_list-requires = lists.lists::tuple_fields-rest_of_list-requires
 
 pub lists::tuple_fields-complete-requires : goal.lists::tuple_fields-complete-requires
 lists::tuple_fields-complete-requires = lists.lists::tuple_fields-complete-requires
@@ -1632,26 +1491,14 @@ items::members::opt_fields-returns-in-L_PAREN-clause-reads = members.items::memb
 pub items::members::opt_fields-returns-in_default-clause-reads : goal.items::members::opt_fields-returns-in_default-clause-reads
 items::members::opt_fields-returns-in_default-clause-reads = members.items::members::opt_fields-returns-in_default-clause-reads
 
-pub expressions::operand::prefixed-prefix_expr-requires : goal.expressions::operand::prefixed-prefix_expr-requires
-expressions::operand::prefixed-prefix_expr-requires = operand.expressions::operand::prefixed-prefix_expr-requires
-
 pub expressions::operand::prefixed-returns-in-MINUS-clause-gives : goal.expressions::operand::prefixed-returns-in-MINUS-clause-gives
 expressions::operand::prefixed-returns-in-MINUS-clause-gives = operand.expressions::operand::prefixed-returns-in-MINUS-clause-gives
-
-pub expressions::operand::prefixed-prefix_expr-requires-in-BANG : goal.expressions::operand::prefixed-prefix_expr-requires-in-BANG
-expressions::operand::prefixed-prefix_expr-requires-in-BANG = operand.expressions::operand::prefixed-prefix_expr-requires-in-BANG
 
 pub expressions::operand::prefixed-returns-in-BANG-clause-gives : goal.expressions::operand::prefixed-returns-in-BANG-clause-gives
 expressions::operand::prefixed-returns-in-BANG-clause-gives = operand.expressions::operand::prefixed-returns-in-BANG-clause-gives
 
-pub expressions::operand::prefixed-prefix_expr-requires-in-STAR : goal.expressions::operand::prefixed-prefix_expr-requires-in-STAR
-expressions::operand::prefixed-prefix_expr-requires-in-STAR = operand.expressions::operand::prefixed-prefix_expr-requires-in-STAR
-
 pub expressions::operand::prefixed-returns-in-STAR-clause-gives : goal.expressions::operand::prefixed-returns-in-STAR-clause-gives
 expressions::operand::prefixed-returns-in-STAR-clause-gives = operand.expressions::operand::prefixed-returns-in-STAR-clause-gives
-
-pub expressions::operand::prefixed-ref_expr-requires : goal.expressions::operand::prefixed-ref_expr-requires
-expressions::operand::prefixed-ref_expr-requires = operand.expressions::operand::prefixed-ref_expr-requires
 
 pub expressions::operand::prefixed-returns-in-AMP-clause-gives : goal.expressions::operand::prefixed-returns-in-AMP-clause-gives
 expressions::operand::prefixed-returns-in-AMP-clause-gives = operand.expressions::operand::prefixed-returns-in-AMP-clause-gives
@@ -1689,17 +1536,11 @@ expressions::operand::postfixes-turns-preserved = operand.expressions::operand::
 pub expressions::operand::postfixes-returns-clause-reads : goal.expressions::operand::postfixes-returns-clause-reads
 expressions::operand::postfixes-returns-clause-reads = operand.expressions::operand::postfixes-returns-clause-reads
 
-pub expressions::operand::postfix-arguments-requires : goal.expressions::operand::postfix-arguments-requires
-expressions::operand::postfix-arguments-requires = operand.expressions::operand::postfix-arguments-requires
-
 pub expressions::operand::postfix-wrap-requires : goal.expressions::operand::postfix-wrap-requires
 expressions::operand::postfix-wrap-requires = operand.expressions::operand::postfix-wrap-requires
 
 pub expressions::operand::postfix-returns-in-L_PAREN-clause-reads : goal.expressions::operand::postfix-returns-in-L_PAREN-clause-reads
 expressions::operand::postfix-returns-in-L_PAREN-clause-reads = operand.expressions::operand::postfix-returns-in-L_PAREN-clause-reads
-
-pub expressions::operand::postfix-index-requires : goal.expressions::operand::postfix-index-requires
-expressions::operand::postfix-index-requires = operand.expressions::operand::postfix-index-requires
 
 pub expressions::operand::postfix-wrap-requires-in-L_BRACK : goal.expressions::operand::postfix-wrap-requires-in-L_BRACK
 expressions::operand::postfix-wrap-requires-in-L_BRACK = operand.expressions::operand::postfix-wrap-requires-in-L_BRACK
@@ -1721,9 +1562,6 @@ expressions::operand::postfix-returns-in_default-clause-reads = operand.expressi
 
 pub expressions::operand::index-returns-clause-reads : goal.expressions::operand::index-returns-clause-reads
 expressions::operand::index-returns-clause-reads = operand.expressions::operand::index-returns-clause-reads
-
-pub expressions::operand::after_dot-method_call-requires : goal.expressions::operand::after_dot-method_call-requires
-expressions::operand::after_dot-method_call-requires = operand.expressions::operand::after_dot-method_call-requires
 
 pub expressions::operand::after_dot-wrap-requires : goal.expressions::operand::after_dot-wrap-requires
 expressions::operand::after_dot-wrap-requires = operand.expressions::operand::after_dot-wrap-requires
@@ -1757,9 +1595,6 @@ expressions::operand::after_dot-returns-in_default-clause-reads = operand.expres
 
 pub expressions::operand::method_call-returns-clause-reads : goal.expressions::operand::method_call-returns-clause-reads
 expressions::operand::method_call-returns-clause-reads = operand.expressions::operand::method_call-returns-clause-reads
-
-pub expressions::operand::expect_arguments-arguments-requires : goal.expressions::operand::expect_arguments-arguments-requires
-expressions::operand::expect_arguments-arguments-requires = operand.expressions::operand::expect_arguments-arguments-requires
 
 pub expressions::operand::expect_arguments-returns-then-at-clause-reads : goal.expressions::operand::expect_arguments-returns-then-at-clause-reads
 expressions::operand::expect_arguments-returns-then-at-clause-reads = operand.expressions::operand::expect_arguments-returns-then-at-clause-reads
@@ -1800,15 +1635,6 @@ params::pattern_param-complete-requires = params.params::pattern_param-complete-
 pub params::pattern_param-returns-clause-reads : goal.params::pattern_param-returns-clause-reads
 params::pattern_param-returns-clause-reads = params.params::pattern_param-returns-clause-reads
 
-pub params::self_param-self_after_ref-requires : goal.params::self_param-self_after_ref-requires
-params::self_param-self_after_ref-requires = params.params::self_param-self_after_ref-requires
-
-pub params::self_param-self_after_mut-requires : goal.params::self_param-self_after_mut-requires
-params::self_param-self_after_mut-requires = params.params::self_param-self_after_mut-requires
-
-pub params::self_param-self_alone-requires : goal.params::self_param-self_alone-requires
-params::self_param-self_alone-requires = params.params::self_param-self_alone-requires
-
 pub params::self_param-returns-in-AMP-clause-gives : goal.params::self_param-returns-in-AMP-clause-gives
 params::self_param-returns-in-AMP-clause-gives = params.params::self_param-returns-in-AMP-clause-gives
 
@@ -1835,9 +1661,6 @@ params::self_alone-complete-requires = params.params::self_alone-complete-requir
 
 pub params::self_alone-returns-clause-reads : goal.params::self_alone-returns-clause-reads
 params::self_alone-returns-clause-reads = params.params::self_alone-returns-clause-reads
-
-pub paths::generic_args-rest_of_list-requires : goal.paths::generic_args-rest_of_list-requires
-paths::generic_args-rest_of_list-requires = paths.paths::generic_args-rest_of_list-requires
 
 pub paths::generic_args-opt_colons-requires-clause-begins : goal.paths::generic_args-opt_colons-requires-clause-begins
 paths::generic_args-opt_colons-requires-clause-begins = paths.paths::generic_args-opt_colons-requires-clause-begins
@@ -1995,17 +1818,11 @@ patterns::ref_pat-complete-requires = patterns.patterns::ref_pat-complete-requir
 pub patterns::ref_pat-returns-clause-reads : goal.patterns::ref_pat-returns-clause-reads
 patterns::ref_pat-returns-clause-reads = patterns.patterns::ref_pat-returns-clause-reads
 
-pub patterns::slice_pat-rest_of_list-requires : goal.patterns::slice_pat-rest_of_list-requires
-patterns::slice_pat-rest_of_list-requires = patterns.patterns::slice_pat-rest_of_list-requires
-
 pub patterns::slice_pat-complete-requires : goal.patterns::slice_pat-complete-requires
 patterns::slice_pat-complete-requires = patterns.patterns::slice_pat-complete-requires
 
 pub patterns::slice_pat-returns-clause-reads : goal.patterns::slice_pat-returns-clause-reads
 patterns::slice_pat-returns-clause-reads = patterns.patterns::slice_pat-returns-clause-reads
-
-pub patterns::tuple_pat-rest_of_list-requires : goal.patterns::tuple_pat-rest_of_list-requires
-patterns::tuple_pat-rest_of_list-requires = patterns.patterns::tuple_pat-rest_of_list-requires
 
 pub patterns::tuple_pat-complete-requires : goal.patterns::tuple_pat-complete-requires
 patterns::tuple_pat-complete-requires = patterns.patterns::tuple_pat-complete-requires
@@ -2046,29 +1863,14 @@ patterns::paren_pat-returns-clause-reads = patterns.patterns::paren_pat-returns-
 pub patterns::after_paren-wrap-requires : goal.patterns::after_paren-wrap-requires
 patterns::after_paren-wrap-requires = patterns.patterns::after_paren-wrap-requires
 
-pub patterns::after_paren-after_first-requires : goal.patterns::after_paren-after_first-requires
-patterns::after_paren-after_first-requires = patterns.patterns::after_paren-after_first-requires
+pub patterns::after_paren-tuple_tail-requires : goal.patterns::after_paren-tuple_tail-requires
+patterns::after_paren-tuple_tail-requires = patterns.patterns::after_paren-tuple_tail-requires
 
 pub patterns::after_paren-returns-then-at-clause-reads : goal.patterns::after_paren-returns-then-at-clause-reads
 patterns::after_paren-returns-then-at-clause-reads = patterns.patterns::after_paren-returns-then-at-clause-reads
 
 pub patterns::after_paren-returns-clause-reads : goal.patterns::after_paren-returns-clause-reads
 patterns::after_paren-returns-clause-reads = patterns.patterns::after_paren-returns-clause-reads
-
-pub patterns::after_first-rest_of_list-requires : goal.patterns::after_first-rest_of_list-requires
-patterns::after_first-rest_of_list-requires = patterns.patterns::after_first-rest_of_list-requires
-
-pub patterns::after_first-wrap-requires : goal.patterns::after_first-wrap-requires
-patterns::after_first-wrap-requires = patterns.patterns::after_first-wrap-requires
-
-pub patterns::after_first-wrap-requires-2 : goal.patterns::after_first-wrap-requires-2
-patterns::after_first-wrap-requires-2 = patterns.patterns::after_first-wrap-requires-2
-
-pub patterns::after_first-returns-then-at-clause-reads : goal.patterns::after_first-returns-then-at-clause-reads
-patterns::after_first-returns-then-at-clause-reads = patterns.patterns::after_first-returns-then-at-clause-reads
-
-pub patterns::after_first-returns-clause-reads : goal.patterns::after_first-returns-clause-reads
-patterns::after_first-returns-clause-reads = patterns.patterns::after_first-returns-clause-reads
 
 pub patterns::path_pat-path_with_args-requires : goal.patterns::path_pat-path_with_args-requires
 patterns::path_pat-path_with_args-requires = patterns.patterns::path_pat-path_with_args-requires
@@ -2078,9 +1880,6 @@ patterns::path_pat-after_path-requires = patterns.patterns::path_pat-after_path-
 
 pub patterns::path_pat-returns-clause-reads : goal.patterns::path_pat-returns-clause-reads
 patterns::path_pat-returns-clause-reads = patterns.patterns::path_pat-returns-clause-reads
-
-pub patterns::after_path-rest_of_list-requires : goal.patterns::after_path-rest_of_list-requires
-patterns::after_path-rest_of_list-requires = patterns.patterns::after_path-rest_of_list-requires
 
 pub patterns::after_path-wrap-requires : goal.patterns::after_path-wrap-requires
 patterns::after_path-wrap-requires = patterns.patterns::after_path-wrap-requires
@@ -2139,23 +1938,14 @@ or_patterns::opt_further-returns-then-at-clause-reads = patterns.or_patterns::op
 pub or_patterns::opt_further-returns-clause-reads : goal.or_patterns::opt_further-returns-clause-reads
 or_patterns::opt_further-returns-clause-reads = patterns.or_patterns::opt_further-returns-clause-reads
 
-pub statements::statement-let_stmt-requires : goal.statements::statement-let_stmt-requires
-statements::statement-let_stmt-requires = statements.statements::statement-let_stmt-requires
-
 pub statements::statement-returns-in-SEMICOLON-clause-gives : goal.statements::statement-returns-in-SEMICOLON-clause-gives
 statements::statement-returns-in-SEMICOLON-clause-gives = statements.statements::statement-returns-in-SEMICOLON-clause-gives
-
-pub statements::statement-defer_stmt-requires : goal.statements::statement-defer_stmt-requires
-statements::statement-defer_stmt-requires = statements.statements::statement-defer_stmt-requires
 
 pub statements::statement-returns-in-DEFER_KW-clause-gives : goal.statements::statement-returns-in-DEFER_KW-clause-gives
 statements::statement-returns-in-DEFER_KW-clause-gives = statements.statements::statement-returns-in-DEFER_KW-clause-gives
 
 pub statements::statement-returns-in-LET_KW-clause-gives : goal.statements::statement-returns-in-LET_KW-clause-gives
 statements::statement-returns-in-LET_KW-clause-gives = statements.statements::statement-returns-in-LET_KW-clause-gives
-
-pub statements::statement-attribute-requires : goal.statements::statement-attribute-requires
-statements::statement-attribute-requires = statements.statements::statement-attribute-requires
 
 pub statements::statement-returns-then-at_inner_attribute-clause-gives : goal.statements::statement-returns-then-at_inner_attribute-clause-gives
 statements::statement-returns-then-at_inner_attribute-clause-gives = statements.statements::statement-returns-then-at_inner_attribute-clause-gives
@@ -2165,9 +1955,6 @@ statements::statement-returns-then-at_item-clause-gives = statements.statements:
 
 pub statements::statement-item-requires : goal.statements::statement-item-requires
 statements::statement-item-requires = statements.statements::statement-item-requires
-
-pub statements::statement-expression_statement-requires : goal.statements::statement-expression_statement-requires
-statements::statement-expression_statement-requires = statements.statements::statement-expression_statement-requires
 
 pub statements::statement-returns-else-at_item-clause-gives : goal.statements::statement-returns-else-at_item-clause-gives
 statements::statement-returns-else-at_item-clause-gives = statements.statements::statement-returns-else-at_item-clause-gives
@@ -2180,9 +1967,6 @@ statements::let_stmt-complete-requires = statements.statements::let_stmt-complet
 
 pub statements::let_stmt-returns-clause-reads : goal.statements::let_stmt-returns-clause-reads
 statements::let_stmt-returns-clause-reads = statements.statements::let_stmt-returns-clause-reads
-
-pub statements::opt_else-let_else-requires : goal.statements::opt_else-let_else-requires
-statements::opt_else-let_else-requires = statements.statements::opt_else-let_else-requires
 
 pub statements::opt_else-returns-then-at-clause-reads : goal.statements::opt_else-returns-then-at-clause-reads
 statements::opt_else-returns-then-at-clause-reads = statements.statements::opt_else-returns-then-at-clause-reads
@@ -2265,9 +2049,6 @@ statements::ended_expression-returns-clause-anew = statements.statements::ended_
 pub items::traits::impl_item-unsafe_word-requires : goal.items::traits::impl_item-unsafe_word-requires
 items::traits::impl_item-unsafe_word-requires = traits.items::traits::impl_item-unsafe_word-requires
 
-pub items::traits::impl_item-opt_type_after-requires : goal.items::traits::impl_item-opt_type_after-requires
-items::traits::impl_item-opt_type_after-requires = traits.items::traits::impl_item-opt_type_after-requires
-
 pub items::traits::impl_item-complete-requires : goal.items::traits::impl_item-complete-requires
 items::traits::impl_item-complete-requires = traits.items::traits::impl_item-complete-requires
 
@@ -2282,9 +2063,6 @@ items::traits::trait_item-complete-requires = traits.items::traits::trait_item-c
 
 pub items::traits::trait_item-returns-clause-completes : goal.items::traits::trait_item-returns-clause-completes
 items::traits::trait_item-returns-clause-completes = traits.items::traits::trait_item-returns-clause-completes
-
-pub items::traits::expect_assoc_items-assoc_items-requires : goal.items::traits::expect_assoc_items-assoc_items-requires
-items::traits::expect_assoc_items-assoc_items-requires = traits.items::traits::expect_assoc_items-assoc_items-requires
 
 pub items::traits::expect_assoc_items-returns-then-at-clause-reads : goal.items::traits::expect_assoc_items-returns-then-at-clause-reads
 items::traits::expect_assoc_items-returns-then-at-clause-reads = traits.items::traits::expect_assoc_items-returns-then-at-clause-reads
@@ -2390,21 +2168,6 @@ types::after_paren-returns-then-at-clause-reads = types.types::after_paren-retur
 
 pub types::after_paren-returns-clause-reads : goal.types::after_paren-returns-clause-reads
 types::after_paren-returns-clause-reads = types.types::after_paren-returns-clause-reads
-
-pub types::after_first-rest_of_list-requires : goal.types::after_first-rest_of_list-requires
-types::after_first-rest_of_list-requires = types.types::after_first-rest_of_list-requires
-
-pub types::after_first-wrap-requires : goal.types::after_first-wrap-requires
-types::after_first-wrap-requires = types.types::after_first-wrap-requires
-
-pub types::after_first-wrap-requires-2 : goal.types::after_first-wrap-requires-2
-types::after_first-wrap-requires-2 = types.types::after_first-wrap-requires-2
-
-pub types::after_first-returns-then-at-clause-reads : goal.types::after_first-returns-then-at-clause-reads
-types::after_first-returns-then-at-clause-reads = types.types::after_first-returns-then-at-clause-reads
-
-pub types::after_first-returns-clause-reads : goal.types::after_first-returns-clause-reads
-types::after_first-returns-clause-reads = types.types::after_first-returns-clause-reads
 
 pub types::bracket_type-after_element-requires : goal.types::bracket_type-after_element-requires
 types::bracket_type-after_element-requires = types.types::bracket_type-after_element-requires

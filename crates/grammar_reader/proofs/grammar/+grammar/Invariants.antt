@@ -57,6 +57,9 @@ decreases-lists::pattern_fields l = 512 * tokens l.p.now
 abbrev pub decreases-lists::rest_of_list : goal.decreases-lists::rest_of_list
 decreases-lists::rest_of_list l = 512 * tokens l.p.now + 104
 
+abbrev pub decreases-lists::tuple_tail : goal.decreases-lists::tuple_tail
+decreases-lists::tuple_tail l = 512 * tokens l.p.now + 1
+
 abbrev pub decreases-lists::elements : goal.decreases-lists::elements
 decreases-lists::elements l = 512 * tokens l.p.now + 103
 
@@ -147,9 +150,6 @@ decreases-types::paren_type l = 512 * tokens l.p.now
 abbrev pub decreases-types::after_paren : goal.decreases-types::after_paren
 decreases-types::after_paren l = 512 * tokens l.p.now + 21
 
-abbrev pub decreases-types::after_first : goal.decreases-types::after_first
-decreases-types::after_first l = 512 * tokens l.p.now + 1
-
 abbrev pub decreases-types::bracket_type : goal.decreases-types::bracket_type
 decreases-types::bracket_type l = 512 * tokens l.p.now
 
@@ -194,9 +194,6 @@ decreases-patterns::paren_pat l = 512 * tokens l.p.now
 
 abbrev pub decreases-patterns::after_paren : goal.decreases-patterns::after_paren
 decreases-patterns::after_paren l = 512 * tokens l.p.now + 26
-
-abbrev pub decreases-patterns::after_first : goal.decreases-patterns::after_first
-decreases-patterns::after_first l = 512 * tokens l.p.now + 1
 
 abbrev pub decreases-patterns::path_pat : goal.decreases-patterns::path_pat
 decreases-patterns::path_pat l = 512 * tokens l.p.now + 17
@@ -316,9 +313,6 @@ decreases-expressions::closures::move_closure l = 512 * tokens l.p.now + 3
 
 abbrev pub decreases-expressions::closures::closure_expr : goal.decreases-expressions::closures::closure_expr
 decreases-expressions::closures::closure_expr l = 512 * tokens l.p.now + 3
-
-abbrev pub decreases-expressions::atom::after_first : goal.decreases-expressions::atom::after_first
-decreases-expressions::atom::after_first l = 512 * tokens l.p.now + 1
 
 abbrev pub decreases-expressions::atom::after_element : goal.decreases-expressions::atom::after_element
 decreases-expressions::atom::after_element l = 512 * tokens l.p.now + 1

@@ -2,21 +2,20 @@
 
 ghost use Rattle.std.specs.Prelude.{◌≤◌, ◌+◌, Bool, true, false};
 ghost use Rattle.parser_input.specs.Kind.{raw_of};
-ghost use Rattle.parser_input.specs.Kinds.{ARRAY_EXPR, LET_EXPR, MACRO_CALL, MACRO_EXPR, PAREN_EXPR, PATH_EXPR, RECORD_EXPR, TUPLE_EXPR};
 ghost use Rattle.parser_events.specs.Stack.{IsInnermost};
-ghost use Rattle.rust_grammar.specs.Calls.{Comparison, ExprPath, Expression, FieldValues, Operation, Pattern, TokenTree};
-ghost use Rattle.rust_grammar.specs.Notation.{◌or◌, ◌▸◌, ⁅◌⁆, ◌!, ◌⟨◌⟩, ◌<⟨◌⟩, next, off, rest_listed};
+ghost use Rattle.rust_grammar.specs.Notation.{◌▸◌, ◌⟨◌⟩};
 ghost use Rattle.rust_grammar.specs.Rule as rules;
-ghost use Rattle.rust_grammar.specs.Rule.{Both, InCondition, Nothing, One, Unless};
+ghost use Rattle.rust_grammar.specs.Rule.{One};
 ghost use Rattle.rust_grammar.specs.Whole.{rule};
-ghost use Rattle.rust_grammar.specs.Words.{one, '!=', 'comma', 'semi', 'l_curly', 'l_paren', 'r_paren', '[', ']', '=', '!', 'let'};
+ghost use Rattle.rust_grammar.specs.Words.{one};
+ghost use Rattle.rust_grammar.specs.Expressions as rows;
 ghost use Rattle.rust_productions.specs.Looks.{tokens, spent};
 ghost use Rattle.rust_productions.specs.Reads.{looks, Reads, Saw};
 
 use crate::grammar::expressions::closures::{closure_expr, move_closure};
 use crate::grammar::expressions::control::block_like;
 use crate::grammar::expressions::{Level, expect_expression, expression, operation};
-use crate::grammar::lists::{Element, field_values, rest_of_list};
+use crate::grammar::lists::{Element, field_values, rest_of_list, tuple_tail};
 use crate::grammar::or_patterns::expect_pattern;
 use crate::grammar::paths::{Mode, path_with_args};
 use crate::grammar::types::word_type;
@@ -93,10 +92,7 @@ fn path_expr(p: &mut Parser<'_>, frame: Marker, condition: bool) -> Marker
     requires begins { (c : Bool) → Saw c (looks rules.path) p.old true }
     requires some { 1 ≤ tokens p.old }
     requires innermost { IsInnermost frame p.old.nodes }
-    ensures reads { Reads condition (ExprPath
-        ▸ (Unless (next '!=') (MACRO_CALL <⟨ One '!' ▸ TokenTree ! ⟩ ▸ MACRO_EXPR <⟨ Nothing ⟩)
-        or Unless InCondition (RECORD_EXPR <⟨ FieldValues ⟩)
-        or PATH_EXPR <⟨ Nothing ⟩)) p.old p.new }
+    ensures reads { Reads condition rows.path_expr p.old p.new }
     ensures marker { IsInnermost result p.new.nodes }
     ensures left { tokens p.new + 1 ≤ tokens p.old }
     ensures looks { spent p.new + 3990 ≤ spent p.old }
@@ -110,10 +106,7 @@ fn path_expr(p: &mut Parser<'_>, frame: Marker, condition: bool) -> Marker
 #[cycle(grammar)]
 fn after_path(p: &mut Parser<'_>, frame: Marker, condition: bool) -> Marker
     requires innermost { IsInnermost frame p.old.nodes }
-    ensures reads { Reads condition
-        (Unless (next '!=') (MACRO_CALL <⟨ One '!' ▸ TokenTree ! ⟩ ▸ MACRO_EXPR <⟨ Nothing ⟩)
-        or Unless InCondition (RECORD_EXPR <⟨ FieldValues ⟩)
-        or PATH_EXPR <⟨ Nothing ⟩) p.old p.new }
+    ensures reads { Reads condition rows.after_path p.old p.new }
     ensures marker { IsInnermost result p.new.nodes }
     ensures left { tokens p.new ≤ tokens p.old }
     ensures looks { spent p.new ≤ spent p.old + 4 }
@@ -140,7 +133,7 @@ fn after_path(p: &mut Parser<'_>, frame: Marker, condition: bool) -> Marker
 // !(a, b)
 fn macro_call(p: &mut Parser<'_>)
     requires { 1 ≤ tokens p.old }
-    ensures reads { (c : Bool) → Reads c (One '!' ▸ TokenTree !) p.old p.new }
+    ensures reads { (c : Bool) → Reads c rows.macro_tail p.old p.new }
     ensures left { tokens p.new + 1 ≤ tokens p.old }
     ensures looks { spent p.new + 4090 ≤ spent p.old }
 {
@@ -154,9 +147,7 @@ fn macro_call(p: &mut Parser<'_>)
 fn paren_expr(p: &mut Parser<'_>, frame: Marker) -> Marker
     requires some { 1 ≤ tokens p.old }
     requires innermost { IsInnermost frame p.old.nodes }
-    ensures reads { (c : Bool) → Reads c (One 'l_paren' ▸ (TUPLE_EXPR <⟨ One 'r_paren' ⟩
-        or off (Expression !) ▸ (TUPLE_EXPR <⟨ One 'comma' ▸ rest_listed TUPLE_EXPR Expression 'r_paren' ⟩
-        or PAREN_EXPR <⟨ One 'r_paren' ! ⟩))) p.old p.new }
+    ensures reads { (c : Bool) → Reads c rows.tuple_or_paren p.old p.new }
     ensures marker { IsInnermost result p.new.nodes }
     ensures left { tokens p.new + 1 ≤ tokens p.old }
     ensures looks { spent p.new + 3300 ≤ spent p.old }
@@ -170,9 +161,7 @@ fn paren_expr(p: &mut Parser<'_>, frame: Marker) -> Marker
 #[cycle(grammar)]
 fn after_paren(p: &mut Parser<'_>, frame: Marker) -> Marker
     requires innermost { IsInnermost frame p.old.nodes }
-    ensures reads { (c : Bool) → Reads c (TUPLE_EXPR <⟨ One 'r_paren' ⟩
-        or off (Expression !) ▸ (TUPLE_EXPR <⟨ One 'comma' ▸ rest_listed TUPLE_EXPR Expression 'r_paren' ⟩
-        or PAREN_EXPR <⟨ One 'r_paren' ! ⟩)) p.old p.new }
+    ensures reads { (c : Bool) → Reads c rows.after_l_paren p.old p.new }
     ensures marker { IsInnermost result p.new.nodes }
     ensures left { tokens p.new ≤ tokens p.old }
     ensures looks { spent p.new ≤ spent p.old + 780 }
@@ -182,33 +171,13 @@ fn after_paren(p: &mut Parser<'_>, frame: Marker) -> Marker
         return wrap(p, frame, SyntaxKind::TUPLE_EXPR);
     }
     expect_expression(p, Level::Expression, false);
-    after_first(p, frame)
-}
-
-/// Parses a tuple expression or a parenthesized expression after its first element.
-// , b)
-#[cycle(grammar)]
-fn after_first(p: &mut Parser<'_>, frame: Marker) -> Marker
-    requires innermost { IsInnermost frame p.old.nodes }
-    ensures reads { (c : Bool) → Reads c
-        (TUPLE_EXPR <⟨ One 'comma' ▸ rest_listed TUPLE_EXPR Expression 'r_paren' ⟩
-        or PAREN_EXPR <⟨ One 'r_paren' ! ⟩) p.old p.new }
-    ensures marker { IsInnermost result p.new.nodes }
-    ensures left { tokens p.new ≤ tokens p.old }
-    ensures looks { spent p.new ≤ spent p.old + 2 }
-{
-    if at(p, SyntaxKind::COMMA) {
-        take(p, SyntaxKind::COMMA);
-        rest_of_list(
-            p,
-            SyntaxKind::TUPLE_EXPR,
-            Element::Expression,
-            SyntaxKind::R_PAREN,
-        );
-        return wrap(p, frame, SyntaxKind::TUPLE_EXPR);
-    }
-    expect(p, SyntaxKind::R_PAREN);
-    wrap(p, frame, SyntaxKind::PAREN_EXPR)
+    tuple_tail(
+        p,
+        frame,
+        SyntaxKind::TUPLE_EXPR,
+        Element::Expression,
+        SyntaxKind::PAREN_EXPR,
+    )
 }
 
 /// Parses an array expression.
@@ -216,11 +185,7 @@ fn after_first(p: &mut Parser<'_>, frame: Marker) -> Marker
 #[cycle(grammar)]
 fn array_expr(p: &mut Parser<'_>)
     requires some { 1 ≤ tokens p.old }
-    ensures reads { (c : Bool) → Reads c (ARRAY_EXPR ⟨ One '['
-        ▸ (off Expression ▸ (One 'semi' ▸ off (Expression !) ▸ One ']' !
-        or One 'comma' ▸ rest_listed ARRAY_EXPR Expression ']'
-        or One ']' !)
-        or One ']' !) ⟩) p.old p.new }
+    ensures reads { (c : Bool) → Reads c rows.array_expr p.old p.new }
     ensures left { tokens p.new + 1 ≤ tokens p.old }
     ensures looks { spent p.new + 3200 ≤ spent p.old }
 {
@@ -234,11 +199,7 @@ fn array_expr(p: &mut Parser<'_>)
 // a, b]
 #[cycle(grammar)]
 fn array_elements(p: &mut Parser<'_>)
-    ensures reads { (c : Bool) → Reads c
-        (off Expression ▸ (One 'semi' ▸ off (Expression !) ▸ One ']' !
-        or One 'comma' ▸ rest_listed ARRAY_EXPR Expression ']'
-        or One ']' !)
-        or One ']' !) p.old p.new }
+    ensures reads { (c : Bool) → Reads c rows.array_elements p.old p.new }
     ensures left { tokens p.new ≤ tokens p.old }
     ensures looks { spent p.new ≤ spent p.old + 780 }
 {
@@ -254,9 +215,7 @@ fn array_elements(p: &mut Parser<'_>)
 // ; 4]
 #[cycle(grammar)]
 fn after_element(p: &mut Parser<'_>)
-    ensures reads { (c : Bool) → Reads c (One 'semi' ▸ off (Expression !) ▸ One ']' !
-        or One 'comma' ▸ rest_listed ARRAY_EXPR Expression ']'
-        or One ']' !) p.old p.new }
+    ensures reads { (c : Bool) → Reads c rows.after_element p.old p.new }
     ensures left { tokens p.new ≤ tokens p.old }
     ensures looks { spent p.new ≤ spent p.old + 3 }
 {
@@ -285,7 +244,7 @@ fn after_element(p: &mut Parser<'_>)
 fn value_expr(p: &mut Parser<'_>, token: SyntaxKind, kind: SyntaxKind, condition: bool)
     requires some { 1 ≤ tokens p.old }
     ensures reads { Reads condition (raw_of kind ⟨ One (one (raw_of token))
-        ▸ ⁅ Unless (Both InCondition (next 'l_curly')) Operation ⁆ ⟩) p.old p.new }
+        ▸ rows.value ⟩) p.old p.new }
     ensures left { tokens p.new + 1 ≤ tokens p.old }
     ensures looks { spent p.new + 3300 ≤ spent p.old }
 {
@@ -299,7 +258,7 @@ fn value_expr(p: &mut Parser<'_>, token: SyntaxKind, kind: SyntaxKind, condition
 // a
 #[cycle(grammar)]
 fn opt_value(p: &mut Parser<'_>, condition: bool)
-    ensures reads { Reads condition ⁅ Unless (Both InCondition (next 'l_curly')) Operation ⁆ p.old p.new }
+    ensures reads { Reads condition rows.value p.old p.new }
     ensures left { tokens p.new ≤ tokens p.old }
     ensures looks { spent p.new ≤ spent p.old + 780 }
 {
@@ -316,8 +275,7 @@ fn opt_value(p: &mut Parser<'_>, condition: bool)
 #[cycle(grammar)]
 fn let_expr(p: &mut Parser<'_>, condition: bool)
     requires some { 1 ≤ tokens p.old }
-    ensures reads { Reads condition
-        (LET_EXPR ⟨ One 'let' ▸ Pattern ! ▸ One '=' ! ▸ Comparison ! ⟩) p.old p.new }
+    ensures reads { Reads condition rows.let_expr p.old p.new }
     ensures left { tokens p.new + 1 ≤ tokens p.old }
     ensures looks { spent p.new + 3300 ≤ spent p.old }
 {

@@ -2,12 +2,12 @@
 
 ghost use Rattle.std.specs.Prelude.{◌≤◌, ◌+◌, Bool, true, false};
 ghost use Rattle.parser_input.specs.Kinds.{CLOSURE_EXPR};
-ghost use Rattle.rust_grammar.specs.Calls.{AnyType, Block, Operation, RetType};
 ghost use Rattle.rust_grammar.specs.Expressions as rows;
-ghost use Rattle.rust_grammar.specs.Notation.{◌or◌, ◌▸◌, ⁅◌⁆, ◌!, ◌⟨◌⟩};
+ghost use Rattle.rust_grammar.specs.Notation.{◌▸◌, ⁅◌⁆, ◌!, ◌⟨◌⟩};
 ghost use Rattle.rust_grammar.specs.Rule as rules;
 ghost use Rattle.rust_grammar.specs.Rule.{One};
-ghost use Rattle.rust_grammar.specs.Words.{':', 'move'};
+ghost use Rattle.rust_grammar.specs.Words.{'move'};
+ghost use Rattle.rust_grammar.specs.Shared.{type_annotation};
 ghost use Rattle.rust_productions.specs.Looks.{tokens, spent};
 ghost use Rattle.rust_productions.specs.Reads.{looks, Reads, Saw};
 
@@ -27,7 +27,7 @@ use rust_productions::grammar::{at, at_pair, complete, error, start, take};
 pub(crate) fn closure_expr(p: &mut Parser<'_>, condition: bool)
     requires some { 1 ≤ tokens p.old }
     ensures reads { Reads condition
-        (CLOSURE_EXPR ⟨ rows.closure_params ▸ (RetType ▸ Block ! or Operation !) ⟩) p.old p.new }
+        (CLOSURE_EXPR ⟨ rows.closure_params ▸ rows.closure_body ⟩) p.old p.new }
     ensures left { tokens p.new + 1 ≤ tokens p.old }
     ensures looks { spent p.new + 3280 ≤ spent p.old }
 {
@@ -43,7 +43,7 @@ pub(crate) fn closure_expr(p: &mut Parser<'_>, condition: bool)
 pub(crate) fn move_closure(p: &mut Parser<'_>, condition: bool)
     requires some { 1 ≤ tokens p.old }
     ensures reads { Reads condition (CLOSURE_EXPR
-        ⟨ One 'move' ▸ rows.closure_params ! ▸ (RetType ▸ Block ! or Operation !) ⟩) p.old p.new }
+        ⟨ One 'move' ▸ rows.closure_params ! ▸ rows.closure_body ⟩) p.old p.new }
     ensures left { tokens p.new + 1 ≤ tokens p.old }
     ensures looks { spent p.new + 3280 ≤ spent p.old }
 {
@@ -109,7 +109,7 @@ pub(crate) fn closure_param(p: &mut Parser<'_>)
 // : u8
 #[cycle(grammar)]
 pub(crate) fn opt_type(p: &mut Parser<'_>, condition: bool)
-    ensures reads { Reads condition ⁅ One ':' ▸ AnyType ! ⁆ p.old p.new }
+    ensures reads { Reads condition ⁅ type_annotation ⁆ p.old p.new }
     ensures left { tokens p.new ≤ tokens p.old }
     ensures looks { spent p.new ≤ spent p.old + 1 }
 {
@@ -123,7 +123,7 @@ pub(crate) fn opt_type(p: &mut Parser<'_>, condition: bool)
 // -> u8 { 1 }
 #[cycle(grammar)]
 fn closure_body(p: &mut Parser<'_>, condition: bool)
-    ensures reads { Reads condition (RetType ▸ Block ! or Operation !) p.old p.new }
+    ensures reads { Reads condition rows.closure_body p.old p.new }
     ensures left { tokens p.new ≤ tokens p.old }
     ensures looks { spent p.new ≤ spent p.old + 780 }
 {

@@ -1,14 +1,11 @@
 //! Expressions that end in a block.
 
-ghost use Rattle.std.specs.Prelude.{◌≡◌, ◌≤◌, ◌<◌, ◌+◌, Bool, ℕ, IsTrue, true, false, [], ◌∷◌};
-ghost use Rattle.parser_input.specs.Kinds.{BLOCK_EXPR, FOR_EXPR, LOOP_EXPR, MACRO_CALL, MACRO_EXPR, MATCH_EXPR, WHILE_EXPR};
-ghost use Rattle.parser_events.specs.Forest.{ExpectedMatchArm};
+ghost use Rattle.std.specs.Prelude.{◌≡◌, ◌≤◌, ◌<◌, ◌+◌, Bool, ℕ, IsTrue, true, false};
 ghost use Rattle.parser_events.specs.Stack.{IsInnermost};
-ghost use Rattle.rust_grammar.specs.Calls.{Block, ExprPath, IfExpr, MatchArm, MatchArms, Operation, Pattern, StatementList, TokenTree};
-ghost use Rattle.rust_grammar.specs.Notation.{◌or◌, ◌▸◌, ⁅◌⁆, ◌*, ◌!, ◌⟨◌⟩, on, row, until};
+ghost use Rattle.rust_grammar.specs.Calls.{Block, MatchArms, StatementList};
+ghost use Rattle.rust_grammar.specs.Notation.{⁅◌⁆, ◌*, ◌! };
 ghost use Rattle.rust_grammar.specs.Rule as rules;
-ghost use Rattle.rust_grammar.specs.Rule.{One, Skip, Unless};
-ghost use Rattle.rust_grammar.specs.Words.{'ident', 'l_curly', 'r_curly', '!', 'else', 'for', 'in', 'loop', 'match', 'unsafe', 'while'};
+ghost use Rattle.rust_grammar.specs.Expressions as rows;
 ghost use Rattle.rust_productions.specs.Looks.{tokens, spent};
 ghost use Rattle.rust_productions.specs.Reads.{looks, Gives, Reads, Saw};
 ghost use Rattle.rust_productions.specs.Turns.{TurnsFrom};
@@ -82,8 +79,7 @@ pub(crate) fn expect_block(p: &mut Parser<'_>)
 #[cycle(grammar)]
 fn unsafe_block(p: &mut Parser<'_>)
     requires some { 1 ≤ tokens p.old }
-    ensures reads { (c : Bool) → Reads c
-        (BLOCK_EXPR ⟨ One 'unsafe' ▸ StatementList ! ⟩) p.old p.new }
+    ensures reads { (c : Bool) → Reads c rows.unsafe_block p.old p.new }
     ensures left { tokens p.new + 1 ≤ tokens p.old }
     ensures looks { spent p.new + 4090 ≤ spent p.old }
 {
@@ -114,7 +110,7 @@ pub(crate) fn if_expr(p: &mut Parser<'_>)
 // else { c }
 #[cycle(grammar)]
 fn opt_else(p: &mut Parser<'_>)
-    ensures reads { (c : Bool) → Reads c ⁅ One 'else' ▸ (IfExpr or Block !) ⁆ p.old p.new }
+    ensures reads { (c : Bool) → Reads c ⁅ rows.else_branch ⁆ p.old p.new }
     ensures left { tokens p.new ≤ tokens p.old }
     ensures looks { spent p.new ≤ spent p.old + 1 }
 {
@@ -128,7 +124,7 @@ fn opt_else(p: &mut Parser<'_>)
 // if b { c }
 #[cycle(grammar)]
 fn after_else(p: &mut Parser<'_>)
-    ensures reads { (c : Bool) → Reads c (IfExpr or Block !) p.old p.new }
+    ensures reads { (c : Bool) → Reads c rows.if_or_block p.old p.new }
     ensures left { tokens p.new ≤ tokens p.old }
     ensures looks { spent p.new ≤ spent p.old + 2 }
 {
@@ -144,8 +140,7 @@ fn after_else(p: &mut Parser<'_>)
 #[cycle(grammar)]
 fn while_expr(p: &mut Parser<'_>)
     requires some { 1 ≤ tokens p.old }
-    ensures reads { (c : Bool) → Reads c
-        (WHILE_EXPR ⟨ One 'while' ▸ on Operation ! ▸ Block ! ⟩) p.old p.new }
+    ensures reads { (c : Bool) → Reads c rows.while_expr p.old p.new }
     ensures left { tokens p.new + 1 ≤ tokens p.old }
     ensures looks { spent p.new + 3300 ≤ spent p.old }
 {
@@ -161,7 +156,7 @@ fn while_expr(p: &mut Parser<'_>)
 #[cycle(grammar)]
 fn loop_expr(p: &mut Parser<'_>)
     requires some { 1 ≤ tokens p.old }
-    ensures reads { (c : Bool) → Reads c (LOOP_EXPR ⟨ One 'loop' ▸ Block ! ⟩) p.old p.new }
+    ensures reads { (c : Bool) → Reads c rows.loop_expr p.old p.new }
     ensures left { tokens p.new + 1 ≤ tokens p.old }
     ensures looks { spent p.new + 4090 ≤ spent p.old }
 {
@@ -176,8 +171,7 @@ fn loop_expr(p: &mut Parser<'_>)
 #[cycle(grammar)]
 fn for_expr(p: &mut Parser<'_>)
     requires some { 1 ≤ tokens p.old }
-    ensures reads { (c : Bool) → Reads c
-        (FOR_EXPR ⟨ One 'for' ▸ Pattern ! ▸ One 'in' ! ▸ on Operation ! ▸ Block ! ⟩) p.old p.new }
+    ensures reads { (c : Bool) → Reads c rows.for_expr p.old p.new }
     ensures left { tokens p.new + 1 ≤ tokens p.old }
     ensures looks { spent p.new + 3300 ≤ spent p.old }
 {
@@ -195,8 +189,7 @@ fn for_expr(p: &mut Parser<'_>)
 #[cycle(grammar)]
 fn match_expr(p: &mut Parser<'_>)
     requires some { 1 ≤ tokens p.old }
-    ensures reads { (c : Bool) → Reads c
-        (MATCH_EXPR ⟨ One 'match' ▸ on Operation ! ▸ MatchArms ! ⟩) p.old p.new }
+    ensures reads { (c : Bool) → Reads c rows.match_expr p.old p.new }
     ensures left { tokens p.new + 1 ≤ tokens p.old }
     ensures looks { spent p.new + 3300 ≤ spent p.old }
 {
@@ -242,8 +235,7 @@ pub(crate) fn match_arms(p: &mut Parser<'_>)
 // a => b, _ => c
 #[cycle(grammar)]
 fn arms(p: &mut Parser<'_>)
-    ensures reads { Reads false
-        ((Unless (until 'r_curly') (MatchArm or Skip ExpectedMatchArm)) *) p.old p.new }
+    ensures reads { Reads false (rows.arm_turn *) p.old p.new }
     ensures left { tokens p.new ≤ tokens p.old }
     ensures looks { spent p.new ≤ spent p.old + 1080 }
 {
@@ -254,10 +246,8 @@ fn arms(p: &mut Parser<'_>)
 // a => b,
 #[cycle(grammar)]
 fn arm_turn(p: &mut Parser<'_>) -> bool
-    ensures goes { IsTrue result → TurnsFrom false
-        (Unless (until 'r_curly') (MatchArm or Skip ExpectedMatchArm)) p.old p.new }
-    ensures ends { result ≡ false → Reads false
-        ((Unless (until 'r_curly') (MatchArm or Skip ExpectedMatchArm)) *) p.old p.new }
+    ensures goes { IsTrue result → TurnsFrom false rows.arm_turn p.old p.new }
+    ensures ends { result ≡ false → Reads false (rows.arm_turn *) p.old p.new }
     ensures innermost { (n : ℕ) → IsInnermost n p.old.nodes → IsInnermost n p.new.nodes }
     ensures fewer { IsTrue result → tokens p.new < tokens p.old }
     ensures left { tokens p.new ≤ tokens p.old }
@@ -278,7 +268,7 @@ fn arm_turn(p: &mut Parser<'_>) -> bool
 /// Parses a path of one identifier, before the `!` of a macro call with braces.
 // m
 fn word_path(p: &mut Parser<'_>)
-    requires begins { (c : Bool) → Saw c (row 0 ('ident' ∷ '!' ∷ 'l_curly' ∷ [])) p.old true }
+    requires begins { (c : Bool) → Saw c rows.macro_block_begins p.old true }
     requires some { 1 ≤ tokens p.old }
     ensures gives { (c : Bool) → Gives rules.expr_path c p.old p.new }
     ensures left { tokens p.new + 1 ≡ tokens p.old }
@@ -298,10 +288,9 @@ fn word_path(p: &mut Parser<'_>)
 /// Parses a macro call with braces.
 // m! { a }
 fn macro_block(p: &mut Parser<'_>)
-    requires begins { (c : Bool) → Saw c (row 0 ('ident' ∷ '!' ∷ 'l_curly' ∷ [])) p.old true }
+    requires begins { (c : Bool) → Saw c rows.macro_block_begins p.old true }
     requires some { 3 ≤ tokens p.old }
-    ensures reads { (c : Bool) → Reads c
-        (MACRO_EXPR ⟨ MACRO_CALL ⟨ ExprPath ▸ One '!' ▸ TokenTree ⟩ ⟩) p.old p.new }
+    ensures reads { (c : Bool) → Reads c rows.macro_block p.old p.new }
     ensures left { tokens p.new + 1 ≤ tokens p.old }
     ensures looks { spent p.new + 4080 ≤ spent p.old }
 {

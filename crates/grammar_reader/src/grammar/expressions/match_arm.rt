@@ -1,13 +1,11 @@
 //! Arms of a `match`.
 
 ghost use Rattle.std.specs.Prelude.{◌≤◌, ◌+◌, Bool, true};
-ghost use Rattle.parser_input.specs.Kinds.{COMMA, MATCH_GUARD};
-ghost use Rattle.parser_events.specs.Forest.{Expected};
-ghost use Rattle.rust_grammar.specs.Calls.{BlockLike, Expression, Operation};
-ghost use Rattle.rust_grammar.specs.Notation.{◌or◌, ◌▸◌, ⁅◌⁆, ◌!, ◌⟨◌⟩, next, on};
+ghost use Rattle.rust_grammar.specs.Notation.{⁅◌⁆, ◌! };
 ghost use Rattle.rust_grammar.specs.Rule as rules;
-ghost use Rattle.rust_grammar.specs.Rule.{Nothing, One, Say, When};
-ghost use Rattle.rust_grammar.specs.Words.{'=>', 'comma', 'r_curly', 'if'};
+ghost use Rattle.rust_grammar.specs.Rule.{One};
+ghost use Rattle.rust_grammar.specs.Words.{'=>'};
+ghost use Rattle.rust_grammar.specs.Expressions as rows;
 ghost use Rattle.rust_productions.specs.Looks.{tokens, spent};
 ghost use Rattle.rust_productions.specs.Reads.{looks, Gives, Reads, Saw};
 
@@ -43,8 +41,7 @@ pub(crate) fn match_arm(p: &mut Parser<'_>, condition: bool)
 // if a > 1
 #[cycle(grammar)]
 fn opt_guard(p: &mut Parser<'_>)
-    ensures reads { (c : Bool) → Reads c
-        ⁅ MATCH_GUARD ⟨ One 'if' ▸ on Operation ! ⟩ ⁆ p.old p.new }
+    ensures reads { (c : Bool) → Reads c ⁅ rows.match_guard ⁆ p.old p.new }
     ensures left { tokens p.new ≤ tokens p.old }
     ensures looks { spent p.new ≤ spent p.old + 1 }
 {
@@ -74,9 +71,7 @@ fn expect_arrow(p: &mut Parser<'_>)
 // b,
 #[cycle(grammar)]
 fn arm_value(p: &mut Parser<'_>, condition: bool)
-    ensures reads { Reads condition (BlockLike ▸ ⁅ One 'comma' ⁆
-        or Expression ! ▸ (One 'comma' or When (next 'r_curly') Nothing or Say (Expected COMMA)))
-        p.old p.new }
+    ensures reads { Reads condition rows.arm_value p.old p.new }
     ensures left { tokens p.new ≤ tokens p.old }
     ensures looks { spent p.new ≤ spent p.old + 780 }
 {

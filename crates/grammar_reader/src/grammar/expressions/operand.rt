@@ -2,14 +2,14 @@
 
 ghost use Rattle.std.specs.Prelude.{◌≡◌, ◌≤◌, ◌+◌, Bool, IsTrue, true};
 ghost use Rattle.parser_input.specs.Kind.{raw_of};
-ghost use Rattle.parser_input.specs.Kinds.{CALL_EXPR, FIELD_EXPR, FLOAT_NUMBER, INDEX_EXPR, METHOD_CALL_EXPR, NAME_REF, PREFIX_EXPR, REF_EXPR, TRY_EXPR};
-ghost use Rattle.parser_events.specs.Forest.{ExpectedField};
+ghost use Rattle.parser_input.specs.Kinds.{CALL_EXPR, FLOAT_NUMBER, INDEX_EXPR, METHOD_CALL_EXPR, PREFIX_EXPR, TRY_EXPR};
 ghost use Rattle.parser_events.specs.Stack.{IsInnermost};
-ghost use Rattle.rust_grammar.specs.Calls.{Arguments, Atom, Expression, GenericArgs, Prefixed};
-ghost use Rattle.rust_grammar.specs.Notation.{◌or◌, ◌▸◌, ⁅◌⁆, ◌*, ◌!, ◌⟨◌⟩, ◌<⟨◌⟩, ◌before◌, more, next, off};
+ghost use Rattle.rust_grammar.specs.Calls.{Arguments, Prefixed};
+ghost use Rattle.rust_grammar.specs.Notation.{◌▸◌, ◌*, ◌!, ◌⟨◌⟩, more};
 ghost use Rattle.rust_grammar.specs.Rule as rules;
-ghost use Rattle.rust_grammar.specs.Rule.{Both, Either, Joint, Kind, One, Say, Split, When};
-ghost use Rattle.rust_grammar.specs.Words.{one, '::', 'ident', 'float', 'l_paren', '[', ']', '&', 'mut'};
+ghost use Rattle.rust_grammar.specs.Rule.{Joint, Kind, One, Split};
+ghost use Rattle.rust_grammar.specs.Words.{one};
+ghost use Rattle.rust_grammar.specs.Expressions as rows;
 ghost use Rattle.rust_productions.specs.Looks.{tokens, spent};
 ghost use Rattle.rust_productions.specs.Reads.{looks, Anew, Does, Gives, Reads, Saw};
 
@@ -67,8 +67,7 @@ fn prefix_expr(p: &mut Parser<'_>, operator: SyntaxKind, condition: bool)
 #[cycle(grammar)]
 fn ref_expr(p: &mut Parser<'_>, condition: bool)
     requires some { 1 ≤ tokens p.old }
-    ensures reads { Reads condition
-        (REF_EXPR ⟨ One '&' ▸ ⁅ One 'mut' ⁆ ▸ Prefixed ! ⟩) p.old p.new }
+    ensures reads { Reads condition rows.ref_expr p.old p.new }
     ensures left { tokens p.new + 1 ≤ tokens p.old }
     ensures looks { spent p.new + 3300 ≤ spent p.old }
 {
@@ -85,7 +84,7 @@ fn ref_expr(p: &mut Parser<'_>, condition: bool)
 fn operand(p: &mut Parser<'_>, condition: bool)
     requires begins { Saw condition (looks rules.atom) p.old true }
     requires some { 1 ≤ tokens p.old }
-    ensures anew { Anew condition (Atom ▸ (more rules.postfix) *) p.old p.new }
+    ensures anew { Anew condition rows.postfixed p.old p.new }
     ensures left { tokens p.new + 1 ≤ tokens p.old }
     ensures looks { spent p.new + 2880 ≤ spent p.old }
 {
@@ -170,7 +169,7 @@ pub(crate) fn postfix(p: &mut Parser<'_>, frame: Marker) -> Marker
 #[cycle(grammar)]
 fn index(p: &mut Parser<'_>)
     requires some { 1 ≤ tokens p.old }
-    ensures reads { (c : Bool) → Reads c (One '[' ▸ off (Expression !) ▸ One ']' !) p.old p.new }
+    ensures reads { (c : Bool) → Reads c rows.index p.old p.new }
     ensures left { tokens p.new + 1 ≤ tokens p.old }
     ensures looks { spent p.new + 3300 ≤ spent p.old }
 {
@@ -181,8 +180,7 @@ fn index(p: &mut Parser<'_>)
 
 /// Returns `true` if the name of a method is next: an identifier before `(` or `::`.
 fn at_method(p: &mut Parser<'_>) -> bool
-    ensures sees { (c : Bool) → Saw c
-        (Either ('ident' before 'l_paren') ('ident' before '::')) p.old result }
+    ensures sees { (c : Bool) → Saw c rows.method_begins p.old result }
     ensures some { IsTrue result → 1 ≤ tokens p.old }
     ensures same { Does (λ s. s) p.old p.new }
     ensures left { tokens p.new ≡ tokens p.old }
@@ -236,8 +234,7 @@ fn after_dot(p: &mut Parser<'_>, frame: Marker) -> Marker
 #[cycle(grammar)]
 fn method_call(p: &mut Parser<'_>)
     requires some { 1 ≤ tokens p.old }
-    ensures reads { (c : Bool) → Reads c
-        (NAME_REF ⟨ One 'ident' ⟩ ▸ ⁅ GenericArgs ⁆ ▸ Arguments !) p.old p.new }
+    ensures reads { (c : Bool) → Reads c rows.method_call p.old p.new }
     ensures left { tokens p.new + 1 ≤ tokens p.old }
     ensures looks { spent p.new + 4080 ≤ spent p.old }
 {
@@ -269,9 +266,7 @@ fn float(p: &mut Parser<'_>, frame: Marker) -> Marker
     requires float { (c : Bool) → Saw c (Kind 0 FLOAT_NUMBER) p.old true }
     requires some { 1 ≤ tokens p.old }
     requires innermost { IsInnermost frame p.old.nodes }
-    ensures reads { (c : Bool) → Reads c (When (Both (next 'float') (Joint 0)) Split
-        or When (next 'float') (Split ▸ more rules.after_dot)
-        or FIELD_EXPR <⟨ Say ExpectedField ⟩) p.old p.new }
+    ensures reads { (c : Bool) → Reads c rows.float_field p.old p.new }
     ensures marker { IsInnermost result p.new.nodes }
     ensures left { tokens p.new + 1 ≤ tokens p.old }
     ensures looks { spent p.new + 4090 ≤ spent p.old }

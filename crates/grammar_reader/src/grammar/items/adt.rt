@@ -1,12 +1,10 @@
 //! Structs and enums.
 
 ghost use Rattle.std.specs.Prelude.{◌≤◌, ◌+◌, Bool};
-ghost use Rattle.parser_input.specs.Kinds.{ENUM, STRUCT};
 ghost use Rattle.parser_events.specs.Stack.{IsInnermost};
-ghost use Rattle.rust_grammar.specs.Calls.{GenericParams, Name, RecordFields, TupleFields, Variants, WhereClause};
-ghost use Rattle.rust_grammar.specs.Notation.{◌or◌, ◌▸◌, ⁅◌⁆, ◌!, ◌<⟨◌⟩};
-ghost use Rattle.rust_grammar.specs.Rule.{One};
-ghost use Rattle.rust_grammar.specs.Words.{'enum', 'semi', 'struct'};
+ghost use Rattle.rust_grammar.specs.Calls.{Variants};
+ghost use Rattle.rust_grammar.specs.Notation.{◌! };
+ghost use Rattle.rust_grammar.specs.Items as rows;
 ghost use Rattle.rust_productions.specs.Looks.{tokens, spent};
 ghost use Rattle.rust_productions.specs.Reads.{Completes, Reads};
 
@@ -24,9 +22,7 @@ use rust_productions::grammar::{at, complete, error, expect, take};
 pub(crate) fn struct_item(p: &mut Parser<'_>, item: Marker, condition: bool)
     requires some { 1 ≤ tokens p.old }
     requires innermost { IsInnermost item p.old.nodes }
-    ensures completes { Completes condition (STRUCT <⟨ One 'struct' ▸ Name ! ▸ ⁅ GenericParams ⁆
-        ▸ (TupleFields ▸ ⁅ WhereClause ⁆ ▸ One 'semi' !
-        or ⁅ WhereClause ⁆ ▸ (RecordFields or One 'semi' !)) ⟩) p.old p.new }
+    ensures completes { Completes condition rows.struct_item p.old p.new }
     ensures left { tokens p.new + 1 ≤ tokens p.old }
     ensures looks { spent p.new + 4080 ≤ spent p.old }
 {
@@ -41,8 +37,7 @@ pub(crate) fn struct_item(p: &mut Parser<'_>, item: Marker, condition: bool)
 // (u8, u8);
 #[cycle(grammar)]
 fn fields(p: &mut Parser<'_>, condition: bool)
-    ensures reads { Reads condition (TupleFields ▸ ⁅ WhereClause ⁆ ▸ One 'semi' !
-        or ⁅ WhereClause ⁆ ▸ (RecordFields or One 'semi' !)) p.old p.new }
+    ensures reads { Reads condition rows.struct_fields p.old p.new }
     ensures left { tokens p.new ≤ tokens p.old }
     ensures looks { spent p.new ≤ spent p.old + 4 }
 {
@@ -60,7 +55,7 @@ fn fields(p: &mut Parser<'_>, condition: bool)
 // { a: u8 }
 #[cycle(grammar)]
 fn named_fields(p: &mut Parser<'_>)
-    ensures reads { (c : Bool) → Reads c (RecordFields or One 'semi' !) p.old p.new }
+    ensures reads { (c : Bool) → Reads c rows.named_fields p.old p.new }
     ensures left { tokens p.new ≤ tokens p.old }
     ensures looks { spent p.new ≤ spent p.old + 2 }
 {
@@ -77,8 +72,7 @@ fn named_fields(p: &mut Parser<'_>)
 pub(crate) fn enum_item(p: &mut Parser<'_>, item: Marker, condition: bool)
     requires some { 1 ≤ tokens p.old }
     requires innermost { IsInnermost item p.old.nodes }
-    ensures completes { Completes condition (ENUM <⟨ One 'enum' ▸ Name ! ▸ ⁅ GenericParams ⁆
-        ▸ ⁅ WhereClause ⁆ ▸ Variants ! ⟩) p.old p.new }
+    ensures completes { Completes condition rows.enum_item p.old p.new }
     ensures left { tokens p.new + 1 ≤ tokens p.old }
     ensures looks { spent p.new + 4080 ≤ spent p.old }
 {

@@ -1,12 +1,10 @@
 //! Constants, statics and names of types.
 
 ghost use Rattle.std.specs.Prelude.{◌≤◌, ◌+◌};
-ghost use Rattle.parser_input.specs.Kinds.{CONST, STATIC, TYPE_ALIAS};
 ghost use Rattle.parser_events.specs.Stack.{IsInnermost};
-ghost use Rattle.rust_grammar.specs.Calls.{AnyType, Bounds, Expression, GenericParams, Name, WhereClause};
-ghost use Rattle.rust_grammar.specs.Notation.{◌or◌, ◌▸◌, ⁅◌⁆, ◌!, ◌<⟨◌⟩};
-ghost use Rattle.rust_grammar.specs.Rule.{One};
-ghost use Rattle.rust_grammar.specs.Words.{'semi', ':', '=', 'const', 'mut', 'static', 'type', '_'};
+ghost use Rattle.rust_grammar.specs.Notation.{⁅◌⁆};
+ghost use Rattle.rust_grammar.specs.Items as rows;
+ghost use Rattle.rust_grammar.specs.Shared.{initializer};
 ghost use Rattle.rust_productions.specs.Looks.{tokens, spent};
 ghost use Rattle.rust_productions.specs.Reads.{Completes, Reads};
 
@@ -26,8 +24,7 @@ use rust_productions::grammar::{at, complete, eat, expect, take};
 pub(crate) fn const_item(p: &mut Parser<'_>, item: Marker, condition: bool)
     requires some { 1 ≤ tokens p.old }
     requires innermost { IsInnermost item p.old.nodes }
-    ensures completes { Completes condition (CONST <⟨ One 'const' ▸ (One '_' or Name !) ▸ One ':' !
-        ▸ AnyType ! ▸ ⁅ One '=' ▸ Expression ! ⁆ ▸ One 'semi' ! ⟩) p.old p.new }
+    ensures completes { Completes condition rows.const_item p.old p.new }
     ensures left { tokens p.new + 1 ≤ tokens p.old }
     ensures looks { spent p.new + 4080 ≤ spent p.old }
 {
@@ -43,8 +40,7 @@ pub(crate) fn const_item(p: &mut Parser<'_>, item: Marker, condition: bool)
 pub(crate) fn static_item(p: &mut Parser<'_>, item: Marker, condition: bool)
     requires some { 1 ≤ tokens p.old }
     requires innermost { IsInnermost item p.old.nodes }
-    ensures completes { Completes condition (STATIC <⟨ One 'static' ▸ ⁅ One 'mut' ⁆ ▸ Name !
-        ▸ One ':' ! ▸ AnyType ! ▸ ⁅ One '=' ▸ Expression ! ⁆ ▸ One 'semi' ! ⟩) p.old p.new }
+    ensures completes { Completes condition rows.static_item p.old p.new }
     ensures left { tokens p.new + 1 ≤ tokens p.old }
     ensures looks { spent p.new + 4080 ≤ spent p.old }
 {
@@ -59,8 +55,7 @@ pub(crate) fn static_item(p: &mut Parser<'_>, item: Marker, condition: bool)
 // : u8 = 1;
 #[cycle(grammar)]
 fn typed_value(p: &mut Parser<'_>, condition: bool)
-    ensures reads { Reads condition
-        (One ':' ! ▸ AnyType ! ▸ ⁅ One '=' ▸ Expression ! ⁆ ▸ One 'semi' !) p.old p.new }
+    ensures reads { Reads condition rows.typed_value p.old p.new }
     ensures left { tokens p.new ≤ tokens p.old }
     ensures looks { spent p.new ≤ spent p.old + 8 }
 {
@@ -74,7 +69,7 @@ fn typed_value(p: &mut Parser<'_>, condition: bool)
 // = 1
 #[cycle(grammar)]
 pub(crate) fn opt_value(p: &mut Parser<'_>, condition: bool)
-    ensures reads { Reads condition ⁅ One '=' ▸ Expression ! ⁆ p.old p.new }
+    ensures reads { Reads condition ⁅ initializer ⁆ p.old p.new }
     ensures left { tokens p.new ≤ tokens p.old }
     ensures looks { spent p.new ≤ spent p.old + 1 }
 {
@@ -90,8 +85,7 @@ pub(crate) fn opt_value(p: &mut Parser<'_>, condition: bool)
 pub(crate) fn type_alias(p: &mut Parser<'_>, item: Marker, condition: bool)
     requires some { 1 ≤ tokens p.old }
     requires innermost { IsInnermost item p.old.nodes }
-    ensures completes { Completes condition (TYPE_ALIAS <⟨ One 'type' ▸ Name ! ▸ ⁅ GenericParams ⁆
-        ▸ ⁅ One ':' ▸ Bounds ⁆ ▸ ⁅ WhereClause ⁆ ▸ ⁅ One '=' ▸ AnyType ! ⁆ ▸ One 'semi' ! ⟩) p.old p.new }
+    ensures completes { Completes condition rows.type_alias p.old p.new }
     ensures left { tokens p.new + 1 ≤ tokens p.old }
     ensures looks { spent p.new + 4080 ≤ spent p.old }
 {

@@ -1,13 +1,11 @@
 //! Functions.
 
 ghost use Rattle.std.specs.Prelude.{◌≤◌, ◌+◌, Bool, true};
-ghost use Rattle.parser_input.specs.Kinds.{FN};
 ghost use Rattle.parser_events.specs.Stack.{IsInnermost};
-ghost use Rattle.rust_grammar.specs.Calls.{Block, GenericParams, Name, Params, RetType, WhereClause};
+ghost use Rattle.rust_grammar.specs.Calls.{Params, RetType};
 ghost use Rattle.rust_grammar.specs.Items.{fn_begins};
-ghost use Rattle.rust_grammar.specs.Notation.{◌or◌, ◌▸◌, ⁅◌⁆, ◌!, ◌<⟨◌⟩};
-ghost use Rattle.rust_grammar.specs.Rule.{One};
-ghost use Rattle.rust_grammar.specs.Words.{'const', 'fn', 'semi', 'unsafe'};
+ghost use Rattle.rust_grammar.specs.Notation.{⁅◌⁆, ◌! };
+ghost use Rattle.rust_grammar.specs.Items as rows;
 ghost use Rattle.rust_productions.specs.Looks.{tokens, spent};
 ghost use Rattle.rust_productions.specs.Reads.{Completes, Reads, Saw};
 
@@ -29,9 +27,7 @@ pub(crate) fn fn_item(p: &mut Parser<'_>, item: Marker, condition: bool)
     requires begins { (c : Bool) → Saw c fn_begins p.old true }
     requires some { 1 ≤ tokens p.old }
     requires innermost { IsInnermost item p.old.nodes }
-    ensures completes { Completes condition (FN <⟨ ⁅ One 'const' ⁆ ▸ ⁅ One 'unsafe' ⁆ ▸ One 'fn' !
-        ▸ Name ! ▸ ⁅ GenericParams ⁆ ▸ Params ! ▸ ⁅ RetType ⁆ ▸ ⁅ WhereClause ⁆
-        ▸ (Block or One 'semi' !) ⟩) p.old p.new }
+    ensures completes { Completes condition rows.fn_item p.old p.new }
     ensures left { tokens p.new + 1 ≤ tokens p.old }
     ensures looks { spent p.new + 4080 ≤ spent p.old }
 {
@@ -77,7 +73,7 @@ fn opt_ret_type(p: &mut Parser<'_>, condition: bool)
 // { a }
 #[cycle(grammar)]
 fn fn_body(p: &mut Parser<'_>)
-    ensures reads { (c : Bool) → Reads c (Block or One 'semi' !) p.old p.new }
+    ensures reads { (c : Bool) → Reads c rows.fn_body p.old p.new }
     ensures left { tokens p.new ≤ tokens p.old }
     ensures looks { spent p.new ≤ spent p.old + 2 }
 {

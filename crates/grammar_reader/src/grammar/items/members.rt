@@ -1,9 +1,9 @@
 //! What stands in structs and enums: variants, and fields with and without names.
 
 ghost use Rattle.std.specs.Prelude.{◌≡◌, ◌≤◌, ◌+◌, Bool, false, true};
-ghost use Rattle.rust_grammar.specs.Calls.{AnyType, Attribute, Name, RecordFields, TupleFields, Visibility};
+ghost use Rattle.rust_grammar.specs.Calls.{Attribute, Name, Visibility};
 ghost use Rattle.rust_grammar.specs.Items as rows;
-ghost use Rattle.rust_grammar.specs.Notation.{◌or◌, ◌▸◌, ⁅◌⁆, ◌*, ◌! };
+ghost use Rattle.rust_grammar.specs.Notation.{◌▸◌, ⁅◌⁆, ◌*, ◌! };
 ghost use Rattle.rust_grammar.specs.Rule.{begins};
 ghost use Rattle.rust_productions.specs.Looks.{tokens, spent};
 ghost use Rattle.rust_productions.specs.Reads.{looks, Does, Reads, Saw};
@@ -35,8 +35,7 @@ pub(crate) fn at_named_member(p: &mut Parser<'_>) -> bool
 
 /// Returns `true` if a tuple field starts here: at an attribute, a visibility or a type.
 pub(crate) fn at_tuple_field(p: &mut Parser<'_>) -> bool
-    ensures sees { (c : Bool) → Saw c
-        (begins looks (Attribute * ▸ ⁅ Visibility ⁆ ▸ AnyType !)) p.old result }
+    ensures sees { (c : Bool) → Saw c (begins looks rows.typed) p.old result }
     ensures same { Does (λ s. s) p.old p.new }
     ensures left { tokens p.new ≡ tokens p.old }
     ensures looks { spent p.new ≤ spent p.old + 6 }
@@ -122,10 +121,9 @@ fn named(p: &mut Parser<'_>)
 // #[a] pub u8
 #[cycle(grammar)]
 fn typed(p: &mut Parser<'_>)
-    requires begins { Saw false
-        (begins looks (Attribute * ▸ ⁅ Visibility ⁆ ▸ AnyType !)) p.old true }
+    requires begins { Saw false (begins looks rows.typed) p.old true }
     requires some { 1 ≤ tokens p.old }
-    ensures reads { Reads false (Attribute * ▸ ⁅ Visibility ⁆ ▸ AnyType !) p.old p.new }
+    ensures reads { Reads false rows.typed p.old p.new }
     ensures left { tokens p.new + 1 ≤ tokens p.old }
     ensures looks { spent p.new + 2900 ≤ spent p.old }
 {
@@ -146,7 +144,7 @@ fn typed(p: &mut Parser<'_>)
 // (u8)
 #[cycle(grammar)]
 fn opt_fields(p: &mut Parser<'_>)
-    ensures reads { (c : Bool) → Reads c ⁅ RecordFields or TupleFields ⁆ p.old p.new }
+    ensures reads { (c : Bool) → Reads c ⁅ rows.variant_fields ⁆ p.old p.new }
     ensures left { tokens p.new ≤ tokens p.old }
     ensures looks { spent p.new ≤ spent p.old + 1 }
 {

@@ -1,12 +1,10 @@
 //! Traits and implementations.
 
 ghost use Rattle.std.specs.Prelude.{◌≤◌, ◌+◌, Bool, true};
-ghost use Rattle.parser_input.specs.Kinds.{IMPL, TRAIT};
 ghost use Rattle.parser_events.specs.Stack.{IsInnermost};
-ghost use Rattle.rust_grammar.specs.Calls.{AnyType, AssocItems, Bounds, GenericParams, Name, WhereClause};
-ghost use Rattle.rust_grammar.specs.Notation.{◌▸◌, ⁅◌⁆, ◌!, ◌<⟨◌⟩, ◌before◌, next};
-ghost use Rattle.rust_grammar.specs.Rule.{Either, One};
-ghost use Rattle.rust_grammar.specs.Words.{':', 'for', 'impl', 'trait', 'unsafe'};
+ghost use Rattle.rust_grammar.specs.Calls.{AssocItems};
+ghost use Rattle.rust_grammar.specs.Notation.{◌! };
+ghost use Rattle.rust_grammar.specs.Items as rows;
 ghost use Rattle.rust_productions.specs.Looks.{tokens, spent};
 ghost use Rattle.rust_productions.specs.Reads.{Completes, Reads, Saw};
 
@@ -24,12 +22,10 @@ use rust_productions::grammar::{at, complete, error};
 // impl<T> A for B<T> { fn f() {} }
 #[cycle(grammar)]
 pub(crate) fn impl_item(p: &mut Parser<'_>, item: Marker, condition: bool)
-    requires begins { (c : Bool) → Saw c (Either (next 'impl') ('unsafe' before 'impl')) p.old true }
+    requires begins { (c : Bool) → Saw c rows.impl_begins p.old true }
     requires some { 1 ≤ tokens p.old }
     requires innermost { IsInnermost item p.old.nodes }
-    ensures completes { Completes condition (IMPL <⟨ ⁅ One 'unsafe' ⁆ ▸ One 'impl'
-        ▸ ⁅ GenericParams ⁆ ▸ AnyType ! ▸ ⁅ One 'for' ▸ AnyType ! ⁆ ▸ ⁅ WhereClause ⁆
-        ▸ AssocItems ! ⟩) p.old p.new }
+    ensures completes { Completes condition rows.impl_item p.old p.new }
     ensures left { tokens p.new + 1 ≤ tokens p.old }
     ensures looks { spent p.new + 4080 ≤ spent p.old }
 {
@@ -46,11 +42,10 @@ pub(crate) fn impl_item(p: &mut Parser<'_>, item: Marker, condition: bool)
 // trait A<T>: B { fn f(); }
 #[cycle(grammar)]
 pub(crate) fn trait_item(p: &mut Parser<'_>, item: Marker, condition: bool)
-    requires begins { (c : Bool) → Saw c (Either (next 'trait') ('unsafe' before 'trait')) p.old true }
+    requires begins { (c : Bool) → Saw c rows.trait_begins p.old true }
     requires some { 1 ≤ tokens p.old }
     requires innermost { IsInnermost item p.old.nodes }
-    ensures completes { Completes condition (TRAIT <⟨ ⁅ One 'unsafe' ⁆ ▸ One 'trait' ▸ Name !
-        ▸ ⁅ GenericParams ⁆ ▸ ⁅ One ':' ▸ Bounds ⁆ ▸ ⁅ WhereClause ⁆ ▸ AssocItems ! ⟩) p.old p.new }
+    ensures completes { Completes condition rows.trait_item p.old p.new }
     ensures left { tokens p.new + 1 ≤ tokens p.old }
     ensures looks { spent p.new + 4080 ≤ spent p.old }
 {

@@ -31,9 +31,6 @@ pub expressions::atom::inside-returns-in-L_PAREN-clause-reads : goal.expressions
 unfolding look_of begins_below whole rule items statements expressions patterns types paths there_at shift passes is_silent begins in_mode anew row one_of any_of no_longer longest is_longer
 expressions::atom::inside-returns-in-L_PAREN-clause-reads t c = reads-here (saw-arm c.in-L_PAREN.is (c.current.ensures.sees c.args.condition) and nothing) (after-look _ c.current.ensures.same (c.paren_expr.ensures.reads c.args.condition))
 
-pub expressions::atom::inside-array_expr-requires : goal.expressions::atom::inside-array_expr-requires
-expressions::atom::inside-array_expr-requires t c = (omega arith, omega arith)
-
 pub expressions::atom::inside-returns-in-L_BRACK-clause-reads : goal.expressions::atom::inside-returns-in-L_BRACK-clause-reads
 unfolding look_of begins_below whole rule items statements expressions patterns types paths there_at shift passes is_silent begins in_mode anew row one_of any_of no_longer longest is_longer
 expressions::atom::inside-returns-in-L_BRACK-clause-reads t c = reads-here (saw-arm c.in-L_BRACK.is (c.current.ensures.sees c.args.condition) and nothing) (after-look _ c.current.ensures.same (c.array_expr.ensures.reads c.args.condition))
@@ -41,18 +38,12 @@ expressions::atom::inside-returns-in-L_BRACK-clause-reads t c = reads-here (saw-
 pub expressions::atom::inside-returns-in-L_BRACK-clause-marker : goal.expressions::atom::inside-returns-in-L_BRACK-clause-marker
 expressions::atom::inside-returns-in-L_BRACK-clause-marker t c = (c.array_expr.ensures.reads true).does.innermost _ (c.current.ensures.same.innermost _ c.requires.innermost)
 
-pub expressions::atom::inside-value_expr-requires : goal.expressions::atom::inside-value_expr-requires
-expressions::atom::inside-value_expr-requires t c = (omega arith, omega arith)
-
 pub expressions::atom::inside-returns-in-RETURN_KW-clause-reads : goal.expressions::atom::inside-returns-in-RETURN_KW-clause-reads
 unfolding look_of begins_below whole rule items statements expressions patterns types paths there_at shift passes is_silent begins in_mode anew row one_of any_of no_longer longest is_longer
 expressions::atom::inside-returns-in-RETURN_KW-clause-reads t c = reads-here (saw-arm c.in-RETURN_KW.is (c.current.ensures.sees c.args.condition) and nothing) (after-look _ c.current.ensures.same c.value_expr.ensures.reads)
 
 pub expressions::atom::inside-returns-in-RETURN_KW-clause-marker : goal.expressions::atom::inside-returns-in-RETURN_KW-clause-marker
 expressions::atom::inside-returns-in-RETURN_KW-clause-marker t c = c.value_expr.ensures.reads.does.innermost _ (c.current.ensures.same.innermost _ c.requires.innermost)
-
-pub expressions::atom::inside-value_expr-requires-in-BREAK_KW : goal.expressions::atom::inside-value_expr-requires-in-BREAK_KW
-expressions::atom::inside-value_expr-requires-in-BREAK_KW t c = (omega arith, omega arith)
 
 pub expressions::atom::inside-returns-in-BREAK_KW-clause-reads : goal.expressions::atom::inside-returns-in-BREAK_KW-clause-reads
 unfolding look_of begins_below whole rule items statements expressions patterns types paths there_at shift passes is_silent begins in_mode anew row one_of any_of no_longer longest is_longer
@@ -68,9 +59,6 @@ expressions::atom::inside-returns-in-CONTINUE_KW-clause-reads t c = reads-here (
 pub expressions::atom::inside-returns-in-CONTINUE_KW-clause-marker : goal.expressions::atom::inside-returns-in-CONTINUE_KW-clause-marker
 expressions::atom::inside-returns-in-CONTINUE_KW-clause-marker t c = (c.word_type.ensures.reads true).does.innermost _ (c.current.ensures.same.innermost _ c.requires.innermost)
 
-pub expressions::atom::inside-closure_expr-requires : goal.expressions::atom::inside-closure_expr-requires
-expressions::atom::inside-closure_expr-requires t c = (omega arith, omega arith)
-
 pub expressions::atom::inside-returns-in-PIPE-clause-reads : goal.expressions::atom::inside-returns-in-PIPE-clause-reads
 unfolding look_of begins_below whole rule items statements expressions patterns types paths there_at shift passes is_silent begins in_mode anew row one_of any_of no_longer longest is_longer
 expressions::atom::inside-returns-in-PIPE-clause-reads t c = reads-here (saw-arm c.in-PIPE.is (c.current.ensures.sees c.args.condition) and nothing) (after-look _ c.current.ensures.same c.closure_expr.ensures.reads)
@@ -78,18 +66,12 @@ expressions::atom::inside-returns-in-PIPE-clause-reads t c = reads-here (saw-arm
 pub expressions::atom::inside-returns-in-PIPE-clause-marker : goal.expressions::atom::inside-returns-in-PIPE-clause-marker
 expressions::atom::inside-returns-in-PIPE-clause-marker t c = c.closure_expr.ensures.reads.does.innermost _ (c.current.ensures.same.innermost _ c.requires.innermost)
 
-pub expressions::atom::inside-move_closure-requires : goal.expressions::atom::inside-move_closure-requires
-expressions::atom::inside-move_closure-requires t c = (omega arith, omega arith)
-
 pub expressions::atom::inside-returns-in-MOVE_KW-clause-reads : goal.expressions::atom::inside-returns-in-MOVE_KW-clause-reads
 unfolding look_of begins_below whole rule items statements expressions patterns types paths there_at shift passes is_silent begins in_mode anew row one_of any_of no_longer longest is_longer
 expressions::atom::inside-returns-in-MOVE_KW-clause-reads t c = reads-here (saw-arm c.in-MOVE_KW.is (c.current.ensures.sees c.args.condition) and nothing) (after-look _ c.current.ensures.same c.move_closure.ensures.reads)
 
 pub expressions::atom::inside-returns-in-MOVE_KW-clause-marker : goal.expressions::atom::inside-returns-in-MOVE_KW-clause-marker
 expressions::atom::inside-returns-in-MOVE_KW-clause-marker t c = c.move_closure.ensures.reads.does.innermost _ (c.current.ensures.same.innermost _ c.requires.innermost)
-
-pub expressions::atom::inside-let_expr-requires : goal.expressions::atom::inside-let_expr-requires
-expressions::atom::inside-let_expr-requires t c = (omega arith, omega arith)
 
 pub expressions::atom::inside-returns-in-LET_KW-clause-reads : goal.expressions::atom::inside-returns-in-LET_KW-clause-reads
 unfolding look_of begins_below whole rule items statements expressions patterns types paths there_at shift passes is_silent begins in_mode anew row one_of any_of no_longer longest is_longer
@@ -155,9 +137,6 @@ expressions::atom::after_path-wrap-frame-requires t c = (c.macro_call.ensures.re
 pub expressions::atom::after_path-wrap-requires-then-condition : goal.expressions::atom::after_path-wrap-requires-then-condition
 expressions::atom::after_path-wrap-requires-then-condition t c = c.at.ensures.same.innermost _ (c.at_pair.ensures.same.innermost _ c.requires.innermost)
 
-pub expressions::atom::after_path-field_values-requires : goal.expressions::atom::after_path-field_values-requires
-expressions::atom::after_path-field_values-requires t c = (omega arith, omega arith)
-
 pub expressions::atom::after_path-wrap-requires-then-at-2 : goal.expressions::atom::after_path-wrap-requires-then-at-2
 expressions::atom::after_path-wrap-requires-then-at-2 t c = (c.field_values.ensures.gives true).does.innermost _ (c.at-2.ensures.same.innermost _ (c.at.ensures.same.innermost _ (c.at_pair.ensures.same.innermost _ c.requires.innermost)))
 
@@ -193,8 +172,8 @@ expressions::atom::paren_expr-returns-clause-reads t c = λ cond. (reads-then co
 pub expressions::atom::after_paren-wrap-requires : goal.expressions::atom::after_paren-wrap-requires
 expressions::atom::after_paren-wrap-requires t c = (c.take.ensures.reads true).does.innermost _ (c.at.ensures.same.innermost _ c.requires.innermost)
 
-pub expressions::atom::after_paren-after_first-requires : goal.expressions::atom::after_paren-after_first-requires
-expressions::atom::after_paren-after_first-requires t c = (omega arith, c.expect_expression.ensures.reads.does.innermost _ (c.at.ensures.same.innermost _ c.requires.innermost))
+pub expressions::atom::after_paren-tuple_tail-requires : goal.expressions::atom::after_paren-tuple_tail-requires
+expressions::atom::after_paren-tuple_tail-requires t c = (omega arith, c.expect_expression.ensures.reads.does.innermost _ (c.at.ensures.same.innermost _ c.requires.innermost))
 
 pub expressions::atom::after_paren-returns-then-at-clause-reads : goal.expressions::atom::after_paren-returns-then-at-clause-reads
 unfolding look_of begins_below whole rule items statements expressions patterns types paths there_at shift passes is_silent begins in_mode anew row one_of any_of no_longer longest is_longer
@@ -202,24 +181,7 @@ expressions::atom::after_paren-returns-then-at-clause-reads t c = λ cond. reads
 
 pub expressions::atom::after_paren-returns-clause-reads : goal.expressions::atom::after_paren-returns-clause-reads
 unfolding look_of begins_below whole rule items statements expressions patterns types paths there_at shift passes is_silent begins in_mode anew row one_of any_of no_longer longest is_longer
-expressions::atom::after_paren-returns-clause-reads t c = λ cond. reads-here (saw-so (c.at.ensures.sees cond) c.if-at.false and nothing) (after-look cond c.at.ensures.same (reads-then cond (reads-mode cond c.expect_expression.ensures.reads) (c.after_first.ensures.reads cond)))
-
-pub expressions::atom::after_first-rest_of_list-requires : goal.expressions::atom::after_first-rest_of_list-requires
-expressions::atom::after_first-rest_of_list-requires t c = (omega arith, omega arith)
-
-pub expressions::atom::after_first-wrap-requires : goal.expressions::atom::after_first-wrap-requires
-expressions::atom::after_first-wrap-requires t c = (c.rest_of_list.ensures.reads true).does.innermost _ ((c.take.ensures.reads true).does.innermost _ (c.at.ensures.same.innermost _ c.requires.innermost))
-
-pub expressions::atom::after_first-wrap-requires-2 : goal.expressions::atom::after_first-wrap-requires-2
-expressions::atom::after_first-wrap-requires-2 t c = (c.expect.ensures.reads true).does.innermost _ (c.at.ensures.same.innermost _ c.requires.innermost)
-
-pub expressions::atom::after_first-returns-then-at-clause-reads : goal.expressions::atom::after_first-returns-then-at-clause-reads
-unfolding look_of begins_below whole rule items statements expressions patterns types paths there_at shift passes is_silent begins in_mode anew row one_of any_of no_longer longest is_longer
-expressions::atom::after_first-returns-then-at-clause-reads t c = λ cond. reads-here (saw-so (c.at.ensures.sees cond) c.if-at.true and nothing) (after-look cond c.at.ensures.same (reads-wrap cond (reads-then cond (c.take.ensures.reads cond) (c.rest_of_list.ensures.reads cond)) c.wrap.ensures.wraps))
-
-pub expressions::atom::after_first-returns-clause-reads : goal.expressions::atom::after_first-returns-clause-reads
-unfolding look_of begins_below whole rule items statements expressions patterns types paths there_at shift passes is_silent begins in_mode anew row one_of any_of no_longer longest is_longer
-expressions::atom::after_first-returns-clause-reads t c = λ cond. reads-here (saw-so (c.at.ensures.sees cond) c.if-at.false and nothing) (after-look cond c.at.ensures.same (reads-wrap cond (c.expect.ensures.reads cond) c.wrap-2.ensures.wraps))
+expressions::atom::after_paren-returns-clause-reads t c = λ cond. reads-here (saw-so (c.at.ensures.sees cond) c.if-at.false and nothing) (after-look cond c.at.ensures.same (reads-then cond (reads-mode cond c.expect_expression.ensures.reads) (c.tuple_tail.ensures.reads cond)))
 
 pub expressions::atom::array_expr-complete-requires : goal.expressions::atom::array_expr-complete-requires
 expressions::atom::array_expr-complete-requires t c = (c.array_elements.ensures.reads true).does.innermost _ ((c.take.ensures.reads true).does.innermost _ c.start-node.ensures.marker)
@@ -237,9 +199,6 @@ expressions::atom::array_elements-returns-then-at_expression-clause-reads t c = 
 pub expressions::atom::array_elements-returns-clause-reads : goal.expressions::atom::array_elements-returns-clause-reads
 unfolding look_of begins_below whole rule items statements expressions patterns types paths there_at shift passes is_silent begins in_mode anew row one_of any_of no_longer longest is_longer
 expressions::atom::array_elements-returns-clause-reads t c = λ cond. reads-else cond (saw-mode (begins-call rules.expression (saw-so c.at_expression.ensures.sees c.if-at_expression.false))) (after-look cond c.at_expression.ensures.same (c.expect.ensures.reads cond))
-
-pub expressions::atom::after_element-rest_of_list-requires : goal.expressions::atom::after_element-rest_of_list-requires
-expressions::atom::after_element-rest_of_list-requires t c = (omega arith, omega arith)
 
 pub expressions::atom::after_element-returns-then-at-clause-reads : goal.expressions::atom::after_element-returns-then-at-clause-reads
 unfolding look_of begins_below whole rule items statements expressions patterns types paths there_at shift passes is_silent begins in_mode anew row one_of any_of no_longer longest is_longer
@@ -274,9 +233,6 @@ pub expressions::atom::opt_value-returns-else-at_operation-clause-reads : goal.e
 unfolding look_of begins_below whole rule items statements expressions patterns types paths there_at shift passes is_silent begins in_mode anew row one_of any_of no_longer longest is_longer
 expressions::atom::opt_value-returns-else-at_operation-clause-reads t c = reads-here (saw-so c.at_body.ensures.sees c.if-at_body.false and begun rules.operation (saw-before c.at_body.ensures.same (saw-so c.at_operation.ensures.sees c.if-at_operation.false)) nothing) (reads-nothing _ (does-then c.at_body.ensures.same c.at_operation.ensures.same))
 
-pub expressions::closures::closure_expr-closure_params-requires : goal.expressions::closures::closure_expr-closure_params-requires
-expressions::closures::closure_expr-closure_params-requires t c = (omega arith, omega arith)
-
 pub expressions::closures::closure_expr-complete-requires : goal.expressions::closures::closure_expr-complete-requires
 expressions::closures::closure_expr-complete-requires t c = c.closure_body.ensures.reads.does.innermost _ ((c.closure_params.ensures.reads true).does.innermost _ c.start-node.ensures.marker)
 
@@ -289,9 +245,6 @@ expressions::closures::move_closure-complete-requires t c = c.closure_body.ensur
 pub expressions::closures::move_closure-returns-clause-reads : goal.expressions::closures::move_closure-returns-clause-reads
 expressions::closures::move_closure-returns-clause-reads t c = reads-node _ c.start-node.ensures.opens (reads-then _ (c.take.ensures.reads c.args.condition) (reads-then _ (c.expect_closure_params.ensures.reads c.args.condition) c.closure_body.ensures.reads)) c.complete.ensures.closes
 
-pub expressions::closures::expect_closure_params-closure_params-requires : goal.expressions::closures::expect_closure_params-closure_params-requires
-expressions::closures::expect_closure_params-closure_params-requires t c = (omega arith, omega arith)
-
 pub expressions::closures::expect_closure_params-returns-then-at-clause-reads : goal.expressions::closures::expect_closure_params-returns-then-at-clause-reads
 unfolding look_of begins_below whole rule items statements expressions patterns types paths there_at shift passes is_silent begins in_mode anew row one_of any_of no_longer longest is_longer
 expressions::closures::expect_closure_params-returns-then-at-clause-reads t c = λ cond. reads-here (saw-so (c.at.ensures.sees cond) c.if-at.true and nothing) (after-look cond c.at.ensures.same (c.closure_params.ensures.reads cond))
@@ -299,9 +252,6 @@ expressions::closures::expect_closure_params-returns-then-at-clause-reads t c = 
 pub expressions::closures::expect_closure_params-returns-clause-reads : goal.expressions::closures::expect_closure_params-returns-clause-reads
 unfolding look_of begins_below whole rule items statements expressions patterns types paths there_at shift passes is_silent begins in_mode anew row one_of any_of no_longer longest is_longer
 expressions::closures::expect_closure_params-returns-clause-reads t c = λ cond. reads-here (saw-so (c.at.ensures.sees cond) c.if-at.false and nothing) (after-look cond c.at.ensures.same (c.error.ensures.reads cond))
-
-pub expressions::closures::closure_params-rest_of_list-requires : goal.expressions::closures::closure_params-rest_of_list-requires
-expressions::closures::closure_params-rest_of_list-requires t c = (omega arith, omega arith)
 
 pub expressions::closures::closure_params-complete-requires : goal.expressions::closures::closure_params-complete-requires
 expressions::closures::closure_params-complete-requires t c = (c.rest_of_list.ensures.reads true).does.innermost _ ((c.take.ensures.reads true).does.innermost _ c.start-list.ensures.marker)
@@ -325,9 +275,6 @@ expressions::closures::opt_type-returns-then-at-clause-reads t c = reads-here (s
 pub expressions::closures::opt_type-returns-else-at-clause-reads : goal.expressions::closures::opt_type-returns-else-at-clause-reads
 unfolding look_of begins_below whole rule items statements expressions patterns types paths there_at shift passes is_silent begins in_mode anew row one_of any_of no_longer longest is_longer
 expressions::closures::opt_type-returns-else-at-clause-reads t c = reads-here (saw-so (c.at.ensures.sees c.args.condition) c.if-at.false and nothing) (reads-nothing _ c.at.ensures.same)
-
-pub expressions::closures::closure_body-ret_type-requires : goal.expressions::closures::closure_body-ret_type-requires
-expressions::closures::closure_body-ret_type-requires t c = (omega arith, omega arith)
 
 pub expressions::closures::closure_body-returns-then-at_pair-clause-reads : goal.expressions::closures::closure_body-returns-then-at_pair-clause-reads
 unfolding look_of begins_below whole rule items statements expressions patterns types paths there_at shift passes is_silent begins in_mode anew row one_of any_of no_longer longest is_longer

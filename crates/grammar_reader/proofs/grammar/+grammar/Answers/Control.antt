@@ -27,50 +27,29 @@ use Rattle.rust_productions.proofs.Seen.{ends-at-end, saw-after, saw-before, saw
 use Rattle.rust_productions.proofs.Turns.{first-turn, last-turn, next-turn}
 use Rattle.grammar_reader.proofs.grammar.+grammar.Goals as goal
 
-pub expressions::control::block_like-block-requires : goal.expressions::control::block_like-block-requires
-expressions::control::block_like-block-requires t c = (omega arith, omega arith)
-
 pub expressions::control::block_like-returns-in-L_CURLY-clause-gives : goal.expressions::control::block_like-returns-in-L_CURLY-clause-gives
 unfolding look_of begins_below whole rule items statements expressions patterns types paths there_at shift passes is_silent begins in_mode anew row one_of any_of no_longer longest is_longer
 expressions::control::block_like-returns-in-L_CURLY-clause-gives t c = λ cond. gives-anew (anew-after refl (reads-here (saw-arm c.in-L_CURLY.is (c.current.ensures.sees cond) and nothing) (after-look cond c.current.ensures.same (reads-call cond (c.block.ensures.gives cond)))))
-
-pub expressions::control::block_like-unsafe_block-requires : goal.expressions::control::block_like-unsafe_block-requires
-expressions::control::block_like-unsafe_block-requires t c = (omega arith, omega arith)
 
 pub expressions::control::block_like-returns-in-UNSAFE_KW-clause-gives : goal.expressions::control::block_like-returns-in-UNSAFE_KW-clause-gives
 unfolding look_of begins_below whole rule items statements expressions patterns types paths there_at shift passes is_silent begins in_mode anew row one_of any_of no_longer longest is_longer
 expressions::control::block_like-returns-in-UNSAFE_KW-clause-gives t c = λ cond. gives-anew (anew-after refl (reads-here (saw-arm c.in-UNSAFE_KW.is (c.current.ensures.sees cond) and nothing) (after-look cond c.current.ensures.same (c.unsafe_block.ensures.reads cond))))
 
-pub expressions::control::block_like-if_expr-requires : goal.expressions::control::block_like-if_expr-requires
-expressions::control::block_like-if_expr-requires t c = (omega arith, omega arith)
-
 pub expressions::control::block_like-returns-in-IF_KW-clause-gives : goal.expressions::control::block_like-returns-in-IF_KW-clause-gives
 unfolding look_of begins_below whole rule items statements expressions patterns types paths there_at shift passes is_silent begins in_mode anew row one_of any_of no_longer longest is_longer
 expressions::control::block_like-returns-in-IF_KW-clause-gives t c = λ cond. gives-anew (anew-after refl (reads-here (saw-arm c.in-IF_KW.is (c.current.ensures.sees cond) and nothing) (after-look cond c.current.ensures.same (reads-call cond (c.if_expr.ensures.gives cond)))))
-
-pub expressions::control::block_like-while_expr-requires : goal.expressions::control::block_like-while_expr-requires
-expressions::control::block_like-while_expr-requires t c = (omega arith, omega arith)
 
 pub expressions::control::block_like-returns-in-WHILE_KW-clause-gives : goal.expressions::control::block_like-returns-in-WHILE_KW-clause-gives
 unfolding look_of begins_below whole rule items statements expressions patterns types paths there_at shift passes is_silent begins in_mode anew row one_of any_of no_longer longest is_longer
 expressions::control::block_like-returns-in-WHILE_KW-clause-gives t c = λ cond. gives-anew (anew-after refl (reads-here (saw-arm c.in-WHILE_KW.is (c.current.ensures.sees cond) and nothing) (after-look cond c.current.ensures.same (c.while_expr.ensures.reads cond))))
 
-pub expressions::control::block_like-loop_expr-requires : goal.expressions::control::block_like-loop_expr-requires
-expressions::control::block_like-loop_expr-requires t c = (omega arith, omega arith)
-
 pub expressions::control::block_like-returns-in-LOOP_KW-clause-gives : goal.expressions::control::block_like-returns-in-LOOP_KW-clause-gives
 unfolding look_of begins_below whole rule items statements expressions patterns types paths there_at shift passes is_silent begins in_mode anew row one_of any_of no_longer longest is_longer
 expressions::control::block_like-returns-in-LOOP_KW-clause-gives t c = λ cond. gives-anew (anew-after refl (reads-here (saw-arm c.in-LOOP_KW.is (c.current.ensures.sees cond) and nothing) (after-look cond c.current.ensures.same (c.loop_expr.ensures.reads cond))))
 
-pub expressions::control::block_like-for_expr-requires : goal.expressions::control::block_like-for_expr-requires
-expressions::control::block_like-for_expr-requires t c = (omega arith, omega arith)
-
 pub expressions::control::block_like-returns-in-FOR_KW-clause-gives : goal.expressions::control::block_like-returns-in-FOR_KW-clause-gives
 unfolding look_of begins_below whole rule items statements expressions patterns types paths there_at shift passes is_silent begins in_mode anew row one_of any_of no_longer longest is_longer
 expressions::control::block_like-returns-in-FOR_KW-clause-gives t c = λ cond. gives-anew (anew-after refl (reads-here (saw-arm c.in-FOR_KW.is (c.current.ensures.sees cond) and nothing) (after-look cond c.current.ensures.same (c.for_expr.ensures.reads cond))))
-
-pub expressions::control::block_like-match_expr-requires : goal.expressions::control::block_like-match_expr-requires
-expressions::control::block_like-match_expr-requires t c = (omega arith, omega arith)
 
 pub expressions::control::block_like-returns-in-MATCH_KW-clause-gives : goal.expressions::control::block_like-returns-in-MATCH_KW-clause-gives
 unfolding look_of begins_below whole rule items statements expressions patterns types paths there_at shift passes is_silent begins in_mode anew row one_of any_of no_longer longest is_longer
@@ -84,9 +63,6 @@ pub expressions::control::block_like-returns-in_default-clause-gives : goal.expr
 unfolding look_of begins_below whole rule items statements expressions patterns types paths there_at shift passes is_silent begins in_mode anew row one_of any_of no_longer longest is_longer
 expressions::control::block_like-returns-in_default-clause-gives t c = λ cond. gives-anew (anew-after refl (reads-here (saw-not c.in_default.not-L_CURLY (c.current.ensures.sees cond) and saw-not c.in_default.not-UNSAFE_KW (c.current.ensures.sees cond) and saw-not c.in_default.not-IF_KW (c.current.ensures.sees cond) and saw-not c.in_default.not-WHILE_KW (c.current.ensures.sees cond) and saw-not c.in_default.not-LOOP_KW (c.current.ensures.sees cond) and saw-not c.in_default.not-FOR_KW (c.current.ensures.sees cond) and saw-not c.in_default.not-MATCH_KW (c.current.ensures.sees cond) and nothing) (after-look cond c.current.ensures.same (c.macro_block.ensures.reads cond))))
 
-pub expressions::control::expect_statement_list-statement_list-requires : goal.expressions::control::expect_statement_list-statement_list-requires
-expressions::control::expect_statement_list-statement_list-requires t c = (omega arith, omega arith)
-
 pub expressions::control::expect_statement_list-returns-then-at-clause-reads : goal.expressions::control::expect_statement_list-returns-then-at-clause-reads
 unfolding look_of begins_below whole rule items statements expressions patterns types paths there_at shift passes is_silent begins in_mode anew row one_of any_of no_longer longest is_longer
 expressions::control::expect_statement_list-returns-then-at-clause-reads t c = λ cond. reads-here (saw-so (c.at.ensures.sees cond) c.if-at.true and nothing) (after-look cond c.at.ensures.same (reads-call cond (c.statement_list.ensures.gives cond)))
@@ -95,9 +71,6 @@ pub expressions::control::expect_statement_list-returns-clause-reads : goal.expr
 unfolding look_of begins_below whole rule items statements expressions patterns types paths there_at shift passes is_silent begins in_mode anew row one_of any_of no_longer longest is_longer
 expressions::control::expect_statement_list-returns-clause-reads t c = λ cond. reads-here (saw-so (c.at.ensures.sees cond) c.if-at.false and nothing) (after-look cond c.at.ensures.same (c.error.ensures.reads cond))
 
-pub expressions::control::expect_block-block-requires : goal.expressions::control::expect_block-block-requires
-expressions::control::expect_block-block-requires t c = (omega arith, omega arith)
-
 pub expressions::control::expect_block-returns-then-at-clause-reads : goal.expressions::control::expect_block-returns-then-at-clause-reads
 unfolding look_of begins_below whole rule items statements expressions patterns types paths there_at shift passes is_silent begins in_mode anew row one_of any_of no_longer longest is_longer
 expressions::control::expect_block-returns-then-at-clause-reads t c = λ cond. reads-here (saw-so (c.at.ensures.sees cond) c.if-at.true and nothing) (after-look cond c.at.ensures.same (reads-call cond (c.block.ensures.gives cond)))
@@ -105,9 +78,6 @@ expressions::control::expect_block-returns-then-at-clause-reads t c = λ cond. r
 pub expressions::control::expect_block-returns-clause-reads : goal.expressions::control::expect_block-returns-clause-reads
 unfolding look_of begins_below whole rule items statements expressions patterns types paths there_at shift passes is_silent begins in_mode anew row one_of any_of no_longer longest is_longer
 expressions::control::expect_block-returns-clause-reads t c = λ cond. reads-here (saw-so (c.at.ensures.sees cond) c.if-at.false and nothing) (after-look cond c.at.ensures.same (c.error.ensures.reads cond))
-
-pub expressions::control::expect_match_arms-match_arms-requires : goal.expressions::control::expect_match_arms-match_arms-requires
-expressions::control::expect_match_arms-match_arms-requires t c = (omega arith, omega arith)
 
 pub expressions::control::expect_match_arms-returns-then-at-clause-reads : goal.expressions::control::expect_match_arms-returns-then-at-clause-reads
 unfolding look_of begins_below whole rule items statements expressions patterns types paths there_at shift passes is_silent begins in_mode anew row one_of any_of no_longer longest is_longer
@@ -161,9 +131,6 @@ expressions::control::opt_else-returns-then-at-clause-reads t c = λ cond. reads
 pub expressions::control::opt_else-returns-else-at-clause-reads : goal.expressions::control::opt_else-returns-else-at-clause-reads
 unfolding look_of begins_below whole rule items statements expressions patterns types paths there_at shift passes is_silent begins in_mode anew row one_of any_of no_longer longest is_longer
 expressions::control::opt_else-returns-else-at-clause-reads t c = λ cond. reads-here (saw-so (c.at.ensures.sees cond) c.if-at.false and nothing) (reads-nothing cond c.at.ensures.same)
-
-pub expressions::control::after_else-if_expr-requires : goal.expressions::control::after_else-if_expr-requires
-expressions::control::after_else-if_expr-requires t c = (omega arith, omega arith)
 
 pub expressions::control::after_else-returns-then-at-clause-reads : goal.expressions::control::after_else-returns-then-at-clause-reads
 unfolding look_of begins_below whole rule items statements expressions patterns types paths there_at shift passes is_silent begins in_mode anew row one_of any_of no_longer longest is_longer

@@ -20,15 +20,9 @@ use Rattle.rust_productions.proofs.Ranges.{begins-call, gives-expression, gives-
 use Rattle.rust_productions.proofs.Seen.{saw-after, saw-inside}
 use Rattle.grammar_reader.proofs.grammar.+grammar.Goals as goal
 
-pub expressions::expect_expression-expect_layer-requires : goal.expressions::expect_expression-expect_layer-requires
-expressions::expect_expression-expect_layer-requires t c = (omega arith, omega arith)
-
 pub expressions::expect_expression-returns-in-Comparison-clause-reads : goal.expressions::expect_expression-returns-in-Comparison-clause-reads
 unfolding layer_at layers
 expressions::expect_expression-returns-in-Comparison-clause-reads t c = subst (λ (l : Level). Reads c.args.condition (Want (Call (level_of l)) ExpectedExpression) c.args.p.now c.expect_layer.new.p) (sym c.in-Comparison.is) c.expect_layer.ensures.reads
-
-pub expressions::expect_expression-expect_layer-requires-in-Disjunction : goal.expressions::expect_expression-expect_layer-requires-in-Disjunction
-expressions::expect_expression-expect_layer-requires-in-Disjunction t c = (omega arith, omega arith)
 
 pub expressions::expect_expression-returns-in-Disjunction-clause-reads : goal.expressions::expect_expression-returns-in-Disjunction-clause-reads
 unfolding layer_at layers
@@ -39,9 +33,6 @@ expressions::expect_expression-returns-in-Expression-clause-reads t c = subst (�
 
 pub expressions::expect_expression-returns-in-Operation-clause-reads : goal.expressions::expect_expression-returns-in-Operation-clause-reads
 expressions::expect_expression-returns-in-Operation-clause-reads t c = subst (λ (l : Level). Reads c.args.condition (Want (Call (level_of l)) ExpectedExpression) c.args.p.now c.expect_operation.new.p) (sym c.in-Operation.is) c.expect_operation.ensures.reads
-
-pub expressions::expect_expression-expect_layer-requires-in-Prefixed : goal.expressions::expect_expression-expect_layer-requires-in-Prefixed
-expressions::expect_expression-expect_layer-requires-in-Prefixed t c = (omega arith, omega arith)
 
 pub expressions::expect_expression-returns-in-Prefixed-clause-reads : goal.expressions::expect_expression-returns-in-Prefixed-clause-reads
 unfolding layer_at layers

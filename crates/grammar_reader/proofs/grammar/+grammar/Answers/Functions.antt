@@ -1,5 +1,5 @@
 -- Functions, path by path.
-use Rattle.std.proofs.Common.{true, arith}
+use Rattle.std.proofs.Common.{true}
 use Rattle.rust_grammar.specs.Expressions.{expressions}
 use Rattle.rust_grammar.specs.Items.{items}
 use Rattle.rust_grammar.specs.Meaning.{begins_below, look_of}
@@ -25,9 +25,6 @@ items::functions::fn_item-complete-requires t c = (c.fn_body.ensures.reads true)
 pub items::functions::fn_item-returns-clause-completes : goal.items::functions::fn_item-returns-clause-completes
 items::functions::fn_item-returns-clause-completes t c = completes-wrap (reads-three _ (c.fn_words.ensures.reads c.args.condition) (reads-then _ (c.expect_name.ensures.reads c.args.condition) (reads-then _ (c.opt_generic_params.ensures.reads c.args.condition) (reads-then _ (c.expect_params.ensures.reads c.args.condition) (reads-then _ c.opt_ret_type.ensures.reads (reads-then _ c.opt_where_clause.ensures.reads (c.fn_body.ensures.reads c.args.condition))))))) c.complete.ensures.closes
 
-pub items::functions::expect_params-params-requires : goal.items::functions::expect_params-params-requires
-items::functions::expect_params-params-requires t c = (omega arith, omega arith)
-
 pub items::functions::expect_params-returns-then-at-clause-reads : goal.items::functions::expect_params-returns-then-at-clause-reads
 unfolding look_of begins_below whole rule items statements expressions patterns types paths there_at shift passes is_silent begins in_mode anew row one_of any_of no_longer longest is_longer
 items::functions::expect_params-returns-then-at-clause-reads t c = λ cond. reads-here (saw-so (c.at.ensures.sees cond) c.if-at.true and nothing) (after-look cond c.at.ensures.same (reads-call cond (c.params.ensures.gives cond)))
@@ -36,9 +33,6 @@ pub items::functions::expect_params-returns-clause-reads : goal.items::functions
 unfolding look_of begins_below whole rule items statements expressions patterns types paths there_at shift passes is_silent begins in_mode anew row one_of any_of no_longer longest is_longer
 items::functions::expect_params-returns-clause-reads t c = λ cond. reads-here (saw-so (c.at.ensures.sees cond) c.if-at.false and nothing) (after-look cond c.at.ensures.same (c.error.ensures.reads cond))
 
-pub items::functions::opt_ret_type-ret_type-requires : goal.items::functions::opt_ret_type-ret_type-requires
-items::functions::opt_ret_type-ret_type-requires t c = (omega arith, omega arith)
-
 pub items::functions::opt_ret_type-returns-then-at_pair-clause-reads : goal.items::functions::opt_ret_type-returns-then-at_pair-clause-reads
 unfolding look_of begins_below whole rule items statements expressions patterns types paths there_at shift passes is_silent begins in_mode anew row one_of any_of no_longer longest is_longer
 items::functions::opt_ret_type-returns-then-at_pair-clause-reads t c = reads-here (saw-so (c.at_pair.ensures.sees c.args.condition) c.if-at_pair.true and nothing) (after-look _ c.at_pair.ensures.same (reads-call _ c.ret_type.ensures.gives))
@@ -46,9 +40,6 @@ items::functions::opt_ret_type-returns-then-at_pair-clause-reads t c = reads-her
 pub items::functions::opt_ret_type-returns-else-at_pair-clause-reads : goal.items::functions::opt_ret_type-returns-else-at_pair-clause-reads
 unfolding look_of begins_below whole rule items statements expressions patterns types paths there_at shift passes is_silent begins in_mode anew row one_of any_of no_longer longest is_longer
 items::functions::opt_ret_type-returns-else-at_pair-clause-reads t c = reads-here (saw-so (c.at_pair.ensures.sees c.args.condition) c.if-at_pair.false and nothing) (reads-nothing _ c.at_pair.ensures.same)
-
-pub items::functions::fn_body-block-requires : goal.items::functions::fn_body-block-requires
-items::functions::fn_body-block-requires t c = (omega arith, omega arith)
 
 pub items::functions::fn_body-returns-then-at-clause-reads : goal.items::functions::fn_body-returns-then-at-clause-reads
 unfolding look_of begins_below whole rule items statements expressions patterns types paths there_at shift passes is_silent begins in_mode anew row one_of any_of no_longer longest is_longer

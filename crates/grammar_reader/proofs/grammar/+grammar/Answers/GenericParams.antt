@@ -41,9 +41,6 @@ pub generic_params::lifetime_or_path-returns-in-LIFETIME_IDENT-clause-reads : go
 unfolding look_of begins_below whole rule items statements expressions patterns types paths there_at shift passes is_silent begins in_mode anew row one_of any_of no_longer longest is_longer
 generic_params::lifetime_or_path-returns-in-LIFETIME_IDENT-clause-reads t c = λ cond. reads-here (saw-arm c.in-LIFETIME_IDENT.is (c.current.ensures.sees cond) and nothing) (after-look cond c.current.ensures.same (reads-call cond (c.lifetime.ensures.gives cond)))
 
-pub generic_params::lifetime_or_path-path_after_question-requires : goal.generic_params::lifetime_or_path-path_after_question-requires
-generic_params::lifetime_or_path-path_after_question-requires t c = (omega arith, omega arith)
-
 pub generic_params::lifetime_or_path-returns-in-QUESTION-clause-reads : goal.generic_params::lifetime_or_path-returns-in-QUESTION-clause-reads
 unfolding look_of begins_below whole rule items statements expressions patterns types paths there_at shift passes is_silent begins in_mode anew row one_of any_of no_longer longest is_longer
 generic_params::lifetime_or_path-returns-in-QUESTION-clause-reads t c = λ cond. reads-here (saw-arm c.in-QUESTION.is (c.current.ensures.sees cond) and nothing) (after-look cond c.current.ensures.same (c.path_after_question.ensures.reads cond))
@@ -129,20 +126,11 @@ generic_params::lifetime_param-complete-requires t c = (c.bounds_after_colon.ens
 pub generic_params::lifetime_param-returns-clause-reads : goal.generic_params::lifetime_param-returns-clause-reads
 generic_params::lifetime_param-returns-clause-reads t c = λ cond. reads-node cond c.start-node.ensures.opens (reads-then cond (reads-call cond (c.lifetime.ensures.gives cond)) (c.bounds_after_colon.ensures.reads cond)) c.complete.ensures.closes
 
-pub generic_params::type_param-opt_type_after-requires : goal.generic_params::type_param-opt_type_after-requires
-generic_params::type_param-opt_type_after-requires t c = (omega arith, omega arith)
-
 pub generic_params::type_param-complete-requires : goal.generic_params::type_param-complete-requires
 generic_params::type_param-complete-requires t c = c.opt_type_after.ensures.reads.does.innermost _ ((c.bounds_after_colon.ensures.reads true).does.innermost _ ((c.name.ensures.gives true).does.innermost _ c.start-node.ensures.marker))
 
 pub generic_params::type_param-returns-clause-reads : goal.generic_params::type_param-returns-clause-reads
 generic_params::type_param-returns-clause-reads t c = reads-node _ c.start-node.ensures.opens (reads-then _ (reads-call _ (c.name.ensures.gives c.args.condition)) (reads-then _ (c.bounds_after_colon.ensures.reads c.args.condition) c.opt_type_after.ensures.reads)) c.complete.ensures.closes
-
-pub generic_params::generic_param-lifetime_param-requires : goal.generic_params::generic_param-lifetime_param-requires
-generic_params::generic_param-lifetime_param-requires t c = (omega arith, omega arith)
-
-pub generic_params::generic_param-type_param-requires : goal.generic_params::generic_param-type_param-requires
-generic_params::generic_param-type_param-requires t c = (omega arith, omega arith)
 
 pub generic_params::generic_param-returns-then-at-clause-gives : goal.generic_params::generic_param-returns-then-at-clause-gives
 unfolding look_of begins_below whole rule items statements expressions patterns types paths there_at shift passes is_silent begins in_mode anew row one_of any_of no_longer longest is_longer

@@ -86,9 +86,6 @@ items::bare_item-returns-clause-left t c = omega (arith, c.start-item.ensures.le
 pub items::bare_item-returns-clause-looks : goal.items::bare_item-returns-clause-looks
 items::bare_item-returns-clause-looks t c = omega (arith, c.start-item.ensures.looks, c.body.ensures.pays refl)
 
-pub items::attributes-attribute-requires : goal.items::attributes-attribute-requires
-items::attributes-attribute-requires t c = (omega arith, omega arith)
-
 pub items::attributes-turns-preserved : goal.items::attributes-turns-preserved
 unfolding tokens look_of begins_below whole rule items statements expressions patterns types paths there_at shift passes is_silent begins in_mode anew row one_of any_of no_longer longest is_longer
 items::attributes-turns-preserved t c = record {
@@ -203,9 +200,6 @@ items::module-complete-requires t c = (c.module_items.ensures.reads true).does.i
 pub items::module-returns-clause-completes : goal.items::module-returns-clause-completes
 items::module-returns-clause-completes t c = λ cond. completes-wrap (reads-then cond (c.take.ensures.reads cond) (reads-then cond (c.expect_name.ensures.reads cond) (c.module_items.ensures.reads cond))) c.complete.ensures.closes
 
-pub items::module_items-item_list-requires : goal.items::module_items-item_list-requires
-items::module_items-item_list-requires t c = (omega arith, omega arith)
-
 pub items::module_items-returns-then-at-clause-reads : goal.items::module_items-returns-then-at-clause-reads
 unfolding look_of begins_below whole rule items statements expressions patterns types paths there_at shift passes is_silent begins in_mode anew row one_of any_of no_longer longest is_longer
 items::module_items-returns-then-at-clause-reads t c = λ cond. reads-here (saw-so (c.at.ensures.sees cond) c.if-at.true and nothing) (after-look cond c.at.ensures.same (c.item_list.ensures.reads cond))
@@ -227,9 +221,6 @@ pub items::assoc_items-returns-clause-gives : goal.items::assoc_items-returns-cl
 unfolding look_of begins_below whole rule items statements expressions patterns types paths there_at shift passes is_silent begins in_mode anew row one_of any_of no_longer longest is_longer
 items::assoc_items-returns-clause-gives t c = λ cond. gives-anew (anew-after refl (c.item_list.ensures.reads cond))
 
-pub items::opt_generic_params-generic_params-requires : goal.items::opt_generic_params-generic_params-requires
-items::opt_generic_params-generic_params-requires t c = (omega arith, omega arith)
-
 pub items::opt_generic_params-returns-then-at-clause-reads : goal.items::opt_generic_params-returns-then-at-clause-reads
 unfolding look_of begins_below whole rule items statements expressions patterns types paths there_at shift passes is_silent begins in_mode anew row one_of any_of no_longer longest is_longer
 items::opt_generic_params-returns-then-at-clause-reads t c = λ cond. reads-here (saw-so (c.at.ensures.sees cond) c.if-at.true and nothing) (after-look cond c.at.ensures.same (reads-call cond (c.generic_params.ensures.gives cond)))
@@ -237,9 +228,6 @@ items::opt_generic_params-returns-then-at-clause-reads t c = λ cond. reads-here
 pub items::opt_generic_params-returns-else-at-clause-reads : goal.items::opt_generic_params-returns-else-at-clause-reads
 unfolding look_of begins_below whole rule items statements expressions patterns types paths there_at shift passes is_silent begins in_mode anew row one_of any_of no_longer longest is_longer
 items::opt_generic_params-returns-else-at-clause-reads t c = λ cond. reads-here (saw-so (c.at.ensures.sees cond) c.if-at.false and nothing) (reads-nothing cond c.at.ensures.same)
-
-pub items::opt_where_clause-where_clause-requires : goal.items::opt_where_clause-where_clause-requires
-items::opt_where_clause-where_clause-requires t c = (omega arith, omega arith)
 
 pub items::opt_where_clause-returns-then-at-clause-reads : goal.items::opt_where_clause-returns-then-at-clause-reads
 unfolding look_of begins_below whole rule items statements expressions patterns types paths there_at shift passes is_silent begins in_mode anew row one_of any_of no_longer longest is_longer

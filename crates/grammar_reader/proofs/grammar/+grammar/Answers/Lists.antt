@@ -21,9 +21,9 @@ use Rattle.grammar_reader.proofs.AnyMode.{param-anywhere, pattern-anywhere, patt
 use Rattle.grammar_reader.proofs.Seeing.{begun-left, param-left, pattern-begins, word-left}
 use Rattle.rust_productions.specs.Looks.{tokens}
 use Rattle.rust_productions.specs.Reads.{looks, Reads, Saw}
-use Rattle.rust_productions.proofs.ByHand.{after-look, does-then, reads-call, reads-mode, reads-node, reads-then}
-use Rattle.rust_productions.proofs.Choices.{anew-after, gives-anew}
-use Rattle.rust_productions.proofs.Facts.{saw-so}
+use Rattle.rust_productions.proofs.ByHand.{after-look, does-then, reads-call, reads-mode, reads-node, reads-then, reads-wrap}
+use Rattle.rust_productions.proofs.Choices.{anew-after, gives-anew, reads-here}
+use Rattle.rust_productions.proofs.Facts.{nothing, saw-so, ◌and◌}
 use Rattle.rust_productions.proofs.Seen.{saw-after, saw-before}
 use Rattle.rust_productions.proofs.Turns.{first-turn, idle-turn, last-turn, next-turn}
 use Rattle.grammar_reader.proofs.grammar.+grammar.Goals as goal
@@ -164,8 +164,19 @@ lists::elements-returns-clause-reads t c = c.turns.invariant.goes.rest _ (c.turn
 pub lists::rest_of_list-returns-clause-reads : goal.lists::rest_of_list-returns-clause-reads
 lists::rest_of_list-returns-clause-reads t c = λ cond. reads-then cond (reads-mode cond c.elements.ensures.reads) (c.expect.ensures.reads cond)
 
-pub lists::arguments-rest_of_list-requires : goal.lists::arguments-rest_of_list-requires
-lists::arguments-rest_of_list-requires t c = (omega arith, omega arith)
+pub lists::tuple_tail-wrap-requires : goal.lists::tuple_tail-wrap-requires
+lists::tuple_tail-wrap-requires t c = (c.rest_of_list.ensures.reads true).does.innermost _ ((c.take.ensures.reads true).does.innermost _ (c.at.ensures.same.innermost _ c.requires.innermost))
+
+pub lists::tuple_tail-wrap-requires-2 : goal.lists::tuple_tail-wrap-requires-2
+lists::tuple_tail-wrap-requires-2 t c = (c.expect.ensures.reads true).does.innermost _ (c.at.ensures.same.innermost _ c.requires.innermost)
+
+pub lists::tuple_tail-returns-then-at-clause-reads : goal.lists::tuple_tail-returns-then-at-clause-reads
+unfolding look_of begins_below whole rule items statements expressions patterns types paths there_at shift passes is_silent begins in_mode anew row one_of any_of no_longer longest is_longer
+lists::tuple_tail-returns-then-at-clause-reads t c = λ cond. reads-here (saw-so (c.at.ensures.sees cond) c.if-at.true and nothing) (after-look cond c.at.ensures.same (reads-wrap cond (reads-then cond (c.take.ensures.reads cond) (c.rest_of_list.ensures.reads cond)) c.wrap.ensures.wraps))
+
+pub lists::tuple_tail-returns-clause-reads : goal.lists::tuple_tail-returns-clause-reads
+unfolding look_of begins_below whole rule items statements expressions patterns types paths there_at shift passes is_silent begins in_mode anew row one_of any_of no_longer longest is_longer
+lists::tuple_tail-returns-clause-reads t c = λ cond. reads-here (saw-so (c.at.ensures.sees cond) c.if-at.false and nothing) (after-look cond c.at.ensures.same (reads-wrap cond (c.expect.ensures.reads cond) c.wrap-2.ensures.wraps))
 
 pub lists::arguments-complete-requires : goal.lists::arguments-complete-requires
 lists::arguments-complete-requires t c = (c.rest_of_list.ensures.reads true).does.innermost _ ((c.take.ensures.reads true).does.innermost _ c.start-list.ensures.marker)
@@ -174,18 +185,12 @@ pub lists::arguments-returns-clause-gives : goal.lists::arguments-returns-clause
 unfolding look_of begins_below whole rule items statements expressions patterns types paths there_at shift passes is_silent begins in_mode anew row one_of any_of no_longer longest is_longer
 lists::arguments-returns-clause-gives t c = λ cond. gives-anew (anew-after refl (reads-node cond c.start-list.ensures.opens (reads-then cond (c.take.ensures.reads cond) (c.rest_of_list.ensures.reads cond)) c.complete.ensures.closes))
 
-pub lists::field_values-rest_of_list-requires : goal.lists::field_values-rest_of_list-requires
-lists::field_values-rest_of_list-requires t c = (omega arith, omega arith)
-
 pub lists::field_values-complete-requires : goal.lists::field_values-complete-requires
 lists::field_values-complete-requires t c = (c.rest_of_list.ensures.reads true).does.innermost _ ((c.take.ensures.reads true).does.innermost _ c.start-list.ensures.marker)
 
 pub lists::field_values-returns-clause-gives : goal.lists::field_values-returns-clause-gives
 unfolding look_of begins_below whole rule items statements expressions patterns types paths there_at shift passes is_silent begins in_mode anew row one_of any_of no_longer longest is_longer
 lists::field_values-returns-clause-gives t c = λ cond. gives-anew (anew-after refl (reads-node cond c.start-list.ensures.opens (reads-then cond (c.take.ensures.reads cond) (c.rest_of_list.ensures.reads cond)) c.complete.ensures.closes))
-
-pub lists::generic_params-rest_of_list-requires : goal.lists::generic_params-rest_of_list-requires
-lists::generic_params-rest_of_list-requires t c = (omega arith, omega arith)
 
 pub lists::generic_params-complete-requires : goal.lists::generic_params-complete-requires
 lists::generic_params-complete-requires t c = (c.rest_of_list.ensures.reads true).does.innermost _ ((c.take.ensures.reads true).does.innermost _ c.start-list.ensures.marker)
@@ -194,18 +199,12 @@ pub lists::generic_params-returns-clause-gives : goal.lists::generic_params-retu
 unfolding look_of begins_below whole rule items statements expressions patterns types paths there_at shift passes is_silent begins in_mode anew row one_of any_of no_longer longest is_longer
 lists::generic_params-returns-clause-gives t c = λ cond. gives-anew (anew-after refl (reads-node cond c.start-list.ensures.opens (reads-then cond (c.take.ensures.reads cond) (c.rest_of_list.ensures.reads cond)) c.complete.ensures.closes))
 
-pub lists::params-rest_of_list-requires : goal.lists::params-rest_of_list-requires
-lists::params-rest_of_list-requires t c = (omega arith, omega arith)
-
 pub lists::params-complete-requires : goal.lists::params-complete-requires
 lists::params-complete-requires t c = (c.rest_of_list.ensures.reads true).does.innermost _ ((c.take.ensures.reads true).does.innermost _ c.start-list.ensures.marker)
 
 pub lists::params-returns-clause-gives : goal.lists::params-returns-clause-gives
 unfolding look_of begins_below whole rule items statements expressions patterns types paths there_at shift passes is_silent begins in_mode anew row one_of any_of no_longer longest is_longer
 lists::params-returns-clause-gives t c = λ cond. gives-anew (anew-after refl (reads-node cond c.start-list.ensures.opens (reads-then cond (c.take.ensures.reads cond) (c.rest_of_list.ensures.reads cond)) c.complete.ensures.closes))
-
-pub lists::pattern_fields-rest_of_list-requires : goal.lists::pattern_fields-rest_of_list-requires
-lists::pattern_fields-rest_of_list-requires t c = (omega arith, omega arith)
 
 pub lists::pattern_fields-complete-requires : goal.lists::pattern_fields-complete-requires
 lists::pattern_fields-complete-requires t c = (c.rest_of_list.ensures.reads true).does.innermost _ ((c.take.ensures.reads true).does.innermost _ c.start-list.ensures.marker)
@@ -241,9 +240,6 @@ lists::read_element-variant-requires t c =
 pub lists::read_element-returns-in-Variant-clause-reads : goal.lists::read_element-returns-in-Variant-clause-reads
 lists::read_element-returns-in-Variant-clause-reads t c = subst (λ (e : Element). Reads false (element_of e) c.args.p.now c.variant.new.p) (sym c.in-Variant.is) c.variant.ensures.reads
 
-pub lists::variants-rest_of_list-requires : goal.lists::variants-rest_of_list-requires
-lists::variants-rest_of_list-requires t c = (omega arith, omega arith)
-
 pub lists::variants-complete-requires : goal.lists::variants-complete-requires
 lists::variants-complete-requires t c = (c.rest_of_list.ensures.reads true).does.innermost _ ((c.take.ensures.reads true).does.innermost _ c.start-list.ensures.marker)
 
@@ -251,18 +247,12 @@ pub lists::variants-returns-clause-gives : goal.lists::variants-returns-clause-g
 unfolding look_of begins_below whole rule items statements expressions patterns types paths there_at shift passes is_silent begins in_mode anew row one_of any_of no_longer longest is_longer
 lists::variants-returns-clause-gives t c = λ cond. gives-anew (anew-after refl (reads-node cond c.start-list.ensures.opens (reads-then cond (c.take.ensures.reads cond) (c.rest_of_list.ensures.reads cond)) c.complete.ensures.closes))
 
-pub lists::record_fields-rest_of_list-requires : goal.lists::record_fields-rest_of_list-requires
-lists::record_fields-rest_of_list-requires t c = (omega arith, omega arith)
-
 pub lists::record_fields-complete-requires : goal.lists::record_fields-complete-requires
 lists::record_fields-complete-requires t c = (c.rest_of_list.ensures.reads true).does.innermost _ ((c.take.ensures.reads true).does.innermost _ c.start-list.ensures.marker)
 
 pub lists::record_fields-returns-clause-gives : goal.lists::record_fields-returns-clause-gives
 unfolding look_of begins_below whole rule items statements expressions patterns types paths there_at shift passes is_silent begins in_mode anew row one_of any_of no_longer longest is_longer
 lists::record_fields-returns-clause-gives t c = λ cond. gives-anew (anew-after refl (reads-node cond c.start-list.ensures.opens (reads-then cond (c.take.ensures.reads cond) (c.rest_of_list.ensures.reads cond)) c.complete.ensures.closes))
-
-pub lists::tuple_fields-rest_of_list-requires : goal.lists::tuple_fields-rest_of_list-requires
-lists::tuple_fields-rest_of_list-requires t c = (omega arith, omega arith)
 
 pub lists::tuple_fields-complete-requires : goal.lists::tuple_fields-complete-requires
 lists::tuple_fields-complete-requires t c = (c.rest_of_list.ensures.reads true).does.innermost _ ((c.take.ensures.reads true).does.innermost _ c.start-list.ensures.marker)

@@ -24,29 +24,17 @@ use Rattle.rust_productions.proofs.Seen.{begins-else, ends-at-end, saw-after, sa
 use Rattle.rust_productions.proofs.Turns.{last-turn, next-turn}
 use Rattle.grammar_reader.proofs.grammar.+grammar.Goals as goal
 
-pub expressions::operand::prefixed-prefix_expr-requires : goal.expressions::operand::prefixed-prefix_expr-requires
-expressions::operand::prefixed-prefix_expr-requires t c = (omega arith, omega arith)
-
 pub expressions::operand::prefixed-returns-in-MINUS-clause-gives : goal.expressions::operand::prefixed-returns-in-MINUS-clause-gives
 unfolding look_of begins_below whole rule items statements expressions patterns types paths there_at shift passes is_silent begins in_mode anew row one_of any_of no_longer longest is_longer
 expressions::operand::prefixed-returns-in-MINUS-clause-gives t c = gives-anew (anew-here (saw-arm c.in-MINUS.is (c.current.ensures.sees c.args.condition) and nothing) (anew-look c.current.ensures.same (anew-after refl c.prefix_expr.ensures.reads)))
-
-pub expressions::operand::prefixed-prefix_expr-requires-in-BANG : goal.expressions::operand::prefixed-prefix_expr-requires-in-BANG
-expressions::operand::prefixed-prefix_expr-requires-in-BANG t c = (omega arith, omega arith)
 
 pub expressions::operand::prefixed-returns-in-BANG-clause-gives : goal.expressions::operand::prefixed-returns-in-BANG-clause-gives
 unfolding look_of begins_below whole rule items statements expressions patterns types paths there_at shift passes is_silent begins in_mode anew row one_of any_of no_longer longest is_longer
 expressions::operand::prefixed-returns-in-BANG-clause-gives t c = gives-anew (anew-here (saw-arm c.in-BANG.is (c.current.ensures.sees c.args.condition) and nothing) (anew-look c.current.ensures.same (anew-after refl c.prefix_expr-in-BANG.ensures.reads)))
 
-pub expressions::operand::prefixed-prefix_expr-requires-in-STAR : goal.expressions::operand::prefixed-prefix_expr-requires-in-STAR
-expressions::operand::prefixed-prefix_expr-requires-in-STAR t c = (omega arith, omega arith)
-
 pub expressions::operand::prefixed-returns-in-STAR-clause-gives : goal.expressions::operand::prefixed-returns-in-STAR-clause-gives
 unfolding look_of begins_below whole rule items statements expressions patterns types paths there_at shift passes is_silent begins in_mode anew row one_of any_of no_longer longest is_longer
 expressions::operand::prefixed-returns-in-STAR-clause-gives t c = gives-anew (anew-here (saw-arm c.in-STAR.is (c.current.ensures.sees c.args.condition) and nothing) (anew-look c.current.ensures.same (anew-after refl c.prefix_expr-in-STAR.ensures.reads)))
-
-pub expressions::operand::prefixed-ref_expr-requires : goal.expressions::operand::prefixed-ref_expr-requires
-expressions::operand::prefixed-ref_expr-requires t c = (omega arith, omega arith)
 
 pub expressions::operand::prefixed-returns-in-AMP-clause-gives : goal.expressions::operand::prefixed-returns-in-AMP-clause-gives
 unfolding look_of begins_below whole rule items statements expressions patterns types paths there_at shift passes is_silent begins in_mode anew row one_of any_of no_longer longest is_longer
@@ -96,18 +84,12 @@ pub expressions::operand::postfixes-returns-clause-reads : goal.expressions::ope
 unfolding look_of begins_below whole rule items statements expressions patterns types paths there_at shift passes is_silent begins in_mode anew row one_of any_of no_longer longest is_longer
 expressions::operand::postfixes-returns-clause-reads t c = λ cond. last-turn cond (more rules.postfix) (ends-at-end cond (more rules.postfix) refl) _ _ _ (c.turns.invariant.goes cond) (saw-so (c.at_postfix.ensures.sees cond) c.turns-test.false) c.at_postfix.ensures.same
 
-pub expressions::operand::postfix-arguments-requires : goal.expressions::operand::postfix-arguments-requires
-expressions::operand::postfix-arguments-requires t c = (omega arith, omega arith)
-
 pub expressions::operand::postfix-wrap-requires : goal.expressions::operand::postfix-wrap-requires
 expressions::operand::postfix-wrap-requires t c = (c.arguments.ensures.gives true).does.innermost _ (c.current.ensures.same.innermost _ c.requires.innermost)
 
 pub expressions::operand::postfix-returns-in-L_PAREN-clause-reads : goal.expressions::operand::postfix-returns-in-L_PAREN-clause-reads
 unfolding look_of begins_below whole rule items statements expressions patterns types paths there_at shift passes is_silent begins in_mode anew row one_of any_of no_longer longest is_longer
 expressions::operand::postfix-returns-in-L_PAREN-clause-reads t c = λ cond. reads-more cond (goes rules.postfix cond (reads-here (saw-arm c.in-L_PAREN.is (c.current.ensures.sees cond) and nothing) (after-look cond c.current.ensures.same (reads-wrap cond (reads-call cond (c.arguments.ensures.gives cond)) c.wrap.ensures.wraps))))
-
-pub expressions::operand::postfix-index-requires : goal.expressions::operand::postfix-index-requires
-expressions::operand::postfix-index-requires t c = (omega arith, omega arith)
 
 pub expressions::operand::postfix-wrap-requires-in-L_BRACK : goal.expressions::operand::postfix-wrap-requires-in-L_BRACK
 expressions::operand::postfix-wrap-requires-in-L_BRACK t c = (c.index.ensures.reads true).does.innermost _ (c.current.ensures.same.innermost _ c.requires.innermost)
@@ -132,9 +114,6 @@ expressions::operand::postfix-returns-in_default-clause-reads t c = λ cond. rea
 
 pub expressions::operand::index-returns-clause-reads : goal.expressions::operand::index-returns-clause-reads
 expressions::operand::index-returns-clause-reads t c = λ cond. (reads-then cond (c.take.ensures.reads cond) (reads-then cond (reads-mode cond c.expect_expression.ensures.reads) (c.expect.ensures.reads cond)))
-
-pub expressions::operand::after_dot-method_call-requires : goal.expressions::operand::after_dot-method_call-requires
-expressions::operand::after_dot-method_call-requires t c = (omega arith, omega arith)
 
 pub expressions::operand::after_dot-wrap-requires : goal.expressions::operand::after_dot-wrap-requires
 expressions::operand::after_dot-wrap-requires t c = (c.method_call.ensures.reads true).does.innermost _ (c.at_method.ensures.same.innermost _ c.requires.innermost)
@@ -173,9 +152,6 @@ expressions::operand::after_dot-returns-in_default-clause-reads t c = λ cond. r
 
 pub expressions::operand::method_call-returns-clause-reads : goal.expressions::operand::method_call-returns-clause-reads
 expressions::operand::method_call-returns-clause-reads t c = λ cond. (reads-then cond (c.word_type.ensures.reads cond) (reads-then cond (c.opt_generic_args.ensures.reads cond) (c.expect_arguments.ensures.reads cond)))
-
-pub expressions::operand::expect_arguments-arguments-requires : goal.expressions::operand::expect_arguments-arguments-requires
-expressions::operand::expect_arguments-arguments-requires t c = (omega arith, omega arith)
 
 pub expressions::operand::expect_arguments-returns-then-at-clause-reads : goal.expressions::operand::expect_arguments-returns-then-at-clause-reads
 unfolding look_of begins_below whole rule items statements expressions patterns types paths there_at shift passes is_silent begins in_mode anew row one_of any_of no_longer longest is_longer

@@ -44,15 +44,6 @@ params::pattern_param-complete-requires t c = c.expect_type.ensures.reads.does.i
 pub params::pattern_param-returns-clause-reads : goal.params::pattern_param-returns-clause-reads
 params::pattern_param-returns-clause-reads t c = reads-node _ c.start-node.ensures.opens (reads-then _ (reads-call _ (c.pattern.ensures.gives c.args.condition)) (reads-then _ (c.expect.ensures.reads c.args.condition) c.expect_type.ensures.reads)) c.complete.ensures.closes
 
-pub params::self_param-self_after_ref-requires : goal.params::self_param-self_after_ref-requires
-params::self_param-self_after_ref-requires t c = (omega arith, omega arith)
-
-pub params::self_param-self_after_mut-requires : goal.params::self_param-self_after_mut-requires
-params::self_param-self_after_mut-requires t c = (omega arith, omega arith)
-
-pub params::self_param-self_alone-requires : goal.params::self_param-self_alone-requires
-params::self_param-self_alone-requires t c = (omega arith, omega arith)
-
 pub params::self_param-returns-in-AMP-clause-gives : goal.params::self_param-returns-in-AMP-clause-gives
 unfolding look_of begins_below whole rule items statements expressions patterns types paths there_at shift passes is_silent begins in_mode anew row one_of any_of no_longer longest is_longer
 params::self_param-returns-in-AMP-clause-gives t c = gives-anew (anew-after refl (reads-here (c.requires.begins c.args.condition and saw-arm c.in-AMP.is (c.current.ensures.sees c.args.condition) and nothing) (after-look _ c.current.ensures.same c.self_after_ref.ensures.reads)))

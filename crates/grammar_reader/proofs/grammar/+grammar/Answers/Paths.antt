@@ -28,9 +28,6 @@ use Rattle.rust_productions.proofs.Seen.{ends-at-end, saw-after, saw-inside}
 use Rattle.rust_productions.proofs.Turns.{last-turn, next-turn}
 use Rattle.grammar_reader.proofs.grammar.+grammar.Goals as goal
 
-pub paths::generic_args-rest_of_list-requires : goal.paths::generic_args-rest_of_list-requires
-paths::generic_args-rest_of_list-requires t c = (omega arith, omega arith)
-
 pub paths::generic_args-opt_colons-requires-clause-begins : goal.paths::generic_args-opt_colons-requires-clause-begins
 paths::generic_args-opt_colons-requires-clause-begins t c = λ cond. saw-inside c.start-list.ensures.opens (c.requires.begins cond)
 

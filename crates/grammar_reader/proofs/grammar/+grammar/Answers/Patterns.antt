@@ -169,17 +169,11 @@ patterns::ref_pat-complete-requires t c = ((c.expect_single.ensures.reads true).
 pub patterns::ref_pat-returns-clause-reads : goal.patterns::ref_pat-returns-clause-reads
 patterns::ref_pat-returns-clause-reads t c = λ cond. reads-node cond c.start-node.ensures.opens (reads-then cond (c.take.ensures.reads cond) (reads-then cond (c.eat.ensures.reads cond) (c.expect_single.ensures.reads cond))) c.complete.ensures.closes
 
-pub patterns::slice_pat-rest_of_list-requires : goal.patterns::slice_pat-rest_of_list-requires
-patterns::slice_pat-rest_of_list-requires t c = (omega arith, omega arith)
-
 pub patterns::slice_pat-complete-requires : goal.patterns::slice_pat-complete-requires
 patterns::slice_pat-complete-requires t c = ((c.rest_of_list.ensures.reads true).does.innermost _ ((c.take.ensures.reads true).does.innermost _ c.start-node.ensures.marker))
 
 pub patterns::slice_pat-returns-clause-reads : goal.patterns::slice_pat-returns-clause-reads
 patterns::slice_pat-returns-clause-reads t c = λ cond. reads-node cond c.start-node.ensures.opens (reads-then cond (c.take.ensures.reads cond) (c.rest_of_list.ensures.reads cond)) c.complete.ensures.closes
-
-pub patterns::tuple_pat-rest_of_list-requires : goal.patterns::tuple_pat-rest_of_list-requires
-patterns::tuple_pat-rest_of_list-requires t c = (omega arith, omega arith)
 
 pub patterns::tuple_pat-complete-requires : goal.patterns::tuple_pat-complete-requires
 patterns::tuple_pat-complete-requires t c = ((c.rest_of_list.ensures.reads true).does.innermost _ ((c.take.ensures.reads true).does.innermost _ c.start-node.ensures.marker))
@@ -222,8 +216,8 @@ patterns::paren_pat-returns-clause-reads t c = λ cond. reads-then cond (c.take.
 pub patterns::after_paren-wrap-requires : goal.patterns::after_paren-wrap-requires
 patterns::after_paren-wrap-requires t c = (c.take.ensures.reads true).does.innermost _ (c.at.ensures.same.innermost _ c.requires.innermost)
 
-pub patterns::after_paren-after_first-requires : goal.patterns::after_paren-after_first-requires
-patterns::after_paren-after_first-requires t c = (omega arith, (c.expect_pattern.ensures.reads true).does.innermost _ (c.at.ensures.same.innermost _ c.requires.innermost))
+pub patterns::after_paren-tuple_tail-requires : goal.patterns::after_paren-tuple_tail-requires
+patterns::after_paren-tuple_tail-requires t c = (omega arith, (c.expect_pattern.ensures.reads true).does.innermost _ (c.at.ensures.same.innermost _ c.requires.innermost))
 
 pub patterns::after_paren-returns-then-at-clause-reads : goal.patterns::after_paren-returns-then-at-clause-reads
 unfolding look_of begins_below whole rule items statements expressions patterns types paths there_at shift passes is_silent begins in_mode anew row one_of any_of no_longer longest is_longer
@@ -231,24 +225,7 @@ patterns::after_paren-returns-then-at-clause-reads t c = λ cond. reads-here (sa
 
 pub patterns::after_paren-returns-clause-reads : goal.patterns::after_paren-returns-clause-reads
 unfolding look_of begins_below whole rule items statements expressions patterns types paths there_at shift passes is_silent begins in_mode anew row one_of any_of no_longer longest is_longer
-patterns::after_paren-returns-clause-reads t c = λ cond. reads-here (saw-so (c.at.ensures.sees cond) c.if-at.false and nothing) (after-look cond c.at.ensures.same (reads-then cond (c.expect_pattern.ensures.reads cond) (c.after_first.ensures.reads cond)))
-
-pub patterns::after_first-rest_of_list-requires : goal.patterns::after_first-rest_of_list-requires
-patterns::after_first-rest_of_list-requires t c = (omega arith, omega arith)
-
-pub patterns::after_first-wrap-requires : goal.patterns::after_first-wrap-requires
-patterns::after_first-wrap-requires t c = (c.rest_of_list.ensures.reads true).does.innermost _ ((c.take.ensures.reads true).does.innermost _ (c.at.ensures.same.innermost _ c.requires.innermost))
-
-pub patterns::after_first-wrap-requires-2 : goal.patterns::after_first-wrap-requires-2
-patterns::after_first-wrap-requires-2 t c = (c.expect.ensures.reads true).does.innermost _ (c.at.ensures.same.innermost _ c.requires.innermost)
-
-pub patterns::after_first-returns-then-at-clause-reads : goal.patterns::after_first-returns-then-at-clause-reads
-unfolding look_of begins_below whole rule items statements expressions patterns types paths there_at shift passes is_silent begins in_mode anew row one_of any_of no_longer longest is_longer
-patterns::after_first-returns-then-at-clause-reads t c = λ cond. reads-here (saw-so (c.at.ensures.sees cond) c.if-at.true and nothing) (after-look cond c.at.ensures.same (reads-wrap cond (reads-then cond (c.take.ensures.reads cond) (c.rest_of_list.ensures.reads cond)) c.wrap.ensures.wraps))
-
-pub patterns::after_first-returns-clause-reads : goal.patterns::after_first-returns-clause-reads
-unfolding look_of begins_below whole rule items statements expressions patterns types paths there_at shift passes is_silent begins in_mode anew row one_of any_of no_longer longest is_longer
-patterns::after_first-returns-clause-reads t c = λ cond. reads-here (saw-so (c.at.ensures.sees cond) c.if-at.false and nothing) (after-look cond c.at.ensures.same (reads-wrap cond (c.expect.ensures.reads cond) c.wrap-2.ensures.wraps))
+patterns::after_paren-returns-clause-reads t c = λ cond. reads-here (saw-so (c.at.ensures.sees cond) c.if-at.false and nothing) (after-look cond c.at.ensures.same (reads-then cond (c.expect_pattern.ensures.reads cond) (c.tuple_tail.ensures.reads cond)))
 
 pub patterns::path_pat-path_with_args-requires : goal.patterns::path_pat-path_with_args-requires
 patterns::path_pat-path_with_args-requires t c = (omega arith, (c.requires.begins, c.requires.some))
@@ -258,9 +235,6 @@ patterns::path_pat-after_path-requires t c = (omega arith, (c.path_with_args.ens
 
 pub patterns::path_pat-returns-clause-reads : goal.patterns::path_pat-returns-clause-reads
 patterns::path_pat-returns-clause-reads t c = λ cond. reads-then cond (reads-call cond (c.path_with_args.ensures.gives cond)) (c.after_path.ensures.reads cond)
-
-pub patterns::after_path-rest_of_list-requires : goal.patterns::after_path-rest_of_list-requires
-patterns::after_path-rest_of_list-requires t c = (omega arith, omega arith)
 
 pub patterns::after_path-wrap-requires : goal.patterns::after_path-wrap-requires
 patterns::after_path-wrap-requires t c = (c.rest_of_list.ensures.reads true).does.innermost _ ((c.take.ensures.reads true).does.innermost _ (c.at.ensures.same.innermost _ c.requires.innermost))

@@ -19,15 +19,9 @@ use Rattle.rust_productions.proofs.Looking.{saw-arm, saw-not}
 use Rattle.rust_productions.proofs.Seen.{saw-after, saw-before, saw-inside}
 use Rattle.grammar_reader.proofs.grammar.+grammar.Goals as goal
 
-pub statements::statement-let_stmt-requires : goal.statements::statement-let_stmt-requires
-statements::statement-let_stmt-requires t c = (omega arith, omega arith)
-
 pub statements::statement-returns-in-SEMICOLON-clause-gives : goal.statements::statement-returns-in-SEMICOLON-clause-gives
 unfolding look_of begins_below whole rule items statements expressions patterns types paths there_at shift passes is_silent begins in_mode anew row one_of any_of no_longer longest is_longer
 statements::statement-returns-in-SEMICOLON-clause-gives t c = gives-statement c.args.end (anew-here (saw-arm c.in-SEMICOLON.is (c.current.ensures.sees false) and nothing) (anew-look c.current.ensures.same (anew-after refl (c.take.ensures.reads false))))
-
-pub statements::statement-defer_stmt-requires : goal.statements::statement-defer_stmt-requires
-statements::statement-defer_stmt-requires t c = (omega arith, omega arith)
 
 pub statements::statement-returns-in-DEFER_KW-clause-gives : goal.statements::statement-returns-in-DEFER_KW-clause-gives
 unfolding look_of begins_below whole rule items statements expressions patterns types paths there_at shift passes is_silent begins in_mode anew row one_of any_of no_longer longest is_longer
@@ -36,9 +30,6 @@ statements::statement-returns-in-DEFER_KW-clause-gives t c = gives-statement c.a
 pub statements::statement-returns-in-LET_KW-clause-gives : goal.statements::statement-returns-in-LET_KW-clause-gives
 unfolding look_of begins_below whole rule items statements expressions patterns types paths there_at shift passes is_silent begins in_mode anew row one_of any_of no_longer longest is_longer
 statements::statement-returns-in-LET_KW-clause-gives t c = gives-statement c.args.end (anew-here (saw-arm c.in-LET_KW.is (c.current.ensures.sees false) and nothing) (anew-look c.current.ensures.same (anew-after refl c.let_stmt.ensures.reads)))
-
-pub statements::statement-attribute-requires : goal.statements::statement-attribute-requires
-statements::statement-attribute-requires t c = (omega arith, omega arith)
 
 pub statements::statement-returns-then-at_inner_attribute-clause-gives : goal.statements::statement-returns-then-at_inner_attribute-clause-gives
 unfolding look_of begins_below whole rule items statements expressions patterns types paths there_at shift passes is_silent begins in_mode anew row one_of any_of no_longer longest is_longer
@@ -50,9 +41,6 @@ statements::statement-returns-then-at_item-clause-gives t c = gives-statement c.
 
 pub statements::statement-item-requires : goal.statements::statement-item-requires
 statements::statement-item-requires t c = (omega arith, omega (arith, c.requires.some, c.current.ensures.left, c.at_inner_attribute.ensures.left, c.at_item.ensures.left))
-
-pub statements::statement-expression_statement-requires : goal.statements::statement-expression_statement-requires
-statements::statement-expression_statement-requires t c = (omega arith, omega arith)
 
 pub statements::statement-returns-else-at_item-clause-gives : goal.statements::statement-returns-else-at_item-clause-gives
 unfolding look_of begins_below whole rule items statements expressions patterns types paths there_at shift passes is_silent begins in_mode anew row one_of any_of no_longer longest is_longer
@@ -66,9 +54,6 @@ statements::let_stmt-complete-requires t c = (c.expect.ensures.reads true).does.
 
 pub statements::let_stmt-returns-clause-reads : goal.statements::let_stmt-returns-clause-reads
 statements::let_stmt-returns-clause-reads t c = reads-node false c.start-node.ensures.opens (reads-then false (c.take.ensures.reads false) (reads-then false (c.expect_pattern.ensures.reads false) (reads-then false c.opt_type.ensures.reads (reads-then false c.opt_value.ensures.reads (reads-then false (c.opt_else.ensures.reads false) (c.expect.ensures.reads false)))))) c.complete.ensures.closes
-
-pub statements::opt_else-let_else-requires : goal.statements::opt_else-let_else-requires
-statements::opt_else-let_else-requires t c = (omega arith, omega arith)
 
 pub statements::opt_else-returns-then-at-clause-reads : goal.statements::opt_else-returns-then-at-clause-reads
 unfolding look_of begins_below whole rule items statements expressions patterns types paths there_at shift passes is_silent begins in_mode anew row one_of any_of no_longer longest is_longer

@@ -19,9 +19,6 @@ use Rattle.grammar_reader.proofs.grammar.+grammar.Goals as goal
 pub items::traits::impl_item-unsafe_word-requires : goal.items::traits::impl_item-unsafe_word-requires
 items::traits::impl_item-unsafe_word-requires t c = record { begins = c.requires.begins; other = λ e. absurd (omega (arith, e)); inside = λ e. absurd (omega (arith, e)); some = c.requires.some }
 
-pub items::traits::impl_item-opt_type_after-requires : goal.items::traits::impl_item-opt_type_after-requires
-items::traits::impl_item-opt_type_after-requires t c = (omega arith, omega arith)
-
 pub items::traits::impl_item-complete-requires : goal.items::traits::impl_item-complete-requires
 items::traits::impl_item-complete-requires t c = (c.expect_assoc_items.ensures.reads true).does.innermost _ (c.opt_where_clause.ensures.reads.does.innermost _ (c.opt_type_after.ensures.reads.does.innermost _ (c.expect_type.ensures.reads.does.innermost _ ((c.opt_generic_params.ensures.reads true).does.innermost _ ((c.unsafe_word.ensures.reads true).does.innermost _ c.requires.innermost)))))
 
@@ -36,9 +33,6 @@ items::traits::trait_item-complete-requires t c = (c.expect_assoc_items.ensures.
 
 pub items::traits::trait_item-returns-clause-completes : goal.items::traits::trait_item-returns-clause-completes
 items::traits::trait_item-returns-clause-completes t c = completes-wrap (reads-two _ (c.unsafe_word.ensures.reads c.args.condition) (reads-then _ (c.expect_name.ensures.reads c.args.condition) (reads-then _ (c.opt_generic_params.ensures.reads c.args.condition) (reads-then _ (c.bounds_after_colon.ensures.reads c.args.condition) (reads-then _ c.opt_where_clause.ensures.reads (c.expect_assoc_items.ensures.reads c.args.condition)))))) c.complete.ensures.closes
-
-pub items::traits::expect_assoc_items-assoc_items-requires : goal.items::traits::expect_assoc_items-assoc_items-requires
-items::traits::expect_assoc_items-assoc_items-requires t c = (omega arith, omega arith)
 
 pub items::traits::expect_assoc_items-returns-then-at-clause-reads : goal.items::traits::expect_assoc_items-returns-then-at-clause-reads
 unfolding look_of begins_below whole rule items statements expressions patterns types paths there_at shift passes is_silent begins in_mode anew row one_of any_of no_longer longest is_longer

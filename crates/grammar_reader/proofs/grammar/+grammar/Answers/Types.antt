@@ -149,24 +149,7 @@ types::after_paren-returns-then-at-clause-reads t c = reads-here (saw-so (c.at.e
 
 pub types::after_paren-returns-clause-reads : goal.types::after_paren-returns-clause-reads
 unfolding look_of begins_below whole rule items statements expressions patterns types paths there_at shift passes is_silent begins in_mode anew row one_of any_of no_longer longest is_longer
-types::after_paren-returns-clause-reads t c = reads-here (saw-so (c.at.ensures.sees c.args.condition) c.if-at.false and nothing) (after-look _ c.at.ensures.same (reads-then _ c.expect_type.ensures.reads (c.after_first.ensures.reads c.args.condition)))
-
-pub types::after_first-rest_of_list-requires : goal.types::after_first-rest_of_list-requires
-types::after_first-rest_of_list-requires t c = (omega arith, omega arith)
-
-pub types::after_first-wrap-requires : goal.types::after_first-wrap-requires
-types::after_first-wrap-requires t c = (c.rest_of_list.ensures.reads true).does.innermost _ ((c.take.ensures.reads true).does.innermost _ (c.at.ensures.same.innermost _ c.requires.innermost))
-
-pub types::after_first-wrap-requires-2 : goal.types::after_first-wrap-requires-2
-types::after_first-wrap-requires-2 t c = (c.expect.ensures.reads true).does.innermost _ (c.at.ensures.same.innermost _ c.requires.innermost)
-
-pub types::after_first-returns-then-at-clause-reads : goal.types::after_first-returns-then-at-clause-reads
-unfolding look_of begins_below whole rule items statements expressions patterns types paths there_at shift passes is_silent begins in_mode anew row one_of any_of no_longer longest is_longer
-types::after_first-returns-then-at-clause-reads t c = λ cond. reads-here (saw-so (c.at.ensures.sees cond) c.if-at.true and nothing) (after-look cond c.at.ensures.same (reads-wrap cond (reads-then cond (c.take.ensures.reads cond) (c.rest_of_list.ensures.reads cond)) c.wrap.ensures.wraps))
-
-pub types::after_first-returns-clause-reads : goal.types::after_first-returns-clause-reads
-unfolding look_of begins_below whole rule items statements expressions patterns types paths there_at shift passes is_silent begins in_mode anew row one_of any_of no_longer longest is_longer
-types::after_first-returns-clause-reads t c = λ cond. reads-here (saw-so (c.at.ensures.sees cond) c.if-at.false and nothing) (after-look cond c.at.ensures.same (reads-wrap cond (c.expect.ensures.reads cond) c.wrap-2.ensures.wraps))
+types::after_paren-returns-clause-reads t c = reads-here (saw-so (c.at.ensures.sees c.args.condition) c.if-at.false and nothing) (after-look _ c.at.ensures.same (reads-then _ c.expect_type.ensures.reads (c.tuple_tail.ensures.reads c.args.condition)))
 
 pub types::bracket_type-after_element-requires : goal.types::bracket_type-after_element-requires
 types::bracket_type-after_element-requires t c = (omega arith, c.expect_type.ensures.reads.does.innermost _ ((c.take.ensures.reads true).does.innermost _ c.requires.innermost))

@@ -1,0 +1,75 @@
+#!/usr/bin/env python3
+"""Finds the deepest nesting that a built program reads on a stack of 8 MiB, by kind, and the bytes of stack a level.
+
+    bench/levels.py PROGRAM
+
+PROGRAM reads a file of edition 2021 from standard input, as tree_dump does. Depths are found by halving, up to LIMIT.
+"""
+import resource
+import subprocess
+import sys
+
+STACK = 8 << 20
+LIMIT = 140_000
+
+# The text before, that which opens a level, the text inside, that which closes a level, the text after.
+KINDS = {
+    "((": ("fn f(){", "(", "1", ")", ";}"),
+    "{{": ("fn f(){", "{", "1", "}", "}"),
+    "f(f(": ("fn f(){", "f(", "1", ")", ";}"),
+    "x.a(x.a(": ("fn f(){", "x.a(", "1", ")", ";}"),
+    "a[a[": ("fn f(){", "a[", "1", "]", ";}"),
+    "S{a:S{a:": ("fn f(){", "S{a:", "1", "}", ";}"),
+    "--": ("fn f(){", "-", "1", "", ";}"),
+    "a=a=": ("fn f(){", "a=", "1", "", ";}"),
+    "return return": ("fn f(){", "return ", "1", "", ";}"),
+    "|x||x|": ("fn f(){", "|x|", "1", "", ";}"),
+    "move|x|{": ("fn f(){", "move|x|{", "1", "}", ";}"),
+    "if a{if a{": ("fn f(){", "if a{", "", "}", "}"),
+    "let a={let a={": ("fn f(){", "let a={", "1", "};", "}"),
+    "fn f(){fn f(){": ("", "fn f(){", "", "}", ""),
+    "impl A{fn f(){": ("", "impl A{fn f(){", "", "}}", ""),
+    "mod a{mod a{": ("", "mod a{", "", "}", ""),
+    "use a::{{": ("use a::", "{", "b", "}", ";"),
+    "#[a={#[a={": ("fn f(){", "#[a={", "1", "}]b;", "}"),
+    "type A<A<": ("type T=", "A<", "u8", ">", ";"),
+    "type dyn A<dyn A<": ("type T=", "dyn A<", "u8", ">", ";"),
+    "pattern ((": ("fn f(){let ", "(", "a", ")", "=b;}"),
+    "pattern [[": ("fn f(){let ", "[", "a", "]", "=b;}"),
+}
+
+
+def limit_stack():
+    """Limits the stack of the process that is about to start."""
+    resource.setrlimit(resource.RLIMIT_STACK, (STACK, STACK))
+
+
+def is_read(program, kind, depth):
+    """Returns whether the program reads a text of this kind and depth."""
+    before, opening, inside, closing, after = kind
+    text = before + opening * depth + inside + closing * depth + after
+    run = subprocess.run([program], input=text.encode(), stdout=subprocess.DEVNULL, stderr=subprocess.DEVNULL, preexec_fn=limit_stack)
+    return run.returncode == 0
+
+
+def deepest(program, kind):
+    """Returns the greatest depth below LIMIT that is read, or None if LIMIT is read too."""
+    if is_read(program, kind, LIMIT):
+        return None
+    low, high = 0, LIMIT
+    while high - low > 1:
+        middle = (low + high) // 2
+        if is_read(program, kind, middle):
+            low = middle
+        else:
+            high = middle
+    return low
+
+
+def main():
+    for name, kind in KINDS.items():
+        depth = deepest(sys.argv[1], kind)
+        print(f"{name:20} {'at least ' + str(LIMIT) if depth is None else f'{depth:7} {STACK / depth:5.0f}'}", flush=True)
+
+
+main()
