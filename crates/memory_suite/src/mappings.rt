@@ -1,4 +1,6 @@
 //! Mappings between numbered trees, and plans of changes.
+ghost use Rattle.std.specs.Prelude.{◌≡◌, []};
+
 use crate::row::{Ask, Row};
 use crate::shown::{list_shown, one_shown};
 use crate::trees::{element, node, root, word};
@@ -199,7 +201,9 @@ fn followed(
 }
 
 /// A plan that inserts a word before the closing parenthesis.
-fn plan(alloc: Global, root: &SyntaxNode, ids: &mut TreeIds) -> anyhow::Result<Plan> {
+fn plan(alloc: Global, root: &SyntaxNode, ids: &mut TreeIds) -> anyhow::Result<Plan>
+    requires { root.now.place.up ≡ [] }
+{
     let new = vec![in alloc; SyntaxElement::Token(word(alloc, ids)?)]?;
     let place = Position {
         parent: root.clone()?,
