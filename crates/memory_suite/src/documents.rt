@@ -16,7 +16,7 @@ use syntax_tree::{Position, SyntaxElement, TreeIds};
 pub(crate) enum DocumentCall {
     /// Opens a text.
     Open(Edition, &'static str),
-    /// Puts a text in the place of bytes of another.
+    /// Replaces bytes of a text.
     Edit(&'static str, u32, u32, &'static str),
     /// Commits changes of a text.
     Commit(&'static str, Changes),
@@ -84,7 +84,7 @@ fn state(alloc: Global, document: &Document) -> Result<String, AllocError> {
     )
 }
 
-/// Opens a text, a second time if memory is refused: the tree has the number that it has without a refusal.
+/// Opens a text, a second time if it runs out of memory: the tree has the number that it has without a refusal.
 fn open(
     alloc: Global,
     (edition, text): (Edition, &str),
@@ -100,7 +100,7 @@ fn open(
     }
 }
 
-/// Edits a document, a second time if memory is refused: the document is as it was then.
+/// Edits a document, a second time if it runs out of memory: the document is as it was then.
 fn edit(
     alloc: Global,
     document: &mut Document,
@@ -255,7 +255,7 @@ fn recorded(
     }
 }
 
-/// The text of a document and the bytes that a commit put in, or the number of the refusal.
+/// The text of a document and the bytes that a commit inserted, or the number of the refusal.
 fn told(
     alloc: Global,
     document: &Document,
@@ -273,7 +273,7 @@ fn told(
     Ok(out)
 }
 
-/// Commits changes, which are recorded a second time if memory is refused: the document is as it was then.
+/// Commits changes, which are recorded a second time if it runs out of memory: the document is as it was then.
 fn commit(
     alloc: Global,
     document: &mut Document,

@@ -203,7 +203,7 @@ fn annotate(
     replace(alloc, EditorCall::Replace, editor, new, refused)
 }
 
-/// Merges an editor of the same tree that deletes its second literal, handed back if memory is refused.
+/// Merges an editor of the same tree that deletes its second literal, handed back if it runs out of memory.
 fn merge(alloc: Global, editor: &mut SyntaxEditor, refused: &mut u32) -> anyhow::Result<()> {
     let mut other = SyntaxEditor::of_root(alloc, copy_of(editor)?);
     other.delete(alloc, &child(alloc, &other, 4)?)?;

@@ -28,7 +28,7 @@ pub(crate) enum LeavesCall {
     Parse,
 }
 
-/// Inserts a struct into a struct, a second time if memory is refused. Returns the counts of the tokens kept before it, lexed and kept
+/// Inserts a struct into a struct, a second time if it runs out of memory. Returns the counts of the tokens kept before it, lexed and kept
 /// behind it; or the text as it was if the range is no edit.
 fn edited(alloc: Global, refused: &mut u32) -> Result<String, AllocError> {
     let mut text = LexedText::new(alloc, "a b c d")?;
@@ -51,7 +51,7 @@ fn copied(alloc: Global) -> Result<String, AllocError> {
     format!(in alloc; "{} {}", copy.text(), copy.tokens().len())
 }
 
-/// Pushes a semicolon, a name and a pipe operator, each a second time if memory is refused.
+/// Pushes a semicolon, a name and a pipe operator, each a second time if it runs out of memory.
 fn pushed(alloc: Global, refused: &mut u32) -> Result<Input, AllocError> {
     let mut input = Input::with_capacity(alloc, 0)?;
     if input.push(SyntaxKind::SEMICOLON).is_err() {

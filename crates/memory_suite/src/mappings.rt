@@ -46,7 +46,7 @@ fn two_trees(alloc: Global) -> anyhow::Result<Trees> {
     Ok(Trees { input, output })
 }
 
-/// Maps the second literal, a second time if memory is refused.
+/// Maps the second literal, a second time if it runs out of memory.
 fn map_node(
     alloc: Global,
     trees: &Trees,
@@ -69,7 +69,7 @@ fn map_node(
     Ok(first?)
 }
 
-/// Maps both literals, a second time if memory is refused.
+/// Maps both literals, a second time if it runs out of memory.
 fn map_children(
     alloc: Global,
     trees: &Trees,
@@ -129,7 +129,7 @@ fn put(
     }
 }
 
-/// A mapping of the second literal, whose entries are moved there a second time if memory is refused.
+/// A mapping of the second literal, whose entries are moved there a second time if it runs out of memory.
 fn mapping(
     alloc: Global,
     call: MappingCall,

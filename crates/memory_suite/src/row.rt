@@ -43,7 +43,7 @@ impl Tally {
     }
 }
 
-/// Returns `true` if the error is that memory was refused.
+/// Returns `true` if the error is out of memory.
 fn is_out_of_memory(alloc: Global, error: &anyhow::Error) -> bool {
     match format!(in alloc; "{error}") {
         Ok(text) => text.as_str().contains("memory"),

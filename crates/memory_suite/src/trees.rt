@@ -46,7 +46,7 @@ pub(crate) fn root(alloc: Global, ids: &mut TreeIds) -> anyhow::Result<SyntaxNod
     Ok(SyntaxNode::new_root(alloc, green(alloc)?, ids)?)
 }
 
-/// A token of a tree of its own.
+/// A token as the only child of its root.
 pub(crate) fn word(alloc: Global, ids: &mut TreeIds) -> anyhow::Result<SyntaxToken> {
     let green = GreenToken::new(alloc, raw(SyntaxKind::IDENT), "x")?;
     Ok(SyntaxToken::detached(alloc, green, ids)?)

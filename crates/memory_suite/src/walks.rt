@@ -26,7 +26,7 @@ pub(crate) enum WalkCall {
     TypedChildren,
 }
 
-/// A walk from after the subtree of the first child on, skipped a second time if memory is refused.
+/// A walk from after the subtree of the first child on, skipped a second time if it runs out of memory.
 fn skipped(mut walk: Preorder<Lists>, refused: &mut u32) -> Result<Preorder<Lists>, AllocError> {
     for _ in 0..2 {
         if let Some(event) = walk.next() {

@@ -93,7 +93,7 @@ refused-by false text number payloads.NotOneToken n h = absurd (let z : One (in_
 refused-by false text number payloads.NoTreeNumber n h = h.1
 refused-by false text number payloads.NoMemory n h = tt
 
--- it is refused only for want of room
+-- it is refused only if room is lacking
 pub token-refused : (edition : Edition) (text : List ℕ) (number : ℕ) (e : PayloadError) → is_plain_name edition (chars text) ≡ true → RefusesPayload number (token_payload edition text) e
     → LacksRoom number text (NoToken e)
 token-refused edition text number e h is =
@@ -152,14 +152,14 @@ err-by (Err e) Q why is q = subst Q (sym is) q
 abbrev pub IfPlain : State → (old new : List ℕ) → ℕ → RenameError → Type 0
 IfPlain d old new number e = IsPlain d old new → length (renamed_text old new (present d)) ≤ MAX_TEXT → LacksRoom number new e
 
--- a change that can be recorded is refused for want of memory alone
+-- a change that can be recorded is refused only if out of memory
 pub record-refused : (r : Recording) (cs : List Change) (number : ℕ) (new : List ℕ) (e : RecordError) → r ≡ Recorded cs → RefusesRecord r e → LacksRoom number new (NotRecorded e)
 record-refused r cs number new records.Foreign is h = absurd (let z : Recorded cs ≡ recording.Foreign = sym is ∙ h in cc)
 record-refused r cs number new records.BadRange is h = absurd (let z : Recorded cs ≡ recording.BadRange = sym is ∙ h in cc)
 record-refused r cs number new records.BadTarget is h = absurd (let z : Recorded cs ≡ recording.BadTarget = sym is ∙ h in cc)
 record-refused r cs number new records.NoMemory is h = tt
 
--- an accepted commit is refused for want of memory, or of a number after the new name's
+-- an accepted commit is refused only if out of memory, or if no number is left after the new name's
 pub commit-refused : (number next : ℕ) (new : List ℕ) (e : CommitError) → next ≡ number + 1 → RefusesCommit step.Accepted next e → LacksRoom number new (Refused e)
 commit-refused number next new commits.Foreign is h = absurd (let z : step.Accepted ≡ step.Foreign = h in cc)
 commit-refused number next new commits.Intersecting is h = absurd (let z : step.Accepted ≡ step.Intersecting = h in cc)

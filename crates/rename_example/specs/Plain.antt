@@ -29,7 +29,7 @@ pub record IsPlain (d : State) (old new : List ℕ) : Type 0 where
   pub new_plain : is_plain_name d.edition (chars new) ≡ true
   pub tokens : (up : Way) → term_by (present d) up ≡ Some (Token (identifier old)) → IsToken d old up
 
--- Memory is refused, no tree number is left for the new name or for the new tree, or the new name alone is past the limit.
+-- Out of memory, no tree number is left for the new name or for the new tree, or the new name alone is past the limit.
 abbrev pub LacksRoom : ℕ → List ℕ → RenameError → Type 0
 LacksRoom number new (NoToken payloads.TooLong) = MAX_TEXT < length new
 LacksRoom number new (NoToken payloads.NoTreeNumber) = number ≡ 2 ^ 32
