@@ -3,11 +3,13 @@
 
     bench/levels.py PROGRAM
 
-PROGRAM reads a file of edition 2021 from standard input, as tree_dump does. Depths are found by halving, up to LIMIT.
+PROGRAM reads a file of edition 2021 from standard input and then writes, as tree_dump does; that a tree that deep takes long to
+write does not count. Depths are found by halving, up to LIMIT.
 """
 import resource
 import subprocess
 import sys
+import tempfile
 
 STACK = 8 << 20
 LIMIT = 140_000
@@ -45,11 +47,16 @@ def limit_stack():
 
 
 def is_read(program, kind, depth):
-    """Returns whether the program reads a text of this kind and depth."""
+    """Returns whether the program reads a text of this kind and depth: whether it writes anything before it ends."""
     before, opening, inside, closing, after = kind
     text = before + opening * depth + inside + closing * depth + after
-    run = subprocess.run([program], input=text.encode(), stdout=subprocess.DEVNULL, stderr=subprocess.DEVNULL, preexec_fn=limit_stack)
-    return run.returncode == 0
+    with tempfile.TemporaryFile() as file:
+        file.write(text.encode())
+        file.seek(0)
+        with subprocess.Popen([program], stdin=file, stdout=subprocess.PIPE, stderr=subprocess.DEVNULL, preexec_fn=limit_stack) as run:
+            has_written = bool(run.stdout.read(1))
+            run.kill()
+    return has_written
 
 
 def deepest(program, kind):
