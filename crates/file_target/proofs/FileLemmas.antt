@@ -1,0 +1,88 @@
+-- Lemmas on files by path.
+use Rattle.std.proofs.Common.{◌≡◌, ℕ, zero, suc, ◌+◌, ◌-◌, ◌<◌, ◌≤◌, Bool, true, false, Option, None, Some, List, [], ◌∷◌, ◌++◌, length, get_or, set, string_bytes, refl, ap, sym, ◌∙◌, arith, inl, inr}
+use Rattle.std.specs.Str.{bytes_eq}
+use Rattle.std.proofs.lemmas.Bool.{cases_Bool, true≢false}
+use Rattle.std.proofs.lemmas.Slice.Eq.{bytes_eq-Decides}
+use Rattle.file_target.specs.declared.memory.Entry.{Entry}
+use Rattle.file_target.specs.declared.version.Version.{Version}
+use Rattle.file_target.specs.declared.error.TargetError.{TargetError}
+use Rattle.file_target.specs.declared.error.TargetError.TheVariants.{Changed, NoMemory}
+use Rattle.file_target.specs.Files.{FileState, Files, files_of, state_of, IsPosition, IsWritten, IsWriteError, IsReadError}
+
+files-here : (e : Entry) (es : List Entry) (path : List ℕ) → bytes_eq (string_bytes e.path) path ≡ true → files_of (e ∷ es) path ≡ Some (state_of e)
+unfolding files_of
+files-here e es path q = rw (q, files_of) refl
+
+files-later : (e : Entry) (es : List Entry) (path : List ℕ) → bytes_eq (string_bytes e.path) path ≡ false → files_of (e ∷ es) path ≡ files_of es path
+unfolding files_of
+files-later e es path q = rw (q, files_of) refl
+
+pub files-none : (es : List Entry) (path : List ℕ) → ((k : ℕ) (d : Entry) → k < length es → bytes_eq (string_bytes (get_or es k d).path) path ≡ false) → files_of es path ≡ None
+unfolding files_of
+files-none [] path h = refl
+files-none (e ∷ es) path h = files-later e es path (h 0 e (omega arith)) ∙ files-none es path (λ k d l. h (suc k) d (omega arith))
+
+-- the first entry at a path is its file
+pub files-at : (es : List Entry) (path : List ℕ) (i : ℕ) (d : Entry) → i < length es → ((k : ℕ) (d : Entry) → k < i → bytes_eq (string_bytes (get_or es k d).path) path ≡ false) →
+    string_bytes (get_or es i d).path ≡ path → files_of es path ≡ Some (state_of (get_or es i d))
+files-at [] path i d l h at = absurd (omega arith)
+files-at (e ∷ es) path zero d l h at = files-here e es path ((bytes_eq-Decides (string_bytes e.path) path).1 at)
+files-at (e ∷ es) path (suc i) d l h at =
+    files-later e es path (h 0 e (omega arith)) ∙ files-at es path i d (omega arith) (λ k d' below. h (suc k) d' (omega arith)) at
+
+-- an entry of the same path in its place changes no other file
+pub files-other : (es : List Entry) (path other : List ℕ) (i : ℕ) (d new : Entry) → i < length es → string_bytes (get_or es i d).path ≡ path → string_bytes new.path ≡ path →
+    (other ≡ path → ⊥) → files_of (set es i new) other ≡ files_of es other
+files-other [] path other i d new l was is ne = absurd (omega arith)
+files-other (e ∷ es) path other zero d new l was is ne =
+    let differs : (x : Entry) → string_bytes x.path ≡ path → bytes_eq (string_bytes x.path) other ≡ false = λ x at.
+    elim (cases_Bool (bytes_eq (string_bytes x.path) other)) [
+      | inl same ↦ absurd (ne (sym ((bytes_eq-Decides (string_bytes x.path) other).0 same) ∙ at))
+      | inr not ↦ not
+    ] in
+    files-later new es other (differs new is) ∙ sym (files-later e es other (differs e was))
+files-other (e ∷ es) path other (suc i) d new l was is ne =
+    elim (cases_Bool (bytes_eq (string_bytes e.path) other)) [
+      | inl same ↦ files-here e (set es i new) other same ∙ sym (files-here e es other same)
+      | inr not ↦ files-later e (set es i new) other not ∙ files-other es path other i d new (omega arith) was is ne ∙ sym (files-later e es other not)
+    ]
+
+-- the new entry is the file at its path
+pub files-set : (es : List Entry) (path : List ℕ) (i : ℕ) (new : Entry) → i < length es → ((k : ℕ) (d : Entry) → k < i → bytes_eq (string_bytes (get_or es k d).path) path ≡ false) →
+    string_bytes new.path ≡ path → files_of (set es i new) path ≡ Some (state_of new)
+files-set [] path i new l h is = absurd (omega arith)
+files-set (e ∷ es) path zero new l h is = files-here new es path ((bytes_eq-Decides (string_bytes new.path) path).1 is)
+files-set (e ∷ es) path (suc i) new l h is =
+    files-later e (set es i new) path (h 0 e (omega arith)) ∙ files-set es path i new (omega arith) (λ k d below. h (suc k) d (omega arith)) is
+
+-- what a position tells of the file at its path
+pub at-position : (es : List Entry) (path : List ℕ) (i : ℕ) (x : Entry) → IsPosition es path (Some i) → x ≡ get_or es i x → files_of es path ≡ Some (state_of x)
+at-position es path i x p e = files-at es path i x p.0 p.1 (p.2 x) ∙ ap (λ y. Some (state_of y)) (sym e)
+
+pub path-position : (es : List Entry) (path : List ℕ) (i : ℕ) (x : Entry) → IsPosition es path (Some i) → x ≡ get_or es i x → string_bytes x.path ≡ path
+path-position es path i x p e = ap (λ y. string_bytes y.path) e ∙ p.2 x
+
+-- a write to an entry is a write to its file
+pub written-at : (es : List Entry) (path : List ℕ) (v : Version) (bytes : List ℕ) (i : ℕ) (x y new : Entry) → IsPosition es path (Some i) → x ≡ get_or es i x → y ≡ get_or es i y →
+    x.version ≡ v → string_bytes new.path ≡ string_bytes y.path → new.bytes.items ≡ bytes → IsWritten (files_of es) path v bytes (files_of (set es i new))
+written-at es path v bytes i x y new p is-x is-y same kept put =
+    let new-path = kept ∙ path-position es path i y p is-y in
+    record {
+      old = state_of x;
+      was = at-position es path i x p is-x;
+      expected = same;
+      new = state_of new;
+      is = files-set es path i new p.0 p.1 new-path;
+      written = put;
+      others = λ other ne. files-other es path other i x new p.0 (p.2 x) new-path ne;
+    }
+
+-- why a write fails
+pub write-changed : (es : List Entry) (path : List ℕ) (v : Version) (i : ℕ) (x : Entry) → IsPosition es path (Some i) → x ≡ get_or es i x → (x.version ≡ v → ⊥) → IsWriteError (files_of es path) v Changed
+write-changed es path v i x p is-x ne = rw (at-position es path i x p is-x) (inl (ne, refl))
+
+pub write-memory : (es : List Entry) (path : List ℕ) (v : Version) (i : ℕ) (x : Entry) (e : TargetError) → IsPosition es path (Some i) → x ≡ get_or es i x → x.version ≡ v → e ≡ NoMemory → IsWriteError (files_of es path) v e
+write-memory es path v i x e p is-x same is = rw (at-position es path i x p is-x) (inr (same, is))
+
+pub read-memory : (es : List Entry) (path : List ℕ) (i : ℕ) (x : Entry) (e : TargetError) → IsPosition es path (Some i) → x ≡ get_or es i x → e ≡ NoMemory → IsReadError (files_of es path) e
+read-memory es path i x e p is-x is = rw (at-position es path i x p is-x) is

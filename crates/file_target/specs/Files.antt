@@ -1,0 +1,73 @@
+-- Files by path, and what reading and writing them gives.
+use Rattle.std.specs.Prelude.{◌≡◌, ◌⊎◌, ◌<◌, ◌++◌, ℕ, Bool, false, List, [], ◌∷◌, length, slice_index_or, Option, None, Some, Result, MatchResult, string_bytes, if◌then◌else◌}
+use Rattle.std.specs.Str.{bytes_eq}
+use Rattle.file_target.specs.declared.version.Version.{Version}
+use Rattle.file_target.specs.declared.target.Contents.{Contents}
+use Rattle.file_target.specs.declared.error.TargetError.{TargetError}
+use Rattle.file_target.specs.declared.error.TargetError.TheVariants.{NotFound, Changed, NoMemory}
+use Rattle.file_target.specs.declared.memory.Entry.{Entry}
+
+-- The bytes of a file, and its version.
+pub record FileState : Type 0 where
+  pub bytes : List ℕ
+  pub version : Version
+
+-- the file at each path
+abbrev pub Files : Type 0
+Files = List ℕ → Option FileState
+
+-- The error of a read: no file, or out of memory.
+abbrev pub IsReadError : Option FileState → TargetError → Type 0
+IsReadError None e = e ≡ NotFound
+IsReadError (Some f) e = e ≡ NoMemory
+
+-- A read returns the file, or why it does not. Of files that are not known nothing is said.
+abbrev pub ReadGives : Option Files → List ℕ → Result Contents TargetError → Type 0
+ReadGives None path r = Unit {0}
+ReadGives (Some files) path r =
+    MatchResult r (λ c. files path ≡ Some (record { bytes = c.bytes.items; version = c.version })) (IsReadError (files path))
+
+-- The error of a write: no file, a file of another version, or out of memory.
+abbrev pub IsWriteError : Option FileState → Version → TargetError → Type 0
+IsWriteError None v e = e ≡ NotFound
+IsWriteError (Some f) v e = ((f.version ≡ v → ⊥) × (e ≡ Changed)) ⊎ ((f.version ≡ v) × (e ≡ NoMemory))
+
+-- The file was of the version that is expected, and has the bytes now. No other file has changed.
+pub record IsWritten (files : Files) (path : List ℕ) (v : Version) (bytes : List ℕ) (now : Files) : Type 0 where
+  pub old : FileState
+  pub was : files path ≡ Some old
+  pub expected : old.version ≡ v
+  pub new : FileState
+  pub is : now path ≡ Some new
+  pub written : new.bytes ≡ bytes
+  pub others : (other : List ℕ) → (other ≡ path → ⊥) → now other ≡ files other
+
+-- A write replaces the bytes of a file, or says why it does not; on error nothing has changed.
+abbrev pub WriteGives : Option Files → List ℕ → Version → List ℕ → Option Files → Result (Unit {0}) TargetError → Type 0
+WriteGives None path v bytes after r = Unit {0}
+WriteGives (Some files) path v bytes after r =
+    (now : Files) × (after ≡ Some now)
+    × MatchResult r (λ _. IsWritten files path v bytes now) (λ e. ((other : List ℕ) → now other ≡ files other) × IsWriteError (files path) v e)
+
+-- the file of an entry
+abbrev pub state_of : Entry → FileState
+state_of e = record { bytes = e.bytes.items; version = e.version }
+
+-- the files of entries: the first entry of a path is its file
+unfoldable pub files_of : List Entry → Files
+files_of [] path = None
+files_of (e ∷ es) path = if bytes_eq (string_bytes e.path) path then Some (state_of e) else files_of es path
+
+-- The first entry at a path is at the index, or there is none.
+abbrev pub IsPosition : List Entry → List ℕ → Option ℕ → Type 0
+IsPosition es path None = files_of es path ≡ None
+IsPosition es path (Some i) =
+    (i < length es) × ((k : ℕ) (d : Entry) → k < i → bytes_eq (string_bytes (slice_index_or es k d).path) path ≡ false)
+    × ((d : Entry) → string_bytes (slice_index_or es i d).path ≡ path)
+
+-- The file is added behind the others.
+pub record IsAdded (old : List Entry) (path bytes : List ℕ) (new : List Entry) : Type 0 where
+  pub entry : Entry
+  pub pushed : new ≡ old ++ entry ∷ []
+  pub at : string_bytes entry.path ≡ path
+  pub has : entry.bytes.items ≡ bytes

@@ -1,0 +1,111 @@
+//! Files in memory.
+
+ghost use Rattle.std.specs.Prelude.{◌≡◌, [], Some, MatchResult};
+ghost use Rattle.file_target.specs.Files.{files_of, IsPosition, IsAdded};
+
+use crate::error::TargetError;
+use crate::target::{Contents, Target};
+use crate::version::Version;
+use std::alloc::{AllocError, Global};
+
+/// A file in memory.
+#[derive(Drop)]
+struct Entry {
+    path: String,
+    bytes: Vec<u8>,
+    version: Version,
+}
+
+/// Files in memory, by path.
+#[derive(Drop)]
+pub struct Memory {
+    entries: Vec<Entry>,
+}
+
+impl Memory {
+    /// Returns no files.
+    pub fn new(alloc: Global) -> Memory
+        ensures { result.entries.items ≡ [] }
+    {
+        Memory {
+            entries: Vec::new(alloc),
+        }
+    }
+
+    /// Adds a file. A file that has this path already is left as it is, and read in place of it.
+    ///
+    /// # Errors
+    ///
+    /// Out of memory; then `self` is unchanged.
+    pub fn add(&mut self, alloc: Global, path: &str, bytes: &[u8]) -> Result<(), AllocError>
+        ensures { MatchResult result
+            (λ _. IsAdded self.old.entries.items path.now bytes.now self.new.entries.items)
+            (λ _. self.new.entries.items ≡ self.old.entries.items) }
+    {
+        let version = Version {
+            device: 0,
+            inode: self.entries.len() as u64,
+            len: bytes.len() as u64,
+            seconds: 0,
+            nanoseconds: 0,
+        };
+        let path = String::from_str(alloc, path)?;
+        let bytes = Vec::from_slice(alloc, bytes)?;
+        self.entries.push(Entry {
+            path,
+            bytes,
+            version,
+        })?;
+        Ok(())
+    }
+}
+
+/// Returns the index of the first entry at `path`.
+fn position(entries: &[Entry], path: &str) -> Option<usize>
+    ensures { IsPosition entries.now path.now result }
+{
+    for (i, entry) in entries.iter().enumerate() {
+        if entry.path.as_str() == path {
+            return Some(i);
+        }
+    }
+    None
+}
+
+impl Target for Memory {
+    ghost files = { λ memory. Some (files_of memory.entries.items) };
+
+    fn read(&self, alloc: Global, path: &str) -> Result<Contents, TargetError> {
+        let Some(i) = position(self.entries.as_slice(), path) else {
+            return Err(TargetError::NotFound);
+        };
+        let entry = &self.entries[i];
+        let bytes = Vec::from_slice(alloc, entry.bytes.as_slice())?;
+        Ok(Contents {
+            bytes,
+            version: entry.version,
+        })
+    }
+
+    fn write(
+        &mut self,
+        alloc: Global,
+        path: &str,
+        version: Version,
+        bytes: &[u8],
+    ) -> Result<(), TargetError> {
+        let Some(i) = position(self.entries.as_slice(), path) else {
+            return Err(TargetError::NotFound);
+        };
+        let present = self.entries[i].version;
+        if !present.is(version) {
+            return Err(TargetError::Changed);
+        }
+        let bytes = Vec::from_slice(alloc, bytes)?;
+        let entry = &mut self.entries[i];
+        entry.version.len = bytes.len() as u64;
+        entry.version.nanoseconds = present.nanoseconds.wrapping_add(1);
+        entry.bytes = bytes;
+        Ok(())
+    }
+}

@@ -1,0 +1,38 @@
+//! Versions of a file.
+
+ghost use Rattle.std.specs.Prelude.{◌≡◌, ◌↔◌, IsTrue};
+
+use std::fs::Metadata;
+use std::os::unix::fs::MetadataExt;
+
+/// The version of a file: two versions differ if the file was written between them.
+///
+/// On a disk it is the file's device, inode, length and time of modification.
+#[derive(Clone, Copy, Debug, PartialEq, Eq, Drop)]
+pub struct Version {
+    pub(crate) device: u64,
+    pub(crate) inode: u64,
+    pub(crate) len: u64,
+    pub(crate) seconds: i64,
+    pub(crate) nanoseconds: i64,
+}
+
+impl Version {
+    /// Returns `true` if this is `other`.
+    pub(crate) fn is(self, other: Version) -> bool
+        ensures { IsTrue result ↔ self ≡ other }
+    {
+        self == other
+    }
+
+    /// Returns the version of a file with this metadata.
+    pub(crate) fn of(metadata: &Metadata) -> Version {
+        Version {
+            device: metadata.dev(),
+            inode: metadata.ino(),
+            len: metadata.len(),
+            seconds: metadata.mtime(),
+            nanoseconds: metadata.mtime_nsec(),
+        }
+    }
+}

@@ -1,0 +1,39 @@
+-- Edit scripts: changes that lead from old lines to new ones.
+use Rattle.std.specs.Prelude.{◌≡◌, ◌≤◌, ◌<◌, ◌+◌, ℕ, List, [], ◌∷◌, length, slice_range}
+use Rattle.text_diff.specs.declared.change.Change.{Change}
+use Rattle.text_diff.specs.Lines.{Line}
+
+-- Old lines i to p are new lines j to q.
+pub record AreSame (old new : List Line) (i j p q : ℕ) : Type 0 where
+  pub old_order : i ≤ p
+  pub new_order : j ≤ q
+  pub old_end : p ≤ length old
+  pub new_end : q ≤ length new
+  pub same : slice_range old i p ≡ slice_range new j q
+
+-- A change replaces old lines by new ones; either may be none.
+pub record IsChange (old new : List Line) (c : Change) : Type 0 where
+  pub old_order : c.old_start ≤ c.old_end
+  pub new_order : c.new_start ≤ c.new_end
+  pub old_end : c.old_end ≤ length old
+  pub new_end : c.new_end ≤ length new
+
+-- The changes lead from old line i and new line j to old line p and new line q: between them the
+-- lines are the same.
+abbrev pub IsRun : List Line → List Line → ℕ → ℕ → List Change → ℕ → ℕ → Type 0
+IsRun old new i j [] p q = AreSame old new i j p q
+IsRun old new i j (c ∷ cs) p q =
+    AreSame old new i j c.old_start c.new_start × IsChange old new c
+    × IsRun old new c.old_end c.new_end cs p q
+
+-- The changes lead from the old lines to the new ones.
+abbrev pub IsScript : List Line → List Line → List Change → Type 0
+IsScript old new cs = IsRun old new 0 0 cs (length old) (length new)
+
+-- Of so many old and new lines, old line p and new line q are ahead of i and j.
+pub record IsAhead (old new i j p q : ℕ) : Type 0 where
+  pub old_order : i ≤ p
+  pub new_order : j ≤ q
+  pub old_end : p ≤ old
+  pub new_end : q ≤ new
+  pub moves : i + j < p + q
