@@ -3,7 +3,9 @@ use ra_parser::ParseError;
 use rowan::CursorError;
 use rowan_green::GreenError;
 use rust_document::{CommitError, EditError, OpenError, PayloadError};
-use syntax_editor::{FinishError, MakeError, MergeError, RecordError, RewriteError, WhitespaceError};
+use syntax_editor::{
+    FinishError, MakeError, MergeError, RecordError, RewriteError, WhitespaceError,
+};
 use syntax_tree::{MappingError, PositionError, TreeError};
 use tree_indent::IndentError;
 use tree_rewrite::error::{ExecuteError, PlanError};
@@ -52,7 +54,10 @@ const NUMBERS: &[Numbers] = &[
     ),
     (
         "PositionError",
-        &[PositionError::NoParent as u32, PositionError::NoMemory as u32],
+        &[
+            PositionError::NoParent as u32,
+            PositionError::NoMemory as u32,
+        ],
         &[1, 2],
     ),
     (
