@@ -13,8 +13,8 @@ const NAMES: u32 = 100;
 
 /// The files of a file system.
 ///
-/// A write makes a new file beside the old one, syncs it and renames it over the old one, so at each
-/// moment the path has the old bytes or the new ones. The mode is kept, and a link stays a link.
+/// A write makes a new file beside the old one, syncs it and renames it over the old one, so at
+/// each moment the path has the old bytes or the new ones. The mode is kept, and a link stays a link.
 pub struct Disk<'a, R: Files + AllocGlobal> {
     rt: &'a R,
 }

@@ -4,7 +4,7 @@ use std::alloc::{AllocError, AllocFailed};
 use std::io::{self, ErrorKind};
 use thiserror::Error;
 
-/// The error type of [`Target::read`](crate::Target::read) and [`Target::write`](crate::Target::write).
+/// The error type of [`Target`](crate::Target).
 #[derive(Debug, Drop, Error)]
 pub enum TargetError {
     /// There is no file at the path.

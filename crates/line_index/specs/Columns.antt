@@ -16,7 +16,7 @@ unfoldable pub units : Encoding → List ℕ → ℕ
 units e [] = 0
 units e (b ∷ bs) = width e b + units e bs
 
--- how many bytes the units lead over: the longest front of at most so many units
+-- the length in bytes of the longest front of at most `col` units
 unfoldable pub reach : Encoding → ℕ → List ℕ → ℕ
 reach e col [] = 0
 reach e col (b ∷ bs) =

@@ -16,7 +16,7 @@ feeds (b ∷ bs) = elim (b == line_feed) [ true ↦ suc (feeds bs) | false ↦ f
 abbrev pub line_count : List ℕ → ℕ
 line_count text = suc (feeds text)
 
--- where the line starts: after so many line feeds
+-- where the line starts: after as many line feeds as its number
 unfoldable pub line_start : ℕ → List ℕ → ℕ
 line_start zero text = 0
 line_start (suc line) [] = 0

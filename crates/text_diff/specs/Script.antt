@@ -30,7 +30,7 @@ IsRun old new i j (c ∷ cs) p q =
 abbrev pub IsScript : List Line → List Line → List Change → Type 0
 IsScript old new cs = IsRun old new 0 0 cs (length old) (length new)
 
--- Of so many old and new lines, old line p and new line q are ahead of i and j.
+-- Old line p and new line q are ahead of i and j; there are `old` and `new` lines.
 pub record IsAhead (old new i j p q : ℕ) : Type 0 where
   pub old_order : i ≤ p
   pub new_order : j ≤ q
