@@ -14,7 +14,8 @@ import ledger
 from repository import TOP
 
 TABLE = "memory_suite"
-# Crates whose calls are not the product's own: programs, tests and measurements come after this line of crates.txt.
+# Crates whose calls are not the product's own come after this line of crates.txt: programs, tests, measurements, and crates that no
+# program uses yet, whose tests make a refused call again (`rt try --test --fail-alloc N`).
 END_OF_PRODUCT = "# Its program"
 # Calls that are steps of others, and those of the table that make them: the changes of a plan, for one, are known to `tree_rewrite`
 # alone.
