@@ -11,7 +11,7 @@ for. A plain model makes the changes in the tree that the program told. The chec
 - after an accepted one the text is the model's, and the others are those of that text, opened by another run of the program;
 - an edit is refused exactly if its range is none of the text;
 - a commit of changes that have a place is refused exactly if its text, opened by another run, has another tree than the model's,
-  whitespace and comments aside; an accepted one tells the bytes that the model put in.
+  whitespace and comments aside; an accepted one tells the ranges that the model inserted.
 """
 import argparse
 import collections
@@ -42,7 +42,7 @@ AROUND = {"expr": ("const a:b={};", "CONST", 6), "type": ("const a:{}=1;", "CONS
 PUTS = ("", " ", "b", "é", "1", ".", "\"", "'", "//", "/*", "*/", "(", ")", "{", "}", "#", "-", "\n", "x.0.1", "struct S;")
 LINE = re.compile(r"( *)(\w+)@(\d+)\.\.(\d+)")
 TREE, ERRORS = {"do": "tree"}, {"do": "errors"}
-# Texts that are opened anew together before their requests are checked.
+# The requests of one seed.
 CHUNK = 200
 
 
@@ -197,7 +197,7 @@ def answers(program, edition, text, commands):
 
 
 def state(program, edition, text):
-    """Returns the tree and the messages of a text that is opened anew."""
+    """Returns the tree and the messages of a text, opened by a run of its own."""
     (tree, errors), _ = answers(program, edition, text, [TREE, ERRORS])
     return tree["tree"], errors["errors"]
 
@@ -254,13 +254,13 @@ class Storm:
             return "", data
         made = Rewriting(tree_of(before[0]), data, command["changes"], lambda *it: self.payload(edition, *it))
         new = bytes_of(made.term)
-        anew = state(self.program, edition, new.decode())
-        is_faithful = bare(tree_of(anew[0]).term(new)) == bare(made.term)
+        reopened = state(self.program, edition, new.decode())
+        is_faithful = bare(tree_of(reopened[0]).term(new)) == bare(made.term)
         if "err" in reply:
             return "a faithful rewrite was refused" if is_faithful else "", data
         if not is_faithful:
             return "an unfaithful rewrite was accepted", data
-        return ("" if (reply["changed"], end, now) == (made.ranges, new, anew) else f"the model has {new.decode()!r}, {made.ranges}"), new
+        return ("" if (reply["changed"], end, now) == (made.ranges, new, reopened) else f"the model has {new.decode()!r}, {made.ranges}"), new
 
     def checked_edit(self, edition, data, command, told, end):
         """Returns what is wrong with the reply to an edit, if something is, and the text after it."""

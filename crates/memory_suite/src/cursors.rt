@@ -5,7 +5,8 @@ use rowan::ElementExt;
 use rowan_green::{GreenError, GreenNode, GreenNodeBuilder, SyntaxKind};
 use std::alloc::{AllocError, Global};
 
-/// The words of the tree: `ab`, a list of `,`, an empty list and `cd`, then `;`, a list of `e`, an empty list.
+/// The words of the tree: `ab`, a list of `,`, an empty list and `cd`, then `;`, a list of `e`, an
+/// empty list.
 const SAMPLE: &str = "{ ab ( , ( ) cd ) ; ( e ) ( ) }";
 
 /// The elements that the words stand for, put after those of a builder.

@@ -73,7 +73,8 @@ fn messages(alloc: Global, document: &Document) -> Result<String, AllocError> {
     Ok(out)
 }
 
-/// All that a document says: its text, the number and the elements of its tree, its tokens and its messages.
+/// All that a document says: its text, the number and the elements of its tree, its tokens and its
+/// messages.
 fn state(alloc: Global, document: &Document) -> Result<String, AllocError> {
     let elements = all_shown(alloc, document.root().descendants_with_tokens(alloc)?)?;
     let (tokens, messages) = (tokens(alloc, document)?, messages(alloc, document)?);
@@ -84,7 +85,8 @@ fn state(alloc: Global, document: &Document) -> Result<String, AllocError> {
     )
 }
 
-/// Opens a text, a second time if it runs out of memory: the tree has the number that it has without a refusal.
+/// Opens a text, a second time if it runs out of memory: the tree has the number that it has without a
+/// refusal.
 fn open(
     alloc: Global,
     (edition, text): (Edition, &str),
@@ -255,7 +257,7 @@ fn recorded(
     }
 }
 
-/// The text of a document and the bytes that a commit inserted, or the number of the refusal.
+/// The text of a document and the ranges that a commit changed, or the number of the refusal.
 fn told(
     alloc: Global,
     document: &Document,
@@ -273,7 +275,8 @@ fn told(
     Ok(out)
 }
 
-/// Commits changes, which are recorded a second time if it runs out of memory: the document is as it was then.
+/// Commits changes, which are recorded a second time if it runs out of memory: the document is as it
+/// was then.
 fn commit(
     alloc: Global,
     document: &mut Document,

@@ -26,7 +26,7 @@ pub(crate) enum IndentCall {
     TypedResetIndent,
 }
 
-/// A file with a line feed and four spaces, and after them `a` in braces, on a line of its own.
+/// A file with a line feed and four spaces, and after them a path in braces, on a line of its own.
 fn green(alloc: Global) -> anyhow::Result<GreenNode> {
     let mut builder = GreenNodeBuilder::new(alloc);
     builder.start_node(raw(SyntaxKind::SOURCE_FILE))?;
@@ -34,7 +34,9 @@ fn green(alloc: Global) -> anyhow::Result<GreenNode> {
     builder.start_node(raw(SyntaxKind::STMT_LIST))?;
     builder.token(raw(SyntaxKind::L_CURLY), "{")?;
     builder.token(raw(SyntaxKind::WHITESPACE), "\n        ")?;
+    builder.start_node(raw(SyntaxKind::PATH))?;
     builder.token(raw(SyntaxKind::IDENT), "a")?;
+    builder.finish_node()?;
     builder.token(raw(SyntaxKind::WHITESPACE), "\n    ")?;
     builder.token(raw(SyntaxKind::R_CURLY), "}")?;
     builder.finish_node()?;
@@ -53,7 +55,7 @@ fn list(alloc: Global, ids: &mut TreeIds) -> anyhow::Result<SyntaxNode> {
 fn level_of(alloc: Global, call: IndentCall, list: SyntaxNode) -> anyhow::Result<IndentLevel> {
     match call {
         IndentCall::FromNode => Ok(IndentLevel::from_node(alloc, &list)?),
-        IndentCall::FromToken => match list.nth_child_or_token(alloc, 2)? {
+        IndentCall::FromToken => match list.nth_child_or_token(alloc, 1)? {
             Some(SyntaxElement::Token(token)) => Ok(IndentLevel::from_token(alloc, &token)?),
             _ => bail!("no token"),
         },
@@ -66,59 +68,83 @@ fn read(alloc: Global, node: &SyntaxNode) -> Result<String, AllocError> {
     format!(in alloc; "{} {}", node.tree(), node.cursor().text()?)
 }
 
+/// Shifts a list. Where nothing is mapped, the mapping stays empty.
 fn shifted(
     alloc: Global,
     call: IndentCall,
     list: &SyntaxNode,
+    mapping: &mut SyntaxMapping,
     ids: &mut TreeIds,
-) -> anyhow::Result<String> {
+) -> anyhow::Result<SyntaxNode> {
     let level = IndentLevel(1);
-    let root = match call {
-        IndentCall::Indent => indent(alloc, list, level, ids)?,
-        IndentCall::Dedent => dedent(alloc, list, level, ids)?,
-        IndentCall::ResetIndent => reset_indent(alloc, list, ids)?,
-        _ => {
-            let mut mapping = SyntaxMapping::new(alloc);
-            indent_with_mapping(alloc, list, level, &mut mapping, ids)?
-        }
-    };
-    Ok(read(alloc, &root)?)
+    match call {
+        IndentCall::Indent => Ok(indent(alloc, list, level, ids)?),
+        IndentCall::Dedent => Ok(dedent(alloc, list, level, ids)?),
+        IndentCall::ResetIndent => Ok(reset_indent(alloc, list, ids)?),
+        _ => Ok(indent_with_mapping(alloc, list, level, mapping, ids)?),
+    }
 }
 
 fn typed_shifted(
     alloc: Global,
     call: IndentCall,
     list: &StmtList,
+    mapping: &mut SyntaxMapping,
     ids: &mut TreeIds,
-) -> anyhow::Result<String> {
-    let level = list.indent_level(alloc)?;
+) -> anyhow::Result<SyntaxNode> {
+    let level = IndentLevel(1);
     let list = match call {
-        IndentCall::TypedLevel => return Ok(format!(in alloc; "{}", level.0)?),
         IndentCall::TypedIndent => list.indent(alloc, level, ids)?,
         IndentCall::TypedDedent => list.dedent(alloc, level, ids)?,
         IndentCall::TypedResetIndent => list.reset_indent(alloc, ids)?,
-        _ => {
-            let mut mapping = SyntaxMapping::new(alloc);
-            list.indent_with_mapping(alloc, level, &mut mapping, ids)?
-        }
+        _ => list.indent_with_mapping(alloc, level, mapping, ids)?,
     };
-    Ok(read(alloc, list.syntax())?)
+    Ok(list.syntax().clone()?)
 }
 
-fn typed(
+/// The number and the text of a shifted list, and how many of its nodes are mapped. The list is
+/// shifted a second time if it runs out of memory: the number and the mapping are as before then.
+fn read_shifted(
     alloc: Global,
     call: IndentCall,
-    list: SyntaxNode,
+    list: &SyntaxNode,
     ids: &mut TreeIds,
+    refused: &mut u32,
 ) -> anyhow::Result<String> {
-    match StmtList::cast(list) {
-        Some(list) => typed_shifted(alloc, call, &list, ids),
-        None => bail!("of another type"),
+    let mut mapping = SyntaxMapping::new(alloc);
+    let root = match shifted(alloc, call, list, &mut mapping, ids) {
+        Ok(root) => root,
+        Err(_) => {
+            *refused = refused.saturating_add(1);
+            shifted(alloc, call, list, &mut mapping, ids)?
+        }
+    };
+    Ok(format!(in alloc; "{} {}", read(alloc, &root)?, mapping.len())?)
+}
+
+fn read_typed(
+    alloc: Global,
+    call: IndentCall,
+    list: &StmtList,
+    ids: &mut TreeIds,
+    refused: &mut u32,
+) -> anyhow::Result<String> {
+    if matches!(call, IndentCall::TypedLevel) {
+        return Ok(format!(in alloc; "{}", list.indent_level(alloc)?.0)?);
     }
+    let mut mapping = SyntaxMapping::new(alloc);
+    let root = match typed_shifted(alloc, call, list, &mut mapping, ids) {
+        Ok(root) => root,
+        Err(_) => {
+            *refused = refused.saturating_add(1);
+            typed_shifted(alloc, call, list, &mut mapping, ids)?
+        }
+    };
+    Ok(format!(in alloc; "{} {}", read(alloc, &root)?, mapping.len())?)
 }
 
 impl Ask for IndentCall {
-    fn answer(self, alloc: Global, _refused: &mut u32) -> anyhow::Result<String> {
+    fn answer(self, alloc: Global, refused: &mut u32) -> anyhow::Result<String> {
         let mut ids = TreeIds::new();
         let list = list(alloc, &mut ids)?;
         match self {
@@ -128,15 +154,20 @@ impl Ask for IndentCall {
             IndentCall::Indent
             | IndentCall::IndentWithMapping
             | IndentCall::Dedent
-            | IndentCall::ResetIndent => shifted(alloc, self, &list, &mut ids),
-            _ => typed(alloc, self, list, &mut ids),
+            | IndentCall::ResetIndent => read_shifted(alloc, self, &list, &mut ids, refused),
+            _ => match StmtList::cast(list) {
+                Some(list) => read_typed(alloc, self, &list, &mut ids, refused),
+                None => bail!("of another type"),
+            },
         }
     }
 }
 
-const INDENTED: &str = "2 {\n            a\n        }";
+const INDENTED: &str = "2 {\n            a\n        } 0";
 
-const DEDENTED: &str = "2 {\n    a\n}";
+const MAPPED: &str = "2 {\n            a\n        } 1";
+
+const DEDENTED: &str = "2 {\n    a\n} 0";
 
 pub(crate) const ROWS: &[Row<IndentCall>] = &[
     (
@@ -158,7 +189,7 @@ pub(crate) const ROWS: &[Row<IndentCall>] = &[
     (
         "tree_indent::indent_with_mapping",
         IndentCall::IndentWithMapping,
-        INDENTED,
+        MAPPED,
     ),
     ("tree_indent::dedent", IndentCall::Dedent, DEDENTED),
     (
@@ -179,7 +210,7 @@ pub(crate) const ROWS: &[Row<IndentCall>] = &[
     (
         "tree_indent::AstNodeEdit::indent_with_mapping",
         IndentCall::TypedIndentWithMapping,
-        INDENTED,
+        MAPPED,
     ),
     (
         "tree_indent::AstNodeEdit::dedent",

@@ -28,8 +28,8 @@ pub(crate) enum LeavesCall {
     Parse,
 }
 
-/// Inserts a struct into a struct, a second time if it runs out of memory. Returns the counts of the tokens kept before it, lexed and kept
-/// behind it; or the text as it was if the range is no edit.
+/// Inserts a struct into a struct, a second time if it runs out of memory. Returns the counts of the
+/// tokens kept before it, lexed and kept behind it; or the text as it was if the range is no edit.
 fn edited(alloc: Global, refused: &mut u32) -> Result<String, AllocError> {
     let mut text = LexedText::new(alloc, "a b c d")?;
     for _ in 0..2 {

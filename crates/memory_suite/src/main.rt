@@ -1,8 +1,10 @@
-//! Makes each public call that can run out of memory, and compares its answer with the one that a table has. A call that answers out
-//! of memory is made a second time: it has to leave its values as they were, and to give the answer of the table then.
+//! Makes each public call that can run out of memory, and compares its answer with the one that a
+//! table has. A call that answers out of memory is made a second time: it has to leave its values
+//! as they were, and to give the answer of the table then.
 //!
-//! Prints a line for each wrong answer, and how many rows there are. A line before them names the call that answered out of memory.
-//! `bench/refused.py --calls` runs the program again and again with one request for memory refused, each in turn.
+//! Prints a line for each wrong answer, and how many rows there are. A line before them names the
+//! call that answered out of memory. `bench/refused.py --calls` runs the program again and again
+//! with one request for memory refused, each in turn.
 #![tactic(auto)]
 
 mod cursors;
@@ -13,6 +15,7 @@ mod green;
 mod indents;
 mod leaves;
 mod mappings;
+mod recording;
 mod requests;
 mod row;
 mod shown;

@@ -129,7 +129,8 @@ fn put(
     }
 }
 
-/// A mapping of the second literal, whose entries are moved there a second time if it runs out of memory.
+/// A mapping of the second literal, whose entries are moved there a second time if memory is
+/// refused.
 fn mapping(
     alloc: Global,
     call: MappingCall,

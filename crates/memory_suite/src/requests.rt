@@ -66,7 +66,8 @@ fn text_after(replies: usize) -> &'static str {
     }
 }
 
-/// Applies all commands, those without a reply a second time if it runs out of memory: the document is as the others left it then.
+/// Applies all commands, those without a reply a second time if it runs out of memory: the document is
+/// as the others left it then.
 fn applied(alloc: Global, refused: &mut u32) -> anyhow::Result<String> {
     let mut ids = TreeIds::new();
     let mut document = Document::open(alloc, Edition::Edition2021, "struct S;", &mut ids)?;

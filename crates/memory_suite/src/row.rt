@@ -3,12 +3,13 @@ use std::alloc::{AllocError, Global};
 
 /// The answer to a question.
 pub(crate) trait Ask: Copy {
-    /// Makes the call. A call that changes a value is made a second time if it answers out of memory, and counted in `refused`.
+    /// Makes the call. A call that changes a value is made a second time if it answers out of
+    /// memory, and counted in `refused`.
     fn answer(self, alloc: Global, refused: &mut u32) -> anyhow::Result<String>;
 }
 
-/// A row of the table: the path of a call, or of several that are made one after another; what is asked; and what is written for the
-/// answer.
+/// A row of the table: the path of a call, or of several that are made one after another; what is
+/// asked; and what is written for the answer.
 pub(crate) type Row<A> = (&'static str, A, &'static str);
 
 /// What became of the rows.

@@ -211,27 +211,49 @@ fn of_element(
     }
 }
 
-/// A tree of a new number, and that number.
-fn made(alloc: Global, call: TreeCall) -> anyhow::Result<String> {
+/// An element of a tree of a new number.
+fn made(
+    alloc: Global,
+    call: TreeCall,
+    root: &SyntaxNode,
+    ids: &mut TreeIds,
+) -> anyhow::Result<SyntaxElement> {
+    match call {
+        TreeCall::NewRoot => {
+            let root = SyntaxNode::new_root(alloc, green(alloc)?, ids)?;
+            Ok(SyntaxElement::Node(root))
+        }
+        TreeCall::CloneSubtree => {
+            let literal = node(alloc, root, &[4])?;
+            Ok(SyntaxElement::Node(literal.clone_subtree(alloc, ids)?))
+        }
+        _ => Ok(SyntaxElement::Token(word(alloc, ids)?)),
+    }
+}
+
+/// The number of a new tree, and its element. It is made a second time if it runs out of memory: no
+/// number is used up then.
+fn read_made(alloc: Global, call: TreeCall, refused: &mut u32) -> anyhow::Result<String> {
     let mut ids = TreeIds::new();
     let root = root(alloc, &mut ids)?;
-    let made = match call {
-        TreeCall::NewRoot => SyntaxElement::Node(root),
-        TreeCall::CloneSubtree => {
-            let literal = node(alloc, &root, &[4])?;
-            SyntaxElement::Node(literal.clone_subtree(alloc, &mut ids)?)
+    let element = match made(alloc, call, &root, &mut ids) {
+        Ok(element) => element,
+        Err(_) => {
+            *refused = refused.saturating_add(1);
+            made(alloc, call, &root, &mut ids)?
         }
-        _ => SyntaxElement::Token(word(alloc, &mut ids)?),
     };
-    let number = made.tree();
-    Ok(format!(in alloc; "{number} {}", numbered(alloc, made)?)?)
+    let number = element.tree();
+    Ok(format!(in alloc; "{number} {}", numbered(alloc, element)?)?)
 }
 
 impl Ask for TreeCall {
-    fn answer(self, alloc: Global, _refused: &mut u32) -> anyhow::Result<String> {
+    fn answer(self, alloc: Global, refused: &mut u32) -> anyhow::Result<String> {
         let mut ids = TreeIds::new();
         match self {
-            TreeCall::NewRoot | TreeCall::CloneSubtree | TreeCall::Detached => made(alloc, self),
+            TreeCall::NewRoot | TreeCall::CloneSubtree | TreeCall::Detached => {
+                read_made(alloc, self, refused)
+            }
             TreeCall::GreenToken => {
                 let token = elements::token(alloc, SyntaxKind::IDENT, "x")?;
                 Ok(format!(in alloc; "{token}")?)
@@ -290,7 +312,7 @@ pub(crate) const ROWS: &[Row<TreeCall>] = &[
     (
         "syntax_tree::SyntaxNode::new_root",
         TreeCall::NewRoot,
-        "1 ARG_LIST@0..6 ",
+        "2 ARG_LIST@0..6 ",
     ),
     (
         "syntax_tree::SyntaxNode::clone_subtree",
