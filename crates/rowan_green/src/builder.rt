@@ -323,6 +323,7 @@ fn close(
         done.push(NodeOrToken::Node(node))?;
         return Ok(());
     }
+    cache.reserve_node(small)?;
     let children = done.split_off(first)?;
     match GreenNode::from_vec(alloc, kind, Fingerprint::of(small), children) {
         Ok(node) => {
@@ -371,6 +372,7 @@ fn parent_of(
     if let Some(node) = cache.node_of_one(kind, small, child) {
         return Ok(node);
     }
+    cache.reserve_node(small)?;
     let node = GreenNode::of_one(alloc, kind, Fingerprint::of(small), child.clone()?)?;
     cache.keep_node(small, &node);
     Ok(node)

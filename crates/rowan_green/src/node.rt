@@ -33,7 +33,7 @@ struct NodeData {
 // (with the two counts of an `Rc` 56 bytes, which is what the allocator has in one of its sizes)
 const _: () = prove!(size_of::<NodeData>() == 40);
 
-/// A node of a green tree. A clone shares the kind and the children, and takes no memory.
+/// A node of a green tree. A clone shares the kind and the children; cloning does not allocate.
 #[cycle(green)]
 #[derive(Drop)]
 pub struct GreenNode {
@@ -85,6 +85,7 @@ impl GreenNode {
             (RefusesUnless ((es : List Term) → Drains I.next_gives children es → FitsNode es)) }
     {
         let children = collected(alloc, children)?;
+        let children = trim(alloc, children)?;
         let fingerprint = Fingerprint::of(SmallNode::of(kind.0, &children));
         match GreenNode::from_vec(alloc, kind, fingerprint, children) {
             Ok(node) => Ok(node),
@@ -268,7 +269,7 @@ impl GreenNode {
     }
 
     /// Where the text of the child of this number begins in that of the node; none where there are
-    /// not so many. It takes no memory, and goes down one path.
+    /// not so many. It does not allocate, and goes down one path.
     pub fn child_start(&self, index: usize) -> Option<TextSize>
         ensures { MatchOption result (length (children_of self.now) ≤ index)
             (λ start. start.0 ≡ length (texts_of (take index (children_of self.now)))) }
@@ -282,8 +283,8 @@ impl GreenNode {
     }
 
     /// The child whose text has the byte at this offset; none from the length of the text on. It
-    /// takes no memory, and looks at one length at least, and at no more than twice as many as the
-    /// count of children has binary digits, and two.
+    /// does not allocate, and looks at one length at least, and at no more than twice as many as
+    /// the count of children has binary digits, and two.
     pub fn child_at_offset(&self, offset: TextSize) -> Option<ChildAt>
         ensures found { IsSome result ↔ (offset.0 < length (tree_text self.now)) }
         ensures child { IfSome result (λ c. IsChildAt (children_of self.now) offset.0 c.index c.start.0) }
@@ -304,7 +305,7 @@ impl GreenNode {
     }
 }
 
-/// All elements that an iterator gives, with no room to spare.
+/// Returns all elements that an iterator yields.
 pub(crate) fn collected<I: Iterator<Item = GreenElement> + Drop>(
     alloc: Global,
     elements: I,
@@ -313,12 +314,26 @@ pub(crate) fn collected<I: Iterator<Item = GreenElement> + Drop>(
     requires ends { IsFinite (I.remaining elements) }
     ensures { IfOk result (λ v. Drains I.next_gives elements v.items) }
 {
-    let mut all = Vec::new(alloc);
+    // (no more room than a node keeps, since a hint can be too high)
+    let room = elements.size_hint().0.min(MOST);
+    let mut all = Vec::with_capacity(alloc, room)?;
     for element in elements {
         all.push(element)?;
     }
-    all.shrink_to_fit();
     Ok(all)
+}
+
+/// Returns the elements without spare capacity, if a node is to keep the vector.
+fn trim(alloc: Global, mut elements: Vec<GreenElement>) -> Result<Vec<GreenElement>, AllocError>
+    ensures { IfOk result (λ v. v.items ≡ elements.items) }
+{
+    let len = elements.len();
+    if len == elements.capacity() || len > MOST {
+        return Ok(elements);
+    }
+    let mut exact = Vec::with_capacity(alloc, len)?;
+    exact.append(&mut elements)?;
+    Ok(exact)
 }
 
 /// How long the children's text is, if a node can have these children.

@@ -1,8 +1,7 @@
 //! A cache of tokens and of small nodes, so that equal ones are shared.
 //!
 //! A cache changes no tree: what it gives was compared with what was asked for. A slot is taken
-//! over by the token or node that was made last, and memory refused for the slots only means that
-//! less is shared.
+//! over by the token or node that was made last.
 ghost use Rattle.std.specs.Prelude.{◌≡◌, [], ◌∷◌, IfOk, IfErr, IfSome, OnOk, OnSome};
 ghost use Rattle.rowan_green.specs.Term.{tree_of, FitsToken, FitsNode};
 ghost use Rattle.rowan_green.specs.Refusal.{RefusesUnless};
@@ -56,12 +55,21 @@ impl<T: Drop> Slots<T> {
         Some(&kept.value)
     }
 
-    /// Puts the value into its slot. Where memory for the slots is refused, it is let go.
-    fn keep(&mut self, alloc: Global, fingerprint: u32, value: T) {
+    /// Makes the slots that the next value wants: the first ones, or more, which are empty.
+    ///
+    /// # Errors
+    ///
+    /// `AllocError` if an allocation fails. On error, the slots are unchanged.
+    fn reserve(&mut self, alloc: Global) -> Result<(), AllocError> {
         let count = self.slots.len();
         if self.kept >= count && count < MOST_SLOTS {
-            let _ = self.restart(alloc);
+            return self.restart(alloc);
         }
+        Ok(())
+    }
+
+    /// Puts the value into its slot.
+    fn keep(&mut self, fingerprint: u32, value: T) {
         let index = self.index_of(fingerprint);
         if index < self.slots.len() {
             self.slots[index] = Some(Kept { fingerprint, value });
@@ -117,9 +125,10 @@ impl NodeCache {
         if let Some(found) = found_token(self.tokens.get(fingerprint), kind, text) {
             return Ok(found);
         }
+        self.tokens.reserve(self.alloc)?;
         let token = GreenToken::new(self.alloc, kind, text)?;
         if let Ok(copy) = token.clone() {
-            self.tokens.keep(self.alloc, fingerprint, copy);
+            self.tokens.keep(fingerprint, copy);
         }
         Ok(token)
     }
@@ -150,13 +159,25 @@ impl NodeCache {
         found_node_of_one(self.nodes.get(small?.hash), kind, child)
     }
 
-    /// Keeps a clone of the node, if it is small.
+    /// Makes room for the node that [`NodeCache::keep_node`] is given next.
+    ///
+    /// # Errors
+    ///
+    /// `AllocError` if an allocation fails. On error, the cache is unchanged.
+    pub(crate) fn reserve_node(&mut self, small: Option<SmallNode>) -> Result<(), AllocError> {
+        match small {
+            Some(_) => self.nodes.reserve(self.alloc),
+            None => Ok(()),
+        }
+    }
+
+    /// Keeps a clone of the node, if it is small. This does not allocate.
     pub(crate) fn keep_node(&mut self, small: Option<SmallNode>, node: &GreenNode) {
         let Some(small) = small else {
             return;
         };
         if let Ok(copy) = node.clone() {
-            self.nodes.keep(self.alloc, small.hash, copy);
+            self.nodes.keep(small.hash, copy);
         }
     }
 }

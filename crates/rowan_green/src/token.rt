@@ -19,7 +19,7 @@ struct TokenData {
     text: String,
 }
 
-/// A token of a green tree. A clone shares the kind and the text, and takes no memory.
+/// A token of a green tree. A clone shares the kind and the text; cloning does not allocate.
 #[derive(Drop)]
 pub struct GreenToken {
     shared: Rc<TokenData>,
