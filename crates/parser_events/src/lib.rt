@@ -14,7 +14,6 @@ pub mod message;
 pub mod output;
 pub mod parser;
 mod recorder;
-mod room;
 pub mod shortcuts;
 pub mod step;
 mod step_list;

@@ -22,8 +22,8 @@ use parser_input::syntax_kind::SyntaxKind;
 use std::alloc::{AllocError, Global};
 use std::marker::Model;
 
-/// Room is asked for so many entries of the record a token at first. Real sources have two and a
-/// half.
+/// The number of entries of the record for which there is room at first, for each token. Real
+/// sources have two and a half.
 const ENTRIES_PER_TOKEN: usize = 3;
 
 /// A walk over an input, and the trees that are made of it on the way. Once a growth is refused,
@@ -54,7 +54,7 @@ impl<'t> Model for Parser<'t> {
 }
 
 impl<'t> Parser<'t> {
-    /// A parser at the front of an input.
+    /// Returns a parser at the front of `input`. If it gets no room, [`Parser::finish`] fails.
     pub fn new(alloc: Global, input: &'t Input) -> Parser<'t>
         ensures input { result.input ≡ input.now }
         ensures position { result.position ≡ 0 }
@@ -199,8 +199,11 @@ impl<'t> Parser<'t> {
         marker
     }
 
-    /// The steps of the trees. No node may be open. A growth that was refused before is answered
-    /// here, and so is one that is refused now.
+    /// Returns the steps of the trees. No node may be open.
+    ///
+    /// # Errors
+    ///
+    /// `AllocError` if an allocation fails, or failed before, in [`Parser::new`] or later.
     pub fn finish(self) -> Result<Output, AllocError>
         requires { IsClosed self.nodes }
         ensures steps { IfOk result (λ output. AreStepsOf self.entry.nodes output.steps) }

@@ -8,7 +8,6 @@ ghost use Rattle.parser_events.specs.Seen.{event_of, step_of};
 ghost use Rattle.parser_input.specs.Kind.{raw_of};
 
 use crate::event::Event;
-use crate::room::with_room;
 use crate::step_list::StepList;
 use crate::unwinding::unwind;
 use parser_input::syntax_kind::SyntaxKind;
@@ -23,6 +22,9 @@ pub(crate) struct Recorder {
     /// The number of the entry at which each open node begins, the innermost node's last.
     open_nodes: Vec<usize>,
     refused: bool,
+    /// `true` if the allocation of the first room for entries failed. All is recorded until
+    /// `steps`, which fails then: the other calls have no error to return.
+    lacks_room: bool,
 }
 
 impl Model for Recorder {
@@ -38,15 +40,21 @@ impl Model for Recorder {
 }
 
 impl Recorder {
-    /// Nothing is recorded, and no node is open. How many entries are to come is only a hint.
+    /// Returns a record without entries and open nodes, with room for `entries`. If that allocation
+    /// fails, [`Recorder::steps`] fails later.
     pub(crate) fn new(alloc: Global, entries: usize) -> Recorder
         ensures { result ≡ Some (record { entered = []; opened = [] }) }
     {
+        let (events, lacks_room) = match Vec::with_capacity(alloc, entries) {
+            Ok(events) => (events, false),
+            Err(_refused) => (Vec::new(alloc), true),
+        };
         Recorder {
             alloc,
-            events: with_room(alloc, entries),
+            events,
             open_nodes: Vec::new(alloc),
             refused: false,
+            lacks_room,
         }
     }
 
@@ -124,12 +132,16 @@ impl Recorder {
     }
 
     /// Returns the steps of the recorded trees.
+    ///
+    /// # Errors
+    ///
+    /// `AllocError` if an allocation fails, or failed before.
     pub(crate) fn steps(self) -> Result<StepList, AllocError>
         ensures steps { IfOk result (λ steps. (f : Marked) → self ≡ Some (record_of (f ∷ []))
             → map step_of steps ≡ walk f) }
         ensures refused { self ≡ None → IsErr result }
     {
-        if self.refused {
+        if self.refused || self.lacks_room {
             return Err(AllocError);
         }
         unwind(self.alloc, &self.events)

@@ -9,7 +9,6 @@ ghost use Rattle.parser_events.specs.declared.step.Step.TheVariants as steps;
 ghost use Rattle.parser_events.specs.declared.step_list.Entry.TheVariants as entries;
 
 use crate::message::Message;
-use crate::room::with_room;
 use crate::step::Step;
 use parser_input::syntax_kind::SyntaxKind;
 use std::alloc::{AllocError, Global};
@@ -164,21 +163,25 @@ impl Model for StepList {
 }
 
 impl StepList {
-    /// Returns an empty list, with room for `count` steps unless that allocation fails.
-    pub(crate) fn new(alloc: Global, count: usize) -> StepList
-        ensures { result ≡ [] }
+    /// Returns an empty list, with room for `count` steps.
+    ///
+    /// # Errors
+    ///
+    /// `AllocError` if an allocation fails.
+    pub(crate) fn new(alloc: Global, count: usize) -> Result<StepList, AllocError>
+        ensures { IfOk result (λ list. list ≡ []) }
     {
-        StepList {
-            entries: with_room(alloc, count),
+        Ok(StepList {
+            entries: Vec::with_capacity(alloc, count)?,
             long: Vec::new(alloc),
-        }
+        })
     }
 
     /// Returns a list of these steps.
     pub(crate) fn from_slice(alloc: Global, steps: &[Step]) -> Result<StepList, AllocError>
         ensures { IfOk result (λ list. list ≡ steps.now) }
     {
-        let mut list = StepList::new(alloc, steps.len());
+        let mut list = StepList::new(alloc, steps.len())?;
         let mut left = steps.len();
         'steps: while 0 < left {
             left -= 1;

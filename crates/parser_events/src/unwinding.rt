@@ -114,7 +114,7 @@ pub(crate) fn unwind(alloc: Global, events: &[Event]) -> Result<StepList, AllocE
     // A closed node has two steps, any other entry one.
     let most = events.len().saturating_mul(2);
     let mut unwinding = Unwinding {
-        steps: StepList::new(alloc, most),
+        steps: StepList::new(alloc, most)?,
         pending: Vec::new(alloc),
     };
     let mut index = events.len();
