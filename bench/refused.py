@@ -4,10 +4,10 @@ run meets no refusal. Says how many runs there were, and which ended otherwise t
 
     bench/refused.py [--fault | --calls] [--stdin FILE] PROGRAM [ARGUMENT..]
 
-A run that met a refusal ends as the run that met none, with the same output: so do tests that make a refused call again, and so does
-a call that can do without the room that it asked for ahead. With --fault it may also end with status 2, 'fault: memory' on standard
-error, and a front of the output: so does document_tool. With --calls its output may have one line more, which comes first and names
-the call that answered out of memory: so does memory_suite.
+A run that met a refusal ends as the run that met none, with the same output: so do tests that make a refused call again. With --fault
+it ends with status 2, 'fault: memory' on standard error, and a front of the output: so does document_tool. With --calls its output has
+one line more, which comes first and names the call that answered out of memory: so does memory_suite. With either of the two, a run
+that met a refusal and answers as if there was none is wrong.
 Standard input is empty, or FILE. Wants glibc, and the Rattle kit's C compiler or another one.
 """
 import argparse
@@ -73,10 +73,12 @@ def refused_call(ended):
 def is_as_it_may_be(ended, whole, mode):
     """Returns `True` if a run with a refusal ended as it may, beside one with none."""
     status, output, errors = ended
+    if mode == "fault":
+        return (status, errors) == FAULT and whole[1].startswith(output)
     if mode == "calls":
-        output = OUT_OF_MEMORY.sub(b"", output, count=1)
-    is_fault = mode == "fault" and (status, errors) == FAULT and whole[1].startswith(output)
-    return (status, output) == whole[:2] or is_fault
+        output, named = OUT_OF_MEMORY.subn(b"", output, count=1)
+        return named == 1 and (status, output) == whole[:2]
+    return (status, output) == whole[:2]
 
 
 class Outcome:
@@ -96,7 +98,7 @@ class Outcome:
         """Returns the counts and the first wrong runs, in words."""
         others = self.count - self.same
         yield f"status {self.whole[0]} and {len(self.whole[1])} bytes of output with no refusal"
-        yield f"{self.count} requests refused in turn: {self.same} runs ended as that one, {others} otherwise, {len(self.wrong)} of them wrongly"
+        yield f"{self.count} requests refused in turn: {self.same} runs ended as that one, {others} otherwise; {len(self.wrong)} wrongly"
         for at, (status, output, errors) in self.wrong[:SHOWN]:
             yield f"request {at}: status {status}, {output[-200:]!r}, {errors[-200:]!r}"
 

@@ -1,4 +1,7 @@
-"""The built programs whose requests for memory are refused, each in turn, at the end of ./test (bench/refused.py)."""
+"""The built programs whose requests for memory are refused, each in turn, at the end of ./test (bench/refused.py).
+
+A run that meets the refusal answers out of memory: one that does without the memory, and gives its usual answer, is wrong.
+"""
 import glob
 import os
 import sys
@@ -6,7 +9,7 @@ import sys
 import ledger
 from repository import TOP
 
-# Each program, and how a run of it may end that met a refusal.
+# Each program, and how a run of it ends that met a refusal.
 PROGRAMS = {"memory_suite": "calls", "document_tool": "fault"}
 
 

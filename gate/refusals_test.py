@@ -33,13 +33,17 @@ class Runs(unittest.TestCase):
     def wrong(self, mode, *ended):
         return [number for number, _ in refused.Outcome(Fake(*ended), mode).wrong]
 
-    def test_run_may_end_as_without_refusal(self):
-        for mode in ("", "calls", "fault"):
-            self.assertEqual(self.wrong(mode, WHOLE, WHOLE), [])
+    def test_tests_end_as_without_refusal(self):
+        self.assertEqual(self.wrong("", WHOLE, WHOLE), [])
+
+    def test_refusal_without_answer_is_wrong(self):
+        self.assertEqual(self.wrong("calls", WHOLE, NAMED), [1])
+        self.assertEqual(self.wrong("fault", FAULT, WHOLE), [2])
 
     def test_other_answer_is_wrong(self):
         for mode in ("", "calls", "fault"):
-            self.assertEqual(self.wrong(mode, WHOLE, (0, b"3 rows\n", b""), (1, b"2 rows\n", b"")), [2, 3])
+            self.assertEqual(self.wrong(mode, (0, b"3 rows\n", b""), (1, b"2 rows\n", b"")), [1, 2])
+        self.assertEqual(self.wrong("calls", (0, b"1 out of memory: a::b\n3 rows\n", b"")), [1])
 
     def test_call_may_be_named_once_and_first(self):
         twice = (0, b"1 out of memory: a::b\n" + NAMED[1], b"")
