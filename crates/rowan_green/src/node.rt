@@ -268,8 +268,8 @@ impl GreenNode {
         self.elements().get(index)
     }
 
-    /// Where the text of the child of this number begins in that of the node; none where there are
-    /// not so many. It does not allocate, and goes down one path.
+    /// Returns the offset of the child's text in the node's text, or `None` if the node has no child
+    /// of this number. It does not allocate, and goes down one path.
     pub fn child_start(&self, index: usize) -> Option<TextSize>
         ensures { MatchOption result (length (children_of self.now) ≤ index)
             (λ start. start.0 ≡ length (texts_of (take index (children_of self.now)))) }
