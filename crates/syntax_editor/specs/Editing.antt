@@ -44,7 +44,7 @@ abbrev pub next_number : Way → ℕ → ℕ
 next_number [] n = n
 next_number (i ∷ w) n = n + 1
 
--- no editor of this node was made: for want of a number only where it is an inner node and none is left; out of memory at any point; never as too long
+-- no editor of this node was made: `NoTreeNumber` only if it is an inner node and no number is left; `NoMemory` at any point; never `TooLong`
 abbrev pub RefusesEditor : Way → ℕ → MakeError → Type 0
 RefusesEditor w n NoMemory = Unit {0}
 RefusesEditor [] n NoTreeNumber = ⊥

@@ -37,7 +37,7 @@ RefusesRewriting e rewrites.MissingMapping = MissesMapping e
 RefusesRewriting e rewrites.TooLong = IsTooLong e
 RefusesRewriting e rewrites.NoMemory = Unit {0}
 
--- the same; and, where all of it fits, that no number is left
+-- the first case of `RefusesRewriting` that fits; `NoTreeNumber` only if all of the rewriting fits and no number is left
 abbrev pub RefusesFinish : Editing → ℕ → FinishError → Type 0
 RefusesFinish e number finishes.Intersecting = IsIntersecting e
 RefusesFinish e number finishes.MissingMapping = MissesMapping e
