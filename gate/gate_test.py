@@ -140,6 +140,10 @@ class Verdict(Repository):
         self.run_gate(MISS="1")
         self.assert_end(1, "18 passed, 1 failed")
 
+    def test_edit_that_never_reaches_the_prover_has_failed(self):
+        self.run_gate(BAD="2")
+        self.assert_end(1, "17 passed, 2 failed")
+
     def test_run_without_counts_fails(self):
         self.run_gate(SILENT="1")
         self.assert_end(1, "0 passed, 1 failed")

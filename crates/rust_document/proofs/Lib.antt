@@ -11,6 +11,7 @@ pub mod Places
 pub mod Payloads
 pub mod TreeTexts
 pub mod Contents
+pub mod MessageSinks
 pub mod TreeSinks
 pub mod TreeRefusals
 pub mod Faults
@@ -30,6 +31,12 @@ pub mod Counts
 pub mod AnnotatedRanges
 pub mod Alike
 pub mod CoreTexts
+pub mod RenamedReadings
 pub mod PlainRenamings
 pub mod Histories
 pub mod WellSpacedRewrites
+pub mod PutTokens
+pub mod NameTexts
+pub mod FirstNames
+pub mod FoundElements
+pub mod NameEdits

@@ -1,28 +1,21 @@
 -- Plain renamings are accepted, and the new text reads as the rewritten tree.
 use Rattle.std.proofs.Common.{◌≡◌, ◌≤◌, ◌<◌, ◌+◌, ◌*◌, ◌^◌, ◌==◌, ℕ, Bool, true, false, not, ◌||◌, List, [], ◌∷◌, length, map, chars, refl, sym, ◌∙◌, ap, subst, append-nil, eq-eqb, arith, Option, Some, None, is_some, is_none}
 use Rattle.std.specs.Prelude.{encode_utf8, encode_utf8_all}
-use Rattle.std.specs.List.{flat_map, list_all}
+use Rattle.std.specs.List.{list_all}
 use Rattle.std.specs.Str.{IsUtf8, all_scalars}
 use Rattle.std.proofs.Math.Utf8.{encodes}
 use Rattle.std.proofs.lemmas.Bool.{and_from, le-ltb}
 use Rattle.std.proofs.lemmas.List.{length-map}
 use Rattle.std.proofs.lemmas.Str.{chars-encodes, scalars-chars}
 use Rattle.rustc_lexer.specs.Rows.{first_fit}
-use Rattle.rowan_green.specs.Forest.{Forest, empty, node, leaf, Tree, forest_text, forest_count, tree_count, tree_text, same_tree}
+use Rattle.rowan_green.specs.Forest.{Forest, empty, node, Tree, forest_text, forest_count, tree_count, tree_text, same_tree}
 use Rattle.rowan_green.specs.Same.{same_tree-Decides}
-use Rattle.parser_input.specs.Input.{input}
-use Rattle.parser_input.specs.Kinds.{IDENT, SOURCE_FILE}
-use Rattle.parser_input.specs.Lexed.{Lexed, lexed, leaves_of}
-use Rattle.parser_input.specs.declared.edition.Edition.{Edition}
-use Rattle.parser_events.specs.Forest as forest
-use Rattle.parser_events.specs.Dress.{close_node, dress_root, open_node, root}
-use Rattle.parser_events.specs.Dressed as dressed
-use Rattle.parser_events.specs.Dressed.{Dressed}
+use Rattle.parser_input.specs.Kinds.{IDENT}
+use Rattle.parser_input.specs.Lexed.{Lexed, lexed}
+use Rattle.parser_events.specs.Dress.{dress_root}
 use Rattle.parser_events.specs.TextSteps.{text_steps}
-use Rattle.rust_grammar.specs.Entry.{entry}
 use Rattle.rust_grammar.specs.Laws.{is_entry}
 use Rattle.rust_grammar.specs.Rule.{source_file}
-use Rattle.rust_grammar.specs.Whole.{whole}
 use Rattle.rust_grammar.proofs.EntriesShort.{entry-short}
 use Rattle.syntax_tree.specs.Element.{Element}
 use Rattle.tree_rewrite.specs.Change.{Change, has_collision}
@@ -32,27 +25,25 @@ use Rattle.tree_rewrite.specs.Rewrite.{jobs, rewrite}
 use Rattle.syntax_editor.specs.Editing.{Editing}
 use Rattle.syntax_editor.specs.Rewriting.{rewriting}
 use Rattle.plain_names.specs.Forests.{leaf_of}
-use Rattle.plain_names.specs.LeafNames.{texts}
 use Rattle.plain_names.specs.Renames as names
 use Rattle.plain_names.specs.Renames.{Rename, ArePlainRenames, AreInTree, renamed_leaves}
 use Rattle.plain_names.specs.Replacements.{Replacement, with_leaves, AreApart}
 use Rattle.plain_names.specs.Trees.{dressed_forest}
 use Rattle.plain_names.proofs.Followed.{elements-steps}
-use Rattle.plain_names.proofs.Numbered.{keeps-leaves, keeps-inputs}
-use Rattle.plain_names.proofs.PlainTrees.{encodes-flat, renamed-scalars, renames-trees}
+use Rattle.plain_names.proofs.PlainTrees.{renamed-scalars}
 use Rattle.plain_changes.specs.LeafChanges as changes
 use Rattle.plain_changes.specs.LeafChanges.{LeafChange, AreLeafChanges, change_of}
 use Rattle.plain_changes.proofs.Fits.{small-fit, keeps-counts}
 use Rattle.plain_changes.proofs.Orders.{are-apart, leaves-replaced}
 use Rattle.rust_document.specs.Open.{IsOpened}
-use Rattle.rust_document.specs.Reading.{dressed_by, forest_by, leaves_in, root_of, terms_of, tree, tree_by}
+use Rattle.rust_document.specs.Reading.{leaves_in, root_of, tree}
 use Rattle.rust_document.specs.Renames.{AreRenames, IsPlainRenaming, IsReadExactly}
 use Rattle.rust_document.specs.Rewrite.{rewritten}
 use Rattle.rust_document.specs.Step.{State, MAX_TEXT, present, root_element, bare_tree, is_faithful, is_foreign, is_too_long, Verdict, verdict, Accepted}
 use Rattle.rust_document.specs.Commit.{RefusesCommit}
 use Rattle.rust_document.specs.declared.error.CommitError.{CommitError}
+use Rattle.rust_document.proofs.RenamedReadings.{new_text, new_tree, new-read, old_forest, present-one}
 use Rattle.rust_document.proofs.Sizes.{count-all}
-use Rattle.rust_document.proofs.SourceFiles.{source-entry}
 use Rattle.rust_document.proofs.TreeTexts.{tree-text}
 use Rattle.rust_document.proofs.Verdicts.{verdict-is}
 
@@ -99,69 +90,6 @@ all-texts : (d : State) (cs : List Change) (h : AreRenames d cs) → list_all (�
 all-texts d [] h = refl
 all-texts d (c ∷ cs) h = and_from _ _ h.0.is_text (all-texts d cs h.1)
 
--- The tree of a text, as one node.
-
-pub terms-mapped : (d : Dressed) → terms_of d ≡ dressed_forest encode_utf8 d
-terms-mapped dressed.End = refl
-terms-mapped (dressed.Leaf k t d) =
-    ap (λ (bs : List ℕ). leaf (record { kind = k; text = bs }) (terms_of d)) (encodes-flat t)
-    ∙ ap (λ (f : Forest). leaf (record { kind = k; text = flat_map encode_utf8 t }) f) (terms-mapped d)
-terms-mapped (dressed.Said m p d) = terms-mapped d
-terms-mapped (dressed.Node k c d) =
-    ap (λ (f : Forest). node k f (terms_of d)) (terms-mapped c) ∙ ap (λ (f : Forest). node k (dressed_forest encode_utf8 c) f) (terms-mapped d)
-
-abbrev IsOneNode : forest.Forest → List Lexed → Type 0
-IsOneNode f ls =
-    let t = root_of (terms_of (dress_root f (leaves_of ls))) in
-    terms_of (dress_root f (leaves_of ls)) ≡ node t.kind t.forest empty
-
-node-one : (k : ℕ) (c : forest.Forest) (ls : List Lexed) → IsOneNode (forest.Node k c forest.End) ls
-unfolding dress_root root close_node open_node
-node-one k c ls = refl
-
-file-one : (edition : Edition) (ls : List Lexed) → IsOneNode (forest_by source_file edition (leaves_of ls)) ls
-file-one edition ls =
-    let own = source-entry (input false edition (leaves_of ls)) in
-    subst (λ (f : forest.Forest). IsOneNode f ls) (sym own.1) (node-one SOURCE_FILE own.0 ls)
-
--- Of a plain renaming: the new leaves, the new text, and the tree with the new names.
-
-abbrev new_leaves : (d : State) → List Rename → List Lexed
-new_leaves d rs = renamed_leaves rs d.edition (chars d.text)
-
-abbrev new_text : (d : State) → List Rename → List ℕ
-new_text d rs = texts (new_leaves d rs)
-
-abbrev new_tree : (d : State) → List Rename → Tree
-new_tree d rs = record { kind = (present d).kind; forest = with_leaves (map names.replacement_of rs) [] 0 (present d).forest }
-
-abbrev old_forest : State → forest.Forest
-old_forest d = forest_by source_file d.edition (leaves_in d.edition (chars d.text))
-
-present-one : (d : State) → dressed_forest encode_utf8 (dress_root (old_forest d) (leaves_in d.edition (chars d.text))) ≡ node (present d).kind (present d).forest empty
-unfolding tree_by dressed_by
-present-one d = sym (terms-mapped (dress_root (old_forest d) (leaves_in d.edition (chars d.text)))) ∙ file-one d.edition (lexed d.edition (chars d.text))
-
-new-dressed :
-    (d : State) (rs : List Rename) → IsUtf8 d.text → ArePlainRenames d.edition (chars d.text) rs → AreInTree d.edition (chars d.text) (present d) rs
-    → AreApart (map names.replacement_of rs) → terms_of (dress_root (old_forest d) (leaves_of (new_leaves d rs))) ≡ node (present d).kind (new_tree d rs).forest empty
-new-dressed d rs u plain here apart =
-    terms-mapped (dress_root (old_forest d) (leaves_of (new_leaves d rs)))
-    ∙ renames-trees d.edition (chars d.text) rs (old_forest d) (present d) (scalars-chars d.text u) plain here apart (present-one d)
-
-new-forest : (d : State) (rs : List Rename) → ArePlainRenames d.edition (chars d.text) rs → forest_by source_file d.edition (leaves_of (new_leaves d rs)) ≡ old_forest d
-new-forest d rs plain = ap (entry whole source_file) (keeps-inputs false d.edition (chars d.text) rs plain)
-
--- the new text reads as the tree with the new names
-new-read :
-    (d : State) (rs : List Rename) → IsUtf8 d.text → ArePlainRenames d.edition (chars d.text) rs → AreInTree d.edition (chars d.text) (present d) rs
-    → AreApart (map names.replacement_of rs) → tree d.edition (new_text d rs) ≡ new_tree d rs
-unfolding tree_by dressed_by
-new-read d rs u plain here apart =
-    ap (λ (ls : List Lexed). root_of (terms_of (dress_root (forest_by source_file d.edition (leaves_of ls)) (leaves_of ls)))) (keeps-leaves d.edition (chars d.text) rs plain)
-    ∙ ap (λ (f : forest.Forest). root_of (terms_of (dress_root f (leaves_of (new_leaves d rs))))) (new-forest d rs plain)
-    ∙ ap root_of (new-dressed d rs u plain here apart)
-
 -- What a plain renaming makes of the present tree.
 record Renamed (d : State) (e : Editing) : Type 0 where
   placed : is_some (jobs e.top e.changes e.mapping) ≡ true
@@ -171,12 +99,12 @@ record Renamed (d : State) (e : Editing) : Type 0 where
 
 renamed-by :
     (d : State) (e : Editing) (rs : List Rename) → is_some (jobs e.top e.changes e.mapping) ≡ true
-    → forest_in (rewriting e) ≡ node (present d).kind (new_tree d rs).forest empty → tree d.edition (new_text d rs) ≡ new_tree d rs
-    → all_scalars (new_text d rs) ≡ true → tree_count (new_tree d rs) ≡ tree_count (present d) → Renamed d e
+    → forest_in (rewriting e) ≡ node (present d).kind (new_tree d.edition d.text rs).forest empty → tree d.edition (new_text d.edition d.text rs) ≡ new_tree d.edition d.text rs
+    → all_scalars (new_text d.edition d.text rs) ≡ true → tree_count (new_tree d.edition d.text rs) ≡ tree_count (present d) → Renamed d e
 renamed-by d e rs placed own read scalars count =
-    let tree_is : rewritten e ≡ new_tree d rs = ap root_of own in
-    let text_is : chars (tree_text (rewritten e)) ≡ new_text d rs =
-    ap (λ (t : Tree). chars (tree_text t)) (tree_is ∙ sym read) ∙ ap chars (tree-text d.edition (new_text d rs)) ∙ chars-encodes (new_text d rs) scalars in
+    let tree_is : rewritten e ≡ new_tree d.edition d.text rs = ap root_of own in
+    let text_is : chars (tree_text (rewritten e)) ≡ new_text d.edition d.text rs =
+    ap (λ (t : Tree). chars (tree_text t)) (tree_is ∙ sym read) ∙ ap chars (tree-text d.edition (new_text d.edition d.text rs)) ∙ chars-encodes (new_text d.edition d.text rs) scalars in
     record {
       placed = placed;
       forest_is = own ∙ ap (λ (t : Tree). node t.kind t.forest empty) (sym tree_is);
@@ -194,13 +122,13 @@ renamed d e u h =
     let made = leaves-replaced (root_element d) cs e.mapping refl (all-replace d e.changes h.each) apart in
     let placed : is_some (jobs e.top e.changes e.mapping) ≡ true =
     ap (λ (top : Element). is_some (jobs top e.changes e.mapping)) h.own ∙ ap (λ (xs : List Change). is_some (jobs (root_element d) xs e.mapping)) (sym are) ∙ made.0 in
-    let own : forest_in (rewriting e) ≡ node (present d).kind (new_tree d rs).forest empty =
+    let own : forest_in (rewriting e) ≡ node (present d).kind (new_tree d.edition d.text rs).forest empty =
     ap (λ (top : Element). forest_in (rewrite top e.changes e.mapping)) h.own
     ∙ ap (λ (xs : List Change). forest_in (rewrite (root_element d) xs e.mapping)) (sym are)
     ∙ made.1
     ∙ ap (λ (xs : List Replacement). node (present d).kind (with_leaves xs [] 0 (present d).forest) empty) same in
     let far : AreApart (map names.replacement_of rs) = subst AreApart same (are-apart cs apart) in
-    renamed-by d e rs placed own (new-read d rs u (all-plain d e.changes h.each) (all-in-tree d e.changes h.each) far) (renamed-scalars d.edition (chars d.text) rs (scalars-chars d.text u) (all-texts d e.changes h.each))
+    renamed-by d e rs placed own (new-read d.edition d.text rs u (all-plain d e.changes h.each) (all-in-tree d e.changes h.each) far) (renamed-scalars d.edition (chars d.text) rs (scalars-chars d.text u) (all-texts d e.changes h.each))
     (ap (λ (xs : List Replacement). tree_count (record { kind = (present d).kind; forest = with_leaves xs [] 0 (present d).forest })) (sym same) ∙ keeps-counts cs (present d))
 
 -- The verdict.
@@ -223,8 +151,8 @@ present-few : (d : State) → IsUtf8 d.text → IsOpened d.text → forest_count
 unfolding is_entry
 present-few d u o =
     let ls = leaves_in d.edition (chars d.text) in
-    let dressed_tree = dress_root (old_forest d) ls in
-    let own : forest_count (node (present d).kind (present d).forest empty) ≡ forest_count (dressed_forest encode_utf8 dressed_tree) = ap forest_count (sym (present-one d)) in
+    let dressed_tree = dress_root (old_forest d.edition d.text) ls in
+    let own : forest_count (node (present d).kind (present d).forest empty) ≡ forest_count (dressed_forest encode_utf8 dressed_tree) = ap forest_count (sym (present-one d.edition d.text)) in
     let steps = elements-steps encode_utf8 dressed_tree in
     let short : length (text_steps dressed_tree) ≤ 65 * length ls + 67 = entry-short source_file d.edition ls refl in
     let leaves = length-map (lexed d.edition (chars d.text)) (λ (l : Lexed). l.leaf) in

@@ -1,6 +1,5 @@
 -- What all steps of a dressed tree make of a builder and of a list of messages.
 use Rattle.std.proofs.Common.{◌≡◌, true, List, [], ◌∷◌, ◌++◌, map, encode_utf8_all, refl, sym, ◌∙◌, ap, append_assoc, append-nil}
-use Rattle.std.proofs.lemmas.List.{map-append}
 use Rattle.rowan_green.specs.Building.{Building, nothing_built}
 use Rattle.rowan_green.specs.Forest.{Tree}
 use Rattle.rowan_green.specs.Word.{Sign, opens, token, closes, word, words, words-injective}
@@ -21,6 +20,7 @@ use Rattle.rust_document.specs.TreeBuilt.{AreStepsOf, IsBuilt, IsTreeOf}
 use Rattle.rust_document.specs.TreeSinks.{built, heard, IsTaken}
 use Rattle.rust_document.specs.declared.syntax_error.SyntaxError.{SyntaxError}
 use Rattle.rust_document.specs.declared.tree_sink.TreeSink.{TreeSink}
+use Rattle.rust_document.proofs.MessageSinks.{all_heard, heard-tree}
 
 -- ---- steps one after another
 
@@ -34,10 +34,6 @@ signs (texts.Error message place) = []
 abbrev all_signs : List TextStep → List Sign
 all_signs [] = []
 all_signs (s ∷ ss) = signs s ++ all_signs ss
-
-abbrev all_heard : List TextStep → List Message
-all_heard [] = []
-all_heard (s ∷ ss) = heard s ++ all_heard ss
 
 word-built : (b : Building) (s : TextStep) → (built b s).word ≡ b.word ++ signs s
 word-built b (texts.Token kind text) = refl
@@ -69,10 +65,6 @@ signs-append : (xs ys : List TextStep) → all_signs (xs ++ ys) ≡ all_signs xs
 signs-append [] ys = refl
 signs-append (x ∷ xs) ys = ap (λ (w : List Sign). signs x ++ w) (signs-append xs ys) ∙ sym (append_assoc (signs x) (all_signs xs) (all_signs ys))
 
-heard-append : (xs ys : List TextStep) → all_heard (xs ++ ys) ≡ all_heard xs ++ all_heard ys
-heard-append [] ys = refl
-heard-append (x ∷ xs) ys = ap (λ (w : List Message). heard x ++ w) (heard-append xs ys) ∙ sym (append_assoc (heard x) (all_heard xs) (all_heard ys))
-
 -- their word is the word of the tree's terms
 signs-tree : (d : Dressed) → all_signs (text_steps d) ≡ word (terms_of d)
 signs-tree dressed.End = refl
@@ -83,17 +75,6 @@ signs-tree (dressed.Node k c d) =
     (signs-append (text_steps c) (texts.Exit ∷ text_steps d)
     ∙ ap (λ (w : List Sign). w ++ closes ∷ all_signs (text_steps d)) (signs-tree c)
     ∙ ap (λ (w : List Sign). word (terms_of c) ++ closes ∷ w) (signs-tree d))
-
--- and their messages are the tree's
-heard-tree : (d : Dressed) → all_heard (text_steps d) ≡ map of_grammar (sayings_of d)
-heard-tree dressed.End = refl
-heard-tree (dressed.Leaf k t d) = heard-tree d
-heard-tree (dressed.Said m p d) = ap (λ (w : List Message). of_grammar (record { message = m; place = p }) ∷ w) (heard-tree d)
-heard-tree (dressed.Node k c d) =
-    heard-append (text_steps c) (texts.Exit ∷ text_steps d)
-    ∙ ap (λ (w : List Message). w ++ all_heard (text_steps d)) (heard-tree c)
-    ∙ ap (λ (w : List Message). map of_grammar (sayings_of c) ++ w) (heard-tree d)
-    ∙ sym (map-append of_grammar (sayings_of c) (sayings_of d))
 
 -- a node dressed with a text is one node
 rooted-terms : (f : forest.Forest) (ls : List leaves.Leaf) → IsRooted f → word (terms_of (dress_root f ls)) ≡ words (Node (root_of (terms_of (dress_root f ls))) ∷ [])

@@ -28,7 +28,7 @@ use Rattle.rust_document.specs.Step.{Accepted, State, Verdict, bare_tree, is_fai
 use Rattle.rust_document.specs.WellSpaced.{IsWellSpacedRewrite, WellSpacedRewritesAreAccepted, WellSpacedTextsHaveNoMessages}
 use Rattle.rust_document.specs.declared.error.CommitError.{CommitError}
 use Rattle.rust_document.proofs.CoreTexts.{core-read}
-use Rattle.rust_document.proofs.PlainRenamings.{terms-mapped}
+use Rattle.rust_document.proofs.RenamedReadings.{terms-mapped}
 use Rattle.rust_document.proofs.Verdicts.{parts, verdict-is}
 
 -- the two words for a forest without whitespace and comments

@@ -1,5 +1,5 @@
 -- What was read of a text's leaves is the reading of the text.
-use Rattle.std.proofs.Common.{false, ◌≡◌, ◌≤◌, ℕ, true, List, ◌++◌, map, length, refl, ap, ◌∙◌, arith}
+use Rattle.std.proofs.Common.{false, ◌≡◌, ◌≤◌, ℕ, true, List, ◌++◌, map, length, refl, ap, ◌∙◌, arith, Result, Ok, Err, IfOk}
 use Rattle.std.proofs.Math.Utf8.{encodes}
 use Rattle.std.proofs.lemmas.List.{length-map}
 use Rattle.rowan_green.specs.Forest.{Tree}
@@ -20,7 +20,7 @@ use Rattle.rust_document.specs.Reading.{Message, forest_by, of_leaves, leaves_in
 use Rattle.rust_document.specs.Seen.{in_bytes, message_of_error}
 use Rattle.rust_document.specs.IsReading.{IsReadingBy}
 use Rattle.rust_document.specs.Tokens.{spans_from, span_of}
-use Rattle.rust_document.specs.TreeBuilt.{AreStepsOf, IsTreeOf, IsBuilt}
+use Rattle.rust_document.specs.TreeBuilt.{AreMessages, AreStepsOf, IsTreeOf, IsBuilt}
 use Rattle.rust_document.specs.declared.tokens.LexedToken.{LexedToken}
 use Rattle.rust_document.specs.declared.syntax_error.SyntaxError.{SyntaxError}
 
@@ -59,19 +59,34 @@ are-tree top edition ls ss are bytes count =
       few = omega (arith, entry-short (production_of top) edition own (is-top top), length-map ls (λ (l : Lexed). l.leaf), count);
     }
 
--- what was built of a text's leaves
+-- the tree that was built of a text's leaves
+pub whole-tree :
+    (top : TopEntryPoint) (edition : Edition) (text : List ℕ) (root : Tree) (errors : List SyntaxError)
+    → IsBuilt (steps (forest_by (production_of top) edition (leaves_in edition text))) (leaves_in edition text) root errors
+    → root ≡ tree_by (production_of top) edition text
+unfolding tree_by dressed_by
+whole-tree top edition text root errors built =
+    built.root_is (forest_by (production_of top) edition (leaves_in edition text)) (steps-are top edition (leaves_in edition text))
+
+-- what was read of a text's leaves
 pub whole :
     (top : TopEntryPoint) (edition : Edition) (text : List ℕ) (tokens : List LexedToken) (root : Tree) (first errors : List SyntaxError)
-    → IsBuilt (steps (forest_by (production_of top) edition (leaves_in edition text))) (leaves_in edition text) root first
+    → root ≡ tree_by (production_of top) edition text
+    → AreMessages (steps (forest_by (production_of top) edition (leaves_in edition text))) (leaves_in edition text) first
     → map message_of_error errors ≡ map message_of_error first ++ of_leaves 0 (lexed edition text)
     → map span_of tokens ≡ spans_from 0 (map in_bytes (leaves_in edition text))
     → IsReadingBy (production_of top) edition text tokens root errors
-unfolding tree_by messages_by dressed_by
-whole top edition text tokens root first errors built more placed =
+unfolding messages_by dressed_by
+whole top edition text tokens root first errors root_is first_are more placed =
     let f = forest_by (production_of top) edition (leaves_in edition text) in
     let all = steps-are top edition (leaves_in edition text) in
     record {
       tokens_are = placed;
-      root_is = built.root_is f all;
-      errors_are = more ∙ ap (λ (ms : List Message). ms ++ of_leaves 0 (lexed edition text)) (built.errors_are f all);
+      root_is = root_is;
+      errors_are = more ∙ ap (λ (ms : List Message). ms ++ of_leaves 0 (lexed edition text)) (first_are f all);
     }
+
+-- what holds of each result holds of the one that is given
+pub of-each : {A E : Type 0} (r : Result A E) (P Q : A → Type 0) → ((x : A) → P x → Q x) → IfOk r P → IfOk r Q
+of-each (Ok x) P Q f h = f x h
+of-each (Err e) P Q f h = h

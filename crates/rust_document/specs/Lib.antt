@@ -28,3 +28,5 @@ pub mod KeptTokens
 pub mod ContentEdit
 pub mod Histories
 pub mod WellSpaced
+pub mod NameEdits
+pub mod MessageSinks

@@ -1,5 +1,6 @@
 -- What a document keeps of its text for the next reading, and what a reading takes from it.
-use Rattle.std.specs.Prelude.{◌≡◌, ◌↔◌, ℕ, ◌≤◌, Bool, false, List, length, chars, Option, None, Some, if◌then◌else◌}
+use Rattle.std.specs.Prelude.{◌≡◌, ◌↔◌, ℕ, ◌≤◌, Bool, false, List, length, chars, Option, None, Some, IfSome, if◌then◌else◌}
+use Rattle.std.specs.Str.{IsUtf8}
 use Rattle.parser_input.specs.Input.{Token, input}
 use Rattle.parser_input.specs.Lexed.{content}
 use Rattle.parser_input.specs.declared.edition.Edition.{Edition}
@@ -9,10 +10,11 @@ use Rattle.rust_grammar.specs.Rule.{Production, source_file}
 use Rattle.rust_grammar.specs.Whole.{whole}
 use Rattle.rust_document.specs.Costs.{most_steps}
 use Rattle.rust_document.specs.IsReading.{IsReading}
-use Rattle.rust_document.specs.Reading.{after_preface, forest_by, leaves_in}
+use Rattle.rust_document.specs.Reading.{after_preface, forest_by, leaves_in, tree}
 use Rattle.rust_document.specs.declared.parse.Parse.{Parse}
 use Rattle.rust_document.specs.declared.read.FirstReading.{FirstReading}
 use Rattle.rust_document.specs.declared.read.NextReading.{NextReading}
+use Rattle.rust_document.specs.declared.read.NextText.{NextText}
 
 -- one leaf, or none
 abbrev pub one_if : Bool → ℕ
@@ -40,6 +42,13 @@ pub record IsFirstReading (edition : Edition) (text : List ℕ) (r : FirstReadin
   pub reading_is : IsReading edition text r.reading.tokens.items r.reading.root r.reading.errors.items
   pub kept_is : chars r.kept ≡ content text
   pub parse_is : IsParseOf edition text r.parse
+
+-- A text within the limit with its content's tokens. Its tree is given only if it has the input before.
+pub record IsNextText (edition : Edition) (before : List Token) (n : NextText) : Type 0 where
+  pub utf8 : IsUtf8 n.text.now
+  pub fits : length n.text.now ≤ 16777216
+  pub kept_is : chars n.kept ≡ content (chars n.text.now)
+  pub root_is : IfSome n.root (λ t. (t ≡ tree edition (chars n.text.now)) × (before ≡ tokens_in edition (chars n.text.now)))
 
 -- a parse of the text, or none where that with the input before serves
 abbrev pub IsNextParse : Edition → List ℕ → List Token → Option Parse → Type 0

@@ -25,7 +25,12 @@ pub record IsTreeOf (ss : List Step) (ls : List Leaf) : Type 0 where
   pub bytes : length (encode_utf8_all (joined ls)) ≤ 16777216
   pub few : length (text_steps (dress_root forest ls)) < 2 ^ 32
 
+-- The messages are those that stand in the node of these steps, dressed with the leaves.
+abbrev pub AreMessages : List Step → List Leaf → List SyntaxError → Type 0
+AreMessages ss ls errors =
+    (f : Forest) → AreStepsOf ss ls f → map message_of_error errors ≡ map of_grammar (sayings_of (dress_root f ls))
+
 -- the tree is the node dressed with the leaves, and the messages are those that stand in it
 pub record IsBuilt (ss : List Step) (ls : List Leaf) (root : Tree) (errors : List SyntaxError) : Type 0 where
   pub root_is : (f : Forest) → AreStepsOf ss ls f → root ≡ root_of (terms_of (dress_root f ls))
-  pub errors_are : (f : Forest) → AreStepsOf ss ls f → map message_of_error errors ≡ map of_grammar (sayings_of (dress_root f ls))
+  pub errors_are : AreMessages ss ls errors

@@ -1,5 +1,5 @@
 //! A text that is read.
-ghost use Rattle.std.specs.Prelude.{◌≡◌, ◌≤◌, ◌+◌, [], true, not, chars, length, map, option_map, string_bytes, IfOk, IfErr, MatchOption, OnOk};
+ghost use Rattle.std.specs.Prelude.{◌≡◌, ◌≤◌, ◌+◌, [], true, not, chars, length, map, option_map, string_bytes, IfOk, IfErr, IfSome, MatchOption, OnOk};
 ghost use Rattle.lexed_text.specs.Kept.{IsKept};
 ghost use Rattle.parser_input.specs.Kind.{raw_of};
 ghost use Rattle.parser_input.specs.Lexed.{content};
@@ -17,6 +17,7 @@ ghost use Rattle.rust_document.specs.Open.{IsOpened, RefusesOpen};
 ghost use Rattle.rust_document.specs.IsReading.{IsReading};
 ghost use Rattle.rust_document.specs.Seen.{message_of_error};
 ghost use Rattle.rust_document.specs.KeptTokens.{content_edit, counts_of, KeepsNoToken, KeepsOutput, KeepsTokens};
+ghost use Rattle.rust_document.specs.NameEdits.{IsRenamedTree};
 ghost use Rattle.rust_document.specs.NextReading.{tokens_in, IsNextReading};
 ghost use Rattle.rust_document.specs.Reading.{messages};
 ghost use Rattle.rust_document.specs.Renames.{IsPlainRenaming, IsReadExactly};
@@ -29,15 +30,16 @@ ghost use Rattle.rust_document.specs.WithoutMessages.{HasPairedBrackets, HasPlac
 use crate::content_edit::{EditedContent, TextEdit, edit_content};
 use crate::edit::edited;
 use crate::error::{CommitError, EditError, OpenError};
+use crate::name_edit::{ReadText, renamed_tree};
 use crate::parse::Parse;
-use crate::read::{FirstReading, NextReading, Reading, read_first, read_next};
+use crate::read::{FirstReading, NextReading, NextText, Reading, read_first, read_next};
 use crate::rewrite::{Rewritten, rewrite};
 use crate::syntax_error::SyntaxError;
 use crate::tokens::{LexedToken, Tokens};
 use lexed_text::{Kept, LexedText};
 use parser_input::edition::Edition;
 use parser_input::syntax_kind::SyntaxKind;
-use rowan_green::TextRange;
+use rowan_green::{GreenNode, TextRange};
 use std::alloc::{AllocError, Global};
 use std::marker::Model;
 use syntax_editor::{SyntaxAnnotation, SyntaxEditor};
@@ -277,7 +279,13 @@ impl Document {
         let new = edited(alloc, self.text(), range, text)?;
         let content = self.edited_content(alloc, range, text, new.as_str())?;
         let EditedContent { kept, counts } = content;
-        let next = read_next(alloc, self.edition, new.as_str(), kept, &self.parse)?;
+        let root = self.renamed_tree(alloc, range, text, new.as_str())?;
+        let unread = NextText {
+            text: new.as_str(),
+            kept,
+            root,
+        };
+        let next = read_next(alloc, self.edition, unread, &self.parse)?;
         let leaves = next.leaves;
         let steps = next.steps;
         self.renew(alloc, new, next, ids)?;
@@ -306,6 +314,35 @@ impl Document {
             put,
         };
         edit_content(alloc, self.edition, &self.kept, &edit)
+    }
+
+    /// Returns the tree of `new`, which is the text with `put` in the place of a range, if a plain
+    /// identifier has turned into another.
+    fn renamed_tree(
+        &self,
+        alloc: Global,
+        range: TextRange,
+        put: &str,
+        new: &str,
+    ) -> Result<Option<GreenNode>, AllocError>
+        requires range { can_edit self.now.text range.start.0 range.end.0 ≡ true }
+        requires edited { new.now ≡ edited self.now.text range.start.0 range.end.0 put.now }
+        requires fits { length new.now ≤ MAX_TEXT }
+        ensures { IfOk result (λ o. IfSome o
+            (IsRenamedTree self.now.edition self.now.text new.now)) }
+    {
+        let before = ReadText {
+            edition: self.edition,
+            tokens: self.tokens.as_slice(),
+            root: &self.root,
+        };
+        let edit = TextEdit {
+            before: self.text.as_str(),
+            after: new,
+            range,
+            put,
+        };
+        renamed_tree(alloc, &before, &edit)
     }
 
     /// The first element in preorder that is of a kind and has a range: of several that have the

@@ -12,6 +12,8 @@ pub mod error;
 pub mod laws;
 mod leaf;
 mod lexing;
+mod message_sink;
+mod name_edit;
 mod parse;
 pub mod payload_entry;
 pub mod plain_name;

@@ -1,15 +1,18 @@
 //! Reads a text.
-ghost use Rattle.std.specs.Prelude.{◌≡◌, ◌<◌, ◌≤◌, ◌++◌, length, map, chars, IfOk, OnOk};
-ghost use Rattle.parser_input.specs.Lexed.{content};
+ghost use Rattle.std.specs.Prelude.{◌≡◌, ◌<◌, ◌≤◌, ◌++◌, List, length, map, chars, IfOk, OnOk};
 ghost use Rattle.parser_input.specs.Stored.{whole_of};
+ghost use Rattle.parser_events.specs.Steps.{Step};
+ghost use Rattle.rust_grammar.specs.Rule.{source_file};
 ghost use Rattle.ra_parser.specs.Entries.{production_of};
 ghost use Rattle.ra_parser.specs.declared.entry_points.TopEntryPoint.{TopEntryPoint};
-ghost use Rattle.rust_document.specs.IsReading.{IsReadingBy};
-ghost use Rattle.rust_document.specs.NextReading.{AreStepsBy, IsFirstReading, IsNextReading, IsOwnParse};
-ghost use Rattle.rust_document.specs.Reading.{of_leaf_at, of_leaves};
+ghost use Rattle.rust_document.specs.IsReading.{IsReading, IsReadingBy};
+ghost use Rattle.rust_document.specs.NextReading.{AreStepsBy, IsFirstReading, IsNextReading, IsNextText, IsOwnParse};
+ghost use Rattle.rust_document.specs.Reading.{leaves_in, of_leaf_at, of_leaves, tree, tree_by};
 ghost use Rattle.rust_document.specs.Seen.{message_of_error};
+ghost use Rattle.rust_document.specs.TreeBuilt.{AreMessages};
 
 use crate::lexing::{leaves_of, lexed_content};
+use crate::message_sink::parser_messages;
 use crate::parse::{Parse, parse_input};
 use crate::preface::parts_of;
 use crate::syntax_error::{SyntaxError, SyntaxMessage};
@@ -84,6 +87,35 @@ fn append_faults(lexed: &LexedStr<'_>, errors: &mut Vec<SyntaxError>) -> Result<
     Ok(())
 }
 
+/// Reads the leaves of a text whose tree is built, with the parser's messages.
+///
+/// # Errors
+///
+/// [`AllocError`] if an allocation fails.
+fn read_built(
+    alloc: Global,
+    text: &str,
+    lexed: &LexedStr<'_>,
+    built: Built,
+) -> Result<Reading, AllocError>
+    requires fits { length text.now ≤ 16777216 }
+    requires whole { lexed.now ≡ whole_of lexed.now.edition (chars text.now) }
+    ensures { IfOk result (λ r. (top : TopEntryPoint) (steps : List Step)
+        → AreStepsBy (production_of top) lexed.now.edition (chars text.now) steps
+        → built.root ≡ tree_by (production_of top) lexed.now.edition (chars text.now)
+        → AreMessages steps (leaves_in lexed.now.edition (chars text.now)) built.errors.items
+        → IsReadingBy (production_of top) lexed.now.edition (chars text.now) r.tokens.items r.root r.errors.items) }
+{
+    let Built { root, mut errors } = built;
+    append_faults(lexed, &mut errors)?;
+    let tokens = lexed_tokens(alloc, lexed)?;
+    Ok(Reading {
+        tokens,
+        root,
+        errors,
+    })
+}
+
 /// Reads the leaves of a text for which the parser's output is known.
 ///
 /// # Errors
@@ -103,14 +135,30 @@ fn read_leaves(
         → AreStepsBy (production_of top) lexed.now.edition (chars text.now) output.now.steps
         → IsReadingBy (production_of top) lexed.now.edition (chars text.now) r.tokens.items r.root r.errors.items) }
 {
-    let Built { root, mut errors } = build(alloc, lexed, output)?;
-    append_faults(lexed, &mut errors)?;
-    let tokens = lexed_tokens(alloc, lexed)?;
-    Ok(Reading {
-        tokens,
-        root,
-        errors,
-    })
+    let built = build(alloc, lexed, output)?;
+    read_built(alloc, text, lexed, built)
+}
+
+/// Reads the leaves of a source file for which the parser's output and the tree are known.
+///
+/// # Errors
+///
+/// [`AllocError`] if an allocation fails.
+fn read_around(
+    alloc: Global,
+    text: &str,
+    lexed: &LexedStr<'_>,
+    output: &Output,
+    root: GreenNode,
+) -> Result<Reading, AllocError>
+    requires fits { length text.now ≤ 16777216 }
+    requires whole { lexed.now ≡ whole_of lexed.now.edition (chars text.now) }
+    requires parsed { AreStepsBy source_file lexed.now.edition (chars text.now) output.now.steps }
+    requires root { root ≡ tree lexed.now.edition (chars text.now) }
+    ensures { IfOk result (λ r. IsReading lexed.now.edition (chars text.now) r.tokens.items r.root r.errors.items) }
+{
+    let errors = parser_messages(alloc, lexed, output)?;
+    read_built(alloc, text, lexed, Built { root, errors })
 }
 
 /// Reads a text of at most 16,777,216 bytes by an entry.
@@ -155,8 +203,18 @@ pub fn read_first(alloc: Global, edition: Edition, text: &str) -> Result<FirstRe
     })
 }
 
-/// Reads a text of at most 16,777,216 bytes as a source file. `kept` is the text's content with its
-/// tokens; `before` is the parse of another text, whose output serves if the inputs are equal.
+/// A text to be read after another one.
+#[derive(Drop)]
+pub struct NextText<'a> {
+    pub text: &'a str,
+    /// The text's content with its tokens.
+    pub kept: LexedText,
+    /// The text's tree, if it is known and both texts have the same parser's input.
+    pub root: Option<GreenNode>,
+}
+
+/// Reads a text of at most 16,777,216 bytes as a source file. `before` is the parse of another text,
+/// whose output serves if the inputs are equal.
 ///
 /// # Errors
 ///
@@ -164,17 +222,26 @@ pub fn read_first(alloc: Global, edition: Edition, text: &str) -> Result<FirstRe
 pub fn read_next(
     alloc: Global,
     edition: Edition,
-    text: &str,
-    kept: LexedText,
+    next: NextText<'_>,
     before: &Parse,
 ) -> Result<NextReading, AllocError>
-    requires fits { length text.now ≤ 16777216 }
-    requires kept { chars kept ≡ content (chars text.now) }
+    requires next { IsNextText edition before.now.input next }
     requires before { IsOwnParse before.now }
-    ensures { IfOk result (IsNextReading edition (chars text.now) before.now.input) }
+    ensures { IfOk result (IsNextReading edition (chars next.entry.text.now) before.now.input) }
 {
+    let NextText { text, kept, root } = next;
     let lexed = leaves_of(alloc, edition, text, &kept)?;
     let leaves = lexed.len() - parts_of(text).preface_len();
+    if let Some(root) = root {
+        let reading = read_around(alloc, text, &lexed, &before.output, root)?;
+        return Ok(NextReading {
+            reading,
+            kept,
+            parse: None,
+            leaves,
+            steps: 0,
+        });
+    }
     let input = lexed.to_input(alloc)?;
     if input == before.input {
         let reading = read_leaves(alloc, text, &lexed, &before.output)?;

@@ -13,7 +13,7 @@ use crate::document::MAX_TEXT;
 use crate::error::CommitError;
 use crate::lexing::lexed_content;
 use crate::parse::Parse;
-use crate::read::{NextReading, read_next};
+use crate::read::{NextReading, NextText, read_next};
 use parser_input::edition::Edition;
 use rowan_green::{GreenNode, TextRange};
 use std::alloc::{AllocError, Global};
@@ -57,7 +57,12 @@ fn read_back(
     }
     let text = format!(in alloc; "{tree}")?;
     let kept = lexed_content(alloc, text.as_str())?;
-    let next = read_next(alloc, edition, text.as_str(), kept, before)?;
+    let unread = NextText {
+        text: text.as_str(),
+        kept,
+        root: None,
+    };
+    let next = read_next(alloc, edition, unread, before)?;
     if same_bare(tree, &next.reading.root) {
         return Ok(ReadBack {
             text,

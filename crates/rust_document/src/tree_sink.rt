@@ -121,7 +121,7 @@ pub(crate) struct Built {
 ///
 /// # Errors
 ///
-/// Out of memory.
+/// [`AllocError`] if an allocation fails.
 pub(crate) fn build(
     alloc: Global,
     lexed: &LexedStr<'_>,

@@ -1,17 +1,15 @@
--- The leaves of a text are its bytes, and are read as the grammar says.
-use Rattle.std.proofs.Common.{List, ◌++◌, chars, map, length, sym, ap, subst, ◌∙◌, arith}
+-- The leaves of a text are read as the grammar says.
+use Rattle.std.proofs.Common.{List, chars, length, sym, ap, subst, ◌∙◌, arith}
 use Rattle.std.proofs.Math.Utf8.{encodes}
 use Rattle.parser_input.specs.Lexed.{leaves_of}
 use Rattle.parser_input.specs.Stored.{Whole}
 use Rattle.parser_events.specs.Dress.{joined}
 use Rattle.parser_events.specs.Steps.{Step, steps}
 use Rattle.ra_parser.specs.Entries.{production_of}
-use Rattle.rust_document.specs.Reading.{forest_by, leaves_in, of_leaves}
-use Rattle.rust_document.specs.Seen.{in_bytes, message_of_error}
-use Rattle.rust_document.specs.Tokens.{spans_from}
+use Rattle.rust_document.specs.Reading.{forest_by, leaves_in}
 use Rattle.rust_document.specs.TreeBuilt.{IsBuilt}
 use Rattle.rust_document.proofs.Sizes.{bytes-all, count-all}
-use Rattle.rust_document.proofs.Whole.{are-tree, whole}
+use Rattle.rust_document.proofs.Whole.{are-tree, of-each, whole-tree}
 use Rattle.rust_document.proofs.read.read_leaves.Goals as goal
 
 pub build-requires : goal.build-requires
@@ -23,22 +21,11 @@ build-requires c =
     (omega (arith, ap (λ (w : Whole). length (encodes (joined (leaves_of w.leaves)))) c.requires.whole, bytes-all edition c.args.text.now c.utf8.text, c.requires.fits))
     (omega (arith, ap (λ (w : Whole). length w.leaves) c.requires.whole, count-all edition c.args.text.now c.utf8.text, c.requires.fits))
 
-pub lexed_tokens-requires : goal.lexed_tokens-requires
-lexed_tokens-requires c =
-    omega (
-      arith,
-      ap (λ (w : Whole). length (encodes (joined (leaves_of w.leaves)))) c.requires.whole,
-      bytes-all c.args.lexed.now.edition c.args.text.now c.utf8.text,
-      c.requires.fits,
-    )
-
 pub returns : goal.returns
-returns c = λ top are.
+returns c = of-each c.read_built.result _ _ (λ r own top are.
     let edition = c.args.lexed.now.edition in
     let text = chars c.args.text.now in
-    let built = c.in_ok-root in
-    whole top edition text _ _ _ _
-    (subst (λ (ss : List Step). IsBuilt ss (leaves_in edition text) built.field-0.root built.field-0.errors.items) are
-    (subst (λ (w : Whole). IsBuilt c.args.output.now.steps (leaves_of w.leaves) built.field-0.root built.field-0.errors.items) c.requires.whole built.ensures))
-    (c.in_ok-append_faults.ensures ∙ ap (λ (w : Whole). map message_of_error built.field-0.errors.items ++ of_leaves 0 w.leaves) c.requires.whole)
-    (c.in_ok-tokens.ensures ∙ ap (λ (w : Whole). spans_from 0 (map in_bytes (leaves_of w.leaves))) c.requires.whole)
+    let b = c.in_ok-built.built in
+    let made = subst (λ (w : Whole). IsBuilt c.args.output.now.steps (leaves_of w.leaves) b.root b.errors.items) c.requires.whole c.in_ok-built.ensures in
+    let read = subst (λ (ss : List Step). IsBuilt ss (leaves_in edition text) b.root b.errors.items) are made in
+    own top c.args.output.now.steps are (whole-tree top edition text b.root b.errors.items read) made.errors_are) c.read_built.ensures
