@@ -41,7 +41,10 @@ fn lexed(alloc: Global, text: &str) -> Result<Vec<Token>, AllocError>
 {
     let mut tokens = Vec::new(alloc);
     for token in tokenize(text) {
-        tokens.push(token)?;
+        if tokens.len() == tokens.capacity() {
+            tokens.reserve(1)?;
+        }
+        tokens.push_reserved(token);
     }
     Ok(tokens)
 }
