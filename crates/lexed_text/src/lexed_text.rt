@@ -39,7 +39,14 @@ impl Model for LexedText {
 fn lexed(alloc: Global, text: &str) -> Result<Vec<Token>, AllocError>
     ensures { IfOk result (λ tokens. tokens.items ≡ token_list (chars text.now)) }
 {
-    tokenize(text).collect(alloc)
+    let mut tokens = Vec::new(alloc);
+    for token in tokenize(text) {
+        if tokens.len() == tokens.capacity() {
+            tokens.reserve(1)?;
+        }
+        tokens.push_reserved(token);
+    }
+    Ok(tokens)
 }
 
 impl LexedText {

@@ -5,6 +5,7 @@ pub mod kept;
 pub mod laws;
 mod lexed_text;
 mod relex;
+mod replace;
 mod runs;
 
 pub use kept::Kept;

@@ -6,6 +6,7 @@ ghost use Rattle.lexed_text.specs.Runs.{RunsFrom};
 ghost use Rattle.lexed_text.specs.Inside.{left, taken, EndsWithin, FrontFound, LacksLast, LacksTwo, Meets, Passes, Renewed};
 
 use crate::kept::Kept;
+use crate::replace::replace;
 use crate::runs::{Run, first_past, last_within, renew_runs, room_for};
 use rustc_lexer::{Cursor, Token};
 use std::alloc::{AllocError, Global};
@@ -169,7 +170,7 @@ pub(crate) fn renew(
     let first = last_within(runs.as_slice(), front.count);
     let next = first_past(runs.as_slice(), first, stop);
     let room = room_for(alloc, runs, lexed)?;
-    tokens.splice(front.count..stop, lexing.tokens)?;
+    replace(tokens, front.count, stop, &lexing.tokens)?;
     let to = if next.run < runs.len() {
         front.count + lexed + (next.count - stop)
     } else {

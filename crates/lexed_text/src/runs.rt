@@ -5,6 +5,7 @@ ghost use Rattle.std.specs.List.{sum_by};
 ghost use Rattle.lexed_text.specs.Inside.{taken};
 ghost use Rattle.lexed_text.specs.Runs.{run_tokens, RunsFrom};
 
+use crate::replace::replace;
 use rustc_lexer::Token;
 use std::alloc::{AllocError, Global};
 
@@ -144,7 +145,7 @@ pub(crate) fn renew_runs(
     ensures { RunsFrom 0 0 runs.new.items tokens.now }
 {
     if let Ok(fresh) = cut_runs(room, tokens, first.count, to) {
-        if let Ok(_) = runs.splice(first.run..next.run, fresh) {
+        if let Ok(()) = replace(runs, first.run, next.run, &fresh) {
             return;
         }
     }

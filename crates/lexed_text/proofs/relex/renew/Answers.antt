@@ -1,7 +1,4 @@
 use Rattle.std.proofs.Common.{◌≡◌, ◌+◌, ◌-◌, ◌<◌, ◌≤◌, ◌++◌, ◌⊎◌, inl, inr, List, length, take, drop, chars, refl, sym, ◌∙◌, ap, subst, arith}
-use Rattle.std.proofs.lemmas.List.{map-id}
-use Rattle.std.proofs.lemmas.Iterator.{items_from_drains}
-use Rattle.std.proofs.lemmas.Iterator.Adapters.{YieldsList-from_vec}
 use Rattle.rustc_lexer.specs.Tokens.{token_list}
 use Rattle.rustc_lexer.specs.declared.token.Token.{Token}
 use Rattle.lexed_text.specs.declared.runs.Run.{Run}
@@ -16,14 +13,10 @@ renew_runs-requires-clause-ends c =
     let lexing = c.in_ok-lexing.lexing in
     let fresh = lexing.tokens in
     let old = c.args.tokens.now.items in
-    let put = c.in_ok-splice.ensures.items in
-    let ran = put.3 in
-    let gives = YieldsList-from_vec fresh.items put.2.0 (put.2.1 ∙ fresh.ok.0) in
-    let all : put.1 ≡ fresh.items = sym (map-id put.1) ∙ items_from_drains put.1 (ran.1.0, ran.1.1, λ _. (ran.0, ran.1.2)) gives in
     let N = token_list (chars c.args.text.now) in
     let met : Meets old N c.args.front.count c.args.most lexing.lexed lexing.stop =
     subst (λ (z : List Token). Meets z N c.args.front.count c.args.most lexing.lexed lexing.stop) c.as_slice.ensures.value c.in_ok-lexing.ensures.meets in
-    let parts = put.4 ∙ ap (λ (z : List Token). take c.args.front.count old ++ (z ++ drop lexing.stop old)) (all ∙ c.in_ok-lexing.ensures.tokens) in
+    let parts = c.in_ok-replace.ensures.replaced ∙ ap (λ (z : List Token). take c.args.front.count old ++ (z ++ drop lexing.stop old)) (c.deref.ensures.value ∙ c.in_ok-lexing.ensures.tokens) in
     let new = c.as_slice-4.result.now in
     let changed : Changed old N new c.args.front.count lexing.lexed lexing.stop = record {
       front_in = c.requires.within;
@@ -38,7 +31,7 @@ renew_runs-requires-clause-ends c =
     let count : next.count ≡ run_tokens next.run runs = c.first_past-next.ensures.is_count ∙ ap (λ (z : List Run). run_tokens next.run z) slice in
     let past = subst (λ (z : List Run). next.run < length z → lexing.stop ≤ next.count) slice c.first_past-next.ensures.past in
     let len = c.len-2.ensures ∙ c.room_for.new.runs.ok.0 ∙ ap length c.room_for.ensures.runs in
-    let whole : length new ≡ c.splice.new.self.len = ap length c.as_slice-4.ensures.value ∙ sym c.splice.new.self.ok.0 in
+    let whole : length new ≡ c.replace.new.items.len = ap length c.as_slice-4.ensures.value ∙ sym c.replace.new.items.ok.0 in
     let where_to : ((next.run < length runs) × (c.if-next-len.to ≡ c.args.front.count + lexing.lexed + (next.count - lexing.stop))) ⊎ ((length runs ≤ next.run) × (c.if-next-len.to ≡ length new)) =
     elim c.if-next-len.branch [
       | then-next-len w ↦ inl (omega arith, w.to-is)
@@ -52,14 +45,10 @@ renew_runs-requires-clause-fits c =
     let lexing = c.in_ok-lexing.lexing in
     let fresh = lexing.tokens in
     let old = c.args.tokens.now.items in
-    let put = c.in_ok-splice.ensures.items in
-    let ran = put.3 in
-    let gives = YieldsList-from_vec fresh.items put.2.0 (put.2.1 ∙ fresh.ok.0) in
-    let all : put.1 ≡ fresh.items = sym (map-id put.1) ∙ items_from_drains put.1 (ran.1.0, ran.1.1, λ _. (ran.0, ran.1.2)) gives in
     let N = token_list (chars c.args.text.now) in
     let met : Meets old N c.args.front.count c.args.most lexing.lexed lexing.stop =
     subst (λ (z : List Token). Meets z N c.args.front.count c.args.most lexing.lexed lexing.stop) c.as_slice.ensures.value c.in_ok-lexing.ensures.meets in
-    let parts = put.4 ∙ ap (λ (z : List Token). take c.args.front.count old ++ (z ++ drop lexing.stop old)) (all ∙ c.in_ok-lexing.ensures.tokens) in
+    let parts = c.in_ok-replace.ensures.replaced ∙ ap (λ (z : List Token). take c.args.front.count old ++ (z ++ drop lexing.stop old)) (c.deref.ensures.value ∙ c.in_ok-lexing.ensures.tokens) in
     let new = c.as_slice-4.result.now in
     let changed : Changed old N new c.args.front.count lexing.lexed lexing.stop = record {
       front_in = c.requires.within;
@@ -74,14 +63,10 @@ renew_runs-requires-clause-front c =
     let lexing = c.in_ok-lexing.lexing in
     let fresh = lexing.tokens in
     let old = c.args.tokens.now.items in
-    let put = c.in_ok-splice.ensures.items in
-    let ran = put.3 in
-    let gives = YieldsList-from_vec fresh.items put.2.0 (put.2.1 ∙ fresh.ok.0) in
-    let all : put.1 ≡ fresh.items = sym (map-id put.1) ∙ items_from_drains put.1 (ran.1.0, ran.1.1, λ _. (ran.0, ran.1.2)) gives in
     let N = token_list (chars c.args.text.now) in
     let met : Meets old N c.args.front.count c.args.most lexing.lexed lexing.stop =
     subst (λ (z : List Token). Meets z N c.args.front.count c.args.most lexing.lexed lexing.stop) c.as_slice.ensures.value c.in_ok-lexing.ensures.meets in
-    let parts = put.4 ∙ ap (λ (z : List Token). take c.args.front.count old ++ (z ++ drop lexing.stop old)) (all ∙ c.in_ok-lexing.ensures.tokens) in
+    let parts = c.in_ok-replace.ensures.replaced ∙ ap (λ (z : List Token). take c.args.front.count old ++ (z ++ drop lexing.stop old)) (c.deref.ensures.value ∙ c.in_ok-lexing.ensures.tokens) in
     let new = c.as_slice-4.result.now in
     let changed : Changed old N new c.args.front.count lexing.lexed lexing.stop = record {
       front_in = c.requires.within;
@@ -103,14 +88,10 @@ renew_runs-requires-clause-back c =
     let lexing = c.in_ok-lexing.lexing in
     let fresh = lexing.tokens in
     let old = c.args.tokens.now.items in
-    let put = c.in_ok-splice.ensures.items in
-    let ran = put.3 in
-    let gives = YieldsList-from_vec fresh.items put.2.0 (put.2.1 ∙ fresh.ok.0) in
-    let all : put.1 ≡ fresh.items = sym (map-id put.1) ∙ items_from_drains put.1 (ran.1.0, ran.1.1, λ _. (ran.0, ran.1.2)) gives in
     let N = token_list (chars c.args.text.now) in
     let met : Meets old N c.args.front.count c.args.most lexing.lexed lexing.stop =
     subst (λ (z : List Token). Meets z N c.args.front.count c.args.most lexing.lexed lexing.stop) c.as_slice.ensures.value c.in_ok-lexing.ensures.meets in
-    let parts = put.4 ∙ ap (λ (z : List Token). take c.args.front.count old ++ (z ++ drop lexing.stop old)) (all ∙ c.in_ok-lexing.ensures.tokens) in
+    let parts = c.in_ok-replace.ensures.replaced ∙ ap (λ (z : List Token). take c.args.front.count old ++ (z ++ drop lexing.stop old)) (c.deref.ensures.value ∙ c.in_ok-lexing.ensures.tokens) in
     let new = c.as_slice-4.result.now in
     let changed : Changed old N new c.args.front.count lexing.lexed lexing.stop = record {
       front_in = c.requires.within;
@@ -125,7 +106,7 @@ renew_runs-requires-clause-back c =
     let count : next.count ≡ run_tokens next.run runs = c.first_past-next.ensures.is_count ∙ ap (λ (z : List Run). run_tokens next.run z) slice in
     let past = subst (λ (z : List Run). next.run < length z → lexing.stop ≤ next.count) slice c.first_past-next.ensures.past in
     let len = c.len-2.ensures ∙ c.room_for.new.runs.ok.0 ∙ ap length c.room_for.ensures.runs in
-    let whole : length new ≡ c.splice.new.self.len = ap length c.as_slice-4.ensures.value ∙ sym c.splice.new.self.ok.0 in
+    let whole : length new ≡ c.replace.new.items.len = ap length c.as_slice-4.ensures.value ∙ sym c.replace.new.items.ok.0 in
     let where_to : ((next.run < length runs) × (c.if-next-len.to ≡ c.args.front.count + lexing.lexed + (next.count - lexing.stop))) ⊎ ((length runs ≤ next.run) × (c.if-next-len.to ≡ length new)) =
     elim c.if-next-len.branch [
       | then-next-len w ↦ inl (omega arith, w.to-is)
@@ -139,14 +120,10 @@ returns-clause-renewed c =
     let lexing = c.in_ok-lexing.lexing in
     let fresh = lexing.tokens in
     let old = c.args.tokens.now.items in
-    let put = c.in_ok-splice.ensures.items in
-    let ran = put.3 in
-    let gives = YieldsList-from_vec fresh.items put.2.0 (put.2.1 ∙ fresh.ok.0) in
-    let all : put.1 ≡ fresh.items = sym (map-id put.1) ∙ items_from_drains put.1 (ran.1.0, ran.1.1, λ _. (ran.0, ran.1.2)) gives in
     let N = token_list (chars c.args.text.now) in
     let met : Meets old N c.args.front.count c.args.most lexing.lexed lexing.stop =
     subst (λ (z : List Token). Meets z N c.args.front.count c.args.most lexing.lexed lexing.stop) c.as_slice.ensures.value c.in_ok-lexing.ensures.meets in
-    let parts = put.4 ∙ ap (λ (z : List Token). take c.args.front.count old ++ (z ++ drop lexing.stop old)) (all ∙ c.in_ok-lexing.ensures.tokens) in
+    let parts = c.in_ok-replace.ensures.replaced ∙ ap (λ (z : List Token). take c.args.front.count old ++ (z ++ drop lexing.stop old)) (c.deref.ensures.value ∙ c.in_ok-lexing.ensures.tokens) in
     let inside : lexing.stop ≤ length old = met.within_old in
     let len : c.len.result ≡ length old = c.len.ensures ∙ c.args.tokens.now.ok.0 in
     record {
