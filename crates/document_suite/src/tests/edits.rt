@@ -145,7 +145,42 @@ const UNCLOSED: Edit = Edit {
     },
 };
 
-const EDITS: &[Edit] = &[SWALLOWED, NO_FIELD, UNCLOSED];
+/// A name gets another end: what is behind it moves, its message too.
+const LONGER_NAME: Edit = Edit {
+    text: "fn f() { x.0.; }",
+    at: (4, 4),
+    new: "ew",
+    becomes: Row {
+        text: "fn few() { x.0.; }",
+        tree: &[
+            ((SyntaxKind::NAME, 3, 6), &[0, 2]),
+            ((SyntaxKind::IDENT, 3, 6), &[0, 2, 0]),
+            ((SyntaxKind::EXPR_STMT, 11, 16), &[0, 5, 0, 2]),
+            ((SyntaxKind::FIELD_EXPR, 11, 15), &[0, 5, 0, 2, 0]),
+            ((SyntaxKind::NAME_REF, 13, 14), &[0, 5, 0, 2, 0, 0, 2]),
+            ((SyntaxKind::SEMICOLON, 15, 16), &[0, 5, 0, 2, 1]),
+        ],
+        tokens: &[
+            (SyntaxKind::FN_KW, 0, 2),
+            (SyntaxKind::WHITESPACE, 2, 3),
+            (SyntaxKind::IDENT, 3, 6),
+            (SyntaxKind::L_PAREN, 6, 7),
+            (SyntaxKind::R_PAREN, 7, 8),
+            (SyntaxKind::WHITESPACE, 8, 9),
+            (SyntaxKind::L_CURLY, 9, 10),
+            (SyntaxKind::WHITESPACE, 10, 11),
+            (SyntaxKind::IDENT, 11, 12),
+            (SyntaxKind::DOT, 12, 13),
+            (SyntaxKind::FLOAT_NUMBER, 13, 15),
+            (SyntaxKind::SEMICOLON, 15, 16),
+            (SyntaxKind::WHITESPACE, 16, 17),
+            (SyntaxKind::R_CURLY, 17, 18),
+        ],
+        errors: &[(15, "expected field name or number")],
+    },
+};
+
+const EDITS: &[Edit] = &[SWALLOWED, NO_FIELD, UNCLOSED, LONGER_NAME];
 
 #[test]
 fn texts_are_read_again(rt: HostRuntime) -> Result<(), Fail> {
