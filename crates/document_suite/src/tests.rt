@@ -6,6 +6,7 @@ mod annotated;
 mod comments;
 mod commits;
 mod edits;
+mod guide;
 mod kept;
 mod merged;
 mod no_text;

@@ -1,0 +1,38 @@
+"""Tests of docs/GUIDE.md: its code stands in the sources, and its tables of what is read are those of a test."""
+import os
+import re
+import unittest
+
+TOP = os.path.dirname(os.path.dirname(os.path.realpath(__file__)))
+GUIDE = f"{TOP}/docs/GUIDE.md"
+ROWS = f"{TOP}/crates/document_suite/src/tests/guide.rt"
+QUOTED = re.compile(r"<!-- from (\S+) -->\n```rust\n(.*?)```", re.S)
+TABLE = re.compile(r"^\| construct \| example \|\n\|---\|---\|\n((?:\|.*\n)+)", re.M)
+CELL = re.compile(r"^\| .* \| (`+) ?(.*?) ?\1 \|$", re.M)
+CONSTANT = re.compile(r"^const \w+: &\[&str\] = &\[\n(.*?)^\];", re.M | re.S)
+TEXT = re.compile(r'^    "(.*)",$', re.M)
+
+
+def read(path):
+    with open(path, encoding="utf-8") as file:
+        return file.read()
+
+
+class Guide(unittest.TestCase):
+    """Is what the guide quotes what the sources have?"""
+
+    def test_quoted_code_stands_in_the_sources(self):
+        quoted = QUOTED.findall(read(GUIDE))
+        self.assertGreaterEqual(len(quoted), 2)
+        for path, code in quoted:
+            self.assertIn(code, read(f"{TOP}/{path}"))
+
+    def test_tables_of_what_is_read_are_those_of_the_test(self):
+        tables = [[text.replace("\\|", "|") for _, text in CELL.findall(table)] for table in TABLE.findall(read(GUIDE))]
+        rows = [[text.replace('\\"', '"').replace("\\\\", "\\") for text in TEXT.findall(body)] for body in CONSTANT.findall(read(ROWS))]
+        self.assertEqual(len(tables), 2)
+        self.assertEqual(tables, rows)
+
+
+if __name__ == "__main__":
+    unittest.main()
