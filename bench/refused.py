@@ -6,8 +6,8 @@ run meets no refusal. Says how many runs there were, and which ended otherwise t
 
 A run that met a refusal ends as the run that met none, with the same output: so do tests that make a refused call again. With --fault
 it ends with status 2, 'fault: memory' on standard error, and a front of the output: so does document_tool. With --calls its output has
-one line more, which comes first and names the call that answered out of memory: so does memory_suite. With either of the two, a run
-that met a refusal and answers as if there was none is wrong.
+one line more, which comes first and names the call that answered out of memory: so do memory_suite and document_memory_suite. With
+either of the two, a run that met a refusal and answers as if there was none is wrong.
 Standard input is empty, or FILE. Wants glibc, and the Rattle kit's C compiler or another one.
 """
 import argparse
@@ -22,7 +22,7 @@ from concurrent.futures import ThreadPoolExecutor
 
 HERE = os.path.dirname(os.path.realpath(__file__))
 FAULT = 2, b"fault: memory\n"
-# What memory_suite prints of a call that answered out of memory.
+# What a program with a table of calls prints of one that answered out of memory.
 OUT_OF_MEMORY = re.compile(rb"\A1 out of memory: (.*)\n")
 # The runs that are started before it is seen whether one of them met no refusal.
 BATCH = 64

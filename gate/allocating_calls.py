@@ -1,6 +1,6 @@
-"""The public calls that can run out of memory, and whether the table of `memory_suite` has each.
+"""The public calls that can run out of memory, and whether a table of `memory_suite` or `document_memory_suite` has each.
 
-    python3 gate/allocating_calls.py    prints the calls that the table lacks, and the names in it that no call has
+    python3 gate/allocating_calls.py    prints the calls that the tables lack, and the names in them that no call has
 
 A call can run out of memory if it returns a `Result` whose error can be that: `AllocError`, or a type with a variant for it. An
 iterator is tried by the call that makes it, and a conversion of errors makes no request.
@@ -13,7 +13,8 @@ import sys
 import ledger
 from repository import TOP
 
-TABLE = "memory_suite"
+# The crates with the tables.
+TABLES = "*memory_suite"
 # Crates whose calls are not the product's own come after this line of crates.txt: programs, tests, measurements, and crates that no
 # program uses yet, whose tests make a refused call again (`rt try --test --fail-alloc N`).
 END_OF_PRODUCT = "# Its program"
@@ -168,7 +169,7 @@ def calls(root):
 def table(root):
     """Returns the names that the rows of the table have. A row may have several: `a::B::{c, d}`."""
     named = set()
-    for path in glob.glob(f"{root}/crates/{TABLE}/src/*.rt"):
+    for path in glob.glob(f"{root}/crates/{TABLES}/src/*.rt"):
         for name in ROW.findall(ledger.read(path).decode()):
             front, _, group = name.partition("{")
             named.update(f"{front}{call}" for call in names_in(group.rstrip("}")) or [""])
@@ -182,9 +183,9 @@ def differences(root):
     unknown = (named | {*MADE_BY}) - found
     unmade = {call for call in MADE_BY.values() if call not in named}
     return (
-        [f"{call}: can run out of memory, and {TABLE} does not try it" for call in sorted(lacking)]
+        [f"{call}: can run out of memory, and no table tries it" for call in sorted(lacking)]
         + [f"{call}: no public call that can run out of memory" for call in sorted(unknown)]
-        + [f"{call}: makes other calls, and {TABLE} does not try it" for call in sorted(unmade)]
+        + [f"{call}: makes other calls, and no table tries it" for call in sorted(unmade)]
     )
 
 

@@ -1,6 +1,6 @@
 //! Steps from cursors to those next to them.
-use crate::row::{Ask, Row};
-use crate::shown::{Element, Node, Token, one_shown};
+use memory_table::row::{Ask, Row};
+use memory_table::shown::{Element, Node, Token, one_shown};
 use rowan::ElementExt;
 use rowan_green::{GreenError, GreenNode, GreenNodeBuilder, SyntaxKind};
 use std::alloc::{AllocError, Global};

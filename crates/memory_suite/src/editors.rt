@@ -2,9 +2,9 @@
 ghost use Rattle.std.specs.Prelude.{◌≡◌, []};
 
 use crate::recording::{child, record};
-use crate::row::{Ask, Row};
-use crate::shown::{list_shown, one_shown};
 use crate::trees::{element, node, root, word};
+use memory_table::row::{Ask, Row};
+use memory_table::shown::{list_shown, one_shown};
 use parser_input::SyntaxKind;
 use std::alloc::Global;
 use syntax_editor::{FinishError, MakeError, Space, SyntaxEditor};

@@ -1,8 +1,8 @@
 //! Cursors that are found by offset, range and kind, and texts of nodes.
 use crate::cursors::{comma, green, list, root};
-use crate::row::{Ask, Row};
-use crate::shown::{Node, Shown, Token, one_shown};
 use anyhow::bail;
+use memory_table::row::{Ask, Row};
+use memory_table::shown::{Node, Shown, Token, one_shown};
 use rowan::{AstNode, AstPtr, CursorError, SyntaxNodePtr, support};
 use rowan_green::{GreenError, GreenToken, SyntaxKind, TextRange, TextSize};
 use rowan_suite::{Kind, ListNode, Lists};

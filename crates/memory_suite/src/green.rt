@@ -1,5 +1,5 @@
 //! Green tokens and nodes, and their builder.
-use crate::row::{Ask, Row};
+use memory_table::row::{Ask, Row};
 use rowan_green::{GreenElement, GreenError, GreenNode, GreenNodeBuilder, GreenToken, SyntaxKind};
 use std::alloc::{AllocError, Global};
 

@@ -1,7 +1,7 @@
 //! Nodes whose lines are indented or dedented.
-use crate::row::{Ask, Row};
 use crate::trees::{node, raw};
 use anyhow::bail;
+use memory_table::row::{Ask, Row};
 use parser_input::SyntaxKind;
 use rowan_green::{GreenNode, GreenNodeBuilder};
 use std::alloc::{AllocError, Global};

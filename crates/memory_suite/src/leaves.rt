@@ -1,8 +1,8 @@
 //! Texts that are lexed, the parser's input, and its steps.
 ghost use Rattle.std.specs.Prelude.{◌≡◌, length, IfOk};
 
-use crate::row::{Ask, Row};
 use lexed_text::LexedText;
+use memory_table::row::{Ask, Row};
 use parser_events::output::Output;
 use parser_events::parser::Parser;
 use parser_events::step::Step;

@@ -1,6 +1,7 @@
-//! Makes each public call that can run out of memory, and compares its answer with the one that a
-//! table has. A call that answers out of memory is made a second time: it has to leave its values
-//! as they were, and to give the answer of the table then.
+//! Makes each public call that can run out of memory, but for those on documents and requests
+//! (`document_memory_suite`), and compares its answer with the one that a table has. A call that
+//! answers out of memory is made a second time: it has to leave its values as they were, and to give
+//! the answer of the table then.
 //!
 //! Prints a line for each wrong answer, and how many rows there are. A line before them names the
 //! call that answered out of memory. `bench/refused.py --calls` runs the program again and again
@@ -8,7 +9,6 @@
 #![tactic(auto)]
 
 mod cursors;
-mod documents;
 mod editors;
 mod finding;
 mod green;
@@ -16,14 +16,11 @@ mod indents;
 mod leaves;
 mod mappings;
 mod recording;
-mod requests;
-mod row;
-mod shown;
 mod trees;
 mod typed;
 mod walks;
 
-use crate::row::{Tally, try_all};
+use memory_table::row::{Tally, try_all};
 
 fn main(rt: HostRuntime) -> anyhow::Result<()> {
     let alloc = rt.alloc();
@@ -38,8 +35,6 @@ fn main(rt: HostRuntime) -> anyhow::Result<()> {
     try_all(alloc, editors::ROWS, &mut tally)?;
     try_all(alloc, typed::ROWS, &mut tally)?;
     try_all(alloc, indents::ROWS, &mut tally)?;
-    try_all(alloc, documents::ROWS, &mut tally)?;
-    try_all(alloc, requests::ROWS, &mut tally)?;
     if tally.refused != 0 {
         println!(rt; "{} out of memory: {}", tally.refused, tally.last_refused)?;
     }

@@ -1,10 +1,10 @@
 //! Mappings between numbered trees, and plans of changes.
 ghost use Rattle.std.specs.Prelude.{◌≡◌, []};
 
-use crate::row::{Ask, Row};
-use crate::shown::{list_shown, one_shown};
 use crate::trees::{element, node, root, word};
 use anyhow::bail;
+use memory_table::row::{Ask, Row};
+use memory_table::shown::{list_shown, one_shown};
 use std::alloc::{AllocError, Global};
 use syntax_tree::{
     MappingError, Position, SyntaxElement, SyntaxMapping, SyntaxMappingBuilder, SyntaxNode, TreeIds,

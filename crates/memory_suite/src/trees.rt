@@ -1,9 +1,9 @@
 //! Numbered trees and their handles.
 ghost use Rattle.std.specs.Prelude.{◌≡◌, [], IfOk};
 
-use crate::row::{Ask, Row};
-use crate::shown::{all_shown, list_shown, one_shown};
 use anyhow::bail;
+use memory_table::row::{Ask, Row};
+use memory_table::shown::{all_shown, list_shown, one_shown};
 use parser_input::SyntaxKind;
 use rowan_green::{GreenNode, GreenNodeBuilder, GreenToken, TextRange, TextSize};
 use std::alloc::{AllocError, Global};

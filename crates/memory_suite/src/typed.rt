@@ -1,7 +1,7 @@
 //! Typed nodes and their editors.
-use crate::row::{Ask, Row};
 use crate::trees::raw;
 use anyhow::bail;
+use memory_table::row::{Ask, Row};
 use parser_input::SyntaxKind;
 use rowan_green::{GreenNode, GreenNodeBuilder};
 use std::alloc::{AllocError, Global};

@@ -1,7 +1,7 @@
 //! Cursors one after another.
 use crate::cursors::{comma, list, root};
-use crate::row::{Ask, Row};
-use crate::shown::{Element, Node, Token, all_shown};
+use memory_table::row::{Ask, Row};
+use memory_table::shown::{Element, Node, Token, all_shown};
 use rowan::{Direction, ElementExt, Preorder, PreorderWithTokens, support};
 use rowan_suite::{ListNode, Lists};
 use std::alloc::{AllocError, Global};

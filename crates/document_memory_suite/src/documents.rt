@@ -1,7 +1,7 @@
 //! Documents that are opened, edited and committed.
-use crate::row::{Ask, Row};
-use crate::shown::all_shown;
 use anyhow::bail;
+use memory_table::row::{Ask, Row};
+use memory_table::shown::all_shown;
 use parser_input::{Edition, SyntaxKind};
 use ra_parser::TopEntryPoint;
 use rowan_green::{TextRange, TextSize};

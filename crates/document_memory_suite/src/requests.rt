@@ -1,10 +1,10 @@
 //! Requests that are run, and lists of commands.
-use crate::row::{Ask, Row};
 use anyhow::bail;
 use document_requests::apply::apply;
 use document_requests::run::run;
 use document_requests::serve::{Outcome, serve_bytes};
 use document_requests::{Change, Command, Entry, Op, Refusal, Reply, Target, Watched};
+use memory_table::row::{Ask, Row};
 use parser_input::{Edition, SyntaxKind};
 use rust_document::Document;
 use std::alloc::{AllocError, Global};

@@ -2,7 +2,7 @@
 use std::alloc::{AllocError, Global};
 
 /// The answer to a question.
-pub(crate) trait Ask: Copy {
+pub trait Ask: Copy {
     /// Makes the call. A call that changes a value is made a second time if it answers out of
     /// memory, and counted in `refused`.
     fn answer(self, alloc: Global, refused: &mut u32) -> anyhow::Result<String>;
@@ -10,23 +10,23 @@ pub(crate) trait Ask: Copy {
 
 /// A row of the table: the path of a call, or of several that are made one after another; what is
 /// asked; and what is written for the answer.
-pub(crate) type Row<A> = (&'static str, A, &'static str);
+pub type Row<A> = (&'static str, A, &'static str);
 
 /// What became of the rows.
 #[derive(Drop)]
-pub(crate) struct Tally {
+pub struct Tally {
     /// The number of rows.
-    pub(crate) tried: u32,
+    pub tried: u32,
     /// The number of calls that answered out of memory.
-    pub(crate) refused: u32,
+    pub refused: u32,
     /// The last of these calls.
-    pub(crate) last_refused: &'static str,
+    pub last_refused: &'static str,
     /// The rows with another answer than the wanted one, a line each.
-    pub(crate) wrong: String,
+    pub wrong: String,
 }
 
 impl Tally {
-    pub(crate) fn new(alloc: Global) -> Tally {
+    pub fn new(alloc: Global) -> Tally {
         Tally {
             tried: 0,
             refused: 0,
@@ -77,7 +77,7 @@ fn wrong_answer(
 }
 
 /// Tries all rows, and counts.
-pub(crate) fn try_all<A: Ask>(
+pub fn try_all<A: Ask>(
     alloc: Global,
     rows: &[Row<A>],
     tally: &mut Tally,

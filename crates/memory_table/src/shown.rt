@@ -6,14 +6,14 @@ use rowan_green::TextRange;
 use rowan_suite::{ListNode, Lists};
 use std::alloc::{AllocError, Global};
 
-pub(crate) type Node = SyntaxNode<Lists>;
+pub type Node = SyntaxNode<Lists>;
 
-pub(crate) type Token = SyntaxToken<Lists>;
+pub type Token = SyntaxToken<Lists>;
 
-pub(crate) type Element = SyntaxElement<Lists>;
+pub type Element = SyntaxElement<Lists>;
 
 /// What is written for an answer.
-pub(crate) trait Shown {
+pub trait Shown {
     fn show(&self, alloc: Global, out: &mut String) -> Result<(), AllocError>;
 }
 
@@ -89,7 +89,7 @@ impl<T: Shown> Shown for WalkEvent<T> {
 }
 
 /// Returns what is written for one answer.
-pub(crate) fn one_shown<T: Shown + Drop>(
+pub fn one_shown<T: Shown + Drop>(
     alloc: Global,
     answer: Result<T, AllocError>,
 ) -> Result<String, AllocError> {
@@ -99,7 +99,7 @@ pub(crate) fn one_shown<T: Shown + Drop>(
 }
 
 /// Returns what is written for all that an iterator yields, up to its first error.
-pub(crate) fn all_shown<T: Shown + Drop, I: Iterator<Item = Result<T, AllocError>> + Drop>(
+pub fn all_shown<T: Shown + Drop, I: Iterator<Item = Result<T, AllocError>> + Drop>(
     alloc: Global,
     items: I,
 ) -> Result<String, AllocError>
@@ -114,7 +114,7 @@ pub(crate) fn all_shown<T: Shown + Drop, I: Iterator<Item = Result<T, AllocError
 }
 
 /// Returns what is written for the elements of a list.
-pub(crate) fn list_shown<T: Shown>(alloc: Global, items: &[T]) -> Result<String, AllocError> {
+pub fn list_shown<T: Shown>(alloc: Global, items: &[T]) -> Result<String, AllocError> {
     let mut out = String::new(alloc);
     for item in items {
         item.show(alloc, &mut out)?;
