@@ -1,4 +1,5 @@
 -- The first comes after the next token and touches the second.
+use Rattle.std.proofs.Common.{arith}
 use Rattle.rust_grammar.specs.Rule.{there_at}
 use Rattle.rust_productions.proofs.ByHand.{does-then}
 use Rattle.rust_productions.proofs.Facts.{saw-so}
@@ -13,12 +14,16 @@ returns-then-not-at_second-clause-sees c cond = saw-no-left (saw-so (c.at_second
 pub returns-then-not-joint_at-clause-sees : goal.returns-then-not-joint_at-clause-sees
 unfolding there_at
 returns-then-not-joint_at-clause-sees c cond =
-    saw-no-right (saw-so (c.at_second.ensures.sees cond) c.if-not-at_second.false) (saw-no-left (saw-before c.at_second.ensures.same (saw-so (saw-joint cond 1 _ _ c.joint_at.ensures) c.if-not-joint_at.true)))
+    saw-no-right (saw-so (c.at_second.ensures.sees cond) c.if-not-at_second.false) (saw-no-left (saw-before c.at_second.ensures.peeks.same (saw-so (saw-joint cond 1 _ _ c.joint_at.ensures) c.if-not-joint_at.true)))
 
 pub returns-clause-sees : goal.returns-clause-sees
 unfolding there_at
 returns-clause-sees c cond =
-    saw-pair (saw-so (c.at_second.ensures.sees cond) c.if-not-at_second.false) (saw-before c.at_second.ensures.same (saw-so (saw-joint cond 1 _ _ c.joint_at.ensures) c.if-not-joint_at.false)) (saw-before c.at_second.ensures.same (c.at_third.ensures.sees cond))
+    saw-pair (saw-so (c.at_second.ensures.sees cond) c.if-not-at_second.false) (saw-before c.at_second.ensures.peeks.same (saw-so (saw-joint cond 1 _ _ c.joint_at.ensures) c.if-not-joint_at.false)) (saw-before c.at_second.ensures.peeks.same (c.at_third.ensures.sees cond))
 
-pub returns-clause-same : goal.returns-clause-same
-returns-clause-same c = does-then c.at_second.ensures.same c.at_third.ensures.same
+pub returns-clause-peeks : goal.returns-clause-peeks
+returns-clause-peeks c = record {
+  same = does-then c.at_second.ensures.peeks.same c.at_third.ensures.peeks.same;
+  left = omega arith;
+  looks = omega arith;
+}

@@ -1,5 +1,5 @@
 -- Each arm sees what the look asks.
-use Rattle.std.proofs.Common.{Bool, false, true, inl, inr, refl}
+use Rattle.std.proofs.Common.{Bool, false, true, inl, inr, refl, arith}
 use Rattle.parser_input.specs.Kinds as kinds
 use Rattle.parser_events.specs.View.{View}
 use Rattle.rust_grammar.specs.Notation.{any_of, row}
@@ -23,10 +23,14 @@ unfolding any_of row there_at
 returns-in-SELF_KW-clause-sees c cond = elim c.in-SELF_KW.is [ inl a ↦ saw-told (c.requires cond and saw-arm a (c.nth.ensures.sees cond) and nothing) refl | inr b ↦ saw-told (c.requires cond and saw-arm b (c.nth.ensures.sees cond) and nothing) refl ]
 
 pub returns-in-MUT_KW-clause-sees : goal.returns-in-MUT_KW-clause-sees
-returns-in-MUT_KW-clause-sees c cond = by-third c.at_third.result (c.requires cond) (saw-arm c.in-MUT_KW.is (c.nth.ensures.sees cond)) (saw-before c.nth.ensures.same (c.at_third.ensures.sees cond))
+returns-in-MUT_KW-clause-sees c cond = by-third c.at_third.result (c.requires cond) (saw-arm c.in-MUT_KW.is (c.nth.ensures.sees cond)) (saw-before c.nth.ensures.peeks.same (c.at_third.ensures.sees cond))
 
-pub returns-in-MUT_KW-clause-same : goal.returns-in-MUT_KW-clause-same
-returns-in-MUT_KW-clause-same c = does-then c.nth.ensures.same c.at_third.ensures.same
+pub returns-in-MUT_KW-clause-peeks : goal.returns-in-MUT_KW-clause-peeks
+returns-in-MUT_KW-clause-peeks c = record {
+  same = does-then c.nth.ensures.peeks.same c.at_third.ensures.peeks.same;
+  left = omega arith;
+  looks = omega arith;
+}
 
 pub returns-in_default-clause-sees : goal.returns-in_default-clause-sees
 unfolding any_of row there_at

@@ -1,4 +1,5 @@
 -- Each path sees what the look asks.
+use Rattle.std.proofs.Common.{arith}
 use Rattle.rust_grammar.specs.Notation.{one_of, row}
 use Rattle.rust_grammar.specs.Rule.{there_at}
 use Rattle.rust_productions.proofs.ByHand.{does-then}
@@ -14,7 +15,11 @@ returns-then-not-at-clause-sees c cond = saw-no-left (saw-always (saw-so (c.at.e
 pub returns-clause-sees : goal.returns-clause-sees
 unfolding row one_of there_at
 returns-clause-sees c cond =
-    saw-both (saw-always (saw-so (c.at.ensures.sees cond) c.if-not-at.false)) (saw-denied (saw-never (saw-always (saw-before c.at.ensures.same (c.at_second.ensures.sees cond)))))
+    saw-both (saw-always (saw-so (c.at.ensures.sees cond) c.if-not-at.false)) (saw-denied (saw-never (saw-always (saw-before c.at.ensures.peeks.same (c.at_second.ensures.sees cond)))))
 
-pub returns-clause-same : goal.returns-clause-same
-returns-clause-same c = does-then c.at.ensures.same c.at_second.ensures.same
+pub returns-clause-peeks : goal.returns-clause-peeks
+returns-clause-peeks c = record {
+  same = does-then c.at.ensures.peeks.same c.at_second.ensures.peeks.same;
+  left = omega arith;
+  looks = omega arith;
+}

@@ -1,4 +1,5 @@
 -- Each path sees what the look asks.
+use Rattle.std.proofs.Common.{arith}
 use Rattle.rust_grammar.specs.Notation.{row}
 use Rattle.rust_grammar.specs.Rule.{there_at}
 use Rattle.rust_productions.proofs.ByHand.{does-then}
@@ -13,7 +14,11 @@ returns-then-not-at_colons-clause-sees c cond = saw-no-left (saw-so (c.at_colons
 
 pub returns-clause-sees : goal.returns-clause-sees
 unfolding row there_at
-returns-clause-sees c cond = saw-both (saw-so (c.at_colons.ensures.sees cond) c.if-not-at_colons.false) (saw-always (saw-before c.at_colons.ensures.same (c.at_third.ensures.sees cond)))
+returns-clause-sees c cond = saw-both (saw-so (c.at_colons.ensures.sees cond) c.if-not-at_colons.false) (saw-always (saw-before c.at_colons.ensures.peeks.same (c.at_third.ensures.sees cond)))
 
-pub returns-clause-same : goal.returns-clause-same
-returns-clause-same c = does-then c.at_colons.ensures.same c.at_third.ensures.same
+pub returns-clause-peeks : goal.returns-clause-peeks
+returns-clause-peeks c = record {
+  same = does-then c.at_colons.ensures.peeks.same c.at_third.ensures.peeks.same;
+  left = omega arith;
+  looks = omega arith;
+}

@@ -1,4 +1,5 @@
 -- Each path sees what the look asks.
+use Rattle.std.proofs.Common.{arith}
 use Rattle.rust_grammar.specs.Expressions.{expressions}
 use Rattle.rust_grammar.specs.Items.{items}
 use Rattle.rust_grammar.specs.Meaning.{begins_below, look_of}
@@ -20,7 +21,11 @@ returns-then-at_colons_before_args-clause-sees c cond = saw-either-left (saw-so 
 
 pub returns-clause-sees : goal.returns-clause-sees
 unfolding look_of begins_below whole rule items statements expressions patterns types paths there_at shift passes is_silent begins in_mode anew row one_of any_of no_longer longest is_longer
-returns-clause-sees c cond = saw-either-right (saw-so (c.at_colons_before_args.ensures.sees cond) c.if-at_colons_before_args.false) (saw-always (saw-before c.at_colons_before_args.ensures.same (c.at.ensures.sees cond)))
+returns-clause-sees c cond = saw-either-right (saw-so (c.at_colons_before_args.ensures.sees cond) c.if-at_colons_before_args.false) (saw-always (saw-before c.at_colons_before_args.ensures.peeks.same (c.at.ensures.sees cond)))
 
-pub returns-clause-same : goal.returns-clause-same
-returns-clause-same c = does-then c.at_colons_before_args.ensures.same c.at.ensures.same
+pub returns-clause-peeks : goal.returns-clause-peeks
+returns-clause-peeks c = record {
+  same = does-then c.at_colons_before_args.ensures.peeks.same c.at.ensures.peeks.same;
+  left = omega arith;
+  looks = omega arith;
+}

@@ -1,5 +1,5 @@
 -- Each path sees what the look asks.
-use Rattle.std.proofs.Common.{refl}
+use Rattle.std.proofs.Common.{refl, arith}
 use Rattle.rust_grammar.specs.Notation.{row}
 use Rattle.rust_grammar.specs.Rule.{there_at}
 use Rattle.rust_productions.proofs.ByHand.{does-then}
@@ -14,7 +14,11 @@ returns-then-not-at-clause-sees c cond = saw-told (saw-so (c.at.ensures.sees con
 
 pub returns-clause-sees : goal.returns-clause-sees
 unfolding row there_at
-returns-clause-sees c cond = saw-both (saw-so (c.at.ensures.sees cond) c.if-not-at.false) (saw-always (saw-before c.at.ensures.same (c.at_second.ensures.sees cond)))
+returns-clause-sees c cond = saw-both (saw-so (c.at.ensures.sees cond) c.if-not-at.false) (saw-always (saw-before c.at.ensures.peeks.same (c.at_second.ensures.sees cond)))
 
-pub returns-clause-same : goal.returns-clause-same
-returns-clause-same c = does-then c.at.ensures.same c.at_second.ensures.same
+pub returns-clause-peeks : goal.returns-clause-peeks
+returns-clause-peeks c = record {
+  same = does-then c.at.ensures.peeks.same c.at_second.ensures.peeks.same;
+  left = omega arith;
+  looks = omega arith;
+}

@@ -1,5 +1,5 @@
 -- No brace that ends a condition, and an operand.
-use Rattle.std.proofs.Common.{refl}
+use Rattle.std.proofs.Common.{refl, arith}
 use Rattle.rust_grammar.specs.Calls.{Disjunction}
 use Rattle.rust_grammar.specs.Expressions.{body_begins, expressions}
 use Rattle.rust_grammar.specs.Items.{items}
@@ -24,10 +24,14 @@ returns-then-at_body-clause-sees c = starts-here (Unless body_begins Disjunction
 
 pub returns-clause-sees : goal.returns-clause-sees
 unfolding look_of begins_below whole rule items statements expressions patterns types paths there_at shift passes is_silent begins in_mode anew row one_of any_of no_longer longest is_longer
-returns-clause-sees c = starts-here (Unless body_begins Disjunction) (saw-so c.at_body.ensures.sees c.if-at_body.false and begun rules.disjunction (saw-disjunction (saw-before c.at_body.ensures.same c.at_operand.ensures.sees)) nothing) refl
+returns-clause-sees c = starts-here (Unless body_begins Disjunction) (saw-so c.at_body.ensures.sees c.if-at_body.false and begun rules.disjunction (saw-disjunction (saw-before c.at_body.ensures.peeks.same c.at_operand.ensures.sees)) nothing) refl
 
 pub returns-clause-operand : goal.returns-clause-operand
-returns-clause-operand c = λ is. saw-before c.at_body.ensures.same (saw-so c.at_operand.ensures.sees is)
+returns-clause-operand c = λ is. saw-before c.at_body.ensures.peeks.same (saw-so c.at_operand.ensures.sees is)
 
-pub returns-clause-same : goal.returns-clause-same
-returns-clause-same c = does-then c.at_body.ensures.same c.at_operand.ensures.same
+pub returns-clause-peeks : goal.returns-clause-peeks
+returns-clause-peeks c = record {
+  same = does-then c.at_body.ensures.peeks.same c.at_operand.ensures.peeks.same;
+  left = omega arith;
+  looks = omega arith;
+}

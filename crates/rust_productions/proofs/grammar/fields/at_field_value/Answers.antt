@@ -1,5 +1,5 @@
 -- Each path reads what the rule comes to there.
-use Rattle.std.proofs.Common.{refl}
+use Rattle.std.proofs.Common.{refl, arith}
 use Rattle.rust_grammar.specs.Expressions.{expressions}
 use Rattle.rust_grammar.specs.Items.{items}
 use Rattle.rust_grammar.specs.Meaning.{begins_below, look_of}
@@ -23,21 +23,33 @@ returns-then-at_path-clause-sees c cond = begins-row rules.field_value (begun ru
 
 pub returns-then-at_named_field-clause-sees : goal.returns-then-at_named_field-clause-sees
 unfolding look_of begins_below whole rule items statements expressions patterns types paths there_at shift passes is_silent begins in_mode anew row one_of any_of no_longer longest is_longer
-returns-then-at_named_field-clause-sees c cond = begins-row rules.field_value (saw-before c.at_path.ensures.same (saw-so (c.at_named_field.ensures.sees cond) c.if-at_named_field.true) and nothing) refl
+returns-then-at_named_field-clause-sees c cond = begins-row rules.field_value (saw-before c.at_path.ensures.peeks.same (saw-so (c.at_named_field.ensures.sees cond) c.if-at_named_field.true) and nothing) refl
 
-pub returns-then-at_named_field-clause-same : goal.returns-then-at_named_field-clause-same
-returns-then-at_named_field-clause-same c = does-then c.at_path.ensures.same (c.at_named_field.ensures.same)
+pub returns-then-at_named_field-clause-peeks : goal.returns-then-at_named_field-clause-peeks
+returns-then-at_named_field-clause-peeks c = record {
+  same = does-then c.at_path.ensures.peeks.same (c.at_named_field.ensures.peeks.same);
+  left = omega arith;
+  looks = omega arith;
+}
 
 pub returns-then-at_pair-clause-sees : goal.returns-then-at_pair-clause-sees
 unfolding look_of begins_below whole rule items statements expressions patterns types paths there_at shift passes is_silent begins in_mode anew row one_of any_of no_longer longest is_longer
-returns-then-at_pair-clause-sees c cond = begins-row rules.field_value (saw-before c.at_path.ensures.same (saw-before c.at_named_field.ensures.same (saw-left (saw-so (c.at_pair.ensures.sees cond) c.if-at_pair.true))) and saw-before c.at_path.ensures.same (saw-before c.at_named_field.ensures.same (saw-left (saw-right (saw-so (c.at_pair.ensures.sees cond) c.if-at_pair.true)))) and saw-before c.at_path.ensures.same (saw-before c.at_named_field.ensures.same (saw-right (saw-right (saw-so (c.at_pair.ensures.sees cond) c.if-at_pair.true)))) and nothing) refl
+returns-then-at_pair-clause-sees c cond = begins-row rules.field_value (saw-before c.at_path.ensures.peeks.same (saw-before c.at_named_field.ensures.peeks.same (saw-left (saw-so (c.at_pair.ensures.sees cond) c.if-at_pair.true))) and saw-before c.at_path.ensures.peeks.same (saw-before c.at_named_field.ensures.peeks.same (saw-left (saw-right (saw-so (c.at_pair.ensures.sees cond) c.if-at_pair.true)))) and saw-before c.at_path.ensures.peeks.same (saw-before c.at_named_field.ensures.peeks.same (saw-right (saw-right (saw-so (c.at_pair.ensures.sees cond) c.if-at_pair.true)))) and nothing) refl
 
-pub returns-then-at_pair-clause-same : goal.returns-then-at_pair-clause-same
-returns-then-at_pair-clause-same c = does-then c.at_path.ensures.same (does-then c.at_named_field.ensures.same (c.at_pair.ensures.same))
+pub returns-then-at_pair-clause-peeks : goal.returns-then-at_pair-clause-peeks
+returns-then-at_pair-clause-peeks c = record {
+  same = does-then c.at_path.ensures.peeks.same (does-then c.at_named_field.ensures.peeks.same (c.at_pair.ensures.peeks.same));
+  left = omega arith;
+  looks = omega arith;
+}
 
 pub returns-clause-sees : goal.returns-clause-sees
 unfolding look_of begins_below whole rule items statements expressions patterns types paths there_at shift passes is_silent begins in_mode anew row one_of any_of no_longer longest is_longer
-returns-clause-sees c cond = begins-row rules.field_value (begun rules.expr_path (saw-expr-path (saw-so (c.at_path.ensures.sees cond) c.if-at_path.false)) (saw-before c.at_path.ensures.same (saw-so (c.at_named_field.ensures.sees cond) c.if-at_named_field.false) and saw-before c.at_path.ensures.same (saw-before c.at_named_field.ensures.same (saw-so (c.at_pair.ensures.sees cond) c.if-at_pair.false)) and nothing)) refl
+returns-clause-sees c cond = begins-row rules.field_value (begun rules.expr_path (saw-expr-path (saw-so (c.at_path.ensures.sees cond) c.if-at_path.false)) (saw-before c.at_path.ensures.peeks.same (saw-so (c.at_named_field.ensures.sees cond) c.if-at_named_field.false) and saw-before c.at_path.ensures.peeks.same (saw-before c.at_named_field.ensures.peeks.same (saw-so (c.at_pair.ensures.sees cond) c.if-at_pair.false)) and nothing)) refl
 
-pub returns-clause-same : goal.returns-clause-same
-returns-clause-same c = does-then c.at_path.ensures.same (does-then c.at_named_field.ensures.same (c.at_pair.ensures.same))
+pub returns-clause-peeks : goal.returns-clause-peeks
+returns-clause-peeks c = record {
+  same = does-then c.at_path.ensures.peeks.same (does-then c.at_named_field.ensures.peeks.same (c.at_pair.ensures.peeks.same));
+  left = omega arith;
+  looks = omega arith;
+}

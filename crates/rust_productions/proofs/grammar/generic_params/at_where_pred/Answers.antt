@@ -1,5 +1,5 @@
 -- Each path reads what the rule comes to there.
-use Rattle.std.proofs.Common.{refl}
+use Rattle.std.proofs.Common.{refl, arith}
 use Rattle.rust_grammar.specs.Expressions.{expressions}
 use Rattle.rust_grammar.specs.Items.{items}
 use Rattle.rust_grammar.specs.Meaning.{begins_below, look_of}
@@ -22,14 +22,22 @@ returns-then-at-clause-sees c cond = begins-row rules.where_pred (saw-so (c.at.e
 
 pub returns-then-at_type-clause-sees : goal.returns-then-at_type-clause-sees
 unfolding look_of begins_below whole rule items statements expressions patterns types paths there_at shift passes is_silent begins in_mode anew row one_of any_of no_longer longest is_longer
-returns-then-at_type-clause-sees c cond = begins-row rules.where_pred (saw-so (c.at.ensures.sees cond) c.if-at.false and begun rules.any_type (saw-before c.at.ensures.same (saw-so (c.at_type.ensures.sees cond) c.if-at_type.true)) (nothing)) refl
+returns-then-at_type-clause-sees c cond = begins-row rules.where_pred (saw-so (c.at.ensures.sees cond) c.if-at.false and begun rules.any_type (saw-before c.at.ensures.peeks.same (saw-so (c.at_type.ensures.sees cond) c.if-at_type.true)) (nothing)) refl
 
-pub returns-then-at_type-clause-same : goal.returns-then-at_type-clause-same
-returns-then-at_type-clause-same c = does-then c.at.ensures.same (c.at_type.ensures.same)
+pub returns-then-at_type-clause-peeks : goal.returns-then-at_type-clause-peeks
+returns-then-at_type-clause-peeks c = record {
+  same = does-then c.at.ensures.peeks.same (c.at_type.ensures.peeks.same);
+  left = omega arith;
+  looks = omega arith;
+}
 
 pub returns-clause-sees : goal.returns-clause-sees
 unfolding look_of begins_below whole rule items statements expressions patterns types paths there_at shift passes is_silent begins in_mode anew row one_of any_of no_longer longest is_longer
-returns-clause-sees c cond = begins-row rules.where_pred (saw-so (c.at.ensures.sees cond) c.if-at.false and begun rules.any_type (saw-before c.at.ensures.same (saw-so (c.at_type.ensures.sees cond) c.if-at_type.false)) (nothing)) refl
+returns-clause-sees c cond = begins-row rules.where_pred (saw-so (c.at.ensures.sees cond) c.if-at.false and begun rules.any_type (saw-before c.at.ensures.peeks.same (saw-so (c.at_type.ensures.sees cond) c.if-at_type.false)) (nothing)) refl
 
-pub returns-clause-same : goal.returns-clause-same
-returns-clause-same c = does-then c.at.ensures.same (c.at_type.ensures.same)
+pub returns-clause-peeks : goal.returns-clause-peeks
+returns-clause-peeks c = record {
+  same = does-then c.at.ensures.peeks.same (c.at_type.ensures.peeks.same);
+  left = omega arith;
+  looks = omega arith;
+}

@@ -1,4 +1,5 @@
 -- At the end no token is left.
+use Rattle.std.proofs.Common.{arith}
 use Rattle.rust_grammar.specs.Notation.{row}
 use Rattle.rust_grammar.specs.Rule.{there_at}
 use Rattle.rust_productions.proofs.ByHand.{does-then}
@@ -12,7 +13,11 @@ returns-then-at_end-clause-sees c cond = saw-either-left (saw-so (c.at_end.ensur
 
 pub returns-clause-sees : goal.returns-clause-sees
 unfolding row there_at
-returns-clause-sees c cond = saw-either-right (saw-so (c.at_end.ensures.sees cond) c.if-at_end.false) (saw-before c.at_end.ensures.same (saw-always (c.at.ensures.sees cond)))
+returns-clause-sees c cond = saw-either-right (saw-so (c.at_end.ensures.sees cond) c.if-at_end.false) (saw-before c.at_end.ensures.peeks.same (saw-always (c.at.ensures.sees cond)))
 
-pub returns-clause-same : goal.returns-clause-same
-returns-clause-same c = does-then c.at_end.ensures.same c.at.ensures.same
+pub returns-clause-peeks : goal.returns-clause-peeks
+returns-clause-peeks c = record {
+  same = does-then c.at_end.ensures.peeks.same c.at.ensures.peeks.same;
+  left = omega arith;
+  looks = omega arith;
+}

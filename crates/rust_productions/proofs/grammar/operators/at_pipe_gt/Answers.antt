@@ -18,7 +18,11 @@ unfolding there_at
 returns-clause-sees c cond = saw-both (saw-so (c.at_contextual.ensures.sees cond) c.if-not-at_contextual.false) (saw-both (c.requires cond) (saw-before c.at_contextual.ensures.same (c.at_joined.ensures.sees cond)))
 
 pub returns-clause-some : goal.returns-clause-some
-returns-clause-some c = λ is. omega (arith, c.at_contextual.ensures.left, c.at_joined.ensures.some is (no-end variants.R_ANGLE refl))
+returns-clause-some c = λ is. omega (arith, c.at_contextual.ensures.stays.left, c.at_joined.ensures.some is (no-end variants.R_ANGLE refl))
 
-pub returns-clause-same : goal.returns-clause-same
-returns-clause-same c = does-then c.at_contextual.ensures.same c.at_joined.ensures.same
+pub returns-clause-peeks : goal.returns-clause-peeks
+returns-clause-peeks c = record {
+  same = does-then c.at_contextual.ensures.same c.at_joined.ensures.peeks.same;
+  left = omega arith;
+  looks = omega arith;
+}

@@ -1,5 +1,5 @@
 -- Each path reads what the rule comes to there.
-use Rattle.std.proofs.Common.{refl}
+use Rattle.std.proofs.Common.{refl, arith}
 use Rattle.rust_grammar.specs.Expressions.{expressions}
 use Rattle.rust_grammar.specs.Items.{items}
 use Rattle.rust_grammar.specs.Meaning.{begins_below, look_of}
@@ -22,14 +22,22 @@ returns-then-at_name_ref-clause-sees c cond = begins-row rules.path (begun rules
 
 pub returns-then-at_colons-clause-sees : goal.returns-then-at_colons-clause-sees
 unfolding look_of begins_below whole rule items statements expressions patterns types paths there_at shift passes is_silent begins in_mode anew row one_of any_of no_longer longest is_longer
-returns-then-at_colons-clause-sees c cond = begins-row rules.path (begun rules.name_ref (saw-so (c.at_name_ref.ensures.sees cond) c.if-at_name_ref.false) (saw-before c.at_name_ref.ensures.same (saw-so (c.at_colons.ensures.sees cond) c.if-at_colons.true) and nothing)) refl
+returns-then-at_colons-clause-sees c cond = begins-row rules.path (begun rules.name_ref (saw-so (c.at_name_ref.ensures.sees cond) c.if-at_name_ref.false) (saw-before c.at_name_ref.ensures.peeks.same (saw-so (c.at_colons.ensures.sees cond) c.if-at_colons.true) and nothing)) refl
 
-pub returns-then-at_colons-clause-same : goal.returns-then-at_colons-clause-same
-returns-then-at_colons-clause-same c = does-then c.at_name_ref.ensures.same (c.at_colons.ensures.same)
+pub returns-then-at_colons-clause-peeks : goal.returns-then-at_colons-clause-peeks
+returns-then-at_colons-clause-peeks c = record {
+  same = does-then c.at_name_ref.ensures.peeks.same (c.at_colons.ensures.peeks.same);
+  left = omega arith;
+  looks = omega arith;
+}
 
 pub returns-clause-sees : goal.returns-clause-sees
 unfolding look_of begins_below whole rule items statements expressions patterns types paths there_at shift passes is_silent begins in_mode anew row one_of any_of no_longer longest is_longer
-returns-clause-sees c cond = begins-row rules.path (begun rules.name_ref (saw-so (c.at_name_ref.ensures.sees cond) c.if-at_name_ref.false) (saw-before c.at_name_ref.ensures.same (saw-so (c.at_colons.ensures.sees cond) c.if-at_colons.false) and nothing)) refl
+returns-clause-sees c cond = begins-row rules.path (begun rules.name_ref (saw-so (c.at_name_ref.ensures.sees cond) c.if-at_name_ref.false) (saw-before c.at_name_ref.ensures.peeks.same (saw-so (c.at_colons.ensures.sees cond) c.if-at_colons.false) and nothing)) refl
 
-pub returns-clause-same : goal.returns-clause-same
-returns-clause-same c = does-then c.at_name_ref.ensures.same (c.at_colons.ensures.same)
+pub returns-clause-peeks : goal.returns-clause-peeks
+returns-clause-peeks c = record {
+  same = does-then c.at_name_ref.ensures.peeks.same (c.at_colons.ensures.peeks.same);
+  left = omega arith;
+  looks = omega arith;
+}

@@ -1,5 +1,5 @@
 -- Each path reads what the rule comes to there.
-use Rattle.std.proofs.Common.{inl, inr, refl}
+use Rattle.std.proofs.Common.{inl, inr, refl, arith}
 use Rattle.rust_grammar.specs.Expressions.{expressions}
 use Rattle.rust_grammar.specs.Items.{items}
 use Rattle.rust_grammar.specs.Meaning.{begins_below, look_of}
@@ -22,14 +22,22 @@ returns-then-not-at_second-clause-sees c cond = saw-told (saw-so (c.at_second.en
 
 pub returns-in-IDENT-clause-sees : goal.returns-in-IDENT-clause-sees
 unfolding look_of begins_below whole rule items statements expressions patterns types paths there_at shift passes is_silent begins in_mode anew row one_of any_of no_longer longest is_longer
-returns-in-IDENT-clause-sees c cond = elim c.in-IDENT.is [ inl a0 ↦ saw-told (saw-so (c.at_second.ensures.sees cond) c.if-not-at_second.false and saw-before c.at_second.ensures.same (left-arm a0 (c.current.ensures.end cond)) and saw-before c.at_second.ensures.same (saw-arm a0 (c.current.ensures.sees cond)) and nothing) refl | inr b0 ↦ saw-told (saw-so (c.at_second.ensures.sees cond) c.if-not-at_second.false and saw-before c.at_second.ensures.same (left-arm b0 (c.current.ensures.end cond)) and saw-before c.at_second.ensures.same (saw-arm b0 (c.current.ensures.sees cond)) and nothing) refl ]
+returns-in-IDENT-clause-sees c cond = elim c.in-IDENT.is [ inl a0 ↦ saw-told (saw-so (c.at_second.ensures.sees cond) c.if-not-at_second.false and saw-before c.at_second.ensures.peeks.same (left-arm a0 (c.current.ensures.end cond)) and saw-before c.at_second.ensures.peeks.same (saw-arm a0 (c.current.ensures.sees cond)) and nothing) refl | inr b0 ↦ saw-told (saw-so (c.at_second.ensures.sees cond) c.if-not-at_second.false and saw-before c.at_second.ensures.peeks.same (left-arm b0 (c.current.ensures.end cond)) and saw-before c.at_second.ensures.peeks.same (saw-arm b0 (c.current.ensures.sees cond)) and nothing) refl ]
 
-pub returns-in-IDENT-clause-same : goal.returns-in-IDENT-clause-same
-returns-in-IDENT-clause-same c = does-then c.at_second.ensures.same (c.current.ensures.same)
+pub returns-in-IDENT-clause-peeks : goal.returns-in-IDENT-clause-peeks
+returns-in-IDENT-clause-peeks c = record {
+  same = does-then c.at_second.ensures.peeks.same (c.current.ensures.peeks.same);
+  left = omega arith;
+  looks = omega arith;
+}
 
 pub returns-in_default-clause-sees : goal.returns-in_default-clause-sees
 unfolding look_of begins_below whole rule items statements expressions patterns types paths there_at shift passes is_silent begins in_mode anew row one_of any_of no_longer longest is_longer
-returns-in_default-clause-sees c cond = saw-told (saw-so (c.at_second.ensures.sees cond) c.if-not-at_second.false and saw-before c.at_second.ensures.same (saw-not c.in_default.not-IDENT (c.current.ensures.sees cond)) and saw-before c.at_second.ensures.same (saw-not c.in_default.not-INT_NUMBER (c.current.ensures.sees cond)) and nothing) refl
+returns-in_default-clause-sees c cond = saw-told (saw-so (c.at_second.ensures.sees cond) c.if-not-at_second.false and saw-before c.at_second.ensures.peeks.same (saw-not c.in_default.not-IDENT (c.current.ensures.sees cond)) and saw-before c.at_second.ensures.peeks.same (saw-not c.in_default.not-INT_NUMBER (c.current.ensures.sees cond)) and nothing) refl
 
-pub returns-in_default-clause-same : goal.returns-in_default-clause-same
-returns-in_default-clause-same c = does-then c.at_second.ensures.same (c.current.ensures.same)
+pub returns-in_default-clause-peeks : goal.returns-in_default-clause-peeks
+returns-in_default-clause-peeks c = record {
+  same = does-then c.at_second.ensures.peeks.same (c.current.ensures.peeks.same);
+  left = omega arith;
+  looks = omega arith;
+}

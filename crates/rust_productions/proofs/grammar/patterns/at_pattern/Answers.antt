@@ -1,5 +1,5 @@
 -- Each path reads what the rule comes to there.
-use Rattle.std.proofs.Common.{refl}
+use Rattle.std.proofs.Common.{refl, arith}
 use Rattle.rust_grammar.specs.Expressions.{expressions}
 use Rattle.rust_grammar.specs.Items.{items}
 use Rattle.rust_grammar.specs.Meaning.{begins_below, look_of}
@@ -23,14 +23,22 @@ returns-then-at_single_pattern-clause-sees c cond = begins-row rules.pattern (be
 
 pub returns-in-PIPE-clause-sees : goal.returns-in-PIPE-clause-sees
 unfolding look_of begins_below whole rule items statements expressions patterns types paths there_at shift passes is_silent begins in_mode anew row one_of any_of no_longer longest is_longer
-returns-in-PIPE-clause-sees c cond = begins-row rules.pattern (begun rules.single_pattern (saw-so (c.at_single_pattern.ensures.sees cond) c.if-at_single_pattern.false) (saw-before c.at_single_pattern.ensures.same (left-arm c.in-PIPE.is (c.current.ensures.end cond)) and saw-before c.at_single_pattern.ensures.same (saw-arm c.in-PIPE.is (c.current.ensures.sees cond)) and nothing)) refl
+returns-in-PIPE-clause-sees c cond = begins-row rules.pattern (begun rules.single_pattern (saw-so (c.at_single_pattern.ensures.sees cond) c.if-at_single_pattern.false) (saw-before c.at_single_pattern.ensures.peeks.same (left-arm c.in-PIPE.is (c.current.ensures.end cond)) and saw-before c.at_single_pattern.ensures.peeks.same (saw-arm c.in-PIPE.is (c.current.ensures.sees cond)) and nothing)) refl
 
-pub returns-in-PIPE-clause-same : goal.returns-in-PIPE-clause-same
-returns-in-PIPE-clause-same c = does-then c.at_single_pattern.ensures.same (c.current.ensures.same)
+pub returns-in-PIPE-clause-peeks : goal.returns-in-PIPE-clause-peeks
+returns-in-PIPE-clause-peeks c = record {
+  same = does-then c.at_single_pattern.ensures.peeks.same (c.current.ensures.peeks.same);
+  left = omega arith;
+  looks = omega arith;
+}
 
 pub returns-in_default-clause-sees : goal.returns-in_default-clause-sees
 unfolding look_of begins_below whole rule items statements expressions patterns types paths there_at shift passes is_silent begins in_mode anew row one_of any_of no_longer longest is_longer
-returns-in_default-clause-sees c cond = begins-row rules.pattern (begun rules.single_pattern (saw-so (c.at_single_pattern.ensures.sees cond) c.if-at_single_pattern.false) (saw-before c.at_single_pattern.ensures.same (saw-not c.in_default.not-PIPE (c.current.ensures.sees cond)) and nothing)) refl
+returns-in_default-clause-sees c cond = begins-row rules.pattern (begun rules.single_pattern (saw-so (c.at_single_pattern.ensures.sees cond) c.if-at_single_pattern.false) (saw-before c.at_single_pattern.ensures.peeks.same (saw-not c.in_default.not-PIPE (c.current.ensures.sees cond)) and nothing)) refl
 
-pub returns-in_default-clause-same : goal.returns-in_default-clause-same
-returns-in_default-clause-same c = does-then c.at_single_pattern.ensures.same (c.current.ensures.same)
+pub returns-in_default-clause-peeks : goal.returns-in_default-clause-peeks
+returns-in_default-clause-peeks c = record {
+  same = does-then c.at_single_pattern.ensures.peeks.same (c.current.ensures.peeks.same);
+  left = omega arith;
+  looks = omega arith;
+}

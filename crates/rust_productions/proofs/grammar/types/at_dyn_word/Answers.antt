@@ -1,5 +1,5 @@
 -- Each path reads what the rule comes to there.
-use Rattle.std.proofs.Common.{inl, inr, refl}
+use Rattle.std.proofs.Common.{inl, inr, refl, arith}
 use Rattle.rust_grammar.specs.Expressions.{expressions}
 use Rattle.rust_grammar.specs.Items.{items}
 use Rattle.rust_grammar.specs.Meaning.{begins_below, look_of}
@@ -24,12 +24,20 @@ pub returns-in-QUESTION-clause-sees : goal.returns-in-QUESTION-clause-sees
 unfolding look_of begins_below whole rule items statements expressions patterns types paths there_at shift passes is_silent begins in_mode anew row one_of any_of no_longer longest is_longer
 returns-in-QUESTION-clause-sees c cond = elim c.in-QUESTION.is [ inl a0 ↦ saw-told (saw-so (c.at_contextual.ensures.sees cond) c.if-not-at_contextual.false and saw-before c.at_contextual.ensures.same (saw-arm a0 (c.nth.ensures.sees cond)) and nothing) refl | inr b0 ↦ elim b0 [ inl a1 ↦ saw-told (saw-so (c.at_contextual.ensures.sees cond) c.if-not-at_contextual.false and saw-before c.at_contextual.ensures.same (saw-arm a1 (c.nth.ensures.sees cond)) and nothing) refl | inr b1 ↦ elim b1 [ inl a2 ↦ saw-told (saw-so (c.at_contextual.ensures.sees cond) c.if-not-at_contextual.false and saw-before c.at_contextual.ensures.same (saw-arm a2 (c.nth.ensures.sees cond)) and nothing) refl | inr b2 ↦ elim b2 [ inl a3 ↦ saw-told (saw-so (c.at_contextual.ensures.sees cond) c.if-not-at_contextual.false and saw-before c.at_contextual.ensures.same (saw-arm a3 (c.nth.ensures.sees cond)) and nothing) refl | inr b3 ↦ elim b3 [ inl a4 ↦ saw-told (saw-so (c.at_contextual.ensures.sees cond) c.if-not-at_contextual.false and saw-before c.at_contextual.ensures.same (saw-arm a4 (c.nth.ensures.sees cond)) and nothing) refl | inr b4 ↦ elim b4 [ inl a5 ↦ saw-told (saw-so (c.at_contextual.ensures.sees cond) c.if-not-at_contextual.false and saw-before c.at_contextual.ensures.same (saw-arm a5 (c.nth.ensures.sees cond)) and nothing) refl | inr b5 ↦ saw-told (saw-so (c.at_contextual.ensures.sees cond) c.if-not-at_contextual.false and saw-before c.at_contextual.ensures.same (saw-arm b5 (c.nth.ensures.sees cond)) and nothing) refl ] ] ] ] ] ]
 
-pub returns-in-QUESTION-clause-same : goal.returns-in-QUESTION-clause-same
-returns-in-QUESTION-clause-same c = does-then c.at_contextual.ensures.same (c.nth.ensures.same)
+pub returns-in-QUESTION-clause-peeks : goal.returns-in-QUESTION-clause-peeks
+returns-in-QUESTION-clause-peeks c = record {
+  same = does-then c.at_contextual.ensures.same (c.nth.ensures.peeks.same);
+  left = omega arith;
+  looks = omega arith;
+}
 
 pub returns-in_default-clause-sees : goal.returns-in_default-clause-sees
 unfolding look_of begins_below whole rule items statements expressions patterns types paths there_at shift passes is_silent begins in_mode anew row one_of any_of no_longer longest is_longer
 returns-in_default-clause-sees c cond = saw-told (saw-so (c.at_contextual.ensures.sees cond) c.if-not-at_contextual.false and saw-before c.at_contextual.ensures.same (saw-not c.in_default.not-QUESTION (c.nth.ensures.sees cond)) and saw-before c.at_contextual.ensures.same (saw-not c.in_default.not-LIFETIME_IDENT (c.nth.ensures.sees cond)) and saw-before c.at_contextual.ensures.same (saw-not c.in_default.not-IDENT (c.nth.ensures.sees cond)) and saw-before c.at_contextual.ensures.same (saw-not c.in_default.not-SELF_KW (c.nth.ensures.sees cond)) and saw-before c.at_contextual.ensures.same (saw-not c.in_default.not-SUPER_KW (c.nth.ensures.sees cond)) and saw-before c.at_contextual.ensures.same (saw-not c.in_default.not-CRATE_KW (c.nth.ensures.sees cond)) and saw-before c.at_contextual.ensures.same (saw-not c.in_default.not-SELF_TYPE_KW (c.nth.ensures.sees cond)) and nothing) refl
 
-pub returns-in_default-clause-same : goal.returns-in_default-clause-same
-returns-in_default-clause-same c = does-then c.at_contextual.ensures.same (c.nth.ensures.same)
+pub returns-in_default-clause-peeks : goal.returns-in_default-clause-peeks
+returns-in_default-clause-peeks c = record {
+  same = does-then c.at_contextual.ensures.same (c.nth.ensures.peeks.same);
+  left = omega arith;
+  looks = omega arith;
+}

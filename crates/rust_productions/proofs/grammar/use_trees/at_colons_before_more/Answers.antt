@@ -1,5 +1,5 @@
 -- Each path reads what the rule comes to there.
-use Rattle.std.proofs.Common.{refl}
+use Rattle.std.proofs.Common.{refl, arith}
 use Rattle.rust_grammar.specs.Expressions.{expressions}
 use Rattle.rust_grammar.specs.Items.{items}
 use Rattle.rust_grammar.specs.Meaning.{begins_below, look_of}
@@ -21,21 +21,33 @@ returns-then-not-at_colons-clause-sees c cond = saw-told (saw-so (c.at_colons.en
 
 pub returns-then-at_third-clause-sees : goal.returns-then-at_third-clause-sees
 unfolding look_of begins_below whole rule items statements expressions patterns types paths there_at shift passes is_silent begins in_mode anew row one_of any_of no_longer longest is_longer
-returns-then-at_third-clause-sees c cond = saw-told (saw-so (c.at_colons.ensures.sees cond) c.if-not-at_colons.false and saw-before c.at_colons.ensures.same (saw-so (c.at_third.ensures.sees cond) c.if-at_third.true) and nothing) refl
+returns-then-at_third-clause-sees c cond = saw-told (saw-so (c.at_colons.ensures.sees cond) c.if-not-at_colons.false and saw-before c.at_colons.ensures.peeks.same (saw-so (c.at_third.ensures.sees cond) c.if-at_third.true) and nothing) refl
 
-pub returns-then-at_third-clause-same : goal.returns-then-at_third-clause-same
-returns-then-at_third-clause-same c = does-then c.at_colons.ensures.same (c.at_third.ensures.same)
+pub returns-then-at_third-clause-peeks : goal.returns-then-at_third-clause-peeks
+returns-then-at_third-clause-peeks c = record {
+  same = does-then c.at_colons.ensures.peeks.same (c.at_third.ensures.peeks.same);
+  left = omega arith;
+  looks = omega arith;
+}
 
 pub returns-then-at_third-2-clause-sees : goal.returns-then-at_third-2-clause-sees
 unfolding look_of begins_below whole rule items statements expressions patterns types paths there_at shift passes is_silent begins in_mode anew row one_of any_of no_longer longest is_longer
-returns-then-at_third-2-clause-sees c cond = saw-told (saw-so (c.at_colons.ensures.sees cond) c.if-not-at_colons.false and saw-before c.at_colons.ensures.same (saw-so (c.at_third.ensures.sees cond) c.if-at_third.false) and saw-before c.at_colons.ensures.same (saw-before c.at_third.ensures.same (saw-so (c.at_third-2.ensures.sees cond) c.if-at_third-2.true)) and nothing) refl
+returns-then-at_third-2-clause-sees c cond = saw-told (saw-so (c.at_colons.ensures.sees cond) c.if-not-at_colons.false and saw-before c.at_colons.ensures.peeks.same (saw-so (c.at_third.ensures.sees cond) c.if-at_third.false) and saw-before c.at_colons.ensures.peeks.same (saw-before c.at_third.ensures.peeks.same (saw-so (c.at_third-2.ensures.sees cond) c.if-at_third-2.true)) and nothing) refl
 
-pub returns-then-at_third-2-clause-same : goal.returns-then-at_third-2-clause-same
-returns-then-at_third-2-clause-same c = does-then c.at_colons.ensures.same (does-then c.at_third.ensures.same (c.at_third-2.ensures.same))
+pub returns-then-at_third-2-clause-peeks : goal.returns-then-at_third-2-clause-peeks
+returns-then-at_third-2-clause-peeks c = record {
+  same = does-then c.at_colons.ensures.peeks.same (does-then c.at_third.ensures.peeks.same (c.at_third-2.ensures.peeks.same));
+  left = omega arith;
+  looks = omega arith;
+}
 
 pub returns-clause-sees : goal.returns-clause-sees
 unfolding look_of begins_below whole rule items statements expressions patterns types paths there_at shift passes is_silent begins in_mode anew row one_of any_of no_longer longest is_longer
-returns-clause-sees c cond = saw-told (saw-so (c.at_colons.ensures.sees cond) c.if-not-at_colons.false and saw-before c.at_colons.ensures.same (saw-so (c.at_third.ensures.sees cond) c.if-at_third.false) and saw-before c.at_colons.ensures.same (saw-before c.at_third.ensures.same (saw-so (c.at_third-2.ensures.sees cond) c.if-at_third-2.false)) and nothing) refl
+returns-clause-sees c cond = saw-told (saw-so (c.at_colons.ensures.sees cond) c.if-not-at_colons.false and saw-before c.at_colons.ensures.peeks.same (saw-so (c.at_third.ensures.sees cond) c.if-at_third.false) and saw-before c.at_colons.ensures.peeks.same (saw-before c.at_third.ensures.peeks.same (saw-so (c.at_third-2.ensures.sees cond) c.if-at_third-2.false)) and nothing) refl
 
-pub returns-clause-same : goal.returns-clause-same
-returns-clause-same c = does-then c.at_colons.ensures.same (does-then c.at_third.ensures.same (c.at_third-2.ensures.same))
+pub returns-clause-peeks : goal.returns-clause-peeks
+returns-clause-peeks c = record {
+  same = does-then c.at_colons.ensures.peeks.same (does-then c.at_third.ensures.peeks.same (c.at_third-2.ensures.peeks.same));
+  left = omega arith;
+  looks = omega arith;
+}

@@ -1,5 +1,5 @@
 -- Each arm sees what the look asks.
-use Rattle.std.proofs.Common.{inl, inr, refl}
+use Rattle.std.proofs.Common.{inl, inr, refl, arith}
 use Rattle.rust_grammar.specs.Rule as rules
 use Rattle.rust_grammar.specs.Calls.{AnyType, Attribute, Visibility}
 use Rattle.rust_grammar.specs.Expressions.{expressions}
@@ -24,7 +24,11 @@ returns-in-POUND-clause-sees c cond = elim c.in-POUND.is [ inl a ↦ starts-here
 
 pub returns-in_default-clause-sees : goal.returns-in_default-clause-sees
 unfolding look_of begins_below whole rule items statements expressions patterns types paths there_at shift passes is_silent begins in_mode anew row one_of any_of no_longer longest is_longer
-returns-in_default-clause-sees c cond = starts-here (Attribute * ▸ ⁅ Visibility ⁆ ▸ AnyType !) (saw-not c.in_default.not-POUND (c.current.ensures.sees cond) and saw-not c.in_default.not-PUB_KW (c.current.ensures.sees cond) and begun rules.any_type (saw-before c.current.ensures.same (c.at_type.ensures.sees cond)) nothing) refl
+returns-in_default-clause-sees c cond = starts-here (Attribute * ▸ ⁅ Visibility ⁆ ▸ AnyType !) (saw-not c.in_default.not-POUND (c.current.ensures.sees cond) and saw-not c.in_default.not-PUB_KW (c.current.ensures.sees cond) and begun rules.any_type (saw-before c.current.ensures.peeks.same (c.at_type.ensures.sees cond)) nothing) refl
 
-pub returns-in_default-clause-same : goal.returns-in_default-clause-same
-returns-in_default-clause-same c = does-then c.current.ensures.same c.at_type.ensures.same
+pub returns-in_default-clause-peeks : goal.returns-in_default-clause-peeks
+returns-in_default-clause-peeks c = record {
+  same = does-then c.current.ensures.peeks.same c.at_type.ensures.peeks.same;
+  left = omega arith;
+  looks = omega arith;
+}
