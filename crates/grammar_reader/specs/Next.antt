@@ -9,9 +9,9 @@ use Rattle.rust_productions.specs.Looks.{tokens}
 use Rattle.rust_productions.specs.Reads.{Reads, Saw, looks}
 
 -- A float is next, and this tells whether it touches the token after it.
-pub record IsFloat (joint : Bool) (v : View) : Type 0 where
+pub record IsFloat (touches : Bool) (v : View) : Type 0 where
   pub float : (c : Bool) → Saw c (Kind 0 FLOAT_NUMBER) v true
-  pub joint : (c : Bool) → Saw c (Joint 0) v joint
+  pub joint : (c : Bool) → Saw c (Joint 0) v touches
   pub some : 1 ≤ tokens v
 
 -- A token is left, and it begins neither an attribute nor a visibility.

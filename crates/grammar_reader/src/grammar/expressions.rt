@@ -3,7 +3,7 @@
 ghost use Rattle.std.specs.Prelude.{◌≤◌, Bool, Some, None, true};
 ghost use Rattle.parser_events.specs.Forest.{ExpectedExpression};
 ghost use Rattle.parser_events.specs.Stack.{IsInnermost};
-ghost use Rattle.rust_grammar.specs.Calls.{Operation};
+ghost use Rattle.rust_grammar.specs.Calls.{Expression, Operation};
 ghost use Rattle.rust_grammar.specs.Expressions.{range_to};
 ghost use Rattle.rust_grammar.specs.Notation.{◌▸◌, ◌!, more};
 ghost use Rattle.rust_grammar.specs.Rule as rules;

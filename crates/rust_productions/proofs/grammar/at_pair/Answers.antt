@@ -1,10 +1,9 @@
 -- The first is next and touches the second.
-use Rattle.std.proofs.Common.{arith}
 use Rattle.rust_grammar.specs.Rule.{there_at}
-use Rattle.rust_productions.proofs.ByHand.{does-then}
 use Rattle.rust_productions.proofs.Facts.{saw-so}
 use Rattle.rust_productions.proofs.Seen.{saw-no-left, saw-no-right, saw-before, saw-pair}
 use Rattle.rust_productions.proofs.Looking.{saw-joint}
+use Rattle.rust_productions.proofs.Peeking.{peeks-then}
 use Rattle.rust_productions.proofs.grammar.at_pair.Goals as goal
 
 pub returns-then-not-at-clause-sees : goal.returns-then-not-at-clause-sees
@@ -22,8 +21,4 @@ returns-clause-sees c cond =
     saw-pair (saw-so (c.at.ensures.sees cond) c.if-not-at.false) (saw-before c.at.ensures.peeks.same (saw-so (saw-joint cond 0 _ _ c.joint_at.ensures) c.if-not-joint_at.false)) (saw-before c.at.ensures.peeks.same (c.at_second.ensures.sees cond))
 
 pub returns-clause-peeks : goal.returns-clause-peeks
-returns-clause-peeks c = record {
-  same = does-then c.at.ensures.peeks.same c.at_second.ensures.peeks.same;
-  left = omega arith;
-  looks = omega arith;
-}
+returns-clause-peeks c = peeks-then c.at.ensures.peeks c.at_second.ensures.peeks

@@ -6,10 +6,10 @@ use Rattle.rust_grammar.specs.Notation.{any_of, row}
 use Rattle.rust_grammar.specs.Rule.{Kind, there_at}
 use Rattle.rust_grammar.specs.Items.{self_begins}
 use Rattle.rust_productions.specs.Reads.{Saw}
-use Rattle.rust_productions.proofs.ByHand.{does-then}
 use Rattle.rust_productions.proofs.Facts.{nothing, ◌and◌}
 use Rattle.rust_productions.proofs.Looking.{saw-arm, saw-not}
 use Rattle.rust_productions.proofs.Seen.{saw-after, saw-before, saw-told}
+use Rattle.rust_productions.proofs.Peeking.{peeks-then, peeks-within}
 use Rattle.grammar_reader.proofs.grammar.params.at_self.Goals as goal
 
 -- after `mut`, the second token tells
@@ -26,11 +26,7 @@ pub returns-in-MUT_KW-clause-sees : goal.returns-in-MUT_KW-clause-sees
 returns-in-MUT_KW-clause-sees c cond = by-second c.at_second.result (saw-arm c.in-MUT_KW.is (c.current.ensures.sees cond)) (saw-before c.current.ensures.peeks.same (c.at_second.ensures.sees cond))
 
 pub returns-in-MUT_KW-clause-peeks : goal.returns-in-MUT_KW-clause-peeks
-returns-in-MUT_KW-clause-peeks c = record {
-  same = does-then c.current.ensures.peeks.same c.at_second.ensures.peeks.same;
-  left = omega arith;
-  looks = omega arith;
-}
+returns-in-MUT_KW-clause-peeks c = peeks-within (peeks-then c.current.ensures.peeks c.at_second.ensures.peeks) (omega arith)
 
 pub at_self_after_ref-requires : goal.at_self_after_ref-requires
 at_self_after_ref-requires c = λ cond. saw-after c.current.ensures.peeks.same (saw-arm c.in-AMP.is (c.current.ensures.sees cond))
@@ -39,11 +35,7 @@ pub returns-in-AMP-clause-sees : goal.returns-in-AMP-clause-sees
 returns-in-AMP-clause-sees c cond = saw-before c.current.ensures.peeks.same (c.at_self_after_ref.ensures.sees cond)
 
 pub returns-in-AMP-clause-peeks : goal.returns-in-AMP-clause-peeks
-returns-in-AMP-clause-peeks c = record {
-  same = does-then c.current.ensures.peeks.same c.at_self_after_ref.ensures.peeks.same;
-  left = omega arith;
-  looks = omega arith;
-}
+returns-in-AMP-clause-peeks c = peeks-then c.current.ensures.peeks c.at_self_after_ref.ensures.peeks
 
 pub returns-in_default-clause-sees : goal.returns-in_default-clause-sees
 unfolding any_of row there_at

@@ -1,15 +1,15 @@
 -- Each arm sees what the look asks.
-use Rattle.std.proofs.Common.{Bool, false, true, inl, inr, refl, arith}
+use Rattle.std.proofs.Common.{Bool, false, true, inl, inr, refl}
 use Rattle.parser_input.specs.Kinds as kinds
 use Rattle.parser_events.specs.View.{View}
 use Rattle.rust_grammar.specs.Notation.{any_of, row}
 use Rattle.rust_grammar.specs.Rule.{Kind, there_at}
 use Rattle.rust_grammar.specs.Items.{self_begins}
 use Rattle.rust_productions.specs.Reads.{Saw}
-use Rattle.rust_productions.proofs.ByHand.{does-then}
 use Rattle.rust_productions.proofs.Facts.{nothing, ◌and◌}
 use Rattle.rust_productions.proofs.Looking.{saw-arm, saw-not}
 use Rattle.rust_productions.proofs.Seen.{saw-before, saw-told}
+use Rattle.rust_productions.proofs.Peeking.{peeks-then}
 use Rattle.grammar_reader.proofs.grammar.params.at_self_after_ref.Goals as goal
 
 -- after `&mut`, the third token tells
@@ -26,11 +26,7 @@ pub returns-in-MUT_KW-clause-sees : goal.returns-in-MUT_KW-clause-sees
 returns-in-MUT_KW-clause-sees c cond = by-third c.at_third.result (c.requires cond) (saw-arm c.in-MUT_KW.is (c.nth.ensures.sees cond)) (saw-before c.nth.ensures.peeks.same (c.at_third.ensures.sees cond))
 
 pub returns-in-MUT_KW-clause-peeks : goal.returns-in-MUT_KW-clause-peeks
-returns-in-MUT_KW-clause-peeks c = record {
-  same = does-then c.nth.ensures.peeks.same c.at_third.ensures.peeks.same;
-  left = omega arith;
-  looks = omega arith;
-}
+returns-in-MUT_KW-clause-peeks c = peeks-then c.nth.ensures.peeks c.at_third.ensures.peeks
 
 pub returns-in_default-clause-sees : goal.returns-in_default-clause-sees
 unfolding any_of row there_at

@@ -1,9 +1,8 @@
 -- Each path sees what the look asks.
-use Rattle.std.proofs.Common.{arith}
-use Rattle.rust_productions.proofs.ByHand.{does-then}
 use Rattle.rust_productions.proofs.Facts.{saw-so}
 use Rattle.rust_productions.proofs.Seen.{saw-before, saw-either-right}
 use Rattle.grammar_reader.proofs.PathArgs.{after-colons}
+use Rattle.rust_productions.proofs.Peeking.{peeks-then}
 use Rattle.grammar_reader.proofs.grammar.paths.at_args.Goals as goal
 
 pub returns-then-at_colons_before_args-clause-sees : goal.returns-then-at_colons_before_args-clause-sees
@@ -14,8 +13,4 @@ returns-in-Type-clause-sees c cond =
     rw c.in-Type.is (saw-either-right (saw-so (c.at_colons_before_args.ensures.sees cond) c.if-at_colons_before_args.false) (saw-before c.at_colons_before_args.ensures.peeks.same (c.at_angle.ensures.sees cond)))
 
 pub returns-in-Type-clause-peeks : goal.returns-in-Type-clause-peeks
-returns-in-Type-clause-peeks c = record {
-  same = does-then c.at_colons_before_args.ensures.peeks.same c.at_angle.ensures.peeks.same;
-  left = omega arith;
-  looks = omega arith;
-}
+returns-in-Type-clause-peeks c = peeks-then c.at_colons_before_args.ensures.peeks c.at_angle.ensures.peeks

@@ -1,5 +1,4 @@
 -- Each path sees what the look asks.
-use Rattle.std.proofs.Common.{arith}
 use Rattle.rust_grammar.specs.Expressions.{expressions}
 use Rattle.rust_grammar.specs.Items.{items}
 use Rattle.rust_grammar.specs.Meaning.{begins_below, look_of}
@@ -10,9 +9,9 @@ use Rattle.rust_grammar.specs.Rule.{begins, in_mode, anew, is_silent, passes, sh
 use Rattle.rust_grammar.specs.Statements.{statements}
 use Rattle.rust_grammar.specs.Types.{types}
 use Rattle.rust_grammar.specs.Whole.{rule, whole}
-use Rattle.rust_productions.proofs.ByHand.{does-then}
 use Rattle.rust_productions.proofs.Facts.{saw-so}
 use Rattle.rust_productions.proofs.Seen.{saw-always, saw-before, saw-either-left, saw-either-right}
+use Rattle.rust_productions.proofs.Peeking.{peeks-then}
 use Rattle.grammar_reader.proofs.grammar.paths.at_generic_args.Goals as goal
 
 pub returns-then-at_colons_before_args-clause-sees : goal.returns-then-at_colons_before_args-clause-sees
@@ -24,8 +23,4 @@ unfolding look_of begins_below whole rule items statements expressions patterns 
 returns-clause-sees c cond = saw-either-right (saw-so (c.at_colons_before_args.ensures.sees cond) c.if-at_colons_before_args.false) (saw-always (saw-before c.at_colons_before_args.ensures.peeks.same (c.at.ensures.sees cond)))
 
 pub returns-clause-peeks : goal.returns-clause-peeks
-returns-clause-peeks c = record {
-  same = does-then c.at_colons_before_args.ensures.peeks.same c.at.ensures.peeks.same;
-  left = omega arith;
-  looks = omega arith;
-}
+returns-clause-peeks c = peeks-then c.at_colons_before_args.ensures.peeks c.at.ensures.peeks

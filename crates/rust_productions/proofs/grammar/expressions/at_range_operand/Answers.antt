@@ -1,5 +1,5 @@
 -- No brace that ends a condition, and an operand.
-use Rattle.std.proofs.Common.{refl, arith}
+use Rattle.std.proofs.Common.{refl}
 use Rattle.rust_grammar.specs.Calls.{Disjunction}
 use Rattle.rust_grammar.specs.Expressions.{body_begins, expressions}
 use Rattle.rust_grammar.specs.Items.{items}
@@ -12,10 +12,10 @@ use Rattle.rust_grammar.specs.Rule.{Unless, begins, in_mode, anew, is_silent, pa
 use Rattle.rust_grammar.specs.Statements.{statements}
 use Rattle.rust_grammar.specs.Types.{types}
 use Rattle.rust_grammar.specs.Whole.{rule, whole}
-use Rattle.rust_productions.proofs.ByHand.{does-then}
 use Rattle.rust_productions.proofs.Facts.{begun, nothing, saw-so, ◌and◌}
 use Rattle.rust_productions.proofs.Layering.{saw-disjunction}
 use Rattle.rust_productions.proofs.Seen.{saw-before, starts-here}
+use Rattle.rust_productions.proofs.Peeking.{peeks-then}
 use Rattle.rust_productions.proofs.grammar.expressions.at_range_operand.Goals as goal
 
 pub returns-then-at_body-clause-sees : goal.returns-then-at_body-clause-sees
@@ -30,8 +30,4 @@ pub returns-clause-operand : goal.returns-clause-operand
 returns-clause-operand c = λ is. saw-before c.at_body.ensures.peeks.same (saw-so c.at_operand.ensures.sees is)
 
 pub returns-clause-peeks : goal.returns-clause-peeks
-returns-clause-peeks c = record {
-  same = does-then c.at_body.ensures.peeks.same c.at_operand.ensures.peeks.same;
-  left = omega arith;
-  looks = omega arith;
-}
+returns-clause-peeks c = peeks-then c.at_body.ensures.peeks c.at_operand.ensures.peeks

@@ -1,5 +1,5 @@
 -- Each path reads what the rule comes to there.
-use Rattle.std.proofs.Common.{refl, arith}
+use Rattle.std.proofs.Common.{refl}
 use Rattle.rust_grammar.specs.Expressions.{expressions}
 use Rattle.rust_grammar.specs.Items.{items}
 use Rattle.rust_grammar.specs.Meaning.{begins_below, look_of}
@@ -11,9 +11,9 @@ use Rattle.rust_grammar.specs.Statements.{statements}
 use Rattle.rust_grammar.specs.Types.{types}
 use Rattle.rust_grammar.specs.Whole.{rule, whole}
 use Rattle.rust_grammar.specs.Rule as rules
-use Rattle.rust_productions.proofs.ByHand.{does-then}
 use Rattle.rust_productions.proofs.Facts.{begun, nothing, saw-so, ◌and◌}
 use Rattle.rust_productions.proofs.Seen.{begins-row, saw-before}
+use Rattle.rust_productions.proofs.Peeking.{peeks-then}
 use Rattle.rust_productions.proofs.grammar.generic_params.at_where_pred.Goals as goal
 
 pub returns-then-at-clause-sees : goal.returns-then-at-clause-sees
@@ -25,19 +25,11 @@ unfolding look_of begins_below whole rule items statements expressions patterns 
 returns-then-at_type-clause-sees c cond = begins-row rules.where_pred (saw-so (c.at.ensures.sees cond) c.if-at.false and begun rules.any_type (saw-before c.at.ensures.peeks.same (saw-so (c.at_type.ensures.sees cond) c.if-at_type.true)) (nothing)) refl
 
 pub returns-then-at_type-clause-peeks : goal.returns-then-at_type-clause-peeks
-returns-then-at_type-clause-peeks c = record {
-  same = does-then c.at.ensures.peeks.same (c.at_type.ensures.peeks.same);
-  left = omega arith;
-  looks = omega arith;
-}
+returns-then-at_type-clause-peeks c = peeks-then c.at.ensures.peeks c.at_type.ensures.peeks
 
 pub returns-clause-sees : goal.returns-clause-sees
 unfolding look_of begins_below whole rule items statements expressions patterns types paths there_at shift passes is_silent begins in_mode anew row one_of any_of no_longer longest is_longer
 returns-clause-sees c cond = begins-row rules.where_pred (saw-so (c.at.ensures.sees cond) c.if-at.false and begun rules.any_type (saw-before c.at.ensures.peeks.same (saw-so (c.at_type.ensures.sees cond) c.if-at_type.false)) (nothing)) refl
 
 pub returns-clause-peeks : goal.returns-clause-peeks
-returns-clause-peeks c = record {
-  same = does-then c.at.ensures.peeks.same (c.at_type.ensures.peeks.same);
-  left = omega arith;
-  looks = omega arith;
-}
+returns-clause-peeks c = peeks-then c.at.ensures.peeks c.at_type.ensures.peeks

@@ -1,5 +1,5 @@
 -- Each path sees what the look asks.
-use Rattle.std.proofs.Common.{refl, arith}
+use Rattle.std.proofs.Common.{refl}
 use Rattle.rust_grammar.specs.Expressions.{expressions}
 use Rattle.rust_grammar.specs.Items.{items}
 use Rattle.rust_grammar.specs.Meaning.{begins_below, look_of}
@@ -10,10 +10,10 @@ use Rattle.rust_grammar.specs.Rule.{begins, in_mode, anew, is_silent, passes, sh
 use Rattle.rust_grammar.specs.Statements.{statements}
 use Rattle.rust_grammar.specs.Types.{types}
 use Rattle.rust_grammar.specs.Whole.{rule, whole}
-use Rattle.rust_productions.proofs.ByHand.{does-then}
 use Rattle.rust_productions.proofs.Facts.{nothing, ◌and◌}
 use Rattle.rust_productions.proofs.Looking.{saw-arm, saw-not}
 use Rattle.rust_productions.proofs.Seen.{saw-after, saw-before, saw-told}
+use Rattle.rust_productions.proofs.Peeking.{peeks-then}
 use Rattle.rust_productions.proofs.grammar.items.at_fn.Goals as goal
 
 pub returns-in-FN_KW-clause-sees : goal.returns-in-FN_KW-clause-sees
@@ -28,11 +28,7 @@ pub returns-in-CONST_KW-clause-sees : goal.returns-in-CONST_KW-clause-sees
 returns-in-CONST_KW-clause-sees c cond = saw-before c.current.ensures.peeks.same (c.at_fn_after_const.ensures.sees cond)
 
 pub returns-in-CONST_KW-clause-peeks : goal.returns-in-CONST_KW-clause-peeks
-returns-in-CONST_KW-clause-peeks c = record {
-  same = does-then c.current.ensures.peeks.same c.at_fn_after_const.ensures.peeks.same;
-  left = omega arith;
-  looks = omega arith;
-}
+returns-in-CONST_KW-clause-peeks c = peeks-then c.current.ensures.peeks c.at_fn_after_const.ensures.peeks
 
 pub at_fn_after_unsafe-requires : goal.at_fn_after_unsafe-requires
 unfolding look_of begins_below whole rule items statements expressions patterns types paths there_at shift passes is_silent begins in_mode anew row one_of any_of no_longer longest is_longer
@@ -42,11 +38,7 @@ pub returns-in-UNSAFE_KW-clause-sees : goal.returns-in-UNSAFE_KW-clause-sees
 returns-in-UNSAFE_KW-clause-sees c cond = saw-before c.current.ensures.peeks.same (c.at_fn_after_unsafe.ensures.sees cond)
 
 pub returns-in-UNSAFE_KW-clause-peeks : goal.returns-in-UNSAFE_KW-clause-peeks
-returns-in-UNSAFE_KW-clause-peeks c = record {
-  same = does-then c.current.ensures.peeks.same c.at_fn_after_unsafe.ensures.peeks.same;
-  left = omega arith;
-  looks = omega arith;
-}
+returns-in-UNSAFE_KW-clause-peeks c = peeks-then c.current.ensures.peeks c.at_fn_after_unsafe.ensures.peeks
 
 pub returns-in_default-clause-sees : goal.returns-in_default-clause-sees
 unfolding look_of begins_below whole rule items statements expressions patterns types paths there_at shift passes is_silent begins in_mode anew row one_of any_of no_longer longest is_longer

@@ -13,10 +13,10 @@ use Rattle.rust_grammar.specs.Statements.{statements}
 use Rattle.rust_grammar.specs.Types.{types}
 use Rattle.rust_grammar.specs.Whole.{rule, whole}
 use Rattle.rust_productions.specs.Layers.{operators, operators_at}
-use Rattle.rust_productions.proofs.ByHand.{does-then}
 use Rattle.rust_productions.proofs.Facts.{Answers, nothing, saw-so, ◌and◌}
 use Rattle.rust_productions.proofs.Operators.{assigned-next, no-end, operator-next}
 use Rattle.rust_productions.proofs.Seen.{saw-before, saw-left, saw-right}
+use Rattle.rust_productions.proofs.Peeking.{peeks-then}
 use Rattle.rust_productions.proofs.grammar.operators.after_ampersand.Goals as goal
 
 pub returns-then-at_joined-clause-next : goal.returns-then-at_joined-clause-next
@@ -31,8 +31,4 @@ returns-clause-next c =
     (λ b is d. c.requires.first d and (saw-so (c.at_joined.ensures.sees d) c.if-at_joined.false and (saw-before c.at_joined.ensures.peeks.same (saw-so (c.at_joined-assigned.ensures.sees d) is) and nothing))) refl refl refl refl
 
 pub returns-clause-peeks : goal.returns-clause-peeks
-returns-clause-peeks c = record {
-  same = (does-then c.at_joined.ensures.peeks.same c.at_joined-assigned.ensures.peeks.same);
-  left = omega arith;
-  looks = omega arith;
-}
+returns-clause-peeks c = peeks-then c.at_joined.ensures.peeks c.at_joined-assigned.ensures.peeks

@@ -18,6 +18,7 @@ use Rattle.rust_productions.proofs.ByHand.{does-then}
 use Rattle.rust_productions.proofs.Facts.{Answers, nothing, saw-so, ◌and◌}
 use Rattle.rust_productions.proofs.Operators.{assigned-next, no-end, operator-next}
 use Rattle.rust_productions.proofs.Seen.{saw-after, saw-before, saw-left, saw-right}
+use Rattle.rust_productions.proofs.Peeking.{peeks-then, peeks-within}
 use Rattle.rust_productions.proofs.grammar.operators.after_pipe.Goals as goal
 
 pub returns-then-at_joined-clause-next : goal.returns-then-at_joined-clause-next
@@ -35,11 +36,7 @@ returns-then-at_pipe_gt-clause-next c =
     (λ d. c.requires.first d and (marked d and (saw-left (saw-right (saw-right (marked d))) and (saw-right (saw-right (saw-right (marked d))) and nothing)))) refl refl
 
 pub returns-then-at_pipe_gt-clause-peeks : goal.returns-then-at_pipe_gt-clause-peeks
-returns-then-at_pipe_gt-clause-peeks c = record {
-  same = does-then c.at_joined.ensures.peeks.same c.at_pipe_gt.ensures.peeks.same;
-  left = omega arith;
-  looks = omega arith;
-}
+returns-then-at_pipe_gt-clause-peeks c = peeks-within (peeks-then c.at_joined.ensures.peeks c.at_pipe_gt.ensures.peeks) (omega arith)
 
 pub returns-clause-next : goal.returns-clause-next
 unfolding look_of begins_below whole rule items statements expressions patterns types paths there_at shift passes is_silent begins in_mode anew row one_of any_of no_longer longest is_longer operators_at operators
@@ -50,8 +47,4 @@ returns-clause-next c =
     (λ b is d. c.requires.first d and (saw-so (c.at_joined.ensures.sees d) c.if-at_joined.false and (saw-before c.at_joined.ensures.peeks.same (saw-so (c.at_pipe_gt.ensures.sees d) c.if-at_pipe_gt.false) and (saw-before before (saw-so (c.at_joined-assigned.ensures.sees d) is) and nothing)))) refl refl refl refl
 
 pub returns-clause-peeks : goal.returns-clause-peeks
-returns-clause-peeks c = record {
-  same = does-then c.at_joined.ensures.peeks.same (does-then c.at_pipe_gt.ensures.peeks.same c.at_joined-assigned.ensures.peeks.same);
-  left = omega arith;
-  looks = omega arith;
-}
+returns-clause-peeks c = peeks-then c.at_joined.ensures.peeks (peeks-then c.at_pipe_gt.ensures.peeks c.at_joined-assigned.ensures.peeks)

@@ -2,11 +2,11 @@
 use Rattle.std.proofs.Common.{refl, arith}
 use Rattle.parser_input.specs.declared.syntax_kind.SyntaxKind.TheVariants as variants
 use Rattle.rust_grammar.specs.Rule.{there_at}
-use Rattle.rust_productions.proofs.ByHand.{does-then}
 use Rattle.rust_productions.proofs.Facts.{saw-so}
 use Rattle.rust_productions.proofs.Operators.{no-end}
 use Rattle.rust_productions.proofs.Seen.{saw-before, saw-no-left}
 use Rattle.rust_productions.proofs.Words.{saw-both}
+use Rattle.rust_productions.proofs.Peeking.{stays-then}
 use Rattle.rust_productions.proofs.grammar.operators.at_pipe_gt.Goals as goal
 
 pub returns-then-not-at_contextual-clause-sees : goal.returns-then-not-at_contextual-clause-sees
@@ -21,8 +21,4 @@ pub returns-clause-some : goal.returns-clause-some
 returns-clause-some c = λ is. omega (arith, c.at_contextual.ensures.stays.left, c.at_joined.ensures.some is (no-end variants.R_ANGLE refl))
 
 pub returns-clause-peeks : goal.returns-clause-peeks
-returns-clause-peeks c = record {
-  same = does-then c.at_contextual.ensures.same c.at_joined.ensures.peeks.same;
-  left = omega arith;
-  looks = omega arith;
-}
+returns-clause-peeks c = stays-then c.at_contextual.ensures.same c.at_contextual.ensures.stays c.at_joined.ensures.peeks

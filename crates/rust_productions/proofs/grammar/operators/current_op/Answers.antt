@@ -13,11 +13,11 @@ use Rattle.rust_grammar.specs.Statements.{statements}
 use Rattle.rust_grammar.specs.Types.{types}
 use Rattle.rust_grammar.specs.Whole.{rule, whole}
 use Rattle.rust_productions.specs.Layers.{operators, operators_at}
-use Rattle.rust_productions.proofs.ByHand.{does-then}
 use Rattle.rust_productions.proofs.Facts.{Answers, nothing, saw-so, ◌and◌}
 use Rattle.rust_productions.proofs.Looking.{saw-arm, saw-not}
 use Rattle.rust_productions.proofs.Operators.{assigned-next, next-before, no-end, none-next, operator-next, some-arm}
 use Rattle.rust_productions.proofs.Seen.{saw-after, saw-before}
+use Rattle.rust_productions.proofs.Peeking.{peeks-then, peeks-within}
 use Rattle.rust_productions.proofs.grammar.operators.current_op.Goals as goal
 
 pub after_ampersand-requires-clause-first : goal.after_ampersand-requires-clause-first
@@ -30,11 +30,7 @@ pub returns-in-AMP-clause-next : goal.returns-in-AMP-clause-next
 returns-in-AMP-clause-next c = next-before c.current.ensures.peeks.same c.after_ampersand.ensures.next
 
 pub returns-in-AMP-clause-peeks : goal.returns-in-AMP-clause-peeks
-returns-in-AMP-clause-peeks c = record {
-  same = (does-then c.current.ensures.peeks.same c.after_ampersand.ensures.peeks.same);
-  left = omega arith;
-  looks = omega arith;
-}
+returns-in-AMP-clause-peeks c = peeks-within (peeks-then c.current.ensures.peeks c.after_ampersand.ensures.peeks) (omega arith)
 
 pub after_pipe-requires-clause-first : goal.after_pipe-requires-clause-first
 after_pipe-requires-clause-first c = λ d. saw-after c.current.ensures.peeks.same (saw-arm c.in-PIPE.is (c.current.ensures.sees d))
@@ -46,11 +42,7 @@ pub returns-in-PIPE-clause-next : goal.returns-in-PIPE-clause-next
 returns-in-PIPE-clause-next c = next-before c.current.ensures.peeks.same c.after_pipe.ensures.next
 
 pub returns-in-PIPE-clause-peeks : goal.returns-in-PIPE-clause-peeks
-returns-in-PIPE-clause-peeks c = record {
-  same = (does-then c.current.ensures.peeks.same c.after_pipe.ensures.peeks.same);
-  left = omega arith;
-  looks = omega arith;
-}
+returns-in-PIPE-clause-peeks c = peeks-then c.current.ensures.peeks c.after_pipe.ensures.peeks
 
 pub after_equals-requires-clause-first : goal.after_equals-requires-clause-first
 after_equals-requires-clause-first c = λ d. saw-after c.current.ensures.peeks.same (saw-arm c.in-EQ.is (c.current.ensures.sees d))
@@ -62,11 +54,7 @@ pub returns-in-EQ-clause-next : goal.returns-in-EQ-clause-next
 returns-in-EQ-clause-next c = next-before c.current.ensures.peeks.same c.after_equals.ensures.next
 
 pub returns-in-EQ-clause-peeks : goal.returns-in-EQ-clause-peeks
-returns-in-EQ-clause-peeks c = record {
-  same = (does-then c.current.ensures.peeks.same c.after_equals.ensures.peeks.same);
-  left = omega arith;
-  looks = omega arith;
-}
+returns-in-EQ-clause-peeks c = peeks-within (peeks-then c.current.ensures.peeks c.after_equals.ensures.peeks) (omega arith)
 
 pub after_bang-requires-clause-first : goal.after_bang-requires-clause-first
 after_bang-requires-clause-first c = λ d. saw-after c.current.ensures.peeks.same (saw-arm c.in-BANG.is (c.current.ensures.sees d))
@@ -78,11 +66,7 @@ pub returns-in-BANG-clause-next : goal.returns-in-BANG-clause-next
 returns-in-BANG-clause-next c = next-before c.current.ensures.peeks.same c.after_bang.ensures.next
 
 pub returns-in-BANG-clause-peeks : goal.returns-in-BANG-clause-peeks
-returns-in-BANG-clause-peeks c = record {
-  same = (does-then c.current.ensures.peeks.same c.after_bang.ensures.peeks.same);
-  left = omega arith;
-  looks = omega arith;
-}
+returns-in-BANG-clause-peeks c = peeks-within (peeks-then c.current.ensures.peeks c.after_bang.ensures.peeks) (omega arith)
 
 pub after_left_angle-requires-clause-first : goal.after_left_angle-requires-clause-first
 after_left_angle-requires-clause-first c = λ d. saw-after c.current.ensures.peeks.same (saw-arm c.in-L_ANGLE.is (c.current.ensures.sees d))
@@ -94,11 +78,7 @@ pub returns-in-L_ANGLE-clause-next : goal.returns-in-L_ANGLE-clause-next
 returns-in-L_ANGLE-clause-next c = next-before c.current.ensures.peeks.same c.after_left_angle.ensures.next
 
 pub returns-in-L_ANGLE-clause-peeks : goal.returns-in-L_ANGLE-clause-peeks
-returns-in-L_ANGLE-clause-peeks c = record {
-  same = (does-then c.current.ensures.peeks.same c.after_left_angle.ensures.peeks.same);
-  left = omega arith;
-  looks = omega arith;
-}
+returns-in-L_ANGLE-clause-peeks c = peeks-then c.current.ensures.peeks c.after_left_angle.ensures.peeks
 
 pub after_right_angle-requires-clause-first : goal.after_right_angle-requires-clause-first
 after_right_angle-requires-clause-first c = λ d. saw-after c.current.ensures.peeks.same (saw-arm c.in-R_ANGLE.is (c.current.ensures.sees d))
@@ -110,11 +90,7 @@ pub returns-in-R_ANGLE-clause-next : goal.returns-in-R_ANGLE-clause-next
 returns-in-R_ANGLE-clause-next c = next-before c.current.ensures.peeks.same c.after_right_angle.ensures.next
 
 pub returns-in-R_ANGLE-clause-peeks : goal.returns-in-R_ANGLE-clause-peeks
-returns-in-R_ANGLE-clause-peeks c = record {
-  same = (does-then c.current.ensures.peeks.same c.after_right_angle.ensures.peeks.same);
-  left = omega arith;
-  looks = omega arith;
-}
+returns-in-R_ANGLE-clause-peeks c = peeks-then c.current.ensures.peeks c.after_right_angle.ensures.peeks
 
 pub returns-in-AS_KW-clause-next : goal.returns-in-AS_KW-clause-next
 unfolding look_of begins_below whole rule items statements expressions patterns types paths there_at shift passes is_silent begins in_mode anew row one_of any_of no_longer longest is_longer operators_at operators
@@ -128,11 +104,7 @@ returns-in-STAR-clause-next c =
     (λ b is d. saw-arm c.in-STAR.is (c.current.ensures.sees d) and (saw-before c.current.ensures.peeks.same (saw-so (c.at_joined-assigned.ensures.sees d) is) and nothing)) refl refl refl refl
 
 pub returns-in-STAR-clause-peeks : goal.returns-in-STAR-clause-peeks
-returns-in-STAR-clause-peeks c = record {
-  same = (does-then c.current.ensures.peeks.same c.at_joined-assigned.ensures.peeks.same);
-  left = omega arith;
-  looks = omega arith;
-}
+returns-in-STAR-clause-peeks c = peeks-within (peeks-then c.current.ensures.peeks c.at_joined-assigned.ensures.peeks) (omega arith)
 
 pub returns-in-SLASH-clause-next : goal.returns-in-SLASH-clause-next
 unfolding look_of begins_below whole rule items statements expressions patterns types paths there_at shift passes is_silent begins in_mode anew row one_of any_of no_longer longest is_longer operators_at operators
@@ -142,11 +114,7 @@ returns-in-SLASH-clause-next c =
     (λ b is d. saw-arm c.in-SLASH.is (c.current.ensures.sees d) and (saw-before c.current.ensures.peeks.same (saw-so (c.at_joined-assigned-in-SLASH.ensures.sees d) is) and nothing)) refl refl refl refl
 
 pub returns-in-SLASH-clause-peeks : goal.returns-in-SLASH-clause-peeks
-returns-in-SLASH-clause-peeks c = record {
-  same = (does-then c.current.ensures.peeks.same c.at_joined-assigned-in-SLASH.ensures.peeks.same);
-  left = omega arith;
-  looks = omega arith;
-}
+returns-in-SLASH-clause-peeks c = peeks-within (peeks-then c.current.ensures.peeks c.at_joined-assigned-in-SLASH.ensures.peeks) (omega arith)
 
 pub returns-in-PERCENT-clause-next : goal.returns-in-PERCENT-clause-next
 unfolding look_of begins_below whole rule items statements expressions patterns types paths there_at shift passes is_silent begins in_mode anew row one_of any_of no_longer longest is_longer operators_at operators
@@ -156,11 +124,7 @@ returns-in-PERCENT-clause-next c =
     (λ b is d. saw-arm c.in-PERCENT.is (c.current.ensures.sees d) and (saw-before c.current.ensures.peeks.same (saw-so (c.at_joined-assigned-in-PERCENT.ensures.sees d) is) and nothing)) refl refl refl refl
 
 pub returns-in-PERCENT-clause-peeks : goal.returns-in-PERCENT-clause-peeks
-returns-in-PERCENT-clause-peeks c = record {
-  same = (does-then c.current.ensures.peeks.same c.at_joined-assigned-in-PERCENT.ensures.peeks.same);
-  left = omega arith;
-  looks = omega arith;
-}
+returns-in-PERCENT-clause-peeks c = peeks-within (peeks-then c.current.ensures.peeks c.at_joined-assigned-in-PERCENT.ensures.peeks) (omega arith)
 
 pub returns-in-PLUS-clause-next : goal.returns-in-PLUS-clause-next
 unfolding look_of begins_below whole rule items statements expressions patterns types paths there_at shift passes is_silent begins in_mode anew row one_of any_of no_longer longest is_longer operators_at operators
@@ -170,11 +134,7 @@ returns-in-PLUS-clause-next c =
     (λ b is d. saw-arm c.in-PLUS.is (c.current.ensures.sees d) and (saw-before c.current.ensures.peeks.same (saw-so (c.at_joined-assigned-in-PLUS.ensures.sees d) is) and nothing)) refl refl refl refl
 
 pub returns-in-PLUS-clause-peeks : goal.returns-in-PLUS-clause-peeks
-returns-in-PLUS-clause-peeks c = record {
-  same = (does-then c.current.ensures.peeks.same c.at_joined-assigned-in-PLUS.ensures.peeks.same);
-  left = omega arith;
-  looks = omega arith;
-}
+returns-in-PLUS-clause-peeks c = peeks-within (peeks-then c.current.ensures.peeks c.at_joined-assigned-in-PLUS.ensures.peeks) (omega arith)
 
 pub returns-in-MINUS-clause-next : goal.returns-in-MINUS-clause-next
 unfolding look_of begins_below whole rule items statements expressions patterns types paths there_at shift passes is_silent begins in_mode anew row one_of any_of no_longer longest is_longer operators_at operators
@@ -184,11 +144,7 @@ returns-in-MINUS-clause-next c =
     (λ b is d. saw-arm c.in-MINUS.is (c.current.ensures.sees d) and (saw-before c.current.ensures.peeks.same (saw-so (c.at_joined-assigned-in-MINUS.ensures.sees d) is) and nothing)) refl refl refl refl
 
 pub returns-in-MINUS-clause-peeks : goal.returns-in-MINUS-clause-peeks
-returns-in-MINUS-clause-peeks c = record {
-  same = (does-then c.current.ensures.peeks.same c.at_joined-assigned-in-MINUS.ensures.peeks.same);
-  left = omega arith;
-  looks = omega arith;
-}
+returns-in-MINUS-clause-peeks c = peeks-within (peeks-then c.current.ensures.peeks c.at_joined-assigned-in-MINUS.ensures.peeks) (omega arith)
 
 pub returns-in-CARET-clause-next : goal.returns-in-CARET-clause-next
 unfolding look_of begins_below whole rule items statements expressions patterns types paths there_at shift passes is_silent begins in_mode anew row one_of any_of no_longer longest is_longer operators_at operators
@@ -198,19 +154,11 @@ returns-in-CARET-clause-next c =
     (λ b is d. saw-arm c.in-CARET.is (c.current.ensures.sees d) and (saw-before c.current.ensures.peeks.same (saw-so (c.at_joined-assigned-in-CARET.ensures.sees d) is) and nothing)) refl refl refl refl
 
 pub returns-in-CARET-clause-peeks : goal.returns-in-CARET-clause-peeks
-returns-in-CARET-clause-peeks c = record {
-  same = (does-then c.current.ensures.peeks.same c.at_joined-assigned-in-CARET.ensures.peeks.same);
-  left = omega arith;
-  looks = omega arith;
-}
+returns-in-CARET-clause-peeks c = peeks-within (peeks-then c.current.ensures.peeks c.at_joined-assigned-in-CARET.ensures.peeks) (omega arith)
 
 pub returns-in_default-clause-next : goal.returns-in_default-clause-next
 unfolding look_of begins_below whole rule items statements expressions patterns types paths there_at shift passes is_silent begins in_mode anew row one_of any_of no_longer longest is_longer operators_at operators
 returns-in_default-clause-next c = none-next c.none.ensures (λ d. (saw-not c.in_default.not-AS_KW (c.current.ensures.sees d)) and (saw-not c.in_default.not-STAR (c.current.ensures.sees d)) and (saw-not c.in_default.not-SLASH (c.current.ensures.sees d)) and (saw-not c.in_default.not-PERCENT (c.current.ensures.sees d)) and (saw-not c.in_default.not-PLUS (c.current.ensures.sees d)) and (saw-not c.in_default.not-MINUS (c.current.ensures.sees d)) and (saw-not c.in_default.not-CARET (c.current.ensures.sees d)) and (saw-not c.in_default.not-AMP (c.current.ensures.sees d)) and (saw-not c.in_default.not-PIPE (c.current.ensures.sees d)) and (saw-not c.in_default.not-EQ (c.current.ensures.sees d)) and (saw-not c.in_default.not-BANG (c.current.ensures.sees d)) and (saw-not c.in_default.not-L_ANGLE (c.current.ensures.sees d)) and (saw-not c.in_default.not-R_ANGLE (c.current.ensures.sees d)) and nothing) refl
 
 pub returns-in_default-clause-peeks : goal.returns-in_default-clause-peeks
-returns-in_default-clause-peeks c = record {
-  same = c.current.ensures.peeks.same;
-  left = omega arith;
-  looks = omega arith;
-}
+returns-in_default-clause-peeks c = peeks-within c.current.ensures.peeks (omega arith)

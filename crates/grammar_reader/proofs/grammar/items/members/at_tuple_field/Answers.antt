@@ -1,5 +1,5 @@
 -- Each arm sees what the look asks.
-use Rattle.std.proofs.Common.{inl, inr, refl, arith}
+use Rattle.std.proofs.Common.{inl, inr, refl}
 use Rattle.rust_grammar.specs.Rule as rules
 use Rattle.rust_grammar.specs.Calls.{AnyType, Attribute, Visibility}
 use Rattle.rust_grammar.specs.Expressions.{expressions}
@@ -12,10 +12,10 @@ use Rattle.rust_grammar.specs.Rule.{begins, in_mode, anew, is_silent, passes, sh
 use Rattle.rust_grammar.specs.Statements.{statements}
 use Rattle.rust_grammar.specs.Types.{types}
 use Rattle.rust_grammar.specs.Whole.{rule, whole}
-use Rattle.rust_productions.proofs.ByHand.{does-then}
 use Rattle.rust_productions.proofs.Facts.{begun, nothing, ◌and◌}
 use Rattle.rust_productions.proofs.Looking.{saw-arm, saw-not}
 use Rattle.rust_productions.proofs.Seen.{saw-before, starts-here}
+use Rattle.rust_productions.proofs.Peeking.{peeks-then}
 use Rattle.grammar_reader.proofs.grammar.items.members.at_tuple_field.Goals as goal
 
 pub returns-in-POUND-clause-sees : goal.returns-in-POUND-clause-sees
@@ -27,8 +27,4 @@ unfolding look_of begins_below whole rule items statements expressions patterns 
 returns-in_default-clause-sees c cond = starts-here (Attribute * ▸ ⁅ Visibility ⁆ ▸ AnyType !) (saw-not c.in_default.not-POUND (c.current.ensures.sees cond) and saw-not c.in_default.not-PUB_KW (c.current.ensures.sees cond) and begun rules.any_type (saw-before c.current.ensures.peeks.same (c.at_type.ensures.sees cond)) nothing) refl
 
 pub returns-in_default-clause-peeks : goal.returns-in_default-clause-peeks
-returns-in_default-clause-peeks c = record {
-  same = does-then c.current.ensures.peeks.same c.at_type.ensures.peeks.same;
-  left = omega arith;
-  looks = omega arith;
-}
+returns-in_default-clause-peeks c = peeks-then c.current.ensures.peeks c.at_type.ensures.peeks
