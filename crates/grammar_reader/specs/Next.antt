@@ -1,4 +1,4 @@
--- What is next when a function is called, and what one reads that answers which of two rows it was.
+-- What is next when a function is called, and how a range operator is read.
 use Rattle.std.specs.Prelude.{◌≡◌, ℕ, ◌≤◌, Bool, true, false, IsTrue}
 use Rattle.parser_input.specs.Kinds.{FLOAT_NUMBER, POUND, PUB_KW}
 use Rattle.parser_events.specs.View.{View}
@@ -8,7 +8,7 @@ use Rattle.rust_grammar.specs.Rule.{Joint, Kind, One, Spelling, begins}
 use Rattle.rust_productions.specs.Looks.{tokens}
 use Rattle.rust_productions.specs.Reads.{Reads, Saw, looks}
 
--- A float is next, and this tells whether it touches the token after it.
+-- A float is next; it touches the token after it if this says so.
 pub record IsFloat (touches : Bool) (v : View) : Type 0 where
   pub float : (c : Bool) → Saw c (Kind 0 FLOAT_NUMBER) v true
   pub joint : (c : Bool) → Saw c (Joint 0) v touches
@@ -20,7 +20,7 @@ pub record IsBare (v : View) : Type 0 where
   pub hidden : (c : Bool) → Saw c (Kind 0 PUB_KW) v false
   pub some : 1 ≤ tokens v
 
--- A range operator is read, with its operand where one follows it.
+-- A range operator is read, and its operand if one follows.
 pub record EndsRange (c : Bool) (mark : Spelling) (operand : Bool) (old new : View) : Type 0 where
   pub near : Saw c (begins looks (range_to mark)) old operand
   pub to : IsTrue operand → Reads c (One mark ▸ range_operand) old new

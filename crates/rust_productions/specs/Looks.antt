@@ -1,5 +1,5 @@
--- How many looks the functions of the grammar make. Each token that is taken pays for 4096 of them: those that were made on the
--- way to it, and the more are left over of these, the more may the caller have made before.
+-- What a call of a function of the grammar costs. Each token that is taken pays for 4096 looks: `Takes 4000` leaves at least 4000 of
+-- these to the caller, and for `Asks 3` the caller pays for at most three.
 use Rattle.std.specs.Prelude.{◌≡◌, ℕ, ◌+◌, ◌*◌, ◌≤◌, Bool, false, length}
 use Rattle.parser_events.specs.Stack.{IsInnermost}
 use Rattle.parser_events.specs.View.{View}
@@ -18,17 +18,17 @@ looks_per_token = 4096
 abbrev pub spent : View → ℕ
 spent v = v.looks + 4096 * tokens v
 
--- It takes at least one token, and of the looks that those taken pay for this many are left over.
+-- It takes at least one token, and of the looks that this pays for at least so many are left over.
 pub record Takes (over : ℕ) (old new : View) : Type 0 where
   pub left : tokens new + 1 ≤ tokens old
   pub looks : spent new + over ≤ spent old
 
--- It may take tokens or none. What those taken do not pay for is at most so many looks.
+-- It takes tokens or none, and makes at most so many looks that these do not pay for.
 pub record Asks (most : ℕ) (old new : View) : Type 0 where
   pub left : tokens new ≤ tokens old
   pub looks : spent new ≤ spent old + most
 
--- It takes no token and changes no node, and makes at most so many looks.
+-- It takes no token, changes no node and makes at most so many looks.
 pub record Peeks (most : ℕ) (old new : View) : Type 0 where
   pub same : Does (λ s. s) old new
   pub left : tokens new ≡ tokens old
@@ -57,13 +57,13 @@ pub record TakesTwoIn (node over : ℕ) (old new : View) : Type 0 where
   pub looks : spent new + over ≤ spent old
   pub marker : IsInnermost node new.nodes
 
--- It may take tokens or none, as `Asks`, and then the innermost node is that of this marker.
+-- It takes tokens or none, as `Asks`, and then the innermost node is that of this marker.
 pub record AsksIn (node most : ℕ) (old new : View) : Type 0 where
   pub left : tokens new ≤ tokens old
   pub looks : spent new ≤ spent old + most
   pub marker : IsInnermost node new.nodes
 
--- Where nothing was given before, it takes at least one token, as `Takes`; in any case it is as in `Asks`.
+-- As `Asks`; and where nothing was given before, as `Takes`.
 pub record TakesUnless (given : Bool) (over most : ℕ) (old new : View) : Type 0 where
   pub takes : given ≡ false → Takes over old new
   pub left : tokens new ≤ tokens old

@@ -6,12 +6,12 @@ use Rattle.rust_grammar.specs.Rule.{Look}
 use Rattle.rust_productions.specs.Looks.{tokens}
 use Rattle.rust_productions.specs.Reads.{Saw}
 
--- This look sees what is next in either mode, and a token is left.
+-- A token is left, and the look sees what is next, in either mode.
 pub record Starts (l : Look) (v : View) : Type 0 where
   pub sees : (c : Bool) → Saw c l v true
   pub some : 1 ≤ tokens v
 
--- It sees that in this mode, and a token is left.
+-- A token is left, and the look sees what is next in this mode.
 pub record StartsIn (c : Bool) (l : Look) (v : View) : Type 0 where
   pub sees : Saw c l v true
   pub some : 1 ≤ tokens v
