@@ -1,5 +1,5 @@
 -- What is next when a function is called, and how a range operator is read.
-use Rattle.std.specs.Prelude.{◌≡◌, ℕ, ◌≤◌, Bool, true, false, IsTrue}
+use Rattle.std.specs.Prelude.{◌≡◌, ◌≤◌, Bool, true, false, IsTrue}
 use Rattle.parser_input.specs.Kinds.{FLOAT_NUMBER, POUND, PUB_KW}
 use Rattle.parser_events.specs.View.{View}
 use Rattle.rust_grammar.specs.Expressions.{range_operand, range_to}

@@ -7,7 +7,6 @@ ghost use Rattle.rust_productions.specs.Looks.{tokens, spent, Asks, Peeks};
 ghost use Rattle.rust_grammar.specs.Notation as notation;
 ghost use Rattle.rust_grammar.specs.Notation.{until, separator, unexpected};
 ghost use Rattle.rust_grammar.specs.Words.{one};
-ghost use Rattle.rust_grammar.specs.Rule.{Left, Not};
 ghost use Rattle.rust_productions.specs.Reads.{Reads, Saw};
 
 use crate::grammar::{at, current, error, take};
